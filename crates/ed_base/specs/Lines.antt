@@ -9,6 +9,10 @@ newline = 10
 abbrev pub IsLine : List ℕ → Type 0
 IsLine line = All (λ byte. byte ≢ newline) line
 
+-- each of these is a line
+abbrev pub AreLines : List (List ℕ) → Type 0
+AreLines lines = All IsLine lines
+
 -- The bytes hold these lines. A last line without its newline is a line; after a last newline there is none.
 pub data HoldsLines : List ℕ → List (List ℕ) → Type 0 where
   empty : HoldsLines [] []

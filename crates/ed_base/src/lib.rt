@@ -3,6 +3,8 @@
 
 mod bytes;
 mod fault;
+mod text;
 
 pub use bytes::Bytes;
 pub use fault::Fault;
+pub use text::Text;
