@@ -100,10 +100,11 @@ impl Bytes {
         self.items.clear()
     }
 
-    pub fn try_copy(&self, alloc: Global) -> Result<Self, AllocError>
+    /// A copy, made by the same allocator.
+    pub fn try_copy(&self) -> Result<Self, AllocError>
         ensures value { IfOk result (λ copy. copy ≡ self.now) }
     {
-        Bytes::from_slice(alloc, self.as_slice())
+        Bytes::from_slice(*self.items.allocator(), self.as_slice())
     }
 }
 

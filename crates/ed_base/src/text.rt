@@ -64,12 +64,13 @@ impl Text {
         Ok(())
     }
 
-    pub fn try_copy(&self, alloc: Global) -> Result<Self, AllocError>
+    /// A copy, made by the same allocator.
+    pub fn try_copy(&self) -> Result<Self, AllocError>
         ensures value { IfOk result (λ copy. copy ≡ self.now) }
     {
-        let mut copy = Text::new(alloc);
+        let mut copy = Text::new(*self.lines.allocator());
         for line in self.as_slice() {
-            copy.push(line.try_copy(alloc)?)?;
+            copy.push(line.try_copy()?)?;
         }
         Ok(copy)
     }
