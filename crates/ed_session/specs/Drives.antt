@@ -1,0 +1,63 @@
+-- What driving a session to its end has done: the files that were asked for, the output that was written, and the end.
+use Rattle.std.specs.Prelude.{ℕ, ◌≡◌, ◌≢◌, ◌<◌, ◌++◌, ◌⊎◌, List, [], ◌∷◌, length, map, drop, Option, Some, None, Result, Ok, Err}
+use Rattle.std.specs.Io.KnownBytes.{Appends}
+use Rattle.ed_base.specs.declared.fault.Fault.{Fault}
+use Rattle.ed_base.specs.declared.fault.Fault.TheVariants.{Memory, Output, File}
+use Rattle.ed_syntax.specs.declared.request.Answer.{Answer}
+use Rattle.ed_syntax.specs.declared.request.Request.{Request}
+use Rattle.ed_syntax.specs.declared.options.Ending.{Ending}
+use Rattle.ed_syntax.specs.Progress.{Rest, Ends}
+use Rattle.ed_session.specs.Sinks.{BeginsWith}
+use Rattle.ed_session.specs.Steps.{memory_report}
+
+-- the requests to an outside with their answers, the oldest first
+abbrev pub Log : Type 0
+Log = List (Request × Answer)
+
+-- what a log has beyond an older one
+abbrev pub added : Log → Log → Log
+added old new = drop (length old) new
+
+abbrev pub requests : Log → List Request
+requests log = map (λ entry. entry.0) log
+
+abbrev pub answers : Log → List Answer
+answers log = map (λ entry. entry.1) log
+
+-- the run of these answers has asked just these requests and has ended, and its output was written
+pub record Finished (left : Rest) (log : Log) (old new : Option (List ℕ)) (result : Result Ending Fault) : Type 0 where
+  pub asked : (left (answers log)).asked ≡ requests log
+  pub ended : (left (answers log)).stop ≡ Ends result
+  pub written : Appends old new (left (answers log)).output
+
+-- memory ran out: a front of the run's output was written, and then the report
+pub record RanOut (left : Rest) (log : Log) (old new : Option (List ℕ)) : Type 0 where
+  pub asked : (left (answers log)).asked ≡ requests log
+  pub front : List ℕ
+  pub begins : BeginsWith (left (answers log)).output front
+  pub written : Appends old new (front ++ memory_report)
+
+-- the sink failed: it took a front of the run's output, which may break off with the report of want of memory
+pub record CutOff (left : Rest) (log : Log) (old new : Option (List ℕ)) : Type 0 where
+  pub asked : (left (answers log)).asked ≡ requests log
+  pub front : List ℕ
+  pub begins : BeginsWith (left (answers log)).output front
+  pub part : List ℕ
+  pub within : BeginsWith (front ++ memory_report) part
+  pub written : Appends old new part
+
+-- how a run was driven: to its end, or till memory ran out, or till the sink failed, whose count rose
+abbrev pub Drove : Rest → Log → Option (List ℕ) → Option (List ℕ) → ℕ → ℕ → Result Ending Fault → Type 0
+Drove left log old new failed_before failed result =
+    Finished left log old new result
+    ⊎ ((result ≡ Err Memory) × RanOut left log old new
+    ⊎ (result ≡ Err Output) × (failed_before < failed) × CutOff left log old new)
+
+-- How a lost session was driven: nothing was asked, and its fault came again, or the sink failed.
+pub record DroveLost (fault : Fault) (old_log new_log : Log) (failed_before failed : ℕ) (result : Result Ending Fault) : Type 0 where
+  pub asked : new_log ≡ old_log
+  pub ended : (result ≡ Err fault) ⊎ ((result ≡ Err Output) × (failed_before < failed))
+
+-- Where the fault of a file comes from: the outside refused a file in this call, or the run had failed by a file's answer before.
+abbrev pub FileRefused : Rest → ℕ → ℕ → Type 0
+FileRefused left failed_before failed = (failed_before < failed) ⊎ (((left []).stop ≡ Ends (Err File)) × ((left []).asked ≡ []))

@@ -1,0 +1,65 @@
+-- What each call of a session does to what is left of its run.
+use Rattle.std.specs.Prelude.{ℕ, ◌≡◌, ◌≢◌, ◌<◌, ◌⊎◌, List, [], ◌∷◌, Bool, true, false, length, Option, Some, None, Result, Ok, Err}
+use Rattle.ed_base.specs.declared.fault.Fault.{Fault}
+use Rattle.ed_base.specs.declared.fault.Fault.TheVariants.{Memory}
+use Rattle.ed_syntax.specs.declared.request.Answer.{Answer}
+use Rattle.ed_syntax.specs.declared.request.Request.{Request}
+use Rattle.ed_syntax.specs.declared.request.Request.TheVariants as request
+use Rattle.ed_session.specs.declared.session.Ask.{Ask}
+use Rattle.ed_session.specs.declared.session.Ask.TheVariants as ask
+use Rattle.ed_syntax.specs.Progress.{Progress, behind, report}
+use Rattle.ed_session.specs.Sessions.{SessionValue, Phase, Fresh, Between, Waiting, Over, Lost, rest, awaited, lost_by, is_waiting, is_started}
+
+-- what is written where memory runs out, in no help mode
+abbrev pub memory_report : List ℕ
+memory_report = report false Memory
+
+-- the same is left of the run
+abbrev pub SameRest : SessionValue → SessionValue → Type 0
+SameRest old new = (answers : List Answer) → rest old answers ≡ rest new answers
+
+-- the rest with an answer put first, without the request that it answers
+abbrev pub Answers : SessionValue → Request → Answer → SessionValue → Type 0
+Answers old request answer new =
+    (answers : List Answer) → rest old (answer ∷ answers) ≡ behind [] (request ∷ []) (rest new answers)
+
+-- the start: with a path the answer to its read, without one nothing
+abbrev pub Starts : Phase → SessionValue → Answer → SessionValue → Type 0
+Starts (Fresh (Some path)) old answer new = Answers old (request.Read path) answer new
+Starts (Fresh None) old answer new = SameRest old new
+Starts Between old answer new = SameRest old new
+Starts Waiting old answer new = SameRest old new
+Starts (Over result) old answer new = SameRest old new
+Starts (Lost fault) old answer new = SameRest old new
+
+-- memory ran out: the report is what is left to hand out
+pub record BreaksOff (new : SessionValue) : Type 0 where
+  pub lost : new.phase ≡ Lost Memory
+  pub pending : new.pending ≡ memory_report
+
+-- the run has come to a request, and waits
+pub record WaitsFor (old new : SessionValue) (request : Request) : Type 0 where
+  pub waiting : new.phase ≡ Waiting
+  pub asks : awaited new ≡ Some request
+  pub same : SameRest old new
+
+-- what a step gives where the session isn't lost before or after it
+abbrev pub Steps : SessionValue → Ask → SessionValue → Type 0
+Steps old (ask.Output bytes) new =
+    (0 < length bytes) × (is_waiting new.phase ≡ false) × ((answers : List Answer) → rest old answers ≡ behind bytes [] (rest new answers))
+Steps old (ask.Read path) new = WaitsFor old new (request.Read path)
+Steps old (ask.Write path bytes) new = WaitsFor old new (request.Write path bytes)
+Steps old (ask.Ended result) new = (new.phase ≡ Over result) × (new.pending ≡ []) × (new.told ≡ true) × SameRest old new
+
+-- what a step gives that ran out of memory: the report, and then its fault
+pub record StepBreaks (asks : Ask) (new : SessionValue) : Type 0 where
+  pub gives : asks ≡ ask.Output memory_report
+  pub lost : new.phase ≡ Lost Memory
+  pub pending : new.pending ≡ []
+
+-- what a step of a lost session gives: what is left of the report, and then its fault
+abbrev pub LostSteps : Fault → SessionValue → Ask → SessionValue → Type 0
+LostSteps fault old (ask.Output bytes) new = (bytes ≡ old.pending) × (0 < length bytes) × (new.phase ≡ old.phase) × (new.pending ≡ [])
+LostSteps fault old (ask.Read path) new = ⊥
+LostSteps fault old (ask.Write path bytes) new = ⊥
+LostSteps fault old (ask.Ended result) new = (result ≡ Err fault) × (old.pending ≡ []) × (new.phase ≡ old.phase) × (new.pending ≡ []) × (new.told ≡ true)

@@ -1,0 +1,9 @@
+//! Lines, and stores of them.
+
+mod line;
+mod plain;
+mod store;
+
+pub use line::Line;
+pub use plain::PlainStore;
+pub use store::LineStore;

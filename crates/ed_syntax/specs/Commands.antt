@@ -1,0 +1,46 @@
+-- The commands of a script (XCU ed, "Addresses in ed", "Commands in ed").
+use Rattle.std.specs.Prelude.{ℕ, ℤ, pos, Bool, List, Option}
+
+-- where an address begins: a line's number, the current line or the last line
+pub data Base : Type 0 where
+  Number : (number : ℕ) → Base
+  Current : Base
+  Last : Base
+
+-- an address: its base and the sum of its offsets
+pub record Address : Type 0 where
+  pub base : Base
+  pub offset : ℤ
+
+-- an address without offsets
+abbrev pub at_base : Base → Address
+at_base base = record { base = base; offset = pos 0 }
+
+-- the addresses before a command, omitted parts filled in
+pub data Addresses : Type 0 where
+  Without : Addresses
+  One : (only : Address) → Addresses
+  Comma : (first second : Address) → Addresses
+
+-- how a line is written: as it is
+pub data Form : Type 0 where
+  Plain : Form
+
+-- A command's letter with its parameters: `a` with its text, `d`, `p` by the form that it writes in, `Q`.
+pub data Verb : Type 0 where
+  Append : (text : List (List ℕ)) → Verb
+  Delete : Verb
+  Write : (form : Form) → Verb
+  QuitAnyway : Verb
+
+-- a command; `listed` where it stands in the list of a global command
+pub record Command : Type 0 where
+  pub addresses : Addresses
+  pub verb : Verb
+  pub suffix : Option Form
+  pub listed : Bool
+
+-- a script: its commands up to the first that can't be read, and the line on which that one begins, counted from 1
+pub record Script : Type 0 where
+  pub commands : List Command
+  pub fault : Option ℕ

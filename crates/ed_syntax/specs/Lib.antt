@@ -1,0 +1,19 @@
+-- what a reader has to believe, in the order of reading
+pub mod Commands
+pub mod Characters
+pub mod Addressing
+pub mod Spellings
+pub mod States
+pub mod Verbs
+pub mod Values
+pub mod Ranges
+pub mod Forms
+pub mod Effects
+pub mod Applied
+pub mod Progress
+pub mod Runs
+-- what the public types stand for
+pub mod PublicTypes
+-- the reader's own words, tied to the spellings by a law
+pub mod Tokens
+pub mod Reading

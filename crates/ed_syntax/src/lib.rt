@@ -1,0 +1,10 @@
+//! Scripts of `ed`: their commands, what they mean, and what they ask of the outside.
+#![tactic(auto)]
+
+mod command;
+mod options;
+mod request;
+
+pub use command::{Address, Addresses, Base, Command, Form, Script, Verb};
+pub use options::{Ending, Options};
+pub use request::{Answer, Request};
