@@ -1,0 +1,111 @@
+"""Processor time and peak memory of our editor beside `ed` and `sed`, on the same inputs and interleaved.
+
+Each measure is the best of three runs. For each size the table gives seconds of processor time, mebibytes of peak memory
+and the ratio to `ed`; the last column is the exponent by which the time grows from the smallest size to the largest.
+"""
+
+import math
+import os
+import shutil
+import subprocess
+import sys
+import tempfile
+
+OURS = sys.argv[1]
+RUNS = 3
+
+
+class Work:
+    """One piece of work at one size: the file, the script, and how often it is run."""
+
+    def __init__(self, folder, name, size, lines, script, repeat=1, sed=None):
+        self.name, self.size, self.repeat, self.sed = name, size, repeat, sed
+        self.file = os.path.join(folder, f"{name}-{size}")
+        self.script = self.file + ".ed"
+        with open(self.file, "wb") as out:
+            out.writelines(lines)
+        with open(self.script, "wb") as out:
+            out.writelines(script)
+
+
+def text_lines(count):
+    return (b"line %07d of a text that is forty-seven bytes\n" % i for i in range(count))
+
+
+def print_all(folder, n):
+    return Work(folder, "print", n, text_lines(n), [b",p\nQ\n"], sed=["sed", "-n", "p"])
+
+
+def start(folder, n):
+    return Work(folder, "start", n, [b"a\nb\nc\n"], [b"2d\n,p\nQ\n"], repeat=n, sed=["sed", "2d"])
+
+
+def enter(folder, n):
+    script = [b"a\n", *text_lines(n), b".\nQ\n"]
+    return Work(folder, "enter", n, [], script)
+
+
+def delete_from_end(folder, n):
+    return Work(folder, "delete", n, text_lines(n), [b"$d\n" * n + b"Q\n"])
+
+
+def measured(words, work):
+    """Processor seconds and peak mebibytes of one run of the work."""
+    seconds, peak = 0.0, 0
+    for _ in range(work.repeat):
+        with open(work.script, "rb") as script, open(os.devnull, "wb") as out:
+            child = subprocess.Popen(words + [work.file], stdin=script, stdout=out, stderr=out)
+            _, status, usage = os.wait4(child.pid, 0)
+            child.returncode = os.waitstatus_to_exitcode(status)
+        seconds += usage.ru_utime + usage.ru_stime
+        peak = max(peak, usage.ru_maxrss)
+    return seconds, peak / 1024
+
+
+def best(programs, work):
+    """The best of the runs of each program, one after the other in turn."""
+    result = {name: (math.inf, math.inf) for name in programs}
+    for _ in range(RUNS):
+        for name, words in programs.items():
+            seconds, peak = measured(words, work)
+            result[name] = (min(result[name][0], seconds), min(result[name][1], peak))
+    return result
+
+
+def programs_for(work):
+    programs = {"ours": [OURS, "edit", "-s"]}
+    if shutil.which("ed"):
+        programs["ed"] = ["ed", "-s"]
+    if work.sed and shutil.which("sed"):
+        programs["sed"] = work.sed
+    return programs
+
+
+def report(title, works):
+    print(f"{title}")
+    first, last = {}, {}
+    for work in works:
+        figures = best(programs_for(work), work)
+        for name, (seconds, peak) in figures.items():
+            ratio = f"{seconds / figures['ed'][0]:6.2f} x ed" if "ed" in figures and figures["ed"][0] else ""
+            print(f"  {work.size:>8} {name:<5} {seconds:8.3f} s {peak:8.1f} MiB {ratio}")
+            first.setdefault(name, (work.size, seconds))
+            last[name] = (work.size, seconds)
+    for name, (size, seconds) in last.items():
+        size_before, before = first[name]
+        if size > size_before and before > 0 and seconds > 0:
+            grows = math.log(seconds / before) / math.log(size / size_before)
+            print(f"  growth of {name}: n^{grows:.2f}")
+
+
+def main():
+    if not shutil.which("ed"):
+        print("no `ed` on this machine (Debian's package is called ed): our figures stand alone")
+    with tempfile.TemporaryDirectory() as folder:
+        report("print all lines of a file (lines)", [print_all(folder, n) for n in (250_000, 500_000, 1_000_000)])
+        report("start on a file of three lines (runs)", [start(folder, n) for n in (50, 100, 200)])
+        report("enter a text by a script (lines)", [enter(folder, n) for n in (50_000, 100_000, 200_000)])
+        report("delete lines one by one from the end (lines)", [delete_from_end(folder, n) for n in (25_000, 50_000, 100_000)])
+
+
+main()
