@@ -53,6 +53,22 @@ is_started Waiting = true
 is_started (Over result) = true
 is_started (Lost fault) = true
 
+-- the path of the start file, till a session starts
+abbrev pub path_of : Phase → Option (List ℕ)
+path_of (Fresh path) = path
+path_of Between = None
+path_of Waiting = None
+path_of (Over result) = None
+path_of (Lost fault) = None
+
+-- a file's answer may come next
+abbrev pub can_take_answer : Phase → Bool
+can_take_answer (Fresh path) = true
+can_take_answer Between = false
+can_take_answer Waiting = true
+can_take_answer (Over result) = false
+can_take_answer (Lost fault) = false
+
 -- the commands that are left, from here on
 abbrev pub go_on : SessionValue → Present → Rest
 go_on v = steps v.commands v.fault

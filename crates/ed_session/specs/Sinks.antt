@@ -2,15 +2,15 @@
 use Rattle.std.specs.Prelude.{ℕ, List, ◌≡◌, ◌++◌, Option, Bool, true, false, nat_eq, Result, Ok, Err}
 use Rattle.std.specs.Io.KnownBytes.{Appends}
 
--- a write that took nothing has failed
-abbrev pub write_failed : {E : Type 0} → Result ℕ E → Bool
-write_failed (Ok n) = nat_eq n 0
-write_failed (Err e) = true
-
 -- by how much the count of failures rises
 abbrev pub failed_by : {E : Type 0} → Result ℕ E → ℕ
 failed_by (Ok n) = elim (nat_eq n 0) [ true ↦ 1 | false ↦ 0 ]
 failed_by (Err e) = 1
+
+-- a writer as a sink: the bytes that it took, where it tells them, and how often it failed
+pub record OutValue : Type 0 where
+  pub taken : Option (List ℕ)
+  pub failures : ℕ
 
 -- a list begins with a front
 abbrev pub BeginsWith : List ℕ → List ℕ → Type 0

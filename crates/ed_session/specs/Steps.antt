@@ -1,7 +1,8 @@
 -- What each call of a session does to what is left of its run.
 use Rattle.std.specs.Prelude.{ℕ, ◌≡◌, ◌≢◌, ◌<◌, ◌⊎◌, List, [], ◌∷◌, Bool, true, false, length, Option, Some, None, Result, Ok, Err}
 use Rattle.ed_base.specs.declared.fault.Fault.{Fault}
-use Rattle.ed_base.specs.declared.fault.Fault.TheVariants.{Memory}
+use Rattle.ed_base.specs.declared.fault.Fault.TheVariants.{Memory, Output}
+use Rattle.ed_syntax.specs.declared.options.Ending.{Ending}
 use Rattle.ed_syntax.specs.declared.request.Answer.{Answer}
 use Rattle.ed_syntax.specs.declared.request.Request.{Request}
 use Rattle.ed_syntax.specs.declared.request.Request.TheVariants as request
@@ -63,3 +64,20 @@ LostSteps fault old (ask.Output bytes) new = (bytes ≡ old.pending) × (0 < len
 LostSteps fault old (ask.Read path) new = ⊥
 LostSteps fault old (ask.Write path bytes) new = ⊥
 LostSteps fault old (ask.Ended result) new = (result ≡ Err fault) × (old.pending ≡ []) × (new.phase ≡ old.phase) × (new.pending ≡ []) × (new.told ≡ true)
+
+-- a run's own end, which is neither want of memory nor a refusal of its output
+abbrev pub IsOwnEnd : Result Ending Fault → Type 0
+IsOwnEnd (Ok e) = Unit {0}
+IsOwnEnd (Err fault) = (fault ≢ Memory) × (fault ≢ Output)
+
+-- a step tells the end or it doesn't; the end of a session that wasn't lost is the run's own
+abbrev pub Tells : Ask → SessionValue → Type 0
+Tells (ask.Output bytes) new = new.told ≡ false
+Tells (ask.Read path) new = new.told ≡ false
+Tells (ask.Write path bytes) new = new.told ≡ false
+Tells (ask.Ended result) new = (new.told ≡ true) × (lost_by new.phase ≡ None → IsOwnEnd result)
+
+-- the output was refused, and nothing is left to hand out
+pub record LosesOutput (new : SessionValue) : Type 0 where
+  pub lost : new.phase ≡ Lost Output
+  pub pending : new.pending ≡ []

@@ -3,6 +3,15 @@
 
 mod editor;
 pub mod line_store;
+mod mem_files;
+mod mem_sink;
+mod outside;
 mod session;
+mod sink;
+mod stage;
 
-pub use session::Ask;
+pub use mem_files::MemFiles;
+pub use mem_sink::MemSink;
+pub use outside::Outside;
+pub use session::{Ask, Session};
+pub use sink::{Out, Sink, SinkFault};
