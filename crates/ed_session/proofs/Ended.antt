@@ -1,16 +1,16 @@
 -- How a command's fault ends a session.
-use Rattle.std.proofs.Common.{◌≡◌, ℕ, ◌<◌, ◌+◌, Bool, true, false, List, [], ◌∷◌, Option, Some, None, Result, Ok, Err, refl, sym, ap, ◌∙◌, map, drop, length, slice_index_or, suc, add-one}
+use Rattle.std.proofs.Common.{◌≡◌, ℕ, ◌<◌, ◌+◌, Bool, true, false, List, [], ◌∷◌, Option, Some, None, Err, refl, sym, ap, ◌∙◌, map, drop, length, slice_index_or, suc, add-one}
 use Rattle.std.proofs.Math.Seq.{drop-cons}
 use Rattle.std.specs.Prelude.{◌≢◌, if◌then◌else◌}
 use Rattle.ed_base.specs.declared.fault.Fault.{Fault}
 use Rattle.ed_base.specs.declared.fault.Fault.TheVariants.{Memory}
 use Rattle.ed_syntax.specs.declared.request.Answer.{Answer}
-use Rattle.ed_syntax.specs.Applied.{Reply, command}
+use Rattle.ed_syntax.specs.Applied.{command}
 use Rattle.ed_syntax.specs.Commands as ed
 use Rattle.ed_syntax.specs.Commands.{Command, Verb}
 use Rattle.ed_syntax.specs.PublicTypes.{command_value}
 use Rattle.ed_syntax.specs.declared.command.Command as rust
-use Rattle.ed_syntax.specs.Progress.{Present, Progress, Rest, Ends, stopping, behind, failing, ending}
+use Rattle.ed_syntax.specs.Progress.{Present, Rest, Ends, stopping, behind, failing, ending}
 use Rattle.ed_syntax.specs.Runs.{asking, one, step, steps}
 use Rattle.ed_syntax.specs.States.{State}
 use Rattle.ed_session.specs.declared.stage.Stage.{Stage}

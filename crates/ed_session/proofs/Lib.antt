@@ -1,3 +1,9 @@
 pub mod Taken
 pub mod Replies
 pub mod Ended
+pub mod Cases
+pub mod Asked
+pub mod Causes
+pub mod Driven
+pub mod Logs
+pub mod Performed

@@ -1,19 +1,19 @@
 -- What a command can answer so far: it asks for no file, and its fault is one of the script's own.
-use Rattle.std.proofs.Common.{◌≡◌, ℕ, ℤ, pos, negsuc, Bool, true, false, zero, suc, List, [], ◌∷◌, ◌++◌, Option, Some, None, Result, Ok, Err, nat_le, refl, sym, ◌∙◌, ap, subst}
+use Rattle.std.proofs.Common.{◌≡◌, ℕ, ℤ, pos, negsuc, true, false, zero, suc, List, [], Option, Some, None, Result, Ok, Err, nat_le, subst}
 use Rattle.std.specs.Prelude.{◌≢◌}
 use Rattle.ed_base.specs.declared.fault.Fault.{Fault}
 use Rattle.ed_base.specs.declared.fault.Fault.TheVariants as fault
 use Rattle.ed_syntax.specs.declared.request.Answer.{Answer}
 use Rattle.ed_syntax.specs.declared.request.Request.{Request}
-use Rattle.ed_syntax.specs.Applied.{Effect, Makes, Asks, Reply, Done, Wants, command, effect_of, replied, settled, suffix_written}
+use Rattle.ed_syntax.specs.Applied.{Makes, Reply, Done, Wants, command, effect_of, replied, suffix_written}
 use Rattle.ed_syntax.specs.Commands as ed
 use Rattle.ed_syntax.specs.Commands.{Addresses, Address, Base, Command, Form, Verb}
 use Rattle.ed_syntax.specs.Effects as effect
 use Rattle.ed_syntax.specs.Effects.{Outcome}
 use Rattle.ed_syntax.specs.Forms.{lines_written}
 use Rattle.ed_syntax.specs.Ranges.{Span, span, spanned, ordered, first_of_two, last_of_two}
-use Rattle.ed_syntax.specs.States.{State, last, kept}
-use Rattle.ed_syntax.specs.Values.{◌>>◌, Valued, base_number, within, value, values}
+use Rattle.ed_syntax.specs.States.{State, last}
+use Rattle.ed_syntax.specs.Values.{◌>>◌, base_number, within, value, values}
 use Rattle.ed_syntax.specs.Verbs.{Taking, NoAddress, Place, Range, taking, default, given_or}
 
 -- a fault of the script's own

@@ -1,10 +1,12 @@
 -- What driving a session to its end has done: the files that were asked for, the output that was written, and the end.
-use Rattle.std.specs.Prelude.{ℕ, ◌≡◌, ◌≢◌, ◌<◌, ◌++◌, ◌⊎◌, List, [], ◌∷◌, length, map, drop, Option, Some, None, Result, Ok, Err}
+use Rattle.std.specs.Prelude.{ℕ, ◌≡◌, ◌<◌, ◌++◌, ◌⊎◌, List, [], length, map, drop, All, Bool, true, false, Option, Result, Err}
 use Rattle.std.specs.Io.KnownBytes.{Appends}
 use Rattle.ed_base.specs.declared.fault.Fault.{Fault}
 use Rattle.ed_base.specs.declared.fault.Fault.TheVariants.{Memory, Output, File}
 use Rattle.ed_syntax.specs.declared.request.Answer.{Answer}
+use Rattle.ed_syntax.specs.declared.request.Answer.TheVariants as answer
 use Rattle.ed_syntax.specs.declared.request.Request.{Request}
+use Rattle.ed_syntax.specs.declared.request.Request.TheVariants as request
 use Rattle.ed_syntax.specs.declared.options.Ending.{Ending}
 use Rattle.ed_syntax.specs.Progress.{Rest, Ends}
 use Rattle.ed_session.specs.Sinks.{BeginsWith}
@@ -23,6 +25,21 @@ requests log = map (λ entry. entry.0) log
 
 abbrev pub answers : Log → List Answer
 answers log = map (λ entry. entry.1) log
+
+-- an answer fits its request; one that doesn't counts as a refusal
+abbrev pub fits : Request → Answer → Bool
+fits (request.Read path) (answer.Bytes bytes) = true
+fits (request.Read path) answer.Missing = true
+fits (request.Read path) answer.Refused = false
+fits (request.Read path) answer.Done = false
+fits (request.Write path bytes) (answer.Bytes read) = false
+fits (request.Write path bytes) answer.Missing = false
+fits (request.Write path bytes) answer.Refused = false
+fits (request.Write path bytes) answer.Done = true
+
+-- each answer of a log fits its request
+abbrev pub AllFit : Log → Type 0
+AllFit log = All (λ entry. fits entry.0 entry.1 ≡ true) log
 
 -- the run of these answers has asked just these requests and has ended, and its output was written
 pub record Finished (left : Rest) (log : Log) (old new : Option (List ℕ)) (result : Result Ending Fault) : Type 0 where

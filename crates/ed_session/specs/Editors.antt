@@ -1,9 +1,8 @@
 -- An editor as a value: what it holds, and the fault that it has failed by.
-use Rattle.std.specs.Prelude.{ℕ, ◌≡◌, ◌≢◌, ◌+◌, List, [], ◌++◌, take, drop, Option, Some, None, Result, Ok, Err, MatchResult}
-use Rattle.ed_base.specs.Buffer.{Line}
+use Rattle.std.specs.Prelude.{◌≡◌, ◌≢◌, Option, Some, None, Result, Ok, Err, MatchResult}
 use Rattle.ed_base.specs.declared.fault.Fault.{Fault}
 use Rattle.ed_base.specs.declared.fault.Fault.TheVariants.{Memory}
-use Rattle.ed_syntax.specs.States.{State, Past, Nothing, Was, opening}
+use Rattle.ed_syntax.specs.States.{State, opening}
 use Rattle.ed_syntax.specs.Applied as applied
 use Rattle.ed_session.specs.declared.editor.Reply.{Reply}
 use Rattle.ed_session.specs.declared.editor.Reply.TheVariants as reply

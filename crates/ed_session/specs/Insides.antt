@@ -1,5 +1,5 @@
 -- What a session keeps inside, and what is true of it at each of its stages.
-use Rattle.std.specs.Prelude.{ℕ, ◌≡◌, ◌≢◌, ◌≤◌, ◌+◌, ◌*◌, Bool, true, false, List, [], ◌∷◌, length, codes, Option, Some, None, Result, Ok, Err}
+use Rattle.std.specs.Prelude.{ℕ, ◌≡◌, ◌≤◌, Bool, true, false, List, [], ◌∷◌, codes, Option, None, Ok}
 use Rattle.ed_base.specs.declared.fault.Fault.{Fault}
 use Rattle.ed_syntax.specs.declared.request.Request.{Request}
 use Rattle.ed_syntax.specs.Applied.{Wants, command}
@@ -9,7 +9,7 @@ use Rattle.ed_syntax.specs.Progress.{Present}
 use Rattle.ed_syntax.specs.States.{State, opening}
 use Rattle.ed_session.specs.declared.stage.Stage.{Stage}
 use Rattle.ed_session.specs.declared.stage.Stage.TheVariants as stage
-use Rattle.ed_session.specs.Sessions.{SessionValue, Phase, Fresh, Between, Waiting, Over, Lost}
+use Rattle.ed_session.specs.Sessions.{Phase, Fresh, Between, Waiting, Over, Lost}
 use Rattle.ed_session.specs.Steps.{memory_report, IsOwnEnd}
 
 -- what a stage stands for

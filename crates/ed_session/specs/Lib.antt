@@ -12,3 +12,4 @@ pub mod Faults
 pub mod Insides
 pub mod Advances
 pub mod Work
+pub mod Turns

@@ -1,5 +1,5 @@
 -- A sink with a room that is set aside at the start (our tool for runs in memory).
-use Rattle.std.specs.Prelude.{ℕ, ◌+◌, ◌-◌, ◌^◌, Bool, true, false, List, [], ◌++◌, length, take, min, nat_eq, Result, Ok, Err}
+use Rattle.std.specs.Prelude.{ℕ, ◌+◌, ◌-◌, ◌^◌, true, false, List, [], ◌++◌, length, take, min, nat_eq, Result, Ok, Err}
 use Rattle.ed_session.specs.declared.sink.SinkFault.{SinkFault}
 use Rattle.ed_session.specs.Sinks.{failed_by}
 

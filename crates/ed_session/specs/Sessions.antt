@@ -1,5 +1,5 @@
 -- A session as a value, and what is left of its run (our shape of a run that stops for its files).
-use Rattle.std.specs.Prelude.{ℕ, Bool, true, false, List, [], Option, Some, None, Result, Ok, Err}
+use Rattle.std.specs.Prelude.{ℕ, Bool, true, false, List, [], Option, Some, None, Result, Err}
 use Rattle.ed_base.specs.declared.fault.Fault.{Fault}
 use Rattle.ed_syntax.specs.declared.options.Options.{Options}
 use Rattle.ed_syntax.specs.declared.options.Ending.{Ending}

@@ -1,5 +1,5 @@
 -- What a sink took of a piece, and whether it failed (our choice: a write that takes nothing has failed).
-use Rattle.std.specs.Prelude.{ℕ, List, ◌≡◌, ◌++◌, Option, Bool, true, false, nat_eq, Result, Ok, Err}
+use Rattle.std.specs.Prelude.{ℕ, List, ◌≡◌, ◌++◌, Option, true, false, nat_eq, Result, Ok, Err}
 use Rattle.std.specs.Io.KnownBytes.{Appends}
 
 -- by how much the count of failures rises

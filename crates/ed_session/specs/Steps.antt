@@ -1,5 +1,5 @@
 -- What each call of a session does to what is left of its run.
-use Rattle.std.specs.Prelude.{ℕ, ◌≡◌, ◌≢◌, ◌<◌, ◌⊎◌, List, [], ◌∷◌, Bool, true, false, length, Option, Some, None, Result, Ok, Err}
+use Rattle.std.specs.Prelude.{ℕ, ◌≡◌, ◌≢◌, ◌<◌, List, [], ◌∷◌, true, false, length, Some, None, Result, Ok, Err}
 use Rattle.ed_base.specs.declared.fault.Fault.{Fault}
 use Rattle.ed_base.specs.declared.fault.Fault.TheVariants.{Memory, Output}
 use Rattle.ed_syntax.specs.declared.options.Ending.{Ending}
@@ -8,8 +8,8 @@ use Rattle.ed_syntax.specs.declared.request.Request.{Request}
 use Rattle.ed_syntax.specs.declared.request.Request.TheVariants as request
 use Rattle.ed_session.specs.declared.session.Ask.{Ask}
 use Rattle.ed_session.specs.declared.session.Ask.TheVariants as ask
-use Rattle.ed_syntax.specs.Progress.{Progress, behind, report}
-use Rattle.ed_session.specs.Sessions.{SessionValue, Phase, Fresh, Between, Waiting, Over, Lost, rest, awaited, lost_by, is_waiting, is_started}
+use Rattle.ed_syntax.specs.Progress.{behind, report}
+use Rattle.ed_session.specs.Sessions.{SessionValue, Phase, Fresh, Between, Waiting, Over, Lost, rest, awaited, lost_by, is_waiting}
 
 -- what is written where memory runs out, in no help mode
 abbrev pub memory_report : List ℕ

@@ -1,12 +1,9 @@
-use Rattle.std.proofs.Common.{◌≡◌, ℕ, ◌+◌, List, [], ◌∷◌, None, Some, Err, true, false, ap, ◌∙◌, sym, refl, arith, map, drop}
-use Rattle.std.specs.Prelude.{◌≢◌}
-use Rattle.ed_syntax.specs.Applied.{command}
+use Rattle.std.proofs.Common.{◌≡◌, ◌+◌, None, false, ap, ◌∙◌, sym, refl, arith, map, drop}
 use Rattle.ed_syntax.specs.PublicTypes.{command_value}
-use Rattle.ed_session.specs.Sessions.{Between}
-use Rattle.ed_session.specs.Insides.{is_live, phase_of, quits_anyway}
+use Rattle.ed_session.specs.Insides.{phase_of, quits_anyway}
 use Rattle.ed_session.specs.Faults.{is_memory}
 use Rattle.ed_session.proofs.Ended.{between_live, not_memory, keeps_ended, advances_ended, rest_fails, left_next, is_false}
-use Rattle.ed_session.proofs.Replies.{IsScriptFault, fault_is_own}
+use Rattle.ed_session.proofs.Replies.{fault_is_own}
 use Rattle.ed_session.proofs.session.Session.advance.Goals as goal
 
 pub invariant_of-self-in-Err : goal.invariant_of-self-in-Err
