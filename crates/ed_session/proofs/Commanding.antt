@@ -1,5 +1,5 @@
 -- A command is the naming of its lines, its effect, and its suffix; and what undo keeps brings the buffer back.
-use Rattle.std.proofs.Common.{◌≡◌, ◌≢◌, ℕ, zero, suc, ◌+◌, ◌-◌, ◌≤◌, min, Bool, true, false, List, [], ◌∷◌, ◌++◌, take, drop, length, map, refl, sym, ap, ◌∙◌, arith}
+use Rattle.std.proofs.Common.{◌≡◌, ◌≢◌, ℕ, ◌+◌, ◌-◌, ◌≤◌, min, Bool, true, false, List, [], ◌∷◌, ◌++◌, take, drop, length, map, refl, sym, ap, ◌∙◌, arith}
 use Rattle.std.specs.Prelude.{Option, Some, None, Result, Ok, Err, MatchResult}
 use Rattle.std.proofs.lemmas.List.{take_at, drop_at, take-take, take-append-drop, length-take-le, length-drop, length-map, append-nil, append_assoc, length-append}
 use Rattle.ed_base.specs.Buffer.{Line, plain_line}
@@ -12,8 +12,8 @@ use Rattle.ed_syntax.specs.Verbs.{Taking, taking, default, given_or}
 use Rattle.ed_syntax.specs.Values.{◌>>◌, values}
 use Rattle.ed_syntax.specs.Ranges as ranges
 use Rattle.ed_syntax.specs.Ranges.{spanned}
-use Rattle.ed_syntax.specs.Effects.{Outcome, altered, entered, append, delete}
-use Rattle.ed_syntax.specs.Applied.{Effect, Makes, Asks, Reply, Done, Wants, effect_of, replied, settled, suffix_written, command}
+use Rattle.ed_syntax.specs.Effects.{altered, entered, append, delete}
+use Rattle.ed_syntax.specs.Applied.{Effect, Makes, Asks, Done, Wants, effect_of, replied, settled, suffix_written, command}
 use Rattle.ed_session.specs.Editors.{lines_of_command, without_suffix, suffixed}
 
 -- a value beside a state

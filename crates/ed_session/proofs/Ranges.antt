@@ -1,9 +1,8 @@
 -- Lists into which elements are put, and out of which a range is taken, place by place.
 use Rattle.std.proofs.Common.{◌≡◌, ℕ, suc, ◌+◌, ◌-◌, ◌<◌, ◌≤◌, List, [], ◌∷◌, ◌++◌, take, drop, length, map, get_or, reverse, refl, sym, ap, ◌∙◌, arith, append_assoc}
 use Rattle.std.specs.Prelude.{remove, insert}
-use Rattle.std.proofs.lemmas.List.{map_more, drop_more, take_more, length-take-le, length-map, length-append, reverse-append, take-append-le, drop_at, take_at, take-append-drop, drop-drop, drop-append-le, take-take, get_or_append_left, get_or-take, length-drop, length-take, append-nil}
-use Rattle.std.proofs.lemmas.List.Edits.{insert-append_right, remove-append_left, remove-append_right, insert_end}
-use Rattle.std.proofs.Math.Nat.{sub_self}
+use Rattle.std.proofs.lemmas.List.{map_more, drop_more, length-take-le, length-map, reverse-append, take-append-le, drop_at, take-take, get_or_append_left, get_or-take}
+use Rattle.std.proofs.lemmas.List.Edits.{insert-append_right}
 
 -- an element put behind the second of three parts
 pub insert-between : {X : Type 0} (xs ys zs : List X) (n : ℕ) (x : X) → n ≡ length xs + length ys → insert (xs ++ (ys ++ zs)) n x ≡ xs ++ ((ys ++ x ∷ []) ++ zs)

@@ -1,5 +1,5 @@
 -- The lines are put, and what undo keeps takes them back.
-use Rattle.std.proofs.Common.{◌≡◌, ◌≢◌, ◌∙◌, ◌≤◌, ap, arith, [], length, map}
+use Rattle.std.proofs.Common.{◌≡◌, ◌∙◌, ◌≤◌, ap, arith, length, map}
 use Rattle.std.specs.Prelude.{None}
 use Rattle.std.proofs.lemmas.List.{length-map}
 use Rattle.ed_base.specs.Buffer.{plain_line}

@@ -1,5 +1,5 @@
 -- A line taken from behind those before it.
-use Rattle.std.proofs.Common.{◌≡◌, ◌-◌, ◌<◌, ◌∙◌, ap, arith, [], take, drop, length, get_or, reverse, remove, sym}
+use Rattle.std.proofs.Common.{◌-◌, ◌<◌, ◌∙◌, ap, arith, [], take, drop, get_or, reverse, remove}
 use Rattle.ed_base.specs.Buffer.{plain_line}
 use Rattle.std.proofs.lemmas.List.{length-take-le}
 use Rattle.ed_session.proofs.Ranges.{remove-last, last-of_front, taken-more}

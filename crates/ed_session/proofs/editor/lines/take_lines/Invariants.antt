@@ -1,5 +1,5 @@
 -- The lines from i on are taken, the last one first.
-use Rattle.std.proofs.Common.{◌≡◌, ◌+◌, ◌-◌, ◌≤◌, ◌++◌, drop, take, length, reverse}
+use Rattle.std.proofs.Common.{◌≡◌, ◌+◌, ◌-◌, ◌≤◌, ◌++◌, drop, take, reverse}
 use Rattle.std.specs.Prelude.{vec_len, vec_capacity}
 use Rattle.ed_session.proofs.editor.lines.take_lines.Given as goal
 
