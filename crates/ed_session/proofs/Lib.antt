@@ -1,9 +1,11 @@
-pub mod Taken
-pub mod Replies
-pub mod Ended
-pub mod Cases
 pub mod Asked
+pub mod Cases
 pub mod Causes
+pub mod Commanding
 pub mod Driven
+pub mod Ended
 pub mod Logs
 pub mod Performed
+pub mod Ranges
+pub mod Replies
+pub mod Taken

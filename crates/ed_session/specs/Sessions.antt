@@ -29,7 +29,13 @@ pub record SessionValue : Type 0 where
 -- a session just made
 abbrev pub made : Script → Options → SessionValue
 made script o = record {
-  phase = Fresh o.path; present = present o; commands = script.commands; fault = script.fault; pending = []; told = false }
+  phase = Fresh o.path;
+  present = present o;
+  commands = script.commands;
+  fault = script.fault;
+  pending = [];
+  told = false;
+}
 
 -- it was lost to want of memory or to its writer
 abbrev pub lost_by : Phase → Option Fault
