@@ -1,1 +1,2 @@
 mod FirstRows
+pub mod Scripts
