@@ -2,7 +2,7 @@ use Rattle.std.proofs.Common.{◌≡◌, ◌+◌, length, Some, map, sym, ap, �
 use Rattle.std.proofs.lemmas.List.{map_push}
 use Rattle.ed_syntax.specs.Reading.{script, command_at}
 use Rattle.ed_syntax.specs.PublicTypes.{command_value, command_behind}
-use Rattle.ed_syntax.proofs.Scripts.{all_before, all_before-next}
+use Rattle.ed_syntax.proofs.ScriptLemmas.{all_before, all_before-next}
 use Rattle.ed_syntax.proofs.reading.read_script.Goals as goal
 
 pub commands-preserved : goal.commands-preserved

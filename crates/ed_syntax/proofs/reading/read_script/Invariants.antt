@@ -2,7 +2,7 @@
 use Rattle.std.proofs.Common.{◌≡◌, ◌+◌, map, length}
 use Rattle.ed_syntax.specs.Reading.{script, script_of}
 use Rattle.ed_syntax.specs.PublicTypes.{command_value}
-use Rattle.ed_syntax.proofs.Scripts.{all_before}
+use Rattle.ed_syntax.proofs.ScriptLemmas.{all_before}
 use Rattle.ed_syntax.proofs.reading.read_script.Given as goal
 
 abbrev pub invariant-commands : goal.invariant-commands
