@@ -1,15 +1,10 @@
 -- Worked rows, computed from the bytes of script and file.
-use Rattle.std.specs.Prelude.{◌≡◌, refl, ℕ, Bool, true, false, List, [], ◌∷◌, Option, Some, None, Ok, Err, codes}
-use Rattle.std.specs.Fmt.{digits}
-use Rattle.ed_base.specs.declared.fault.Fault.{Fault}
-use Rattle.ed_base.specs.declared.fault.Fault.TheVariants as fault
+use Rattle.std.specs.Prelude.{◌≡◌, refl, ℕ, Bool, true, List, [], ◌∷◌, Option, Some, None, Ok, codes}
 use Rattle.ed_syntax.specs.declared.options.Options.{Options}
-use Rattle.ed_syntax.specs.declared.request.Answer.{Answer}
 use Rattle.ed_syntax.specs.declared.request.Answer.TheVariants as answer
-use Rattle.ed_syntax.specs.declared.request.Request.{Request}
 use Rattle.ed_syntax.specs.declared.request.Request.TheVariants as request
 use Rattle.ed_syntax.specs.Reading.{script_of}
-use Rattle.ed_syntax.specs.Progress.{Progress, Ends, Waits}
+use Rattle.ed_syntax.specs.Progress.{Ends}
 use Rattle.ed_syntax.specs.Runs.{run}
 
 options : Bool → Option (List ℕ) → Options
