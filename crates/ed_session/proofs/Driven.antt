@@ -11,13 +11,14 @@ use Rattle.ed_syntax.specs.declared.request.Request.{Request}
 use Rattle.ed_syntax.specs.Progress.{Progress, Rest, Ends, stopping, behind}
 use Rattle.ed_session.specs.declared.session.Ask.{Ask}
 use Rattle.ed_session.specs.declared.session.Ask.TheVariants as ask
-use Rattle.ed_session.specs.Sessions.{SessionValue, Phase, Over, Lost, rest, awaited, lost_by, is_waiting}
+use Rattle.ed_session.specs.Sessions.{SessionValue, Phase, Fresh, Between, Waiting, Over, Lost, rest, awaited, lost_by, is_waiting}
 use Rattle.ed_session.specs.Sinks.{BeginsWith, AppendsFront}
 use Rattle.ed_session.specs.Steps.{SameRest, BreaksOff, Steps, StepBreaks, LostSteps, WaitsFor, Answers, memory_report}
-use Rattle.ed_session.specs.Drives.{Log, Finished, RanOut, CutOff, requests, answers}
-use Rattle.ed_session.specs.Turns.{Along, Driven}
+use Rattle.ed_session.specs.Drives as drives
+use Rattle.ed_session.specs.Drives.{Log, Finished, RanOut, CutOff, Closed, ended, requests, answers}
+use Rattle.ed_session.specs.Turns.{Along, Driven, DrivenLost}
 use Rattle.ed_session.proofs.Asked.{rest_asks_nothing, rest_asks_one}
-use Rattle.ed_session.proofs.Taken.{Appends-more}
+use Rattle.ed_session.proofs.Taken.{Appends-more, some-more}
 
 lost_is : (p : Phase) → p ≡ Lost Memory → lost_by p ≡ None → ⊥
 lost_is p e h = let f : Some Memory ≡ None = ap lost_by (sym e) ∙ h in cc
@@ -35,6 +36,13 @@ behind-behind x y a b p = rw (append_assoc x y p.output, append_assoc a b p.aske
 
 regroup : (a b c e : List ℕ) → (a ++ (b ++ c)) ++ e ≡ (a ++ b) ++ (c ++ e)
 regroup a b c e = simp append_assoc
+
+lost_at : (p : Phase) (fault : Fault) → lost_by p ≡ Some fault → p ≡ Lost fault
+lost_at (Fresh path) fault h = cc
+lost_at Between fault h = cc
+lost_at Waiting fault h = cc
+lost_at (Over result) fault h = cc
+lost_at (Lost f) fault h = let e : f ≡ fault = cc in ap (λ x. Lost x) e
 
 rest_over : (t : SessionValue) (result : Result Ending Fault) → t.phase ≡ Over result → t.pending ≡ [] → rest t [] ≡ stopping (Ends result)
 rest_over t result e n = rw (e, n) refl
@@ -173,9 +181,46 @@ step_idle s t bytes idle given broke lost =
       | inr f ↦ let l = rw f.1 at lost in ap is_waiting l.2 ∙ idle
     ]
 
--- a lost session stays in its phase
-pub step_lost : (fault : Fault) (s t : SessionValue) (bytes : List ℕ) → lost_by s.phase ≡ Some fault → IfSome (lost_by s.phase) (λ f. LostSteps f s (ask.Output bytes) t) → t.phase ≡ s.phase
-step_lost fault s t bytes is lost = let l = rw is at lost in l.2
+-- a lost session hands out what is left
+pub lost_hands_out : (fault : Fault) (old s t : SessionValue) (bytes : List ℕ) (old_log log : Log) (before mid after : Option (List ℕ)) → lost_by old.phase ≡ Some fault
+    → DrivenLost old s old_log log before mid → IfSome (lost_by s.phase) (λ f. LostSteps f s (ask.Output bytes) t) → Appends mid after bytes → DrivenLost old t old_log log before after
+lost_hands_out fault old s t bytes old_log log before mid after is d lost more =
+    let l = rw (ap lost_by d.phase ∙ is) at lost in
+    record {
+      phase = l.2 ∙ d.phase;
+      same_log = d.same_log;
+      output = d.output ++ bytes;
+      written = Appends-more before mid after d.output bytes d.written more;
+      whole = rw (l.3, append-nil (d.output ++ bytes), l.0) d.whole;
+    }
+
+-- or a front of it
+pub lost_cut_off : (fault : Fault) (old s t : SessionValue) (bytes : List ℕ) (old_log log : Log) (before mid after : Option (List ℕ)) → lost_by old.phase ≡ Some fault
+    → DrivenLost old s old_log log before mid → IfSome (lost_by s.phase) (λ f. LostSteps f s (ask.Output bytes) t) → AppendsFront mid after bytes → AppendsFront before after old.pending
+lost_cut_off fault old s t bytes old_log log before mid after is d lost part =
+    let l = rw (ap lost_by d.phase ∙ is) at lost in
+    (d.output ++ part.0, (part.1.0, sym d.whole ∙ ap (λ x. d.output ++ x) (sym l.0 ∙ part.1.1) ∙ sym (append_assoc d.output part.0 part.1.0), part.1.2), Appends-more before mid after d.output part.0 d.written part.2)
+
+-- and ends by its fault again
+pub lost_ends : (fault : Fault) (old s t : SessionValue) (result : Result Ending Fault) (old_log log : Log) (before after : Option (List ℕ)) → lost_by old.phase ≡ Some fault
+    → DrivenLost old s old_log log before after → IfSome (lost_by s.phase) (λ f. LostSteps f s (ask.Ended result) t) → (result ≡ Err fault) × Appends before after old.pending
+lost_ends fault old s t result old_log log before after is d lost =
+    let l = rw (ap lost_by d.phase ∙ is) at lost in
+    (l.0, rw (sym d.whole, l.1, append-nil d.output) d.written)
+
+-- a session that told its end is closed
+pub step_closes : (s t : SessionValue) (result : Result Ending Fault)
+    → (lost_by s.phase ≡ None → lost_by t.phase ≡ None → Steps s (ask.Ended result) t)
+    → (lost_by s.phase ≡ None → lost_by t.phase ≢ None → StepBreaks (ask.Ended result) t)
+    → IfSome (lost_by s.phase) (λ fault. LostSteps fault s (ask.Ended result) t) → Closed t result
+step_closes s t result given broke lost =
+    elim (cases_lost (lost_by s.phase)) [
+        inl whole ↦ elim (cases_lost (lost_by t.phase)) [
+            inl whole_after ↦ let g = given whole whole_after in ended t result g.0 g.2 g.1
+          | inr f ↦ let b = broke whole (some_not_none _ f.0 f.1) in absurd (let g = b.gives in cc)
+        ]
+      | inr f ↦ let l = rw f.1 at lost in rw l.0 (drives.lost t f.0 (l.2 ∙ lost_at s.phase f.0 f.1) (inl l.4) l.3)
+    ]
 
 -- the sink failed at some of these bytes
 pub cut_off : (left : Rest) (log : Log) (output bytes : List ℕ) (t : SessionValue) (old mid new : Option (List ℕ))
@@ -191,7 +236,7 @@ cut_off left log output bytes t old mid new d written part =
       front = f.1;
       begins = f.2;
       part = output ++ part.0;
-      within = (part.1.0 ++ f.3.0, f.3.1 ∙ ap (λ x. (output ++ x) ++ f.3.0) part.1.1 ∙ regroup output part.0 part.1.0 f.3.0);
+      within = (part.1.0 ++ f.3.0, f.3.1 ∙ ap (λ x. (output ++ x) ++ f.3.0) part.1.1 ∙ regroup output part.0 part.1.0 f.3.0, some-more part.1.0 f.3.0 part.1.2);
       written = Appends-more old mid new output part.0 written part.2;
     }
 

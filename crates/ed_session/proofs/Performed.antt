@@ -1,5 +1,5 @@
 -- How a run is driven on by a request that the outside was asked for.
-use Rattle.std.proofs.Common.{◌≡◌, ℕ, ◌≤◌, List, [], ◌∷◌, ◌++◌, Some, None, false, true, refl, ap, subst, inl, inr, arith}
+use Rattle.std.proofs.Common.{◌≡◌, ℕ, ◌≤◌, List, [], ◌∷◌, ◌++◌, Option, Some, None, false, true, refl, ap, subst, inl, inr, arith}
 use Rattle.std.specs.Prelude.{◌≢◌}
 use Rattle.ed_syntax.specs.declared.request.Answer.{Answer}
 use Rattle.ed_syntax.specs.declared.request.Request.{Request}
@@ -83,13 +83,9 @@ pub broken_lost : (v : SessionValue) → BreaksOff v → lost_by v.phase ≡ Non
 broken_lost v b h = let w = ap lost_by b.lost in cc
 
 -- without a path the run starts as it is
-pub starts_same : (p : Phase) (old : SessionValue) (a : Answer) (new : SessionValue) → path_of p ≡ None → Starts p old a new → SameRest old new
-starts_same (Fresh None) old a new h s = s
-starts_same (Fresh (Some path)) old a new h s = cc
-starts_same Between old a new h s = s
-starts_same Waiting old a new h s = s
-starts_same (Over result) old a new h s = s
-starts_same (Lost fault) old a new h s = s
+pub starts_same : (p : Option (List ℕ)) (old : SessionValue) (a : Answer) (new : SessionValue) → p ≡ None → Starts p old a new → SameRest old new
+starts_same None old a new h s = s
+starts_same (Some path) old a new h s = cc
 
 fresh_at : (p : Phase) (path : List ℕ) → path_of p ≡ Some path → p ≡ Fresh (Some path)
 fresh_at (Fresh None) path h = cc
@@ -104,5 +100,5 @@ pub fresh_awaits : (v : SessionValue) (path : List ℕ) → path_of v.phase ≡ 
 fresh_awaits v path h = rw (fresh_at v.phase path h) refl
 
 -- and the start takes its answer
-pub starts_answers : (path : List ℕ) (old : SessionValue) (a : Answer) (new : SessionValue) → path_of old.phase ≡ Some path → Starts old.phase old a new → Answers old (request.Read path) a new
-starts_answers path old a new h s = subst (λ p. Starts p old a new) (fresh_at old.phase path h) s
+pub starts_answers : (path : List ℕ) (old : SessionValue) (a : Answer) (new : SessionValue) → path_of old.phase ≡ Some path → Starts (path_of old.phase) old a new → Answers old (request.Read path) a new
+starts_answers path old a new h s = subst (λ p. Starts p old a new) h s

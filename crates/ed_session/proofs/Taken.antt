@@ -1,5 +1,5 @@
 -- Bytes that a sink took, one piece after another.
-use Rattle.std.proofs.Common.{◌≡◌, ℕ, ◌+◌, ◌-◌, ◌≤◌, List, [], ◌++◌, Option, Some, None, take, drop, length, sym, refl, ap, ◌∙◌, arith, append_assoc}
+use Rattle.std.proofs.Common.{◌≡◌, ℕ, ◌+◌, ◌-◌, ◌<◌, ◌≤◌, List, [], ◌∷◌, ◌++◌, Option, Some, None, take, drop, length, length-drop, ◌≢◌, sym, refl, ap, ◌∙◌, arith, append_assoc}
 use Rattle.std.specs.Io.KnownBytes.{Appends, Keeps}
 use Rattle.std.proofs.lemmas.Grind.{common_steps}
 use Rattle.std.proofs.lemmas.List.{take-take, drop-take, take-append-drop}
@@ -24,9 +24,16 @@ Appends-keeps (Some a) None c x p q = absurd p
 Appends-keeps (Some a) (Some b) None x p q = absurd q
 Appends-keeps (Some a) (Some b) (Some c) x p q = q ∙ p
 
--- the first n bytes are a front
-pub front-taken : (old new : Option (List ℕ)) (bytes : List ℕ) (n : ℕ) → Appends old new (take n bytes) → AppendsFront old new bytes
-front-taken old new bytes n h = (take n bytes, (drop n bytes, sym (take-append-drop n bytes)), h)
+-- the first n bytes are a front, behind which there are more
+pub front-taken : (old new : Option (List ℕ)) (bytes : List ℕ) (n : ℕ) → n < length bytes → Appends old new (take n bytes) → AppendsFront old new bytes
+front-taken old new bytes n h taken =
+    let some : drop n bytes ≢ [] = λ e. let none : length (drop n bytes) ≡ 0 = ap length e in omega (arith, length-drop n bytes) in
+    (take n bytes, (drop n bytes, sym (take-append-drop n bytes), some), taken)
+
+-- a list that goes on behind some bytes isn't at its end there
+pub some-more : (x y : List ℕ) → x ≢ [] → x ++ y ≢ []
+some-more [] y h = λ e. h refl
+some-more (b ∷ x) y h = λ e. cc
 
 -- the next n bytes of bs, which stand behind the first i
 pub take-next : (bs : List ℕ) (i n : ℕ) → i ≤ length bs → n ≤ length bs - i → take (i + n) bs ≡ take i bs ++ take n (take (length bs - i) (drop i bs))

@@ -9,7 +9,8 @@ use Rattle.ed_syntax.specs.declared.request.Request.{Request}
 use Rattle.ed_syntax.specs.declared.request.Request.TheVariants as request
 use Rattle.ed_syntax.specs.declared.options.Ending.{Ending}
 use Rattle.ed_syntax.specs.Progress.{Rest, Ends}
-use Rattle.ed_session.specs.Sinks.{BeginsWith}
+use Rattle.ed_session.specs.Sessions.{SessionValue, Over, Lost}
+use Rattle.ed_session.specs.Sinks.{BeginsWith, GoesOnBehind, AppendsFront}
 use Rattle.ed_session.specs.Steps.{memory_report}
 
 -- the requests to an outside with their answers, the oldest first
@@ -54,26 +55,33 @@ pub record RanOut (left : Rest) (log : Log) (old new : Option (List ℕ)) : Type
   pub begins : BeginsWith (left (answers log)).output front
   pub written : Appends old new (front ++ memory_report)
 
--- the sink failed: it took a front of the run's output, which may break off with the report of want of memory
+-- the sink failed: it took a front of the run's output, which may break off with the report of want of memory, and not all of that
 pub record CutOff (left : Rest) (log : Log) (old new : Option (List ℕ)) : Type 0 where
   pub asked : (left (answers log)).asked ≡ requests log
   pub front : List ℕ
   pub begins : BeginsWith (left (answers log)).output front
   pub part : List ℕ
-  pub within : BeginsWith (front ++ memory_report) part
+  pub within : GoesOnBehind (front ++ memory_report) part
   pub written : Appends old new part
 
--- how a run was driven: to its end, or till memory ran out, or till the sink failed, whose count rose
+-- How a run was driven: to its end, or till memory ran out, or till the sink failed. Its count of failures rose just where it failed.
 abbrev pub Drove : Rest → Log → Option (List ℕ) → Option (List ℕ) → ℕ → ℕ → Result Ending Fault → Type 0
 Drove left log old new failed_before failed result =
-    Finished left log old new result
-    ⊎ ((result ≡ Err Memory) × RanOut left log old new
+    (failed ≡ failed_before) × Finished left log old new result
+    ⊎ ((result ≡ Err Memory) × (failed ≡ failed_before) × RanOut left log old new
     ⊎ (result ≡ Err Output) × (failed_before < failed) × CutOff left log old new)
 
--- How a lost session was driven: nothing was asked, and its fault came again, or the sink failed.
-pub record DroveLost (fault : Fault) (old_log new_log : Log) (failed_before failed : ℕ) (result : Result Ending Fault) : Type 0 where
+-- How a lost session was driven: nothing was asked, what it had to hand out was written and its fault came again; or the sink failed.
+pub record DroveLost (fault : Fault) (pending : List ℕ) (old_log new_log : Log) (old new : Option (List ℕ)) (failed_before failed : ℕ) (result : Result Ending Fault) : Type 0 where
   pub asked : new_log ≡ old_log
-  pub ended : (result ≡ Err fault) ⊎ ((result ≡ Err Output) × (failed_before < failed))
+  pub ended :
+    (result ≡ Err fault) × (failed ≡ failed_before) × Appends old new pending
+    ⊎ (result ≡ Err Output) × (failed_before < failed) × AppendsFront old new pending
+
+-- How a session is left: its end was told, or it is lost, and nothing is pending. So it asks and writes nothing more.
+pub data Closed : SessionValue → Result Ending Fault → Type 0 where
+  ended : (now : SessionValue) (result : Result Ending Fault) → now.phase ≡ Over result → now.told ≡ true → now.pending ≡ [] → Closed now result
+  lost : (now : SessionValue) (fault : Fault) → now.phase ≡ Lost fault → (now.told ≡ true) ⊎ (fault ≡ Output) → now.pending ≡ [] → Closed now (Err fault)
 
 -- Where the fault of a file comes from: the outside refused a file in this call, or the run had failed by a file's answer before.
 abbrev pub FileRefused : Rest → ℕ → ℕ → Type 0

@@ -1,5 +1,5 @@
 -- What a sink took of a piece, and whether it failed (our choice: a write that takes nothing has failed).
-use Rattle.std.specs.Prelude.{ℕ, List, ◌≡◌, ◌++◌, Option, true, false, nat_eq, Result, Ok, Err}
+use Rattle.std.specs.Prelude.{ℕ, List, [], ◌≡◌, ◌≢◌, ◌++◌, Option, true, false, nat_eq, Result, Ok, Err}
 use Rattle.std.specs.Io.KnownBytes.{Appends}
 
 -- by how much the count of failures rises
@@ -16,6 +16,10 @@ pub record OutValue : Type 0 where
 abbrev pub BeginsWith : List ℕ → List ℕ → Type 0
 BeginsWith all front = (more : List ℕ) × (all ≡ front ++ more)
 
--- what is known of a sink grew by a front of these bytes
+-- a list begins with a front, and goes on
+abbrev pub GoesOnBehind : List ℕ → List ℕ → Type 0
+GoesOnBehind all front = (more : List ℕ) × (all ≡ front ++ more) × (more ≢ [])
+
+-- what is known of a sink grew by a front of these bytes, and not by all of them
 abbrev pub AppendsFront : Option (List ℕ) → Option (List ℕ) → List ℕ → Type 0
-AppendsFront old new bytes = (front : List ℕ) × BeginsWith bytes front × Appends old new front
+AppendsFront old new bytes = (front : List ℕ) × GoesOnBehind bytes front × Appends old new front

@@ -29,6 +29,14 @@ pub record Driven (left : Rest) (log : Log) (old new : Option (List ℕ)) (now :
   pub written : Appends old new output
   pub along : Along left log output now
 
+-- a lost session, of whose pending output some was written, while nothing was asked
+pub record DrivenLost (old now : SessionValue) (old_log log : Log) (taken_before taken : Option (List ℕ)) : Type 0 where
+  pub phase : now.phase ≡ old.phase
+  pub same_log : log ≡ old_log
+  pub output : List ℕ
+  pub written : Appends taken_before taken output
+  pub whole : output ++ now.pending ≡ old.pending
+
 -- an answer that doesn't fit has raised the outside's count
 abbrev pub Raises : Log → ℕ → ℕ → Type 0
 Raises log before now = AllFit log ⊎ (before < now)
@@ -57,7 +65,7 @@ pub record Performs (old : SessionValue) (request : Request) (new : SessionValue
 pub record Begins (old new : SessionValue) (old_log new_log : Log) (before after : ℕ) : Type 0 where
   pub log : new_log ≡ old_log ++ added old_log new_log
   pub along : lost_by old.phase ≡ None → Along (rest old) (added old_log new_log) [] new
-  pub lost : IfSome (lost_by old.phase) (λ fault. (new.phase ≡ old.phase) × (new_log ≡ old_log))
+  pub lost : IfSome (lost_by old.phase) (λ fault. (new ≡ old) × (new_log ≡ old_log))
   pub raises : Raises (added old_log new_log) before after
   pub rises : before ≤ after
   pub idle : is_waiting new.phase ≡ false

@@ -1,7 +1,7 @@
 //! The loop that runs a session to its end.
 ghost use Rattle.std.specs.Prelude.{◌≡◌, ◌<◌, ◌≤◌, ◌-◌, ◌^◌, ◌++◌, Some, None, Err, true, false, IfSome};
 ghost use Rattle.ed_session.specs.Sessions.{rest, lost_by, awaited, is_started, is_waiting, Waiting};
-ghost use Rattle.ed_session.specs.Drives.{added, Drove, DroveLost, FileRefused};
+ghost use Rattle.ed_session.specs.Drives.{added, Drove, DroveLost, Closed, FileRefused};
 ghost use Rattle.ed_session.specs.Turns.{Performs, Begins};
 ghost use Rattle.ed_session.specs.Work.{work};
 
@@ -70,7 +70,10 @@ pub fn drive<S: LineStore, O: Outside, W: Sink>(
         Drove (rest session.old) (added (O.log outside.old) (O.log outside.new)) (W.taken sink.old) (W.taken sink.new) (W.failures sink.old) (W.failures sink.new) result }
 
     ensures lost { IfSome (lost_by session.old.phase) (λ fault.
-        DroveLost fault (O.log outside.old) (O.log outside.new) (W.failures sink.old) (W.failures sink.new) result) }
+        DroveLost fault session.old.pending (O.log outside.old) (O.log outside.new) (W.taken sink.old) (W.taken sink.new) (W.failures sink.old) (W.failures sink.new) result) }
+
+    // Driven again it asks and writes nothing, and ends so again.
+    ensures closed { Closed session.new result }
 
     // Where the faults of files and of output come from.
     ensures file_refused { lost_by session.old.phase ≡ None → result ≡ Err Fault.File →

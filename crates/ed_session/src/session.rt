@@ -84,7 +84,7 @@ impl<S: LineStore> Session<S> {
     ghost use Rattle.ed_syntax.specs.Runs.{run};
     ghost use Rattle.ed_syntax.specs.declared.request.Answer.{Answer};
     ghost use Rattle.ed_session.specs.Sessions.{made, lost_by, is_waiting, is_started, rest, awaited, path_of, can_take_answer, Waiting, Between};
-    ghost use Rattle.ed_session.specs.Steps.{Answers, Starts, BreaksOff, Steps, StepBreaks, LostSteps, Tells, LosesOutput};
+    ghost use Rattle.ed_session.specs.Steps.{Answers, Starts, BreaksOff, Steps, StepBreaks, LostSteps, Tells, IsEnded, LosesOutput};
     ghost use Rattle.ed_session.specs.Advances.{Advances, AdvancesBy};
     ghost use Rattle.ed_session.specs.Work.{work, Works};
 
@@ -147,7 +147,7 @@ impl<S: LineStore> Session<S> {
     /// file's bytes ends the run by `Fault::File`.
     pub fn start(&mut self, answer: Answer)
         requires fresh { is_started self.old.phase ≡ false }
-        ensures given { lost_by self.new.phase ≡ None → Starts self.old.phase self.old answer self.new }
+        ensures given { lost_by self.new.phase ≡ None → Starts (path_of self.old.phase) self.old answer self.new }
         ensures broke { lost_by self.new.phase ≢ None → BreaksOff self.new }
         ensures started { is_started self.new.phase ≡ true }
         ensures idle { is_waiting self.new.phase ≡ false }
@@ -235,6 +235,7 @@ impl<S: LineStore> Session<S> {
         ensures lost { IfSome (lost_by self.old.phase) (λ fault. LostSteps fault self.old result self.new) }
         ensures started { is_started self.new.phase ≡ true }
         ensures told { Tells result self.new }
+        ensures same_end { self.old.told ≡ true → IsEnded result × (self.new ≡ self.old) }
         ensures work { Works self.old result self.new }
     {
         'commands: while self.pending.is_empty() && matches!(&self.stage, Stage::Between) {

@@ -1,6 +1,6 @@
 use Rattle.std.proofs.Common.{sym, ap, subst, inl}
 use Rattle.ed_syntax.specs.declared.request.Request.TheVariants as request
-use Rattle.ed_session.specs.Sessions.{is_waiting, is_started}
+use Rattle.ed_session.specs.Sessions.{is_waiting, is_started, path_of}
 use Rattle.ed_session.specs.Turns.{Performs}
 use Rattle.ed_session.proofs.Logs.{read_raises}
 use Rattle.ed_session.proofs.Performed.{begins_performed, begins_alone, waiting_whole, fresh_whole, broken_lost, starts_same, fresh_awaits, starts_answers}
@@ -25,7 +25,7 @@ returns-in-None-start_path g c =
     let s = c.args.session.now in
     let e = c.start.ensures in
     let whole = fresh_whole s.phase (sym c.if-started.ensures.value) in
-    record { begun = begins_alone s c.start.new.self _ _ whole (λ h. starts_same s.phase s _ c.start.new.self c.in-None-start_path.ensures.without (e.given h)) e.broke e.idle e.started }
+    record { begun = begins_alone s c.start.new.self _ _ whole (λ h. starts_same (path_of s.phase) s _ c.start.new.self c.in-None-start_path.ensures.without (e.given h)) e.broke e.idle e.started }
 
 pub returns-in-Ok : goal.returns-in-Ok
 returns-in-Ok g c =

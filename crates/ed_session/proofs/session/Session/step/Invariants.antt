@@ -11,6 +11,7 @@ invariant-commands g l = record {
   same : lost_by l.fn.self.phase ≡ None → lost_by l.self.phase ≡ None → SameRest l.fn.self l.self;
   broke : lost_by l.fn.self.phase ≡ None → lost_by l.self.phase ≢ None → BreaksOff l.self;
   lost : IfSome (lost_by l.fn.self.phase) (λ fault. l.self ≡ l.fn.self);
+  told : l.fn.self.told ≡ true → l.self ≡ l.fn.self;
   idle : is_waiting l.self.phase ≡ false;
   started : is_started l.self.phase ≡ true;
   work : work l.self ≤ work l.fn.self;
