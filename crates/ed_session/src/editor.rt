@@ -150,3 +150,6 @@ impl<S: LineStore> Editor<S> {
         self.failed
     }
 }
+
+#[cfg(test)]
+mod tests;
