@@ -1,4 +1,5 @@
-mod FirstRows
+mod RunRows
+mod ScriptRows
 pub mod ScriptLemmas
 pub mod BlankLemmas
 pub mod NumberLemmas
