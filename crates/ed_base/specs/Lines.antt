@@ -1,5 +1,5 @@
 -- A text file and its lines (XBD 3, "Line", "Incomplete Line", "Text File").
-use Rattle.std.specs.Prelude.{ℕ, List, [], ◌∷◌, ◌++◌, true, false, ◌≢◌, nat_eq, All}
+use Rattle.std.specs.Prelude.{ℕ, List, [], ◌∷◌, ◌++◌, true, false, ◌≡◌, ◌≢◌, ◌⊎◌, nat_eq, All}
 
 -- the byte that ends a line
 abbrev pub newline : ℕ
@@ -35,3 +35,7 @@ lines_of (byte ∷ bytes) =
 abbrev pub bytes_of : List (List ℕ) → List ℕ
 bytes_of [] = []
 bytes_of (line ∷ lines) = line ++ newline ∷ bytes_of lines
+
+-- The bytes are this line, its newline and this rest, or a last line without its newline and no rest.
+abbrev pub CutsFirst : List ℕ → List ℕ → List ℕ → Type 0
+CutsFirst bytes line rest = (bytes ≡ line ++ newline ∷ rest) ⊎ ((bytes ≡ line) × (rest ≡ []))

@@ -3,8 +3,15 @@
 
 mod bytes;
 mod fault;
+mod lines;
+mod numbers;
 mod text;
 
 pub use bytes::Bytes;
 pub use fault::Fault;
+pub use lines::{
+    bytes_hold_their_lines, count_lines, join_lines, next_line, split_lines,
+    written_lines_are_read_back,
+};
+pub use numbers::push_number;
 pub use text::Text;

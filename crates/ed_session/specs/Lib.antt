@@ -3,5 +3,13 @@ pub mod Sessions
 pub mod Steps
 pub mod Sinks
 pub mod Drives
+-- the tools for runs in memory
+pub mod MemFiles
+pub mod MemSinks
 -- what serves clauses inside the crate
 pub mod Editors
+pub mod Faults
+pub mod Insides
+pub mod Advances
+pub mod Work
+pub mod Turns

@@ -1,5 +1,5 @@
 -- A session as a value, and what is left of its run (our shape of a run that stops for its files).
-use Rattle.std.specs.Prelude.{ℕ, Bool, true, false, List, [], Option, Some, None, Result, Ok, Err}
+use Rattle.std.specs.Prelude.{ℕ, Bool, true, false, List, [], Option, Some, None, Result, Err}
 use Rattle.ed_base.specs.declared.fault.Fault.{Fault}
 use Rattle.ed_syntax.specs.declared.options.Options.{Options}
 use Rattle.ed_syntax.specs.declared.options.Ending.{Ending}
@@ -29,7 +29,13 @@ pub record SessionValue : Type 0 where
 -- a session just made
 abbrev pub made : Script → Options → SessionValue
 made script o = record {
-  phase = Fresh o.path; present = present o; commands = script.commands; fault = script.fault; pending = []; told = false }
+  phase = Fresh o.path;
+  present = present o;
+  commands = script.commands;
+  fault = script.fault;
+  pending = [];
+  told = false;
+}
 
 -- it was lost to want of memory or to its writer
 abbrev pub lost_by : Phase → Option Fault
@@ -52,6 +58,22 @@ is_started Between = true
 is_started Waiting = true
 is_started (Over result) = true
 is_started (Lost fault) = true
+
+-- the path of the start file, till a session starts
+abbrev pub path_of : Phase → Option (List ℕ)
+path_of (Fresh path) = path
+path_of Between = None
+path_of Waiting = None
+path_of (Over result) = None
+path_of (Lost fault) = None
+
+-- a file's answer may come next
+abbrev pub can_take_answer : Phase → Bool
+can_take_answer (Fresh path) = true
+can_take_answer Between = false
+can_take_answer Waiting = true
+can_take_answer (Over result) = false
+can_take_answer (Lost fault) = false
 
 -- the commands that are left, from here on
 abbrev pub go_on : SessionValue → Present → Rest

@@ -1,21 +1,25 @@
 -- What a sink took of a piece, and whether it failed (our choice: a write that takes nothing has failed).
-use Rattle.std.specs.Prelude.{ℕ, List, ◌≡◌, ◌++◌, Option, Bool, true, false, nat_eq, Result, Ok, Err}
+use Rattle.std.specs.Prelude.{ℕ, List, [], ◌≡◌, ◌≢◌, ◌++◌, Option, true, false, nat_eq, Result, Ok, Err}
 use Rattle.std.specs.Io.KnownBytes.{Appends}
-
--- a write that took nothing has failed
-abbrev pub write_failed : {E : Type 0} → Result ℕ E → Bool
-write_failed (Ok n) = nat_eq n 0
-write_failed (Err e) = true
 
 -- by how much the count of failures rises
 abbrev pub failed_by : {E : Type 0} → Result ℕ E → ℕ
 failed_by (Ok n) = elim (nat_eq n 0) [ true ↦ 1 | false ↦ 0 ]
 failed_by (Err e) = 1
 
+-- a writer as a sink: the bytes that it took, where it tells them, and how often it failed
+pub record OutValue : Type 0 where
+  pub taken : Option (List ℕ)
+  pub failures : ℕ
+
 -- a list begins with a front
 abbrev pub BeginsWith : List ℕ → List ℕ → Type 0
 BeginsWith all front = (more : List ℕ) × (all ≡ front ++ more)
 
--- what is known of a sink grew by a front of these bytes
+-- a list begins with a front, and goes on
+abbrev pub GoesOnBehind : List ℕ → List ℕ → Type 0
+GoesOnBehind all front = (more : List ℕ) × (all ≡ front ++ more) × (more ≢ [])
+
+-- what is known of a sink grew by a front of these bytes, and not by all of them
 abbrev pub AppendsFront : Option (List ℕ) → Option (List ℕ) → List ℕ → Type 0
-AppendsFront old new bytes = (front : List ℕ) × BeginsWith bytes front × Appends old new front
+AppendsFront old new bytes = (front : List ℕ) × GoesOnBehind bytes front × Appends old new front

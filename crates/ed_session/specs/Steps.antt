@@ -1,14 +1,15 @@
 -- What each call of a session does to what is left of its run.
-use Rattle.std.specs.Prelude.{ℕ, ◌≡◌, ◌≢◌, ◌<◌, ◌⊎◌, List, [], ◌∷◌, Bool, true, false, length, Option, Some, None, Result, Ok, Err}
+use Rattle.std.specs.Prelude.{ℕ, ◌≡◌, ◌≢◌, ◌<◌, List, [], ◌∷◌, true, false, length, Option, Some, None, Result, Ok, Err}
 use Rattle.ed_base.specs.declared.fault.Fault.{Fault}
-use Rattle.ed_base.specs.declared.fault.Fault.TheVariants.{Memory}
+use Rattle.ed_base.specs.declared.fault.Fault.TheVariants.{Memory, Output}
+use Rattle.ed_syntax.specs.declared.options.Ending.{Ending}
 use Rattle.ed_syntax.specs.declared.request.Answer.{Answer}
 use Rattle.ed_syntax.specs.declared.request.Request.{Request}
 use Rattle.ed_syntax.specs.declared.request.Request.TheVariants as request
 use Rattle.ed_session.specs.declared.session.Ask.{Ask}
 use Rattle.ed_session.specs.declared.session.Ask.TheVariants as ask
-use Rattle.ed_syntax.specs.Progress.{Progress, behind, report}
-use Rattle.ed_session.specs.Sessions.{SessionValue, Phase, Fresh, Between, Waiting, Over, Lost, rest, awaited, lost_by, is_waiting, is_started}
+use Rattle.ed_syntax.specs.Progress.{behind, report}
+use Rattle.ed_session.specs.Sessions.{SessionValue, Phase, Fresh, Between, Waiting, Over, Lost, rest, awaited, lost_by, is_waiting}
 
 -- what is written where memory runs out, in no help mode
 abbrev pub memory_report : List ℕ
@@ -24,23 +25,20 @@ Answers old request answer new =
     (answers : List Answer) → rest old (answer ∷ answers) ≡ behind [] (request ∷ []) (rest new answers)
 
 -- the start: with a path the answer to its read, without one nothing
-abbrev pub Starts : Phase → SessionValue → Answer → SessionValue → Type 0
-Starts (Fresh (Some path)) old answer new = Answers old (request.Read path) answer new
-Starts (Fresh None) old answer new = SameRest old new
-Starts Between old answer new = SameRest old new
-Starts Waiting old answer new = SameRest old new
-Starts (Over result) old answer new = SameRest old new
-Starts (Lost fault) old answer new = SameRest old new
+abbrev pub Starts : Option (List ℕ) → SessionValue → Answer → SessionValue → Type 0
+Starts (Some path) old answer new = Answers old (request.Read path) answer new
+Starts None old answer new = SameRest old new
 
 -- memory ran out: the report is what is left to hand out
 pub record BreaksOff (new : SessionValue) : Type 0 where
   pub lost : new.phase ≡ Lost Memory
   pub pending : new.pending ≡ memory_report
 
--- the run has come to a request, and waits
+-- the run has come to a request, and waits; all output before it was handed out
 pub record WaitsFor (old new : SessionValue) (request : Request) : Type 0 where
   pub waiting : new.phase ≡ Waiting
   pub asks : awaited new ≡ Some request
+  pub handed_out : (rest new []).output ≡ []
   pub same : SameRest old new
 
 -- what a step gives where the session isn't lost before or after it
@@ -63,3 +61,27 @@ LostSteps fault old (ask.Output bytes) new = (bytes ≡ old.pending) × (0 < len
 LostSteps fault old (ask.Read path) new = ⊥
 LostSteps fault old (ask.Write path bytes) new = ⊥
 LostSteps fault old (ask.Ended result) new = (result ≡ Err fault) × (old.pending ≡ []) × (new.phase ≡ old.phase) × (new.pending ≡ []) × (new.told ≡ true)
+
+-- it tells the end
+abbrev pub IsEnded : Ask → Type 0
+IsEnded (ask.Output bytes) = ⊥
+IsEnded (ask.Read path) = ⊥
+IsEnded (ask.Write path bytes) = ⊥
+IsEnded (ask.Ended result) = Unit {0}
+
+-- a run's own end, which is neither want of memory nor a refusal of its output
+abbrev pub IsOwnEnd : Result Ending Fault → Type 0
+IsOwnEnd (Ok e) = Unit {0}
+IsOwnEnd (Err fault) = (fault ≢ Memory) × (fault ≢ Output)
+
+-- a step tells the end or it doesn't; the end of a session that wasn't lost is the run's own
+abbrev pub Tells : Ask → SessionValue → Type 0
+Tells (ask.Output bytes) new = new.told ≡ false
+Tells (ask.Read path) new = new.told ≡ false
+Tells (ask.Write path bytes) new = new.told ≡ false
+Tells (ask.Ended result) new = (new.told ≡ true) × (lost_by new.phase ≡ None → IsOwnEnd result)
+
+-- the output was refused, and nothing is left to hand out
+pub record LosesOutput (new : SessionValue) : Type 0 where
+  pub lost : new.phase ≡ Lost Output
+  pub pending : new.pending ≡ []

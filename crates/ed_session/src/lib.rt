@@ -1,8 +1,20 @@
 //! Runs of scripts: an editor over any store of lines, sessions, and the loop that drives one to its end.
 #![tactic(auto)]
 
+mod driving;
 mod editor;
+pub mod laws;
 pub mod line_store;
+mod mem_files;
+mod mem_sink;
+mod outside;
 mod session;
+mod sink;
+mod stage;
 
-pub use session::Ask;
+pub use driving::drive;
+pub use mem_files::MemFiles;
+pub use mem_sink::MemSink;
+pub use outside::Outside;
+pub use session::{Ask, Session};
+pub use sink::{Out, Sink, SinkFault};

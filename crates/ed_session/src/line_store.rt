@@ -7,3 +7,6 @@ mod store;
 pub use line::Line;
 pub use plain::PlainStore;
 pub use store::LineStore;
+
+#[cfg(test)]
+mod tests;

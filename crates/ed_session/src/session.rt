@@ -1,7 +1,17 @@
 //! A run that stops for its output and its files.
+ghost use Rattle.std.specs.Prelude.{◌≡◌, ◌≢◌, ◌<◌, ◌≤◌, List, [], Option, Some, None, true, false, IfOk, IfSome, IfNone, IsSome};
+ghost use Rattle.ed_syntax.specs.PublicTypes.{verb_value};
+ghost use Rattle.ed_session.specs.Insides.{quits_anyway};
+ghost use Rattle.ed_session.specs.Steps.{memory_report};
 
+use crate::editor::{Editor, Reply};
+use crate::line_store::LineStore;
+use crate::stage::Stage;
 use ed_base::{Bytes, Fault};
-use ed_syntax::Ending;
+use ed_syntax::{Answer, Command, Ending, Options, Request, Script, Verb};
+use std::alloc::{AllocError, Global};
+use std::marker::Model;
+use std::mem;
 
 /// What a session gives at a step.
 #[derive(Debug, PartialEq, Eq, Drop)]
@@ -14,4 +24,303 @@ pub enum Ask {
     Output(Bytes),
     /// How the run ended.
     Ended(Result<Ending, Fault>),
+}
+
+/// A run of a script that is asked for its next step, and stops where it wants a file or has output.
+///
+/// A start, step or answer that finds no memory loses the session to `Fault::Memory`, behind its report.
+#[derive(Drop)]
+pub struct Session<S: LineStore> {
+    alloc: Global,
+    editor: Editor<S>,
+    commands: Vec<Command>,
+    // The place of the next command.
+    next: usize,
+    fault: Option<usize>,
+    // Output that wasn't handed out.
+    pending: Bytes,
+    // What a fault writes, whose room is made at the start.
+    report: Bytes,
+    stage: Stage,
+    told: bool,
+}
+
+impl<S: LineStore> Model for Session<S> {
+    ghost use Rattle.std.specs.Prelude.{drop, map, vec_len};
+    ghost use Rattle.ed_syntax.specs.PublicTypes.{command_value};
+    ghost use Rattle.ed_session.specs.Sessions.{SessionValue};
+
+    ghost Value = { SessionValue };
+
+    ghost use Rattle.ed_session.specs.Insides.{IsSound, phase_of, quiet};
+
+    ghost view = { λ s. record {
+        phase = phase_of s.stage; present = quiet s.editor.state; commands = map command_value (drop s.next s.commands.items);
+        fault = s.fault; pending = s.pending; told = s.told } };
+
+    ghost invariant = { λ s. IsSound s.stage s.editor.state s.editor.failed (vec_len s.commands) s.next
+        (map command_value (drop s.next s.commands.items)) s.pending s.report s.told };
+}
+
+/// The report of a fault.
+fn make_report(alloc: Global) -> Result<Bytes, AllocError>
+    ensures value { IfOk result (λ report. report ≡ memory_report) }
+{
+    let mut report = Bytes::new(alloc);
+    report.push(b'?')?;
+    report.push(b'\n')?;
+    Ok(report)
+}
+
+// The command ends the run by itself.
+fn ends_run(verb: &Verb) -> bool
+    ensures value { result ≡ quits_anyway (verb_value verb.now) }
+{
+    matches!(verb, Verb::QuitAnyway)
+}
+
+impl<S: LineStore> Session<S> {
+    ghost use Rattle.ed_syntax.specs.PublicTypes.{script_value};
+    ghost use Rattle.ed_syntax.specs.Runs.{run};
+    ghost use Rattle.ed_syntax.specs.declared.request.Answer.{Answer};
+    ghost use Rattle.ed_session.specs.Sessions.{made, lost_by, is_waiting, is_started, rest, awaited, path_of, can_take_answer, Waiting, Between};
+    ghost use Rattle.ed_session.specs.Steps.{Answers, Starts, BreaksOff, Steps, StepBreaks, LostSteps, Tells, IsEnded, LosesOutput};
+    ghost use Rattle.ed_session.specs.Advances.{Advances, AdvancesBy};
+    ghost use Rattle.ed_session.specs.Work.{work, Works};
+
+    /// A session of this script that hasn't started.
+    pub fn new(alloc: Global, script: Script, options: Options) -> Result<Self, AllocError>
+        requires silent { options.silent ≡ true }
+        requires prompt { options.prompt ≡ None }
+        ensures value { IfOk result (λ s. s ≡ made (script_value script) options) }
+        // What is left of it is the whole run.
+        ensures rest { IfOk result (λ s. (answers : List Answer) → rest s answers ≡ run (script_value script) options answers) }
+    {
+        let report = make_report(alloc)?;
+        let store = S::empty(alloc)?;
+        let Script { commands, fault } = script;
+        let Options {
+            silent: _,
+            prompt: _,
+            path,
+        } = options;
+        Ok(Session {
+            alloc,
+            editor: Editor::new(alloc, store),
+            commands,
+            next: 0,
+            fault,
+            pending: Bytes::new(alloc),
+            report,
+            stage: Stage::Fresh(path),
+            told: false,
+        })
+    }
+
+    /// It has been given its start file, or none. Also a session that was lost counts as started.
+    pub fn started(&self) -> bool
+        ensures value { result ≡ is_started self.now.phase }
+    {
+        !matches!(&self.stage, Stage::Fresh(_))
+    }
+
+    /// It waits for the answer to a request.
+    pub fn waits(&self) -> bool
+        ensures value { result ≡ is_waiting self.now.phase }
+    {
+        matches!(&self.stage, Stage::Waiting)
+    }
+
+    // The path of the start file, till the session starts.
+    pub(crate) fn start_path(&self) -> Option<&[u8]>
+        ensures given { IfSome result (λ path. path_of self.now.phase ≡ Some path.now) }
+        ensures without { IfNone result (path_of self.now.phase ≡ None) }
+    {
+        match &self.stage {
+            Stage::Fresh(Some(path)) => Some(path.as_slice()),
+            _ => None,
+        }
+    }
+
+    /// Starts the run with the answer to the read of its start file, or, where it has no path, with an empty buffer:
+    /// then the answer isn't looked at. A missing file is an empty buffer with its name; any other answer but the
+    /// file's bytes ends the run by `Fault::File`.
+    pub fn start(&mut self, answer: Answer)
+        requires fresh { is_started self.old.phase ≡ false }
+        ensures given { lost_by self.new.phase ≡ None → Starts (path_of self.old.phase) self.old answer self.new }
+        ensures broke { lost_by self.new.phase ≢ None → BreaksOff self.new }
+        ensures started { is_started self.new.phase ≡ true }
+        ensures idle { is_waiting self.new.phase ≡ false }
+        ensures untold { self.new.told ≡ false }
+        ensures work { work self.new ≤ work self.old }
+    {
+        let Stage::Fresh(Some(path)) = mem::replace(&mut self.stage, Stage::Between) else {
+            return;
+        };
+        let loaded = match answer {
+            Answer::Bytes(bytes) => self.editor.load(bytes.as_slice(), path),
+            Answer::Missing => self.editor.load(b"", path),
+            Answer::Refused | Answer::Done => Err(Fault::File),
+        };
+        if let Err(fault) = loaded {
+            self.stage = Stage::ended_by(fault);
+            self.pending = mem::replace(&mut self.report, Bytes::new(self.alloc));
+        }
+    }
+
+    // The end of the script, or of what could be read of it.
+    fn end(&mut self)
+        requires between { self.old.phase ≡ Between }
+        requires handed_out { self.old.pending ≡ [] }
+        requires none_left { self.old.commands ≡ [] }
+        ensures given { Advances self.old self.new }
+        ensures work { work self.new < work self.old }
+    {
+        let fault = if self.fault.is_some() {
+            Fault::Syntax
+        } else if self.editor.changed() {
+            Fault::Unsaved
+        } else {
+            self.stage = Stage::Over(Ok(Ending {
+                lines: self.editor.len(),
+            }));
+            return;
+        };
+        self.stage = Stage::Over(Err(fault));
+        self.pending = mem::replace(&mut self.report, Bytes::new(self.alloc));
+    }
+
+    // Does the next command and keeps its output, or finds what it asks for, or comes to the end.
+    fn advance(&mut self) -> Option<Request>
+        requires between { self.old.phase ≡ Between }
+        requires handed_out { self.old.pending ≡ [] }
+        ensures given { AdvancesBy self.old result self.new }
+        ensures work { work self.new < work self.old }
+    {
+        if self.next == self.commands.len() {
+            self.end();
+            return None;
+        }
+        let command = &self.commands[self.next];
+        if ends_run(&command.verb) {
+            self.stage = Stage::Over(Ok(Ending {
+                lines: self.editor.len(),
+            }));
+            return None;
+        }
+        match self.editor.apply(command, None) {
+            Ok(Reply::Done(output)) => {
+                self.next += 1;
+                self.pending = output;
+                None
+            }
+            Ok(Reply::Wants(request)) => {
+                self.stage = Stage::Waiting;
+                Some(request)
+            }
+            Err(fault) => {
+                self.stage = Stage::ended_by(fault);
+                self.pending = mem::replace(&mut self.report, Bytes::new(self.alloc));
+                None
+            }
+        }
+    }
+
+    /// The next thing that the run does. Commands without output are done on the way. Once it is `Ended`, it stays so.
+    pub fn step(&mut self) -> Ask
+        requires started { is_started self.old.phase ≡ true }
+        requires idle { is_waiting self.old.phase ≡ false }
+        ensures given { lost_by self.old.phase ≡ None → lost_by self.new.phase ≡ None → Steps self.old result self.new }
+        ensures broke { lost_by self.old.phase ≡ None → lost_by self.new.phase ≢ None → StepBreaks result self.new }
+        ensures lost { IfSome (lost_by self.old.phase) (λ fault. LostSteps fault self.old result self.new) }
+        ensures started { is_started self.new.phase ≡ true }
+        ensures told { Tells result self.new }
+        ensures same_end { self.old.told ≡ true → IsEnded result × (self.new ≡ self.old) }
+        ensures work { Works self.old result self.new }
+    {
+        'commands: while self.pending.is_empty() && matches!(&self.stage, Stage::Between) {
+            match self.advance() {
+                Some(Request::Read(path)) => return Ask::Read(path),
+                Some(Request::Write(path, bytes)) => return Ask::Write(path, bytes),
+                None => {}
+            }
+        }
+        if !self.pending.is_empty() {
+            return Ask::Output(mem::replace(&mut self.pending, Bytes::new(self.alloc)));
+        }
+        self.told = true;
+        match &self.stage {
+            Stage::Over(result) => Ask::Ended(*result),
+            Stage::Lost(fault) => Ask::Ended(Err(*fault)),
+            Stage::Fresh(_) | Stage::Between | Stage::Waiting => unreachable!(),
+        }
+    }
+
+    // The request that is awaited. A session that has no memory to tell it is lost.
+    pub(crate) fn requested(&mut self) -> Option<Request>
+        requires waiting { self.old.phase ≡ Waiting }
+        ensures value { IfSome result (λ request. (awaited self.old ≡ Some request) × (self.new ≡ self.old)) }
+        ensures broke { IfNone result (BreaksOff self.new) }
+        ensures work { work self.new ≤ work self.old }
+    {
+        match self.editor.apply(&self.commands[self.next], None) {
+            Ok(Reply::Wants(request)) => Some(request),
+            Ok(Reply::Done(_)) => unreachable!(),
+            Err(_) => {
+                self.stage = Stage::Lost(Fault::Memory);
+                self.pending = mem::replace(&mut self.report, Bytes::new(self.alloc));
+                None
+            }
+        }
+    }
+
+    /// Takes the answer to what the session waits for. One that doesn't fit its request counts as `Answer::Refused`.
+    pub fn answer(&mut self, answer: Answer)
+        requires waiting { self.old.phase ≡ Waiting }
+        ensures awaited { IsSome (awaited self.old) }
+        ensures given { lost_by self.new.phase ≡ None → IfSome (awaited self.old) (λ request. Answers self.old request answer self.new) }
+        ensures broke { lost_by self.new.phase ≢ None → BreaksOff self.new }
+        ensures idle { is_waiting self.new.phase ≡ false }
+        ensures started { is_started self.new.phase ≡ true }
+        ensures untold { self.new.told ≡ false }
+        ensures work { work self.new ≤ work self.old }
+    {
+        match self.editor.apply(&self.commands[self.next], Some(answer)) {
+            Ok(Reply::Done(output)) => {
+                self.next += 1;
+                self.pending = output;
+                self.stage = Stage::Between;
+            }
+            Ok(Reply::Wants(_)) => {
+                self.stage = Stage::Over(Err(Fault::File));
+                self.pending = mem::replace(&mut self.report, Bytes::new(self.alloc));
+            }
+            Err(fault) => {
+                self.stage = Stage::ended_by(fault);
+                self.pending = mem::replace(&mut self.report, Bytes::new(self.alloc));
+            }
+        }
+    }
+
+    // Loses the session because the outside had no memory for an answer.
+    pub(crate) fn fail_memory(&mut self)
+        requires unended { can_take_answer self.old.phase ≡ true }
+        ensures broke { BreaksOff self.new }
+        ensures work { work self.new ≤ work self.old }
+    {
+        self.stage = Stage::Lost(Fault::Memory);
+        self.pending = mem::replace(&mut self.report, Bytes::new(self.alloc));
+    }
+
+    /// Makes `Fault::Output` the end of a session that hasn't answered `Ended`; of one that has, nothing changes.
+    pub fn fail_output(&mut self)
+        ensures ended { self.old.told ≡ false → LosesOutput self.new }
+        ensures unchanged { self.old.told ≡ true → self.new ≡ self.old }
+    {
+        if self.told {
+            return;
+        }
+        self.stage = Stage::Lost(Fault::Output);
+        self.pending = Bytes::new(self.alloc);
+    }
 }

@@ -1,5 +1,5 @@
 -- What a run holds, has written and waits for, and how it ends (XCU ed, "Stdout", "Consequences of Errors").
-use Rattle.std.specs.Prelude.{ℕ, Bool, true, false, List, [], ◌∷◌, ◌++◌, length, codes, decimal, Option, Result, Ok, Err}
+use Rattle.std.specs.Prelude.{ℕ, Bool, true, false, List, [], ◌∷◌, ◌++◌, length, codes, decimal, Result, Ok, Err}
 use Rattle.ed_base.specs.Fault.{text_of}
 use Rattle.ed_base.specs.Lines.{newline}
 use Rattle.ed_base.specs.declared.fault.Fault.{Fault}

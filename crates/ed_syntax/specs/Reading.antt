@@ -1,5 +1,5 @@
 -- How the reader takes a script apart: functions on the lines that are left (XCU ed, "Commands in ed").
-use Rattle.std.specs.Prelude.{ℕ, zero, suc, ◌+◌, ◌-◌, Bool, true, false, List, [], ◌∷◌, length, codes, Option, Some, None, nat_eq}
+use Rattle.std.specs.Prelude.{ℕ, zero, suc, ◌+◌, ◌-◌, Bool, true, false, ◌&&◌, List, [], ◌∷◌, length, Option, Some, None, nat_eq}
 use Rattle.std.specs.List.{list_all}
 use Rattle.ed_base.specs.Lines.{lines_of}
 use Rattle.ed_syntax.specs.Commands as ed
@@ -11,15 +11,45 @@ use Rattle.ed_syntax.specs.Tokens.{◌>>=◌, addresses}
 -- a letter's command, before its text is read
 abbrev pub verb_at : ℕ → Option Verb
 verb_at b =
-    elim (nat_eq b 97) [ true ↦ Some (ed.Append [])
-    | false ↦ elim (nat_eq b 100) [ true ↦ Some ed.Delete
-    | false ↦ elim (nat_eq b 112) [ true ↦ Some (ed.Write ed.Plain)
-    | false ↦ elim (nat_eq b 81) [ true ↦ Some ed.QuitAnyway
-    | false ↦ None ] ] ] ]
+    elim (nat_eq b 97) [
+      | true ↦ Some (ed.Append [])
+      | false ↦ elim (nat_eq b 100) [
+        | true ↦ Some ed.Delete
+        | false ↦ elim (nat_eq b 112) [
+          | true ↦ Some (ed.Write ed.Plain)
+          | false ↦ elim (nat_eq b 81) [
+            | true ↦ Some ed.QuitAnyway
+            | false ↦ None
+          ]
+        ]
+      ]
+    ]
 
 -- nothing but blanks stands behind the letter
 abbrev pub is_over : List ℕ → Bool
 is_over bs = list_all is_blank bs
+
+-- a command's own line, before its text is read
+abbrev pub Heading : Type 0
+Heading = Addresses × Verb
+
+-- the addresses may stand before the command, and its line is over
+abbrev pub heading_with : Addresses → List ℕ → Verb → Option Heading
+heading_with given bs verb = elim (may_have given verb && is_over bs) [ true ↦ Some (given, verb) | false ↦ None ]
+
+-- the letter behind the addresses
+abbrev pub heading_behind : Addresses → List ℕ → Option Heading
+heading_behind given [] = None
+heading_behind given (b ∷ bs) = verb_at b >>= heading_with given bs
+
+-- what stands on a command's own line
+abbrev pub heading : List ℕ → Option Heading
+heading line = addresses line >>= λ r. heading_behind r.0 r.1
+
+-- the lines that are left, and the number of the line that was read last
+pub record LinesLeft : Type 0 where
+  pub lines : List (List ℕ)
+  pub number : ℕ
 
 -- a line that is `.` ends a text
 abbrev pub is_dot : List ℕ → Bool
@@ -34,30 +64,22 @@ text (line ∷ lines) = elim (is_dot line) [ true ↦ ([], lines) | false ↦ le
 
 -- the text of `a` stands on the lines behind it
 abbrev pub with_text : Verb → List (List ℕ) → Verb × List (List ℕ)
-with_text (ed.Append entered) later = (ed.Append (text later).0, (text later).1)
+with_text (ed.Append entered) later = let r = text later in (ed.Append r.0, r.1)
 with_text ed.Delete later = (ed.Delete, later)
 with_text (ed.Write form) later = (ed.Write form, later)
 with_text ed.QuitAnyway later = (ed.QuitAnyway, later)
 
-abbrev pub finished : Addresses → Verb × List (List ℕ) → Command × List (List ℕ)
-finished before x = (record { addresses = before; verb = x.0; suffix = None; listed = false }, x.1)
-
--- behind the letter: the addresses may stand there, and the line ends
-abbrev pub behind_verb : Addresses → Verb → List ℕ → List (List ℕ) → Option (Command × List (List ℕ))
-behind_verb before verb bs later =
-    elim (may_have before verb) [
-      true ↦ elim (is_over bs) [ true ↦ Some (finished before (with_text verb later)) | false ↦ None ]
-    | false ↦ None ]
-
--- the letter behind the addresses
-abbrev pub behind_addresses : Addresses → List ℕ → List (List ℕ) → Option (Command × List (List ℕ))
-behind_addresses before [] later = None
-behind_addresses before (b ∷ bs) later = verb_at b >>= λ verb. behind_verb before verb bs later
+-- the command of a heading, and the lines behind it
+abbrev pub finished : Heading → List (List ℕ) → Command × List (List ℕ)
+finished h later =
+    let r = with_text h.1 later in
+    (record { addresses = h.0; verb = r.0; suffix = None; listed = false }, r.1)
 
 -- the command that begins on this line, and the lines behind it
 abbrev pub command_at : List ℕ → List (List ℕ) → Option (Command × List (List ℕ))
-command_at line later = addresses line >>= λ a. behind_addresses a.0 a.1 later
+command_at line later = heading line >>= λ h. Some (finished h later)
 
+-- a command before a script
 abbrev pub followed : Command → Script → Script
 followed c script = record { commands = c ∷ script.commands; fault = script.fault }
 
@@ -67,8 +89,9 @@ script n number [] = record { commands = []; fault = None }
 script zero number (line ∷ later) = record { commands = []; fault = Some number }
 script (suc n) number (line ∷ later) =
     elim (command_at line later) [
-      None ↦ record { commands = []; fault = Some number }
-    | Some r ↦ followed r.0 (script n (number + (suc (length later) - length r.1)) r.1) ]
+      | None ↦ record { commands = []; fault = Some number }
+      | Some r ↦ followed r.0 (script n (number + (suc (length later) - length r.1)) r.1)
+    ]
 
 -- the script that bytes spell
 abbrev pub script_of : List ℕ → Script

@@ -37,10 +37,11 @@ one c m go = asking m (command m.state c None) (λ a. command m.state c (Some a)
 -- a command that ends the run, or goes on
 abbrev pub step : Command → Present → (Present → Rest) → Rest
 step c m go answers = elim c.verb [
-      ed.QuitAnyway ↦ ending m
-    | ed.Append text ↦ one c m go answers
-    | ed.Delete ↦ one c m go answers
-    | ed.Write form ↦ one c m go answers ]
+  | ed.QuitAnyway ↦ ending m
+  | ed.Append text ↦ one c m go answers
+  | ed.Delete ↦ one c m go answers
+  | ed.Write form ↦ one c m go answers
+]
 
 -- where prompting is on, the prompt is written before each command and before the end is found
 abbrev pub prompted : Present → Progress → Progress

@@ -15,7 +15,8 @@ None >>= f = None
 
 -- the bytes behind the blanks in front
 abbrev pub behind_blanks : List ℕ → List ℕ
-behind_blanks bs = drop (prefix_len is_blank bs) bs
+behind_blanks [] = []
+behind_blanks (b ∷ bs) = elim (is_blank b) [ true ↦ behind_blanks bs | false ↦ b ∷ bs ]
 
 -- one to nine digits
 abbrev pub number : List ℕ → Parsed ℕ
@@ -31,10 +32,16 @@ from_base base bs = Some (Some (at_base base), bs)
 abbrev pub address : List ℕ → Parsed (Option Address)
 address [] = Some (None, [])
 address (b ∷ bs) =
-    elim (is_digit b) [ true ↦ number (b ∷ bs) >>= λ r. from_base (Number r.0) r.1
-    | false ↦ elim (nat_eq b 46) [ true ↦ from_base Current bs
-    | false ↦ elim (nat_eq b 36) [ true ↦ from_base Last bs
-    | false ↦ Some (None, b ∷ bs) ] ] ]
+    elim (is_digit b) [
+      | true ↦ number (b ∷ bs) >>= λ r. from_base (Number r.0) r.1
+      | false ↦ elim (nat_eq b 46) [
+        | true ↦ from_base Current bs
+        | false ↦ elim (nat_eq b 36) [
+          | true ↦ from_base Last bs
+          | false ↦ Some (None, b ∷ bs)
+        ]
+      ]
+    ]
 
 -- `,` is `1,$`; `,b` is `1,b`; `a,` is `a,a`
 abbrev pub comma : Option Address → Option Address → Addresses
@@ -43,6 +50,7 @@ comma None (Some b) = Comma (at_base (Number 1)) b
 comma (Some a) None = Comma a a
 comma (Some a) (Some b) = Comma a b
 
+-- no pair: one address, or none
 abbrev pub alone : Option Address → Addresses
 alone None = Without
 alone (Some a) = One a
@@ -51,8 +59,10 @@ alone (Some a) = One a
 abbrev pub pair : Option Address → List ℕ → Parsed Addresses
 pair a [] = Some (alone a, [])
 pair a (b ∷ bs) =
-    elim (nat_eq b 44) [ true ↦ address (behind_blanks bs) >>= λ r. Some (comma a r.0, r.1)
-    | false ↦ Some (alone a, b ∷ bs) ]
+    elim (nat_eq b 44) [
+      | true ↦ address (behind_blanks bs) >>= λ r. Some (comma a r.0, r.1)
+      | false ↦ Some (alone a, b ∷ bs)
+    ]
 
 -- the addresses before a command, with the blanks around them
 abbrev pub addresses : List ℕ → Parsed Addresses

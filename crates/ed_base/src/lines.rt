@@ -1,0 +1,86 @@
+//! The lines of bytes, and the bytes of lines.
+ghost use Rattle.std.specs.Prelude.{◌≡◌, ◌↔◌, ◌≢◌, ◌<◌, ◌-◌, ◌^◌, ℕ, List, [], ◌∷◌, ◌++◌, length, min, IsNone, IfSome, IfOk};
+ghost use Rattle.ed_base.specs.Lines.{newline, IsLine, AreLines, HoldsLines, CutsFirst, lines_of, bytes_of};
+
+use crate::{Bytes, Text};
+use memchr::{memchr, memchr_iter};
+use std::alloc::{AllocError, Global};
+
+/// The first line and the bytes behind its newline; a last line may lack the newline. It takes no memory.
+pub fn next_line(bytes: &[u8]) -> Option<(&[u8], &[u8])>
+    ensures ended { IsNone result ↔ (bytes.now ≡ []) }
+    ensures line { IfSome result (λ (line, rest). IsLine line.now) }
+    ensures cut { IfSome result (λ (line, rest). CutsFirst bytes.now line.now rest.now) }
+    ensures first { IfSome result (λ (line, rest). lines_of bytes.now ≡ line.now ∷ lines_of rest.now) }
+    ensures shorter { IfSome result (λ (line, rest). length rest.now < length bytes.now) }
+{
+    if bytes.is_empty() {
+        return None;
+    }
+    match memchr(b'\n', bytes) {
+        Some(end) => Some((&bytes[..end], &bytes[end + 1..])),
+        None => Some((bytes, &[])),
+    }
+}
+
+/// The lines of a file. The last one may lack its newline; after a last newline there is none.
+pub fn split_lines(alloc: Global, bytes: &[u8]) -> Result<Text, AllocError>
+    ensures exact { IfOk result (λ lines. lines ≡ lines_of bytes.now) }
+{
+    let mut lines = Text::new(alloc);
+    let mut left = bytes;
+    while let Some((line, rest)) = next_line(left) {
+        lines.push(Bytes::from_slice(alloc, line)?)?;
+        left = rest;
+    }
+    Ok(lines)
+}
+
+/// The file of these lines, each with a newline after it. It allocates once.
+pub fn join_lines(alloc: Global, lines: &Text) -> Result<Bytes, AllocError>
+    ensures exact { IfOk result (λ bytes. bytes ≡ bytes_of lines.now) }
+{
+    let mut bytes = Bytes::new(alloc);
+    bytes.reserve(file_size(lines.as_slice()))?;
+    for line in lines.as_slice() {
+        bytes.extend_from_slice(line.as_slice())?;
+        bytes.push(b'\n')?;
+    }
+    Ok(bytes)
+}
+
+// The bytes of a file of these lines, or the greatest `usize` where there are more.
+fn file_size(lines: &[Bytes]) -> usize
+    ensures value { result ≡ min (length (bytes_of lines.now)) (2 ^ 64 - 1) }
+{
+    let mut size: usize = 0;
+    for line in lines {
+        size = size.saturating_add(line.len()).saturating_add(1);
+    }
+    size
+}
+
+/// How many lines a file has. It takes no memory.
+pub fn count_lines(bytes: &[u8]) -> usize
+    ensures exact { result ≡ length (lines_of bytes.now) }
+{
+    match bytes {
+        [] => 0,
+        // Behind each newline but a last one stands a line.
+        [front @ .., _] => memchr_iter(b'\n', front).count() + 1,
+    }
+}
+
+/// Bytes hold the lines that `lines_of` gives, and no others.
+pub fn bytes_hold_their_lines()
+    ensures held { (bytes : List ℕ) → HoldsLines bytes (lines_of bytes) }
+    ensures only { (bytes : List ℕ) (lines : List (List ℕ)) → HoldsLines bytes lines → lines ≡ lines_of bytes }
+    ensures lines { (bytes : List ℕ) → AreLines (lines_of bytes) }
+{}
+
+/// Lines that are written as a file are read back from it, before whatever follows.
+pub fn written_lines_are_read_back()
+    ensures alone { (lines : List (List ℕ)) → AreLines lines → lines_of (bytes_of lines) ≡ lines }
+    ensures before { (lines : List (List ℕ)) (rest : List ℕ) → AreLines lines →
+        lines_of (bytes_of lines ++ rest) ≡ lines ++ lines_of rest }
+{}

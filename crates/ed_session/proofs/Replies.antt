@@ -1,0 +1,103 @@
+-- What a command can answer so far: it asks for no file, and its fault is one of the script's own.
+use Rattle.std.proofs.Common.{◌≡◌, ℕ, ℤ, pos, negsuc, true, false, zero, suc, List, [], Option, Some, None, Result, Ok, Err, nat_le, subst}
+use Rattle.std.specs.Prelude.{◌≢◌}
+use Rattle.ed_base.specs.declared.fault.Fault.{Fault}
+use Rattle.ed_base.specs.declared.fault.Fault.TheVariants as fault
+use Rattle.ed_syntax.specs.declared.request.Answer.{Answer}
+use Rattle.ed_syntax.specs.declared.request.Request.{Request}
+use Rattle.ed_syntax.specs.Applied.{Makes, Reply, Done, Wants, command, effect_of, replied, suffix_written}
+use Rattle.ed_syntax.specs.Commands as ed
+use Rattle.ed_syntax.specs.Commands.{Addresses, Address, Base, Command, Form, Verb}
+use Rattle.ed_syntax.specs.Effects as effect
+use Rattle.ed_syntax.specs.Effects.{Outcome}
+use Rattle.ed_syntax.specs.Forms.{lines_written}
+use Rattle.ed_syntax.specs.Ranges.{Span, span, spanned, ordered, first_of_two, last_of_two}
+use Rattle.ed_syntax.specs.States.{State, last}
+use Rattle.ed_syntax.specs.Values.{◌>>◌, base_number, within, value, values}
+use Rattle.ed_syntax.specs.Verbs.{Taking, NoAddress, Place, Range, taking, default, given_or}
+
+-- a fault of the script's own
+pub record IsScriptFault (f : Fault) : Type 0 where
+  pub not_memory : f ≢ fault.Memory
+  pub not_output : f ≢ fault.Output
+  pub not_file : f ≢ fault.File
+
+address_fault : IsScriptFault fault.Address
+address_fault = record { not_memory = λ e. cc; not_output = λ e. cc; not_file = λ e. cc }
+
+-- only such a fault
+abbrev Sound : {A : Type 0} → Result A Fault → Type 0
+Sound (Ok x) = Unit {0}
+Sound (Err f) = IsScriptFault f
+
+-- it is done, or has such a fault
+abbrev pub Replies : Result (State × Reply) Fault → Type 0
+Replies (Ok (s, Done output)) = Unit {0}
+Replies (Ok (s, Wants request)) = ⊥
+Replies (Err f) = IsScriptFault f
+
+sound_then : {A B : Type 0} (x : Result A Fault) (g : A → Result B Fault) → Sound x → ((y : A) → Sound (g y)) → Sound (x >> g)
+sound_then (Ok y) g h k = k y
+sound_then (Err f) g h k = h
+
+replies_then : {A : Type 0} (x : Result A Fault) (g : A → Result (State × Reply) Fault) → Sound x → ((y : A) → Replies (g y)) → Replies (x >> g)
+replies_then (Ok y) g h k = k y
+replies_then (Err f) g h k = h
+
+within_sound : (s : State) (z : ℤ) → Sound (within s z)
+within_sound s (pos n) = elim (nat_le n (last s)) as (λ b. Sound {A = State × ℕ} (elim b [ true ↦ Ok (s, n) | false ↦ Err fault.Address ])) [ true ↦ tt | false ↦ address_fault ]
+within_sound s (negsuc n) = address_fault
+
+base_sound : (b : Base) (s : State) → Sound (base_number b s)
+base_sound (ed.Number n) s = tt
+base_sound ed.Current s = tt
+base_sound ed.Last s = tt
+
+value_sound : (a : Address) (s : State) → Sound (value a s)
+value_sound a s = sound_then (base_number a.base s) _ (base_sound a.base s) (λ r. within_sound r.0 _)
+
+values_sound : (a : Addresses) (s : State) → Sound (values a s)
+values_sound ed.Without s = tt
+values_sound (ed.One a) s = sound_then (value a s) _ (value_sound a s) (λ r. tt)
+values_sound (ed.Comma a b) s = sound_then (value a s) _ (value_sound a s) (λ r. sound_then (value b r.0) _ (value_sound b r.0) (λ t. tt))
+
+ordered_sound : (a b : ℕ) → Sound (ordered a b)
+ordered_sound a b =
+    elim (nat_le 1 a) as (λ x. Sound {A = Span} (elim x [ true ↦ elim (nat_le a b) [ true ↦ Ok (span a b) | false ↦ Err fault.Address ] | false ↦ Err fault.Address ])) [
+        true ↦ elim (nat_le a b) as (λ y. Sound {A = Span} (elim y [ true ↦ Ok (span a b) | false ↦ Err fault.Address ])) [ true ↦ tt | false ↦ address_fault ]
+      | false ↦ address_fault
+    ]
+
+spanned_sound : (t : Taking) (v : List ℕ) → Sound (spanned t v)
+spanned_sound NoAddress v = tt
+spanned_sound Place v = tt
+spanned_sound Range v = ordered_sound (first_of_two v) (last_of_two v)
+
+suffix_sound : (form : Option Form) (s : State) → Sound (suffix_written form s)
+suffix_sound None s = tt
+suffix_sound (Some f) s =
+    elim s.current as (λ n. Sound {A = List ℕ} (elim n [ zero ↦ Err fault.Address | suc k ↦ Ok (lines_written f s.current s.current s.lines) ])) [ zero ↦ address_fault | suc k ↦ tt ]
+
+made_replies : (s : State) (form : Option Form) (o : Outcome) → Replies (replied s form (Makes o))
+made_replies s form o = replies_then (suffix_written form o.state) _ (suffix_sound form o.state) (λ more. tt)
+
+effect_replies : (verb : Verb) (x : Span) (s t : State) (given : Option Answer) (form : Option Form) → Replies (effect_of verb x t given >> replied s form)
+effect_replies (ed.Append text) x s t given form = made_replies s form (effect.append text x t)
+effect_replies ed.Delete x s t given form = made_replies s form (effect.delete x t)
+effect_replies (ed.Write f) x s t given form = made_replies s form (effect.write f x t)
+effect_replies ed.QuitAnyway x s t given form = made_replies s form (effect.only t [])
+
+-- a command is done or has a fault of the script's own
+pub command_replies : (s : State) (c : Command) (given : Option Answer) → Replies (command s c given)
+command_replies s c given =
+    replies_then (values (given_or c.addresses (default c.verb)) s) _ (values_sound (given_or c.addresses (default c.verb)) s) (λ v.
+      replies_then (spanned (taking c.verb) v.1) _ (spanned_sound (taking c.verb) v.1) (λ x.
+        effect_replies c.verb x s v.0 given c.suffix))
+
+-- so it asks for no file
+pub asks_nothing : (s t : State) (c : Command) (given : Option Answer) (request : Request) → command s c given ≡ Ok (t, Wants request) → ⊥
+asks_nothing s t c given request e = subst Replies e (command_replies s c given)
+
+-- and its fault is one of the script's own
+pub fault_is_own : (s : State) (c : Command) (given : Option Answer) (f : Fault) → command s c given ≡ Err f → IsScriptFault f
+fault_is_own s c given f e = subst Replies e (command_replies s c given)

@@ -1,0 +1,143 @@
+//! Files in memory, whose calls are logged.
+ghost use Rattle.std.specs.Prelude.{◌≡◌, ◌≢◌, ◌<◌, ◌≤◌, ◌⊎◌, [], ◌∷◌, ◌++◌, length, IfOk, OnOk, OnErr};
+ghost use Rattle.ed_syntax.specs.declared.request.Answer.TheVariants as answer;
+ghost use Rattle.ed_syntax.specs.declared.request.Request.TheVariants as request;
+
+use crate::Outside;
+use ed_base::Bytes;
+use ed_syntax::{Answer, Request};
+use std::alloc::{AllocError, Global};
+
+/// An outside whose files are held in memory. A path that was never added is missing.
+#[derive(Drop)]
+pub struct MemFiles {
+    alloc: Global,
+    // The latest first.
+    files: Vec<(Bytes, Bytes)>,
+    log: Vec<(Request, Answer)>,
+    refused: u64,
+    failures: usize,
+    ghost few: { failures ≤ length log.items },
+}
+
+impl MemFiles {
+    ghost use Rattle.ed_session.specs.MemFiles.{file_at, files_of, found, log_of, refused_call, refusals, refuses_now, ChangesFiles, ChangesRefused};
+
+    /// No files. It takes no memory.
+    pub fn new(alloc: Global) -> Self
+        ensures files { files_of result ≡ [] }
+        ensures log { log_of result ≡ [] }
+        ensures refuses_none { refused_call result ≡ 0 }
+        ensures count { refusals result ≡ 0 }
+    {
+        MemFiles {
+            alloc,
+            files: Vec::new(alloc),
+            log: Vec::new(alloc),
+            refused: 0,
+            failures: 0,
+        }
+    }
+
+    /// Gives the file at a path these bytes, in place of those that it had.
+    pub fn add(&mut self, path: &[u8], bytes: &[u8]) -> Result<(), AllocError>
+        ensures added { OnOk result (ChangesFiles self.old self.new ((path.now, bytes.now) ∷ files_of self.old)) }
+        ensures unchanged { OnErr result (ChangesFiles self.old self.new (files_of self.old)) }
+    {
+        let name = Bytes::from_slice(self.alloc, path)?;
+        let held = Bytes::from_slice(self.alloc, bytes)?;
+        self.files.insert(0, (name, held))?;
+        Ok(())
+    }
+
+    /// Its `k`-th call of `read` or `write` will be refused, counted from 1 and from its making, without those that
+    /// find no memory; with 0 none. An earlier such wish is forgotten.
+    pub fn refuse(&mut self, k: u64)
+        ensures value { ChangesRefused self.old self.new k }
+    {
+        self.refused = k;
+    }
+
+    // The next call is the one that is refused.
+    fn refuses(&self) -> bool
+        ensures value { result ≡ refuses_now self.now }
+    {
+        self.refused > 0 && self.refused - 1 == self.log.len() as u64
+    }
+
+    fn find(&self, path: &[u8]) -> Result<Answer, AllocError>
+        ensures value { IfOk result (λ a. a ≡ found (file_at path.now (files_of self.now))) }
+    {
+        'files: for (name, bytes) in self.files.as_slice() {
+            if name.as_slice() == path {
+                return Ok(Answer::Bytes(bytes.try_copy()?));
+            }
+        }
+        Ok(Answer::Missing)
+    }
+}
+
+impl Outside for MemFiles {
+    ghost use Rattle.ed_session.specs.MemFiles.{files_of, log_of, refused_call, refusals, read_answer, write_answer, files_written, refusals_after};
+
+    ghost log = { λ m. m.log.items };
+
+    ghost failures = { λ m. m.failures };
+
+    ghost few_failures = { λ m. m.few };
+
+    fn read(&mut self, path: &[u8]) -> Result<Answer, AllocError>
+        ensures logged { IfOk result (λ a. log_of self.new ≡ log_of self.old ++ (request.Read path.now, a) ∷ []) }
+        ensures unchanged { OnErr result ((log_of self.new ≡ log_of self.old) × (refusals self.new ≡ refusals self.old)) }
+        ensures rises { refusals self.old ≤ refusals self.new }
+        ensures refused { IfOk result (λ a. a ≡ answer.Refused → refusals self.old < refusals self.new) }
+        ensures not_done { IfOk result (λ a. a ≢ answer.Done) }
+
+        // Beside what any outside ensures: the answer, and that the files stay.
+        ensures value { IfOk result (λ a. a ≡ read_answer self.old path.now) }
+        ensures count { OnOk result (refusals self.new ≡ refusals_after self.old) }
+        ensures files { (files_of self.new ≡ files_of self.old) × (refused_call self.new ≡ refused_call self.old) }
+    {
+        self.log.reserve(1)?;
+        let asked = Request::Read(Bytes::from_slice(self.alloc, path)?);
+        let answer = if self.refuses() {
+            Answer::Refused
+        } else {
+            self.find(path)?
+        };
+        let kept = answer.try_copy()?;
+        self.log.push((asked, kept))?;
+        if matches!(&answer, Answer::Refused) {
+            self.failures += 1;
+        }
+        Ok(answer)
+    }
+
+    fn write(&mut self, path: &[u8], bytes: &[u8]) -> Result<Answer, AllocError>
+        ensures logged { IfOk result (λ a. log_of self.new ≡ log_of self.old ++ (request.Write path.now bytes.now, a) ∷ []) }
+        ensures unchanged { OnErr result ((log_of self.new ≡ log_of self.old) × (refusals self.new ≡ refusals self.old)) }
+        ensures rises { refusals self.old ≤ refusals self.new }
+        ensures refused { IfOk result (λ a. a ≡ answer.Refused → refusals self.old < refusals self.new) }
+        ensures done_or_refused { IfOk result (λ a. (a ≡ answer.Done) ⊎ (a ≡ answer.Refused)) }
+
+        // Beside what any outside ensures: the answer, and the files behind it.
+        ensures value { IfOk result (λ a. a ≡ write_answer self.old) }
+        ensures count { OnOk result (refusals self.new ≡ refusals_after self.old) }
+        ensures written { OnOk result (files_of self.new ≡ files_written self.old path.now bytes.now) }
+        ensures refuses { refused_call self.new ≡ refused_call self.old }
+    {
+        self.log.reserve(1)?;
+        let asked = Request::Write(
+            Bytes::from_slice(self.alloc, path)?,
+            Bytes::from_slice(self.alloc, bytes)?,
+        );
+        if self.refuses() {
+            self.log.push((asked, Answer::Refused))?;
+            self.failures += 1;
+            return Ok(Answer::Refused);
+        }
+        self.add(path, bytes)?;
+        self.log.push((asked, Answer::Done))?;
+        Ok(Answer::Done)
+    }
+}

@@ -1,0 +1,101 @@
+//! Where a run's output goes.
+ghost use Rattle.std.specs.Prelude.{◌≡◌, ◌<◌, ◌≤◌, ◌+◌, ◌-◌, ◌^◌, ℕ, List, Option, true, false, IsTrue, take, length, IfOk};
+ghost use Rattle.std.specs.Io.KnownBytes.{Appends, WriteAppends};
+ghost use Rattle.ed_session.specs.Sinks.{failed_by, AppendsFront};
+
+use std::io;
+use std::marker::Model;
+
+/// A write that took nothing.
+#[derive(Clone, Copy, Debug, PartialEq, Eq)]
+pub struct SinkFault;
+
+/// What takes bytes, and counts how often it failed to.
+pub trait Sink {
+    /// The bytes that it took, where it tells them.
+    ghost taken: { Self → Option (List ℕ) };
+
+    /// How often it has failed, which is below 2^64.
+    ghost failures: { Self → ℕ };
+
+    /// Takes the first bytes of a piece, and says how many; at an `Err` it takes none.
+    fn write(&mut self, piece: &[u8]) -> Result<usize, SinkFault>
+        requires piece { 0 < length piece.now }
+        requires count { failures self.old < 2 ^ 64 - 1 }
+
+        ensures within { IfOk result (λ n. n ≤ length piece.now) }
+        ensures appended { WriteAppends (taken self.old) (taken self.new) result piece.now }
+
+        // The count rises just where nothing is taken: at an `Err` and at 0.
+        ensures rises { failures self.new ≡ failures self.old + failed_by result };
+}
+
+/// A writer as a sink.
+#[derive(Drop)]
+pub struct Out<W: io::Write + Drop> {
+    writer: W,
+    failures: u64,
+}
+
+impl<W: io::Write + Drop> Model for Out<W> {
+    ghost use Rattle.ed_session.specs.Sinks.{OutValue};
+
+    ghost Value = { OutValue };
+
+    ghost view = { λ o. record { taken = W.contents o.writer; failures = o.failures } };
+}
+
+impl<W: io::Write + Drop> Out<W> {
+    /// A sink over this writer, which hasn't failed yet. It takes no memory.
+    pub fn new(writer: W) -> Self
+        ensures value { result ≡ record { taken = W.contents writer; failures = 0 } }
+    {
+        Out {
+            writer,
+            failures: 0,
+        }
+    }
+}
+
+impl<W: io::Write + Drop> Sink for Out<W> {
+    ghost taken = { λ o. o.taken };
+
+    ghost failures = { λ o. o.failures };
+
+    fn write(&mut self, piece: &[u8]) -> Result<usize, SinkFault> {
+        match self.writer.write(piece) {
+            Ok(0) => {
+                self.failures += 1;
+                Ok(0)
+            }
+            Ok(n) => Ok(n),
+            Err(_) => {
+                self.failures += 1;
+                Err(SinkFault)
+            }
+        }
+    }
+}
+
+/// Gives all bytes to a sink, and says whether it took them all.
+pub(crate) fn give<W: Sink>(sink: &mut W, bytes: &[u8]) -> bool
+    requires count { W.failures sink.old < 2 ^ 64 - 1 }
+
+    ensures all { IsTrue result → Appends (W.taken sink.old) (W.taken sink.new) bytes.now × (W.failures sink.new ≡ W.failures sink.old) }
+
+    ensures part { result ≡ false → AppendsFront (W.taken sink.old) (W.taken sink.new) bytes.now × (W.failures sink.old < W.failures sink.new) }
+{
+    let mut done = 0;
+    'pieces: while done < bytes.len() {
+        match sink.write(&bytes[done..]) {
+            Ok(n) => {
+                if n == 0 {
+                    return false;
+                }
+                done += n;
+            }
+            Err(_) => return false,
+        }
+    }
+    true
+}

@@ -1,0 +1,194 @@
+-- Worked runs, computed from the bytes of script and file; the outputs are those that the standard says.
+use Rattle.std.specs.Prelude.{◌≡◌, refl, ℕ, Bool, true, false, List, [], ◌∷◌, ◌++◌, Option, Some, None, Ok, Err, codes}
+use Rattle.std.specs.Fmt.{digits}
+use Rattle.ed_base.specs.declared.fault.Fault.{Fault}
+use Rattle.ed_base.specs.declared.fault.Fault.TheVariants as fault
+use Rattle.ed_syntax.specs.declared.options.Options.{Options}
+use Rattle.ed_syntax.specs.declared.request.Answer.TheVariants as answer
+use Rattle.ed_syntax.specs.declared.request.Request.{Request}
+use Rattle.ed_syntax.specs.declared.request.Request.TheVariants as request
+use Rattle.ed_syntax.specs.Reading.{script_of}
+use Rattle.ed_syntax.specs.Progress.{Progress, Ends}
+use Rattle.ed_syntax.specs.Runs.{run}
+
+abbrev options : Bool → Option (List ℕ) → Options
+options silent prompt = record { silent = silent; prompt = prompt; path = Some (codes "F") }
+
+-- a silent run of a script on a file
+abbrev edited : List ℕ → List ℕ → Progress
+edited file script = run (script_of script) (options true None) (answer.Bytes file ∷ [])
+
+-- a run that read its file, wrote this output, and ended with so many lines or by a fault
+abbrev ends : List ℕ → ℕ → Progress
+ends output lines = record { output = output; asked = request.Read (codes "F") ∷ []; stop = Ends (Ok (record { lines = lines })) }
+
+abbrev fails : List ℕ → Fault → Progress
+fails output f = record { output = output; asked = request.Read (codes "F") ∷ []; stop = Ends (Err f) }
+
+abbrev letters : List ℕ
+letters = codes "a\nb\nc\n"
+
+-- commands
+
+second_line_deleted : edited letters (codes "2d\n,p\nQ\n") ≡ ends (codes "a\nc\n") 2
+second_line_deleted = refl
+
+text_behind_last_address : edited letters (codes "1,2a\nz\n.\n,p\nQ\n") ≡ ends (codes "a\nb\nz\nc\n") 4
+text_behind_last_address = refl
+
+text_before_first_line : edited letters (codes "0a\nx\ny\n.\n,p\nQ\n") ≡ ends (codes "x\ny\na\nb\nc\n") 5
+text_before_first_line = refl
+
+last_line_entered_is_current : edited letters (codes "1a\nx\ny\n.\np\nQ\n") ≡ ends (codes "y\n") 5
+last_line_entered_is_current = refl
+
+text_into_empty_buffer : edited [] (codes "a\nx\n.\n,p\nQ\n") ≡ ends (codes "x\n") 1
+text_into_empty_buffer = refl
+
+-- without text the addressed line is current, and the buffer isn't changed
+no_text : edited letters (codes "1a\n.\np\n") ≡ ends (codes "a\n") 3
+no_text = refl
+
+line_behind_deleted_is_current : edited letters (codes "2d\np\nQ\n") ≡ ends (codes "c\n") 2
+line_behind_deleted_is_current = refl
+
+new_last_line_is_current : edited letters (codes "$d\np\nQ\n") ≡ ends (codes "b\n") 2
+new_last_line_is_current = refl
+
+all_deleted : edited letters (codes ",d\np\n") ≡ fails (codes "?\n") fault.Address
+all_deleted = refl
+
+current_line_deleted : edited letters (codes "1p\nd\n,p\nQ\n") ≡ ends (codes "a\nb\nc\n") 2
+current_line_deleted = refl
+
+last_written_is_current : edited letters (codes "1,2p\np\nQ\n") ≡ ends (codes "a\nb\nb\n") 3
+last_written_is_current = refl
+
+-- addresses
+
+last_line_read_is_current : edited letters (codes "p\n.p\n$p\nQ\n") ≡ ends (codes "c\nc\nc\n") 3
+last_line_read_is_current = refl
+
+pair_of_both : edited letters (codes "1,2p\nQ\n") ≡ ends (codes "a\nb\n") 3
+pair_of_both = refl
+
+pair_from_first_line : edited letters (codes ",2p\nQ\n") ≡ ends (codes "a\nb\n") 3
+pair_from_first_line = refl
+
+pair_of_one_line : edited letters (codes "2,p\nQ\n") ≡ ends (codes "b\n") 3
+pair_of_one_line = refl
+
+pair_of_current_and_last : edited letters (codes "2p\n.,$p\nQ\n") ≡ ends (codes "b\nb\nc\n") 3
+pair_of_current_and_last = refl
+
+nine_digits : edited letters (codes "000000001p\nQ\n") ≡ ends (codes "a\n") 3
+nine_digits = refl
+
+ten_digits : edited letters (codes "0000000001p\n") ≡ fails (codes "?\n") fault.Syntax
+ten_digits = refl
+
+ten_digits_behind_comma : edited letters (codes "1,0000000002p\n") ≡ fails (codes "?\n") fault.Syntax
+ten_digits_behind_comma = refl
+
+blanks_around_addresses : edited letters (codes " \t1 \t,\t 2\t p \t\nQ\n") ≡ ends (codes "a\nb\n") 3
+blanks_around_addresses = refl
+
+blank_within_number : edited letters (codes "1 2p\n") ≡ fails (codes "?\n") fault.Syntax
+blank_within_number = refl
+
+above_last_line : edited letters (codes "9p\n") ≡ fails (codes "?\n") fault.Address
+above_last_line = refl
+
+second_before_first : edited letters (codes "3,1p\n") ≡ fails (codes "?\n") fault.Address
+second_before_first = refl
+
+no_line_zero : edited letters (codes "0p\n") ≡ fails (codes "?\n") fault.Address
+no_line_zero = refl
+
+no_range_from_zero : edited letters (codes "0,2d\n") ≡ fails (codes "?\n") fault.Address
+no_range_from_zero = refl
+
+-- `a` takes the last address alone, but the first is valued too
+first_address_out_of_range : edited letters (codes "9,1a\nx\n.\n") ≡ fails (codes "?\n") fault.Address
+first_address_out_of_range = refl
+
+-- `a` takes addresses in any order
+addresses_of_text_unordered : edited letters (codes "3,1a\nx\n.\n,p\nQ\n") ≡ ends (codes "a\nx\nb\nc\n") 4
+addresses_of_text_unordered = refl
+
+-- `,` is `1,$` in an empty buffer too
+whole_empty_buffer : edited [] (codes ",p\n") ≡ fails (codes "?\n") fault.Address
+whole_empty_buffer = refl
+
+text_at_whole_empty_buffer : edited [] (codes ",a\nx\n.\n") ≡ fails (codes "?\n") fault.Address
+text_at_whole_empty_buffer = refl
+
+-- the end, and commands that can't be read
+
+end_of_changed_buffer : edited letters (codes "1d\n") ≡ fails (codes "?\n") fault.Unsaved
+end_of_changed_buffer = refl
+
+end_of_unchanged_buffer : edited letters (codes "1p\n") ≡ ends (codes "a\n") 3
+end_of_unchanged_buffer = refl
+
+-- a text goes to the end of the script, which is a `q`
+text_to_end : edited [] (codes "a\nx") ≡ fails (codes "?\n") fault.Unsaved
+text_to_end = refl
+
+no_command : edited letters (codes "z\n") ≡ fails (codes "?\n") fault.Syntax
+no_command = refl
+
+good_commands_run_first : edited letters (codes "1p\nz\n2p\n") ≡ fails (codes "a\n?\n") fault.Syntax
+good_commands_run_first = refl
+
+unreached : edited letters (codes "Q\nz\n") ≡ ends [] 3
+unreached = refl
+
+address_before_quit : edited letters (codes "1Q\n") ≡ fails (codes "?\n") fault.Syntax
+address_before_quit = refl
+
+pair_before_quit : edited letters (codes ",Q\n") ≡ fails (codes "?\n") fault.Syntax
+pair_before_quit = refl
+
+-- no blank stands between a command and a suffix
+suffix_behind_blank : edited letters (codes "1d p\n") ≡ fails (codes "?\n") fault.Syntax
+suffix_behind_blank = refl
+
+-- lines
+
+dots_in_text : edited [] (codes "a\n..\n. \n .\n.\n,p\nQ\n") ≡ ends (codes "..\n. \n .\n") 3
+dots_in_text = refl
+
+empty_lines_in_text : edited [] (codes "a\n\n\n.\n,p\nQ\n") ≡ ends (codes "\n\n") 2
+empty_lines_in_text = refl
+
+any_bytes_in_text : edited (0 ∷ 128 ∷ []) (codes "a\n" ++ 255 ∷ 0 ∷ 13 ∷ codes "\n.\n,p\nQ\n") ≡ ends (0 ∷ 128 ∷ 10 ∷ 255 ∷ 0 ∷ 13 ∷ 10 ∷ []) 2
+any_bytes_in_text = refl
+
+last_line_without_newline : edited (codes "a\nb") (codes "$p\nQ") ≡ ends (codes "b\n") 2
+last_line_without_newline = refl
+
+-- counts, prompts, and the answers to the start
+
+count_of_bytes_read : run (script_of (codes "Q\n")) (options false None) (answer.Bytes letters ∷ []) ≡ ends (codes "6\n") 3
+unfolding digits
+count_of_bytes_read = refl
+
+prompt_before_each_command : run (script_of (codes "1p\nQ\n")) (options true (Some (codes "> "))) (answer.Bytes letters ∷ []) ≡ ends (codes "> a\n> ") 3
+prompt_before_each_command = refl
+
+prompt_before_end : run (script_of (codes "a\nx\n")) (options true (Some (codes "> "))) (answer.Bytes [] ∷ []) ≡ fails (codes "> > ?\n") fault.Unsaved
+prompt_before_end = refl
+
+prompt_before_unreadable : run (script_of (codes "z\n")) (options true (Some (codes "> "))) (answer.Bytes [] ∷ []) ≡ fails (codes "> ?\n") fault.Syntax
+prompt_before_unreadable = refl
+
+missing_file : run (script_of (codes "a\nx\n.\n,p\nQ\n")) (options true None) (answer.Missing ∷ []) ≡ ends (codes "x\n") 1
+missing_file = refl
+
+refused_file : run (script_of (codes ",p\n")) (options true (Some (codes "> "))) (answer.Refused ∷ []) ≡ fails (codes "?\n") fault.File
+refused_file = refl
+
+no_file : run (script_of (codes "a\nx\n.\n,p\nQ\n")) (record { silent = true; prompt = None; path = None }) []
+    ≡ record { output = codes "x\n"; asked = []; stop = Ends (Ok (record { lines = 1 })) }
+no_file = refl

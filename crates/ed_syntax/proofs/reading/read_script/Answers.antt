@@ -1,0 +1,22 @@
+use Rattle.std.proofs.Common.{◌≡◌, ◌+◌, length, Some, map, sym, ap, ◌∙◌, arith}
+use Rattle.std.proofs.lemmas.List.{map_push}
+use Rattle.ed_syntax.specs.Reading.{script, command_at}
+use Rattle.ed_syntax.specs.PublicTypes.{command_value, command_behind}
+use Rattle.ed_syntax.proofs.ScriptLemmas.{all_before, all_before-next}
+use Rattle.ed_syntax.proofs.reading.read_script.Goals as goal
+
+pub commands-preserved : goal.commands-preserved
+commands-preserved c =
+    let line = c.in-Some.line.now in
+    let before = c.commands.commands.items in
+    let command = c.in-Some-2.command in
+    let lines = c.commands.lines.lines in
+    let later = c.next.new.self.lines in
+    let rest = c.read_command.new.later.lines in
+    let next = c.read_command.new.later.number in
+    let is : command_at line later ≡ Some (command_value command, rest) = sym c.in_ok-command.ensures.value ∙ ap (λ o. command_behind o rest) c.in-Some-2.is in
+    let all : next + 1 + length rest ≡ c.commands.lines.number + 1 + length lines = omega (arith, c.read_command.ensures.number, c.in-Some.ensures.number, ap length c.in-Some.ensures.lines) in
+    ap (λ items. all_before (map command_value items) (script (length rest) (next + 1) rest)) c.in_ok-push-in-Some-2.ensures.items
+    ∙ ap (λ cs. all_before cs (script (length rest) (next + 1) rest)) (map_push command_value before command)
+    ∙ all_before-next (map command_value before) line later lines rest (command_value command) (c.commands.lines.number + 1) (next + 1) c.in-Some.ensures.lines is all
+    ∙ c.commands.invariant

@@ -1,0 +1,10 @@
+-- The blanks that were passed don't matter.
+use Rattle.std.proofs.Common.{◌≡◌, length}
+use Rattle.ed_syntax.specs.Tokens.{behind_blanks}
+use Rattle.ed_syntax.proofs.tokens.behind_blanks.Given as goal
+
+abbrev pub invariant-blanks : goal.invariant-blanks
+invariant-blanks l = behind_blanks l.left ≡ behind_blanks l.bytes
+
+abbrev pub decreases-blanks : goal.decreases-blanks
+decreases-blanks l = length l.left

@@ -1,0 +1,202 @@
+//! Reads a script: its commands up to the first that can't be read.
+ghost use Rattle.std.specs.Prelude.{◌≡◌, ◌+◌, ◌≤◌, length, Option, Some, None, option_map, IfOk, MatchOption};
+ghost use Rattle.ed_syntax.specs.Verbs.{may_have};
+ghost use Rattle.ed_syntax.specs.Reading.{verb_at, is_over, heading, with_text, command_at, script_of};
+ghost use Rattle.ed_syntax.specs.PublicTypes.{addresses_value, verb_value, optional_verb, heading_value, command_behind, script_value};
+
+use crate::script_lines::ScriptLines;
+use crate::tokens::{addresses, behind_blanks};
+use crate::{Addresses, Command, Form, Script, Verb};
+use ed_base::Text;
+use std::alloc::{AllocError, Global};
+
+/// Reads a script. A command that can't be read ends it: what stands behind isn't looked at.
+pub fn read_script(alloc: Global, bytes: &[u8]) -> Result<Script, AllocError>
+    ensures value { IfOk result (λ script. script_value script ≡ script_of bytes.now) }
+{
+    let mut commands = Vec::new(alloc);
+    let mut lines = ScriptLines::new(bytes);
+    'commands: while let Some(line) = lines.next() {
+        let number = lines.number();
+        match read_command(alloc, line, &mut lines)? {
+            Some(command) => commands.push(command)?,
+            None => {
+                return Ok(Script {
+                    commands,
+                    fault: Some(number),
+                });
+            }
+        }
+    }
+    Ok(Script {
+        commands,
+        fault: None,
+    })
+}
+
+// The command that begins on this line. Its text is taken from the lines behind it.
+fn read_command(
+    alloc: Global,
+    line: &[u8],
+    later: &mut ScriptLines<'_>,
+) -> Result<Option<Command>, AllocError>
+    ensures value { IfOk result (λ c. command_behind c later.new.lines ≡ command_at line.now later.old.lines) }
+    ensures number { later.new.number + length later.new.lines ≡ later.old.number + length later.old.lines }
+    ensures later { length later.new.lines ≤ length later.old.lines }
+{
+    match heading(alloc, line) {
+        None => Ok(None),
+        Some((addresses, verb)) => {
+            let verb = with_text(alloc, verb, later)?;
+            Ok(Some(Command {
+                addresses,
+                verb,
+                suffix: None,
+                listed: false,
+            }))
+        }
+    }
+}
+
+// A verb with its text, if it has one.
+fn with_text(alloc: Global, verb: Verb, later: &mut ScriptLines<'_>) -> Result<Verb, AllocError>
+    ensures value { IfOk result (λ v. (verb_value v, later.new.lines) ≡ with_text (verb_value verb) later.old.lines) }
+    ensures number { later.new.number + length later.new.lines ≡ later.old.number + length later.old.lines }
+    ensures later { length later.new.lines ≤ length later.old.lines }
+{
+    match verb {
+        Verb::Append(_) => Ok(Verb::Append(later.read_text(alloc)?)),
+        Verb::Delete | Verb::Write(_) | Verb::QuitAnyway => Ok(verb),
+    }
+}
+
+// What stands on a command's own line; its text is still empty.
+fn heading(alloc: Global, line: &[u8]) -> Option<(Addresses, Verb)>
+    ensures value { heading_value result ≡ heading line.now }
+{
+    let (given, rest) = addresses(line)?;
+    match rest {
+        [letter, rest @ ..] => {
+            let verb = verb_at(alloc, *letter)?;
+            if may_have(given, &verb) && is_over(rest) {
+                Some((given, verb))
+            } else {
+                None
+            }
+        }
+        [] => None,
+    }
+}
+
+fn verb_at(alloc: Global, letter: u8) -> Option<Verb>
+    ensures value { optional_verb result ≡ verb_at letter }
+{
+    match letter {
+        b'a' => Some(Verb::Append(Text::new(alloc))),
+        b'd' => Some(Verb::Delete),
+        b'p' => Some(Verb::Write(Form::Plain)),
+        b'Q' => Some(Verb::QuitAnyway),
+        _ => None,
+    }
+}
+
+// Whether addresses may stand before a command.
+fn may_have(given: Addresses, verb: &Verb) -> bool
+    ensures value { result ≡ may_have (addresses_value given) (verb_value verb.now) }
+{
+    match (given, verb) {
+        (Addresses::Without, _) => true,
+        (_, Verb::QuitAnyway) => false,
+        (_, Verb::Append(_) | Verb::Delete | Verb::Write(_)) => true,
+    }
+}
+
+// Nothing but blanks is left of the line.
+fn is_over(bytes: &[u8]) -> bool
+    ensures value { result ≡ is_over bytes.now }
+{
+    behind_blanks(bytes).is_empty()
+}
+
+#[cfg(test)]
+mod tests {
+    use super::*;
+    use crate::{Address, Base};
+    use ed_base::Bytes;
+    use std::test::Fail;
+
+    fn command(addresses: Addresses, verb: Verb) -> Command {
+        Command {
+            addresses,
+            verb,
+            suffix: None,
+            listed: false,
+        }
+    }
+
+    fn at(base: Base) -> Address {
+        Address { base, offset: 0 }
+    }
+
+    #[test]
+    fn commands_are_read_with_their_addresses_and_text(rt: HostRuntime) -> Result<(), Fail> {
+        let script = read_script(rt.alloc(), b" 2 d\t\n,p\n1,$a\nx\n\n.\nQ".as_slice())?;
+        let mut text = Text::new(rt.alloc());
+        text.push(Bytes::from_slice(rt.alloc(), b"x".as_slice())?)?;
+        text.push(Bytes::new(rt.alloc()))?;
+        let whole = Addresses::Comma(at(Base::Number(1)), at(Base::Last));
+        let expected = vec![in rt.alloc();
+            command(Addresses::One(at(Base::Number(2))), Verb::Delete),
+            command(whole, Verb::Write(Form::Plain)),
+            command(whole, Verb::Append(text)),
+            command(Addresses::Without, Verb::QuitAnyway),
+        ]?;
+        assert_eq!(rt; script.commands, expected);
+        assert_eq!(rt; script.fault, None);
+        Ok(())
+    }
+
+    #[test]
+    fn a_text_holds_any_byte_but_newline(rt: HostRuntime) -> Result<(), Fail> {
+        let mut bytes = Vec::from_slice(rt.alloc(), b"a\n".as_slice())?;
+        for byte in 0..=255 {
+            bytes.push(byte)?;
+        }
+        assert_eq!(rt; bytes.len(), 258);
+        let script = read_script(rt.alloc(), bytes.as_slice())?;
+        assert_eq!(rt; script.commands.len(), 1);
+        let Verb::Append(text) = &script.commands[0].verb else {
+            return Err(Fail::from("no text"));
+        };
+        assert_eq!(rt; text.len(), 2);
+        assert_eq!(rt; text.as_slice()[0].as_slice(), &bytes[2..12]);
+        assert_eq!(rt; text.as_slice()[1].as_slice(), &bytes[13..]);
+        Ok(())
+    }
+
+    #[derive(Drop)]
+    struct Row {
+        script: &'static [u8],
+        commands: usize,
+        fault: Option<usize>,
+    }
+
+    #[rattlefmt::skip]
+    #[test]
+    fn a_script_is_read_up_to_its_first_fault(rt: HostRuntime) -> Result<(), Fail> {
+        let rows = [
+            Row { script: b"", commands: 0, fault: None },
+            Row { script: b"p", commands: 1, fault: None },
+            Row { script: b"999999999p\n", commands: 1, fault: None },
+            Row { script: b"9999999999p\n", commands: 0, fault: Some(1) },
+            Row { script: b"a\nx\n.\nz\np\n", commands: 1, fault: Some(4) },
+            Row { script: b"p\n\xff", commands: 1, fault: Some(2) },
+        ];
+        for row in rows {
+            let script = read_script(rt.alloc(), row.script)?;
+            assert_eq!(rt; script.commands.len(), row.commands, "at {:?}", row.script);
+            assert_eq!(rt; script.fault, row.fault, "at {:?}", row.script);
+        }
+        Ok(())
+    }
+}

@@ -1,0 +1,76 @@
+//! The lines of a script, read one after another.
+ghost use Rattle.std.specs.Prelude.{◌≡◌, ◌+◌, ◌≤◌, ℕ, [], ◌∷◌, length, IfOk, IfSome, MatchOption};
+ghost use Rattle.ed_base.specs.Lines.{IsLine, lines_of};
+ghost use Rattle.ed_syntax.specs.Reading.{text};
+
+use ed_base::{Bytes, Text, next_line};
+use std::alloc::{AllocError, Global};
+use std::marker::Model;
+
+/// The lines of a script that are left to read.
+#[derive(Drop)]
+pub struct ScriptLines<'a> {
+    left: &'a [u8],
+    // The number of the line that was read last, 0 before the first.
+    number: usize,
+}
+
+impl<'a> Model for ScriptLines<'a> {
+    ghost use Rattle.std.specs.Prelude.{◌+◌, ◌<◌, ◌^◌, length};
+    ghost use Rattle.ed_base.specs.Lines.{lines_of};
+    ghost use Rattle.ed_syntax.specs.Reading.{LinesLeft};
+
+    ghost Value = { LinesLeft };
+
+    ghost view = { λ l. record { lines = lines_of l.left.now; number = l.number } };
+
+    ghost invariant = { λ l. l.number + length l.left.now < 2 ^ 64 };
+}
+
+impl<'a> ScriptLines<'a> {
+    pub fn new(bytes: &'a [u8]) -> Self
+        ensures lines { result.lines ≡ lines_of bytes.now }
+        ensures number { result.number ≡ 0 }
+    {
+        ScriptLines {
+            left: bytes,
+            number: 0,
+        }
+    }
+
+    /// The number of the line that was read last, 0 before the first.
+    pub fn number(&self) -> usize
+        ensures value { result ≡ self.now.number }
+    {
+        self.number
+    }
+
+    /// The next line.
+    pub fn next(&mut self) -> Option<&'a [u8]>
+        ensures lines { MatchOption result (self.old.lines ≡ []) (λ line. self.old.lines ≡ line.now ∷ self.new.lines) }
+        ensures line { IfSome result (λ line. IsLine line.now) }
+        ensures number { MatchOption result (self.new.number ≡ self.old.number) (λ line. self.new.number ≡ self.old.number + 1) }
+        ensures over { MatchOption result (self.new.lines ≡ []) (λ line. length self.new.lines ≤ length self.old.lines) }
+    {
+        let (line, rest) = next_line(self.left)?;
+        self.left = rest;
+        self.number += 1;
+        Some(line)
+    }
+
+    /// The lines of a text, up to a line that is `.` or to the end of the script.
+    pub fn read_text(&mut self, alloc: Global) -> Result<Text, AllocError>
+        ensures value { IfOk result (λ entered. text self.old.lines ≡ (entered, self.new.lines)) }
+        ensures number { self.new.number + length self.new.lines ≡ self.old.number + length self.old.lines }
+        ensures later { length self.new.lines ≤ length self.old.lines }
+    {
+        let mut entered = Text::new(alloc);
+        'lines: while let Some(line) = self.next() {
+            if line == b".".as_slice() {
+                break;
+            }
+            entered.push(Bytes::from_slice(alloc, line)?)?;
+        }
+        Ok(entered)
+    }
+}
