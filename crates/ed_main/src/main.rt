@@ -1,6 +1,12 @@
 //! `ed` for scripts: runs the script on standard input over a file.
 #![tactic(auto)]
 
+mod editing;
 mod reading;
+mod words;
 
-fn main() {}
+use std::process::ExitCode;
+
+fn main(rt: HostRuntime) -> ExitCode {
+    ExitCode::from(editing::status_of_run(&rt))
+}

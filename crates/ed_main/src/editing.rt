@@ -1,0 +1,91 @@
+//! One run of the program: its words, its script, its file, and the status that it ends with.
+use crate::reading::{In, ReadFault, read_all};
+use crate::words::{USAGE, file_of_words};
+use ed_base::{Bytes, Fault};
+use ed_session::line_store::PlainStore;
+use ed_session::{MemFiles, Out, Session, drive};
+use ed_syntax::{Options, read_script};
+use std::alloc::AllocError;
+use std::rt::{Env, Files};
+use std::{env, fs, io};
+
+/// How many bytes of standard input are read at most.
+const LIMIT: usize = 1 << 30;
+
+/// The status of words that aren't understood.
+const USAGE_STATUS: u8 = 4;
+
+/// Does what the program's words say, and gives its exit status.
+pub fn status_of_run<R>(rt: &R) -> u8
+where
+    R: Env + Files + Input + Print + Eprint + AllocGlobal,
+{
+    let words = match env::args(rt) {
+        Ok(words) => words,
+        Err(error) if error.kind() == io::ErrorKind::OutOfMemory => return Fault::Memory.status(),
+        Err(_) => return usage(rt),
+    };
+    match file_of_words(words) {
+        Some(file) => edit(rt, file.as_str()),
+        None => usage(rt),
+    }
+}
+
+fn usage(rt: &impl Eprint) -> u8 {
+    let _ = rt.eprintln(USAGE);
+    USAGE_STATUS
+}
+
+/// Reads the script and then the file, and runs one on the other.
+fn edit<R>(rt: &R, file: &str) -> u8
+where
+    R: Files + Input + Print + AllocGlobal,
+{
+    let script = match read_all(rt.alloc(), &mut In::new(rt.reader()), LIMIT) {
+        Ok(script) => script,
+        Err(ReadFault::Refused) => return Fault::File.status(),
+        Err(ReadFault::Memory) => return Fault::Memory.status(),
+    };
+    match run(rt, file, script) {
+        Ok(status) => status,
+        Err(AllocError) => Fault::Memory.status(),
+    }
+}
+
+/// Runs the script's bytes on the file. An `Err` comes before anything is written.
+fn run<R>(rt: &R, file: &str, bytes: Bytes) -> Result<u8, AllocError>
+where
+    R: Files + Print + AllocGlobal,
+{
+    let alloc = rt.alloc();
+    let script = read_script(alloc, bytes.as_slice())?;
+    drop(bytes);
+    let mut files = files_with(rt, file)?;
+    let options = Options {
+        silent: true,
+        prompt: None,
+        path: Some(Bytes::from_slice(alloc, file.as_bytes())?),
+    };
+    let mut session = Session::<PlainStore>::new(alloc, script, options)?;
+    match drive(&mut session, &mut files, &mut Out::new(io::writer(rt))) {
+        Ok(_) => Ok(0),
+        Err(fault) => Ok(fault.status()),
+    }
+}
+
+/// The file in memory. One that is missing is left out; one that can't be read is refused when the run asks for it.
+fn files_with<R>(rt: &R, file: &str) -> Result<MemFiles, AllocError>
+where
+    R: Files + AllocGlobal,
+{
+    let mut files = MemFiles::new(rt.alloc());
+    match fs::read(rt, file) {
+        Ok(bytes) => files.add(file.as_bytes(), bytes.as_slice())?,
+        Err(error) => match error.kind() {
+            io::ErrorKind::NotFound => {}
+            io::ErrorKind::OutOfMemory => return Err(AllocError),
+            _ => files.refuse(1),
+        },
+    }
+    Ok(files)
+}
