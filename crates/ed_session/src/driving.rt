@@ -95,3 +95,6 @@ pub fn drive<S: LineStore, O: Outside, W: Sink>(
         }
     }
 }
+
+#[cfg(test)]
+mod tests;
