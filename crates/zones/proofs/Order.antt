@@ -4,7 +4,8 @@ use Rattle.std.proofs.lemmas.Int.{ints}
 use Rattle.zones.specs.Bound.{covers_bound, greater_of, widen_bound, widen_diagonal}
 use Rattle.zones.specs.Zone.{Bounds, bound, zone_by, Covers}
 use Rattle.zones.specs.Steps.{join_of, join_bound, widening_of, widening_bound}
-use Rattle.zones.proofs.Places.{place-row_column, bound-zone_by}
+use Rattle.zones.specs.Limits.{IsZone}
+use Rattle.zones.proofs.Places.{place-row_column, bound-zone_by, zone_by-each}
 
 pub Covers-each : (a b : Bounds) → ((k : ℕ) → k < 1024 → covers_bound (get_or a k None) (get_or b k None) ≡ true) → Covers a b
 unfolding Covers bound
@@ -77,6 +78,14 @@ Covers-same a p q hp hq = covers_bound-same (bound a p q)
 pub Covers-through : (a b c : Bounds) → Covers a b → Covers b c → Covers a c
 unfolding Covers
 Covers-through a b c h k p q hp hq = covers_bound-through (bound a p q) (bound b p q) (bound c p q) (h p q hp hq) (k p q hp hq)
+
+-- zones that cover one another are one
+pub Covers-both : (a b : Bounds) → IsZone a → IsZone b → Covers a b → Covers b a → a ≡ b
+unfolding Covers
+Covers-both a b wa wb h k =
+    let same : (p q : ℕ) → p < 32 → q < 32 → bound a p q ≡ bound b p q =
+      λ p q hp hq. covers_bound-both (bound a p q) (bound b p q) (h p q hp hq) (k p q hp hq) in
+    zone_by-each (bound b) a wa.size same ∙ sym (zone_by-each (bound b) b wb.size (λ p q hp hq. refl))
 
 Covers-zone_by : (f : ℕ → ℕ → Option ℤ) (a : Bounds) → ((p q : ℕ) → p < 32 → q < 32 → covers_bound (f p q) (bound a p q) ≡ true) → Covers (zone_by f) a
 unfolding Covers
