@@ -27,18 +27,18 @@ clamp-else c h k = grind (arith, ints)
 clip-clamp : (a c : ℤ) → negsuc 2999999999999998 ≤ℤ a → a ≤ℤ pos 2999999999999999 → clip (a +ℤ clamp c) ≡ clip (a +ℤ c)
 clip-clamp a c low high =
     by_lt_z (pos 4000000000000000) c
-      (λ h. rw (clamp-high c h, clip-high (a +ℤ pos 4000000000000000) (omega (arith, ints)), clip-high (a +ℤ c) (omega (arith, ints))) refl)
-      (λ k. by_lt_z c (negsuc 3999999999999999)
-        (λ h. rw (clamp-low c h, clip-low (a +ℤ negsuc 3999999999999999) (omega (arith, ints)), clip-low (a +ℤ c) (omega (arith, ints))) refl)
-        (λ h. rw (clamp-else c h k) refl))
+    (λ h. rw (clamp-high c h, clip-high (a +ℤ pos 4000000000000000) (omega (arith, ints)), clip-high (a +ℤ c) (omega (arith, ints))) refl)
+    (λ k. by_lt_z c (negsuc 3999999999999999)
+    (λ h. rw (clamp-low c h, clip-low (a +ℤ negsuc 3999999999999999) (omega (arith, ints)), clip-low (a +ℤ c) (omega (arith, ints))) refl)
+    (λ h. rw (clamp-else c h k) refl))
 
 clip-clamp_lowered : (a c : ℤ) → negsuc 2999999999999998 ≤ℤ a → a ≤ℤ pos 2999999999999999 → clip (a +ℤ neg_ℤ (clamp c)) ≡ clip (a +ℤ neg_ℤ c)
 clip-clamp_lowered a c low high =
     by_lt_z (pos 4000000000000000) c
-      (λ h. rw (clamp-high c h, clip-low (a +ℤ negsuc 3999999999999999) (omega (arith, ints)), clip-low (a +ℤ neg_ℤ c) (omega (arith, ints))) refl)
-      (λ k. by_lt_z c (negsuc 3999999999999999)
-        (λ h. rw (clamp-low c h, clip-high (a +ℤ pos 4000000000000000) (omega (arith, ints)), clip-high (a +ℤ neg_ℤ c) (omega (arith, ints))) refl)
-        (λ h. rw (clamp-else c h k) refl))
+    (λ h. rw (clamp-high c h, clip-low (a +ℤ negsuc 3999999999999999) (omega (arith, ints)), clip-low (a +ℤ neg_ℤ c) (omega (arith, ints))) refl)
+    (λ k. by_lt_z c (negsuc 3999999999999999)
+    (λ h. rw (clamp-low c h, clip-high (a +ℤ pos 4000000000000000) (omega (arith, ints)), clip-high (a +ℤ neg_ℤ c) (omega (arith, ints))) refl)
+    (λ h. rw (clamp-else c h k) refl))
 
 raise-clamp : (b : Option ℤ) (c : ℤ) → IsKept b → raise b (Some (clamp c)) ≡ raise b (Some c)
 raise-clamp None c h = refl
@@ -67,13 +67,13 @@ pub after_set-clamp : (zone : Bounds) (x y : ℕ) (c : ℤ) → IsZone zone → 
 unfolding after_set set_bound
 after_set-clamp zone x y c h =
     zone_by-same _ _ (λ p q hp hq. cond-four (eqb p x) (eqb q x) (Some (pos 0)) _ _ _ _ (bound zone p q)
-      (raise-clamp (bound zone y q) c (IsKept-bound zone y q h)) (lower-clamp (bound zone p y) c (IsKept-bound zone p y h)))
+    (raise-clamp (bound zone y q) c (IsKept-bound zone y q h)) (lower-clamp (bound zone p y) c (IsKept-bound zone p y h)))
 
 pub after_shift-clamp : (zone : Bounds) (x : ℕ) (low high : Option ℤ) → IsZone zone → after_shift zone x (clamp_side low) (clamp_side high) ≡ after_shift zone x low high
 unfolding after_shift shift_bound
 after_shift-clamp zone x low high h =
     zone_by-same _ _ (λ p q hp hq. cond-four (eqb p x) (eqb q x) (bound zone x x) _ _ _ _ (bound zone p q)
-      (raise-clamp_side (bound zone x q) high (IsKept-bound zone x q h)) (lower-clamp_side (bound zone p x) low (IsKept-bound zone p x h)))
+    (raise-clamp_side (bound zone x q) high (IsKept-bound zone x q h)) (lower-clamp_side (bound zone p x) low (IsKept-bound zone p x h)))
 
 -- a sum above the highest number is never the lesser of two, and one below the lowest is clipped
 clip-lesser_above : (a s t : ℤ) → a ≤ℤ highest → highest <ℤ s → highest <ℤ t → clip_bound (lesser_of (Some a) (Some s)) ≡ clip_bound (lesser_of (Some a) (Some t))
@@ -86,19 +86,19 @@ tighten-clamp_numbers : (a to from c : ℤ) → lowest ≤ℤ a → a ≤ℤ hig
     tighten (Some a) (Some to) (clamp c) (Some from) ≡ tighten (Some a) (Some to) c (Some from)
 tighten-clamp_numbers a to from c la ha lt ht lf hf =
     by_lt_z (pos 4000000000000000) c
-      (λ h. rw (clamp-high c h) (clip-lesser_above a (to +ℤ pos 4000000000000000 +ℤ from) (to +ℤ c +ℤ from) ha (omega (arith, ints)) (omega (arith, ints))))
-      (λ k. by_lt_z c (negsuc 3999999999999999)
-        (λ h. rw (clamp-low c h) (clip-lesser_below a (to +ℤ negsuc 3999999999999999 +ℤ from) (to +ℤ c +ℤ from) la (omega (arith, ints)) (omega (arith, ints))))
-        (λ h. rw (clamp-else c h k) refl))
+    (λ h. rw (clamp-high c h) (clip-lesser_above a (to +ℤ pos 4000000000000000 +ℤ from) (to +ℤ c +ℤ from) ha (omega (arith, ints)) (omega (arith, ints))))
+    (λ k. by_lt_z c (negsuc 3999999999999999)
+    (λ h. rw (clamp-low c h) (clip-lesser_below a (to +ℤ negsuc 3999999999999999 +ℤ from) (to +ℤ c +ℤ from) la (omega (arith, ints)) (omega (arith, ints))))
+    (λ h. rw (clamp-else c h k) refl))
 
 tighten-clamp_any : (to from c : ℤ) → lowest ≤ℤ to → to ≤ℤ highest → lowest ≤ℤ from → from ≤ℤ highest →
     tighten None (Some to) (clamp c) (Some from) ≡ tighten None (Some to) c (Some from)
 tighten-clamp_any to from c lt ht lf hf =
     by_lt_z (pos 4000000000000000) c
-      (λ h. rw (clamp-high c h, clip-high (to +ℤ pos 4000000000000000 +ℤ from) (omega (arith, ints)), clip-high (to +ℤ c +ℤ from) (omega (arith, ints))) refl)
-      (λ k. by_lt_z c (negsuc 3999999999999999)
-        (λ h. rw (clamp-low c h, clip-low (to +ℤ negsuc 3999999999999999 +ℤ from) (omega (arith, ints)), clip-low (to +ℤ c +ℤ from) (omega (arith, ints))) refl)
-        (λ h. rw (clamp-else c h k) refl))
+    (λ h. rw (clamp-high c h, clip-high (to +ℤ pos 4000000000000000 +ℤ from) (omega (arith, ints)), clip-high (to +ℤ c +ℤ from) (omega (arith, ints))) refl)
+    (λ k. by_lt_z c (negsuc 3999999999999999)
+    (λ h. rw (clamp-low c h, clip-low (to +ℤ negsuc 3999999999999999 +ℤ from) (omega (arith, ints)), clip-low (to +ℤ c +ℤ from) (omega (arith, ints))) refl)
+    (λ h. rw (clamp-else c h k) refl))
 
 tighten-clamp : (direct to from : Option ℤ) (c : ℤ) → IsKept direct → IsKept to → IsKept from → tighten direct to (clamp c) from ≡ tighten direct to c from
 tighten-clamp None None from c h k l = refl
@@ -112,4 +112,4 @@ pub after_guard-clamp : (zone : Bounds) (x y : ℕ) (c : ℤ) → IsZone zone �
 unfolding after_guard guard_bound
 after_guard-clamp zone x y c h =
     zone_by-same _ _ (λ p q hp hq. tighten-clamp (bound zone p q) (bound zone p x) (bound zone y q) c
-      (IsKept-bound zone p q h) (IsKept-bound zone p x h) (IsKept-bound zone y q h))
+    (IsKept-bound zone p q h) (IsKept-bound zone p x h) (IsKept-bound zone y q h))

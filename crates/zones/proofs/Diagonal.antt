@@ -16,8 +16,9 @@ IsAtMostZero-lesser None way h = absurd h
 IsAtMostZero-lesser (Some c) None h = IsAtMostZero-clip c h
 IsAtMostZero-lesser (Some c) (Some d) h =
     elim (int_lt d c) as (λ r. int_lt d c ≡ r → IsAtMostZero (clip_bound (cond r (Some d) (Some c)))) [
-      true ↦ λ e. IsAtMostZero-clip d (grind (arith, ints))
-    | false ↦ λ e. IsAtMostZero-clip c h ] refl
+      | true ↦ λ e. IsAtMostZero-clip d (grind (arith, ints))
+      | false ↦ λ e. IsAtMostZero-clip c h
+    ] refl
 
 IsAtMostZero-greater_of : (a b : Option ℤ) → IsAtMostZero a → IsAtMostZero b → IsAtMostZero (greater_of a b)
 IsAtMostZero-greater_of None b h k = absurd h
@@ -32,8 +33,9 @@ IsAtMostZero-widen_diagonal None b h k = absurd h
 IsAtMostZero-widen_diagonal (Some a) None h k = absurd k
 IsAtMostZero-widen_diagonal (Some a) (Some b) h k =
     elim (int_lt a b) as (λ r. IsAtMostZero (cond r (greater_of (Some (pos 0)) (Some b)) (Some a))) [
-      true ↦ IsAtMostZero-greater_of (Some (pos 0)) (Some b) IsAtMostZero-zero k
-    | false ↦ h ]
+      | true ↦ IsAtMostZero-greater_of (Some (pos 0)) (Some b) IsAtMostZero-zero k
+      | false ↦ h
+    ]
 
 pub HasLowDiagonal-any_zone : HasLowDiagonal any_zone
 unfolding HasLowDiagonal
@@ -44,31 +46,34 @@ pub HasLowDiagonal-after_guard : (zone : Bounds) (x y : ℕ) (c : ℤ) → HasLo
 unfolding HasLowDiagonal guard_bound
 HasLowDiagonal-after_guard zone x y c low p h =
     rw (bound-after_guard zone x y c p p h h)
-      (IsAtMostZero-lesser (bound zone p p) (sum_of (sum_of (bound zone p x) (Some c)) (bound zone y p)) (low p h))
+    (IsAtMostZero-lesser (bound zone p p) (sum_of (sum_of (bound zone p x) (Some c)) (bound zone y p)) (low p h))
 
 pub HasLowDiagonal-after_set : (zone : Bounds) (x y : ℕ) (c : ℤ) → HasLowDiagonal zone → HasLowDiagonal (after_set zone x y c)
 unfolding HasLowDiagonal
 HasLowDiagonal-after_set zone x y c low p h =
     rw (bound-after_set zone x y c p p h h)
-      (elim (eqb_tells p x) [
-        inl e ↦ rw (e.1, set_bound-corner zone x y c) IsAtMostZero-zero
-      | inr e ↦ rw (set_bound-other zone x y c p p e.1 e.1) (low p h) ])
+    (elim (eqb_tells p x) [
+      | inl e ↦ rw (e.1, set_bound-corner zone x y c) IsAtMostZero-zero
+      | inr e ↦ rw (set_bound-other zone x y c p p e.1 e.1) (low p h)
+    ])
 
 pub HasLowDiagonal-after_shift : (zone : Bounds) (x : ℕ) (low high : Option ℤ) → x < 32 → HasLowDiagonal zone → HasLowDiagonal (after_shift zone x low high)
 unfolding HasLowDiagonal
 HasLowDiagonal-after_shift zone x low high hx diagonal p h =
     rw (bound-after_shift zone x low high p p h h)
-      (elim (eqb_tells p x) [
-        inl e ↦ rw (e.1, shift_bound-corner zone x low high) (diagonal x hx)
-      | inr e ↦ rw (shift_bound-other zone x low high p p e.1 e.1) (diagonal p h) ])
+    (elim (eqb_tells p x) [
+      | inl e ↦ rw (e.1, shift_bound-corner zone x low high) (diagonal x hx)
+      | inr e ↦ rw (shift_bound-other zone x low high p p e.1 e.1) (diagonal p h)
+    ])
 
 pub HasLowDiagonal-after_forget : (zone : Bounds) (x : ℕ) → HasLowDiagonal zone → HasLowDiagonal (after_forget zone x)
 unfolding HasLowDiagonal
 HasLowDiagonal-after_forget zone x low p h =
     rw (bound-after_forget zone x p p h h)
-      (elim (eqb_tells p x) [
-        inl e ↦ rw (e.1, forget_bound-corner zone x) IsAtMostZero-zero
-      | inr e ↦ rw (forget_bound-other zone x p p e.1 e.1) (low p h) ])
+    (elim (eqb_tells p x) [
+      | inl e ↦ rw (e.1, forget_bound-corner zone x) IsAtMostZero-zero
+      | inr e ↦ rw (forget_bound-other zone x p p e.1 e.1) (low p h)
+    ])
 
 pub HasLowDiagonal-join_of : (one other : Bounds) → HasLowDiagonal one → HasLowDiagonal other → HasLowDiagonal (join_of one other)
 unfolding HasLowDiagonal join_bound
@@ -79,4 +84,4 @@ pub HasLowDiagonal-widening_of : (old new : Bounds) → HasLowDiagonal old → H
 unfolding HasLowDiagonal
 HasLowDiagonal-widening_of old new h k p hp =
     rw (bound-widening_of old new p p hp hp, widening_bound-diagonal old new p)
-      (IsAtMostZero-widen_diagonal (bound old p p) (bound new p p) (h p hp) (k p hp))
+    (IsAtMostZero-widen_diagonal (bound old p p) (bound new p p) (h p hp) (k p hp))

@@ -27,30 +27,34 @@ IsKept-negative c d h e = let low = h.0 in let high = h.1 in (omega (arith, ints
 
 pub IsDifference-after_set : (zone : Bounds) (x y q : ℕ) (c d : ℤ) → x < 32 → q < 32 → q ≢ x →
     IsDifference zone y q d → IsKept (Some (d +ℤ c)) → IsDifference (after_set zone x y c) x q (d +ℤ c)
-IsDifference-after_set zone x y q c d hx hq n known kept =
-    (bound-after_set zone x y c x q hx hq ∙ set_bound-row zone x y c q n ∙ raise-is (bound zone y q) d c (d +ℤ c) known.0 refl kept,
-     bound-after_set zone x y c q x hq hx ∙ set_bound-column zone x y c q n
-       ∙ lower-is (bound zone q y) (neg_ℤ d) c (neg_ℤ (d +ℤ c)) known.1 (omega (arith, ints)) (IsKept-negative (d +ℤ c) _ kept refl))
+IsDifference-after_set zone x y q c d hx hq n known kept = (
+  bound-after_set zone x y c x q hx hq ∙ set_bound-row zone x y c q n ∙ raise-is (bound zone y q) d c (d +ℤ c) known.0 refl kept,
+  bound-after_set zone x y c q x hq hx ∙ set_bound-column zone x y c q n
+      ∙ lower-is (bound zone q y) (neg_ℤ d) c (neg_ℤ (d +ℤ c)) known.1 (omega (arith, ints)) (IsKept-negative (d +ℤ c) _ kept refl),
+)
 
 pub IsDifference-after_set_other : (zone : Bounds) (x y p q : ℕ) (c d : ℤ) → p < 32 → q < 32 → p ≢ x → q ≢ x →
     IsDifference zone p q d → IsDifference (after_set zone x y c) p q d
-IsDifference-after_set_other zone x y p q c d hp hq n m known =
-    (bound-after_set zone x y c p q hp hq ∙ set_bound-other zone x y c p q n m ∙ known.0,
-     bound-after_set zone x y c q p hq hp ∙ set_bound-other zone x y c q p m n ∙ known.1)
+IsDifference-after_set_other zone x y p q c d hp hq n m known = (
+  bound-after_set zone x y c p q hp hq ∙ set_bound-other zone x y c p q n m ∙ known.0,
+  bound-after_set zone x y c q p hq hp ∙ set_bound-other zone x y c q p m n ∙ known.1,
+)
 
 pub IsDifference-after_shift : (zone : Bounds) (x q : ℕ) (c d : ℤ) → x < 32 → q < 32 → q ≢ x →
     IsDifference zone x q d → IsKept (Some (d +ℤ c)) → IsDifference (after_shift zone x (Some c) (Some c)) x q (d +ℤ c)
-IsDifference-after_shift zone x q c d hx hq n known kept =
-    (bound-after_shift zone x (Some c) (Some c) x q hx hq ∙ shift_bound-row zone x (Some c) (Some c) q n
-       ∙ raise-is (bound zone x q) d c (d +ℤ c) known.0 refl kept,
-     bound-after_shift zone x (Some c) (Some c) q x hq hx ∙ shift_bound-column zone x (Some c) (Some c) q n
-       ∙ lower-is (bound zone q x) (neg_ℤ d) c (neg_ℤ (d +ℤ c)) known.1 (omega (arith, ints)) (IsKept-negative (d +ℤ c) _ kept refl))
+IsDifference-after_shift zone x q c d hx hq n known kept = (
+  bound-after_shift zone x (Some c) (Some c) x q hx hq ∙ shift_bound-row zone x (Some c) (Some c) q n
+      ∙ raise-is (bound zone x q) d c (d +ℤ c) known.0 refl kept,
+  bound-after_shift zone x (Some c) (Some c) q x hq hx ∙ shift_bound-column zone x (Some c) (Some c) q n
+      ∙ lower-is (bound zone q x) (neg_ℤ d) c (neg_ℤ (d +ℤ c)) known.1 (omega (arith, ints)) (IsKept-negative (d +ℤ c) _ kept refl),
+)
 
 pub IsDifference-after_shift_other : (zone : Bounds) (x p q : ℕ) (low high : Option ℤ) (d : ℤ) → p < 32 → q < 32 → p ≢ x → q ≢ x →
     IsDifference zone p q d → IsDifference (after_shift zone x low high) p q d
-IsDifference-after_shift_other zone x p q low high d hp hq n m known =
-    (bound-after_shift zone x low high p q hp hq ∙ shift_bound-other zone x low high p q n m ∙ known.0,
-     bound-after_shift zone x low high q p hq hp ∙ shift_bound-other zone x low high q p m n ∙ known.1)
+IsDifference-after_shift_other zone x p q low high d hp hq n m known = (
+  bound-after_shift zone x low high p q hp hq ∙ shift_bound-other zone x low high p q n m ∙ known.0,
+  bound-after_shift zone x low high q p hq hp ∙ shift_bound-other zone x low high q p m n ∙ known.1,
+)
 
 -- a known difference is that of all numbers that the zone holds of
 pub IsDifference-Holds : (zone : Bounds) (number : Numbers) (x y : ℕ) (d : ℤ) → x < 32 → y < 32 →
@@ -85,24 +89,27 @@ unfolding Fixes
 Fixes-after_set zone x y c fixed before after hx hy fy fixes same e kept p q hp hq fp fq =
     bound-after_set zone x y c p q hp hq ∙
     (elim (eqb_tells p x) [
-      inl i ↦ (elim (eqb_tells q x) [
-        inl j ↦ rw (i.1, j.1, set_bound-corner zone x y c) (ap (λ d. Some d) (omega (arith, ints)))
-      | inr j ↦
-          let s : after q ≡ before q = same q j.1 in
-          let f : fixed q ≡ true = was_fixed x q fixed j.1 fq in
-          rw i.1 (set_bound-row zone x y c q j.1 ∙
-            raise-is (bound zone y q) (before y -ℤ before q) c (after x -ℤ after q) (fixes y q hy hq fy f) (omega (arith, ints)) (kept q hq f)) ])
-    | inr i ↦
-        (let r : after p ≡ before p = same p i.1 in
-        let g : fixed p ≡ true = was_fixed x p fixed i.1 fp in
-        elim (eqb_tells q x) [
-          inl j ↦ rw j.1 (set_bound-column zone x y c p i.1 ∙
-            lower-is (bound zone p y) (before p -ℤ before y) c (after p -ℤ after x) (fixes p y hp hy g fy) (omega (arith, ints))
-              (IsKept-negative (after x -ℤ after p) _ (kept p hp g) (omega (arith, ints))))
+      | inl i ↦ (elim (eqb_tells q x) [
+        | inl j ↦ rw (i.1, j.1, set_bound-corner zone x y c) (ap (λ d. Some d) (omega (arith, ints)))
         | inr j ↦
             let s : after q ≡ before q = same q j.1 in
             let f : fixed q ≡ true = was_fixed x q fixed j.1 fq in
-            set_bound-other zone x y c p q i.1 j.1 ∙ fixes p q hp hq g f ∙ ap (λ d. Some d) (omega (arith, ints)) ]) ])
+            rw i.1 (set_bound-row zone x y c q j.1 ∙
+            raise-is (bound zone y q) (before y -ℤ before q) c (after x -ℤ after q) (fixes y q hy hq fy f) (omega (arith, ints)) (kept q hq f))
+      ])
+      | inr i ↦
+          (let r : after p ≡ before p = same p i.1 in
+          let g : fixed p ≡ true = was_fixed x p fixed i.1 fp in
+          elim (eqb_tells q x) [
+            | inl j ↦ rw j.1 (set_bound-column zone x y c p i.1 ∙
+                lower-is (bound zone p y) (before p -ℤ before y) c (after p -ℤ after x) (fixes p y hp hy g fy) (omega (arith, ints))
+                (IsKept-negative (after x -ℤ after p) _ (kept p hp g) (omega (arith, ints))))
+            | inr j ↦
+                let s : after q ≡ before q = same q j.1 in
+                let f : fixed q ≡ true = was_fixed x q fixed j.1 fq in
+                set_bound-other zone x y c p q i.1 j.1 ∙ fixes p q hp hq g f ∙ ap (λ d. Some d) (omega (arith, ints))
+          ])
+    ])
 
 pub Fixes-after_shift : (zone : Bounds) (x : ℕ) (c : ℤ) (fixed : ℕ → Bool) (before after : Numbers) → x < 32 →
     Fixes zone fixed before → ChangesOnly x before after → after x ≡ before x +ℤ c →
@@ -112,25 +119,28 @@ unfolding Fixes
 Fixes-after_shift zone x c fixed before after hx fixes same e kept p q hp hq fp fq =
     bound-after_shift zone x (Some c) (Some c) p q hp hq ∙
     (elim (eqb_tells p x) [
-      inl i ↦
-        (let fx : fixed x ≡ true = rw i.1 at fp in
-        elim (eqb_tells q x) [
-          inl j ↦ rw (i.1, j.1, shift_bound-corner zone x (Some c) (Some c)) (fixes x x hx hx fx fx ∙ ap (λ d. Some d) (omega (arith, ints)))
-        | inr j ↦
-            let s : after q ≡ before q = same q j.1 in
-            rw i.1 (shift_bound-row zone x (Some c) (Some c) q j.1 ∙
-              raise-is (bound zone x q) (before x -ℤ before q) c (after x -ℤ after q) (fixes x q hx hq fx fq) (omega (arith, ints)) (kept q hq fq)) ])
-    | inr i ↦
-        (let r : after p ≡ before p = same p i.1 in
-        elim (eqb_tells q x) [
-          inl j ↦
-            let fx : fixed x ≡ true = rw j.1 at fq in
-            rw j.1 (shift_bound-column zone x (Some c) (Some c) p i.1 ∙
-              lower-is (bound zone p x) (before p -ℤ before x) c (after p -ℤ after x) (fixes p x hp hx fp fx) (omega (arith, ints))
+      | inl i ↦
+          (let fx : fixed x ≡ true = rw i.1 at fp in
+          elim (eqb_tells q x) [
+            | inl j ↦ rw (i.1, j.1, shift_bound-corner zone x (Some c) (Some c)) (fixes x x hx hx fx fx ∙ ap (λ d. Some d) (omega (arith, ints)))
+            | inr j ↦
+                let s : after q ≡ before q = same q j.1 in
+                rw i.1 (shift_bound-row zone x (Some c) (Some c) q j.1 ∙
+                raise-is (bound zone x q) (before x -ℤ before q) c (after x -ℤ after q) (fixes x q hx hq fx fq) (omega (arith, ints)) (kept q hq fq))
+          ])
+      | inr i ↦
+          (let r : after p ≡ before p = same p i.1 in
+          elim (eqb_tells q x) [
+            | inl j ↦
+                let fx : fixed x ≡ true = rw j.1 at fq in
+                rw j.1 (shift_bound-column zone x (Some c) (Some c) p i.1 ∙
+                lower-is (bound zone p x) (before p -ℤ before x) c (after p -ℤ after x) (fixes p x hp hx fp fx) (omega (arith, ints))
                 (IsKept-negative (after x -ℤ after p) _ (kept p hp fp) (omega (arith, ints))))
-        | inr j ↦
-            let s : after q ≡ before q = same q j.1 in
-            shift_bound-other zone x (Some c) (Some c) p q i.1 j.1 ∙ fixes p q hp hq fp fq ∙ ap (λ d. Some d) (omega (arith, ints)) ]) ])
+            | inr j ↦
+                let s : after q ≡ before q = same q j.1 in
+                shift_bound-other zone x (Some c) (Some c) p q i.1 j.1 ∙ fixes p q hp hq fp fq ∙ ap (λ d. Some d) (omega (arith, ints))
+          ])
+    ])
 
 pub Fixes-after_forget : (zone : Bounds) (x : ℕ) (fixed : ℕ → Bool) (before after : Numbers) →
     Fixes zone fixed before → ChangesOnly x before after → fixed x ≡ false → Fixes (after_forget zone x) fixed after
@@ -154,9 +164,9 @@ Fixes-after_guard zone x y c fixed number hx hy well fixes holds h p q hp hq fp 
     let is : bound zone p q ≡ Some (number p -ℤ number q) = fixes p q hp hq fp fq in
     let kept : IsKept (Some (number p -ℤ number q)) = rw is at (IsKept-bound zone p q well) in
     let new : bound (after_guard zone x y c) p q ≡ tighten (Some (number p -ℤ number q)) (bound zone p x) c (bound zone y q) =
-      bound-after_guard zone x y c p q hp hq ∙ ap (λ b. tighten b (bound zone p x) c (bound zone y q)) is in
+    bound-after_guard zone x y c p q hp hq ∙ ap (λ b. tighten b (bound zone p x) c (bound zone y q)) is in
     new ∙ tighten-exact (number p -ℤ number q) c (bound zone p x) (bound zone y q) kept
-      (rw new at (Holds-after_guard zone x y c number hx hy holds h p q hp hq))
+    (rw new at (Holds-after_guard zone x y c number hx hy holds h p q hp hq))
 
 greater_of-same : (c : ℤ) → greater_of (Some c) (Some c) ≡ Some c
 greater_of-same c = grind (arith, ints)
@@ -176,6 +186,7 @@ pub Fixes-widening_of : (old new : Bounds) (fixed : ℕ → Bool) (number : Numb
 unfolding Fixes widening_bound
 Fixes-widening_of old new fixed number h k p q hp hq fp fq =
     bound-widening_of old new p q hp hq ∙ rw (h p q hp hq fp fq, k p q hp hq fp fq)
-      (elim (eqb p q) as (λ r. cond r (widen_diagonal (Some (number p -ℤ number q)) (Some (number p -ℤ number q))) (widen_bound (Some (number p -ℤ number q)) (Some (number p -ℤ number q))) ≡ Some (number p -ℤ number q)) [
-        true ↦ widen_diagonal-same (number p -ℤ number q)
-      | false ↦ widen_bound-same (number p -ℤ number q) ])
+    (elim (eqb p q) as (λ r. cond r (widen_diagonal (Some (number p -ℤ number q)) (Some (number p -ℤ number q))) (widen_bound (Some (number p -ℤ number q)) (Some (number p -ℤ number q))) ≡ Some (number p -ℤ number q)) [
+      | true ↦ widen_diagonal-same (number p -ℤ number q)
+      | false ↦ widen_bound-same (number p -ℤ number q)
+    ])

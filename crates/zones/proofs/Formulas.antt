@@ -48,15 +48,17 @@ pub set_bound-row : (zone : Bounds) (x y : ℕ) (c : ℤ) (q : ℕ) → q ≢ x 
 unfolding set_bound
 set_bound-row zone x y c q n =
     elim (eqb_tells x x) [
-      inl e ↦ rw e.0 (elim (eqb_tells q x) [ inl g ↦ absurd (n g.1) | inr g ↦ rw g.0 refl ])
-    | inr e ↦ absurd (e.1 refl) ]
+      | inl e ↦ rw e.0 (elim (eqb_tells q x) [ inl g ↦ absurd (n g.1) | inr g ↦ rw g.0 refl ])
+      | inr e ↦ absurd (e.1 refl)
+    ]
 
 pub set_bound-column : (zone : Bounds) (x y : ℕ) (c : ℤ) (p : ℕ) → p ≢ x → set_bound zone x y c p x ≡ lower (bound zone p y) (Some c)
 unfolding set_bound
 set_bound-column zone x y c p n =
     elim (eqb_tells p x) [
-      inl e ↦ absurd (n e.1)
-    | inr e ↦ rw e.0 (elim (eqb_tells x x) [ inl g ↦ rw g.0 refl | inr g ↦ absurd (g.1 refl) ]) ]
+      | inl e ↦ absurd (n e.1)
+      | inr e ↦ rw e.0 (elim (eqb_tells x x) [ inl g ↦ rw g.0 refl | inr g ↦ absurd (g.1 refl) ])
+    ]
 
 pub set_bound-corner : (zone : Bounds) (x y : ℕ) (c : ℤ) → set_bound zone x y c x x ≡ Some (pos 0)
 unfolding set_bound
@@ -66,22 +68,25 @@ pub set_bound-other : (zone : Bounds) (x y : ℕ) (c : ℤ) (p q : ℕ) → p �
 unfolding set_bound
 set_bound-other zone x y c p q n m =
     elim (eqb_tells p x) [
-      inl e ↦ absurd (n e.1)
-    | inr e ↦ rw e.0 (elim (eqb_tells q x) [ inl g ↦ absurd (m g.1) | inr g ↦ rw g.0 refl ]) ]
+      | inl e ↦ absurd (n e.1)
+      | inr e ↦ rw e.0 (elim (eqb_tells q x) [ inl g ↦ absurd (m g.1) | inr g ↦ rw g.0 refl ])
+    ]
 
 pub shift_bound-row : (zone : Bounds) (x : ℕ) (low high : Option ℤ) (q : ℕ) → q ≢ x → shift_bound zone x low high x q ≡ raise (bound zone x q) high
 unfolding shift_bound
 shift_bound-row zone x low high q n =
     elim (eqb_tells x x) [
-      inl e ↦ rw e.0 (elim (eqb_tells q x) [ inl g ↦ absurd (n g.1) | inr g ↦ rw g.0 refl ])
-    | inr e ↦ absurd (e.1 refl) ]
+      | inl e ↦ rw e.0 (elim (eqb_tells q x) [ inl g ↦ absurd (n g.1) | inr g ↦ rw g.0 refl ])
+      | inr e ↦ absurd (e.1 refl)
+    ]
 
 pub shift_bound-column : (zone : Bounds) (x : ℕ) (low high : Option ℤ) (p : ℕ) → p ≢ x → shift_bound zone x low high p x ≡ lower (bound zone p x) low
 unfolding shift_bound
 shift_bound-column zone x low high p n =
     elim (eqb_tells p x) [
-      inl e ↦ absurd (n e.1)
-    | inr e ↦ rw e.0 (elim (eqb_tells x x) [ inl g ↦ rw g.0 refl | inr g ↦ absurd (g.1 refl) ]) ]
+      | inl e ↦ absurd (n e.1)
+      | inr e ↦ rw e.0 (elim (eqb_tells x x) [ inl g ↦ rw g.0 refl | inr g ↦ absurd (g.1 refl) ])
+    ]
 
 pub shift_bound-corner : (zone : Bounds) (x : ℕ) (low high : Option ℤ) → shift_bound zone x low high x x ≡ bound zone x x
 unfolding shift_bound
@@ -91,8 +96,9 @@ pub shift_bound-other : (zone : Bounds) (x : ℕ) (low high : Option ℤ) (p q :
 unfolding shift_bound
 shift_bound-other zone x low high p q n m =
     elim (eqb_tells p x) [
-      inl e ↦ absurd (n e.1)
-    | inr e ↦ rw e.0 (elim (eqb_tells q x) [ inl g ↦ absurd (m g.1) | inr g ↦ rw g.0 refl ]) ]
+      | inl e ↦ absurd (n e.1)
+      | inr e ↦ rw e.0 (elim (eqb_tells q x) [ inl g ↦ absurd (m g.1) | inr g ↦ rw g.0 refl ])
+    ]
 
 pub forget_bound-corner : (zone : Bounds) (x : ℕ) → forget_bound zone x x x ≡ Some (pos 0)
 unfolding forget_bound
@@ -102,8 +108,9 @@ pub forget_bound-other : (zone : Bounds) (x p q : ℕ) → p ≢ x → q ≢ x �
 unfolding forget_bound
 forget_bound-other zone x p q n m =
     elim (eqb_tells p x) [
-      inl e ↦ absurd (n e.1)
-    | inr e ↦ rw e.0 (elim (eqb_tells q x) [ inl g ↦ absurd (m g.1) | inr g ↦ rw g.0 refl ]) ]
+      | inl e ↦ absurd (n e.1)
+      | inr e ↦ rw e.0 (elim (eqb_tells q x) [ inl g ↦ absurd (m g.1) | inr g ↦ rw g.0 refl ])
+    ]
 
 pub widening_bound-diagonal : (old new : Bounds) (x : ℕ) → widening_bound old new x x ≡ widen_diagonal (bound old x x) (bound new x x)
 unfolding widening_bound

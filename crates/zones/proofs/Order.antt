@@ -84,7 +84,7 @@ pub Covers-both : (a b : Bounds) → IsZone a → IsZone b → Covers a b → Co
 unfolding Covers
 Covers-both a b wa wb h k =
     let same : (p q : ℕ) → p < 32 → q < 32 → bound a p q ≡ bound b p q =
-      λ p q hp hq. covers_bound-both (bound a p q) (bound b p q) (h p q hp hq) (k p q hp hq) in
+    λ p q hp hq. covers_bound-both (bound a p q) (bound b p q) (h p q hp hq) (k p q hp hq) in
     zone_by-each (bound b) a wa.size same ∙ sym (zone_by-each (bound b) b wb.size (λ p q hp hq. refl))
 
 Covers-zone_by : (f : ℕ → ℕ → Option ℤ) (a : Bounds) → ((p q : ℕ) → p < 32 → q < 32 → covers_bound (f p q) (bound a p q) ≡ true) → Covers (zone_by f) a

@@ -44,8 +44,9 @@ each-room weak strong w s c k =
     let size_of_weak = w.size in
     let size_of_strong = s.size in
     elim (cases_lt k 1024) [
-      inl h ↦ room-covers _ _ (each-Covers weak strong c k h)
-    | inr h ↦ rw (get_or_past weak k None (omega arith), get_or_past strong k None (omega arith)) (omega arith) ]
+      | inl h ↦ room-covers _ _ (each-Covers weak strong c k h)
+      | inr h ↦ rw (get_or_past weak k None (omega arith), get_or_past strong k None (omega arith)) (omega arith)
+    ]
 
 pub total_room-covers : (weak strong : Bounds) → IsZone weak → IsZone strong → Covers weak strong → total_room weak ≤ total_room strong
 total_room-covers weak strong w s c = total_room-le weak strong (w.size ∙ sym s.size) (each-room weak strong w s c)
@@ -54,7 +55,7 @@ falls_at : (weak strong : Bounds) → IsZone weak → IsZone strong → Covers w
     (k : ℕ) → k < 1024 → covers_bound (get_or strong k None) (get_or weak k None) ≡ false → total_room weak < total_room strong
 falls_at weak strong w s c k l f =
     total_room-lt weak strong (w.size ∙ sym s.size) (each-room weak strong w s c) k (rw w.size l)
-      (room-covers_more _ _ (s.kept k) (each-Covers weak strong c k l) f)
+    (room-covers_more _ _ (s.kept k) (each-Covers weak strong c k l) f)
 
 pub total_room-weakened : (weak strong : Bounds) → IsZone weak → IsZone strong → Covers weak strong →
     (x y : ℕ) → x < 32 → y < 32 → covers_bound (bound strong x y) (bound weak x y) ≡ false → total_room weak < total_room strong
@@ -68,18 +69,21 @@ first_uncovered : (strong weak : Bounds) (n : ℕ) →
 first_uncovered strong weak zero = inl (λ k h. absurd (omega arith))
 first_uncovered strong weak (suc n) =
     elim (first_uncovered strong weak n) [
-      inl below ↦
-        (elim (covers_bound (get_or strong n None) (get_or weak n None))
+      | inl below ↦
+          (elim (covers_bound (get_or strong n None) (get_or weak n None))
           as (λ r. covers_bound (get_or strong n None) (get_or weak n None) ≡ r →
-            ((k : ℕ) → k < suc n → covers_bound (get_or strong k None) (get_or weak k None) ≡ true)
-            ⊎ ((k : ℕ) × (k < suc n) × (covers_bound (get_or strong k None) (get_or weak k None) ≡ false))) [
-          true ↦ λ e. inl (λ k h. elim (cases_lt k n) [ inl l ↦ below k l | inr l ↦ let same : k ≡ n = omega arith in rw same e ])
-        | false ↦ λ e. inr (n, omega arith, e) ]) refl
-    | inr found ↦ inr (found.0, omega (arith, found.1), found.2) ]
+          ((k : ℕ) → k < suc n → covers_bound (get_or strong k None) (get_or weak k None) ≡ true)
+          ⊎ ((k : ℕ) × (k < suc n) × (covers_bound (get_or strong k None) (get_or weak k None) ≡ false))) [
+            | true ↦ λ e. inl (λ k h. elim (cases_lt k n) [ inl l ↦ below k l | inr l ↦ let same : k ≡ n = omega arith in rw same e ])
+            | false ↦ λ e. inr (n, omega arith, e)
+          ]) refl
+      | inr found ↦ inr (found.0, omega (arith, found.1), found.2)
+    ]
 
 pub total_room-not_covered : (weak strong : Bounds) → IsZone weak → IsZone strong → Covers weak strong →
     (Covers strong weak → ⊥) → total_room weak < total_room strong
 total_room-not_covered weak strong w s c not =
     elim (first_uncovered strong weak 1024) [
-      inl all ↦ absurd (not (Covers-each strong weak all))
-    | inr found ↦ falls_at weak strong w s c found.0 found.1 found.2 ]
+      | inl all ↦ absurd (not (Covers-each strong weak all))
+      | inr found ↦ falls_at weak strong w s c found.0 found.1 found.2
+    ]

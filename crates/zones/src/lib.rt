@@ -4,6 +4,8 @@
 mod laws;
 mod name;
 mod number;
+#[cfg(test)]
+mod rows;
 mod table;
 mod zone;
 
@@ -12,6 +14,6 @@ pub use laws::{
     known_differences_stay_known, offsets_may_be_clamped, room_falls, steps_are_formulas,
     steps_are_sound, steps_keep_diagonals_low, steps_keep_to_the_clip,
 };
-pub use name::{Letter, Name};
+pub use name::Name;
 pub use number::LIMIT;
 pub use zone::Zone;

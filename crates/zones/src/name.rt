@@ -1,99 +1,116 @@
 //! The names whose numbers a zone compares.
 
-ghost use Rattle.std.specs.Prelude.{◌≡◌, ℕ, ◌<◌, length, slice_get, IfSome};
-ghost use Rattle.zones.specs.Letter.{IsLowerCase};
+ghost use Rattle.std.specs.Prelude.{◌≡◌, ◌<◌, ◌≤◌, IfSome, IfNone};
+ghost use Rattle.zones.specs.Name.{IsLowerCase, mark};
 
 use std::marker::Model;
 
-/// A lower-case letter, `a` to `z`, that names a mark. Contracts see its byte.
+/// What a number of an editor's state is called: zero, the current line, the last line, the three
+/// addresses of one command, or the line that a letter marks.
+///
+/// Contracts see a name's place among all names, from 0 to 31.
 #[derive(Clone, Copy, PartialEq, Eq, Debug)]
-pub struct Letter {
-    byte: u8,
+pub struct Name {
+    place: u8,
 }
 
-impl Model for Letter {
+impl Model for Name {
+    ghost use Rattle.std.specs.Prelude.{ℕ, ◌<◌};
+
     ghost Value = { ℕ };
 
-    ghost view = { λ letter. letter.byte };
+    ghost view = { λ name. name.place };
 
-    ghost invariant = { λ letter. IsLowerCase letter.byte };
+    ghost invariant = { λ name. name.place < 32 };
 
-    ghost inverse = { λ byte. record { byte = byte } };
-}
-
-impl Letter {
-    /// The letter of this byte.
-    pub fn new(byte: u8) -> Self
-        requires lower_case { IsLowerCase byte }
-        ensures value { result ≡ byte }
-    {
-        Letter { byte }
-    }
-
-    /// The letter's byte, from `b'a'` to `b'z'`.
-    pub fn byte(self) -> u8
-        ensures value { result ≡ self }
-        ensures lower_case { IsLowerCase result }
-    {
-        self.byte
-    }
-}
-
-/// What a number of an editor's state is called. The three addresses are the temporaries of one command.
-#[derive(Clone, Copy, PartialEq, Eq, Debug)]
-pub enum Name {
-    /// The number 0.
-    Zero,
-    /// The current line.
-    CurrentLine,
-    /// The last line.
-    LastLine,
-    /// A command's first address.
-    FirstAddress,
-    /// A command's second address.
-    SecondAddress,
-    /// The address that a command moves or copies lines to.
-    TargetAddress,
-    /// The line that a letter marks.
-    Mark(Letter),
+    ghost inverse = { λ place. record { place = place } };
 }
 
 impl Name {
-    ghost use Rattle.zones.specs.Name.{place_of};
+    /// The number 0.
+    pub const ZERO: Name = Name { place: 0 };
+    /// The current line.
+    pub const CURRENT_LINE: Name = Name { place: 1 };
+    /// The last line.
+    pub const LAST_LINE: Name = Name { place: 2 };
+    /// A command's first address.
+    pub const FIRST_ADDRESS: Name = Name { place: 3 };
+    /// A command's second address.
+    pub const SECOND_ADDRESS: Name = Name { place: 4 };
+    /// The address that a command moves or copies lines to.
+    pub const TARGET_ADDRESS: Name = Name { place: 5 };
 
     /// How many names there are.
     pub const COUNT: usize = 32;
 
-    /// The name's place among all names, which counts from 0: the six unmarked ones in the order of
-    /// this type, then the marks from `a` to `z`.
-    pub fn place(self) -> usize
-        ensures value { result ≡ place_of self }
-        ensures in_range { result < 32 }
+    /// The line that a letter marks, by the letter's byte, from `b'a'` to `b'z'`.
+    pub fn mark(letter: u8) -> Self
+        requires lower_case { IsLowerCase letter }
+        ensures value { result ≡ mark letter }
     {
-        match self {
-            Name::Zero => 0,
-            Name::CurrentLine => 1,
-            Name::LastLine => 2,
-            Name::FirstAddress => 3,
-            Name::SecondAddress => 4,
-            Name::TargetAddress => 5,
-            Name::Mark(letter) => 6 + usize::from(letter.byte() - b'a'),
+        Name {
+            place: 6 + (letter - b'a'),
         }
     }
 
-    /// The name at this place, as [`Name::place`] counts them.
-    pub fn at(place: usize) -> Self
-        requires in_range { place < 32 }
-        ensures value { place_of result ≡ place }
+    /// The byte of the letter that marks the line; `None` of a name that is no mark.
+    pub fn letter(self) -> Option<u8>
+        ensures lower_case { IfSome result IsLowerCase }
+        ensures value { IfSome result (λ letter. mark letter ≡ self) }
+        ensures unmarked { IfNone result (self < 6) }
     {
-        match place {
-            0 => Name::Zero,
-            1 => Name::CurrentLine,
-            2 => Name::LastLine,
-            3 => Name::FirstAddress,
-            4 => Name::SecondAddress,
-            5 => Name::TargetAddress,
-            _ => Name::Mark(Letter::new(b'a' + (place - 6) as u8)),
+        if self.place < 6 {
+            None
+        } else {
+            Some(b'a' + (self.place - 6))
+        }
+    }
+
+    /// The name's place among all names, from 0: the constants above in their order, then the marks
+    /// from `a` to `z`.
+    pub fn place(self) -> usize
+        ensures value { result ≡ self }
+        ensures in_range { result < 32 }
+    {
+        usize::from(self.place)
+    }
+
+    /// The name at this place. All names in their order are those at the places from 0 up to
+    /// [`Name::COUNT`].
+    pub fn from_place(place: usize) -> Self
+        requires in_range { place < 32 }
+        ensures value { result ≡ place }
+    {
+        Name { place: place as u8 }
+    }
+}
+
+#[cfg(test)]
+mod tests {
+    use super::*;
+
+    #[test]
+    fn names_go_in_their_order(rt: HostRuntime) {
+        #[rattlefmt::skip]
+        const FIRST: [Name; 6] = [
+            Name::ZERO, Name::CURRENT_LINE, Name::LAST_LINE,
+            Name::FIRST_ADDRESS, Name::SECOND_ADDRESS, Name::TARGET_ADDRESS,
+        ];
+        for (place, name) in FIRST.iter().enumerate() {
+            assert_eq!(rt; name.place(), place);
+            assert_eq!(rt; name.letter(), None);
+        }
+        for place in 0..Name::COUNT {
+            assert_eq!(rt; Name::from_place(place).place(), place);
+        }
+    }
+
+    #[test]
+    fn a_mark_gives_its_letter_back(rt: HostRuntime) {
+        assert_eq!(rt; Name::mark(b'a').place(), 6);
+        assert_eq!(rt; Name::mark(b'z').place(), 31);
+        for letter in b'a'..=b'z' {
+            assert_eq!(rt; Name::mark(letter).letter(), Some(letter));
         }
     }
 }

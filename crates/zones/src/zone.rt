@@ -38,8 +38,6 @@ impl Model for Zone {
 }
 
 impl Zone {
-    ghost use Rattle.zones.specs.Name.{place_of};
-
     /// The zone in which nothing is known but that each number is itself.
     pub fn any() -> Self
         ensures exact { result ≡ any_zone }
@@ -52,7 +50,7 @@ impl Zone {
 
     /// The number that `x - y` is at most, if there is one.
     pub fn bound(&self, x: Name, y: Name) -> Option<i64>
-        ensures value { result ≡ bound self.now (place_of x) (place_of y) }
+        ensures value { result ≡ bound self.now x y }
 
         // A number lies between `-LIMIT` and `LIMIT`.
         ensures kept { IsKept result }
@@ -63,36 +61,36 @@ impl Zone {
 
     /// Takes up that `x - y` is at most `c`.
     pub fn guard(&mut self, x: Name, y: Name, c: i64)
-        ensures exact { self.new ≡ after_guard self.old (place_of x) (place_of y) c }
+        ensures exact { self.new ≡ after_guard self.old x y c }
         ensures sound { (number : Numbers) → Holds self.old number →
-            (number (place_of x) -ℤ number (place_of y)) ≤ℤ c → Holds self.new number }
+            (number x -ℤ number y) ≤ℤ c → Holds self.new number }
     {
         self.table = guard_table(&self.table, x.place(), y.place(), c);
     }
 
     /// Sets `x` to `y + c`. A name that is set from itself moves by `c`.
     pub fn set(&mut self, x: Name, y: Name, c: i64)
-        ensures exact { self.new ≡ after_set self.old (place_of x) (place_of y) c }
-        ensures sound { (before after : Numbers) → Holds self.old before → ChangesOnly (place_of x) before after →
-            after (place_of x) ≡ before (place_of y) +ℤ c → Holds self.new after }
+        ensures exact { self.new ≡ after_set self.old x y c }
+        ensures sound { (before after : Numbers) → Holds self.old before → ChangesOnly x before after →
+            after x ≡ before y +ℤ c → Holds self.new after }
     {
         self.table = set_table(&self.table, x.place(), y.place(), c);
     }
 
     /// Lets `x` grow by some number from `low` to `high`; a side that is `None` has no limit.
     pub fn shift(&mut self, x: Name, low: Option<i64>, high: Option<i64>)
-        ensures exact { self.new ≡ after_shift self.old (place_of x) low high }
-        ensures sound { (before after : Numbers) → Holds self.old before → ChangesOnly (place_of x) before after →
-            Obeys (after (place_of x) -ℤ before (place_of x)) high →
-            Obeys (before (place_of x) -ℤ after (place_of x)) (negative_of low) → Holds self.new after }
+        ensures exact { self.new ≡ after_shift self.old x low high }
+        ensures sound { (before after : Numbers) → Holds self.old before → ChangesOnly x before after →
+            Obeys (after x -ℤ before x) high →
+            Obeys (before x -ℤ after x) (negative_of low) → Holds self.new after }
     {
         self.table = shift_table(&self.table, x.place(), low, high);
     }
 
     /// Lets `x` become any number.
     pub fn forget(&mut self, x: Name)
-        ensures exact { self.new ≡ after_forget self.old (place_of x) }
-        ensures sound { (before after : Numbers) → Holds self.old before → ChangesOnly (place_of x) before after →
+        ensures exact { self.new ≡ after_forget self.old x }
+        ensures sound { (before after : Numbers) → Holds self.old before → ChangesOnly x before after →
             Holds self.new after }
     {
         self.table = forget_table(&self.table, x.place());
@@ -132,10 +130,13 @@ impl Zone {
     /// Replaces the bound of `x - y`, clipped as ever. This builds a zone and is no step: what it
     /// claims is the caller's.
     pub fn put(&mut self, x: Name, y: Name, number: Option<i64>)
-        ensures exact { self.new ≡ after_put self.old (place_of x) (place_of y) number }
+        ensures exact { self.new ≡ after_put self.old x y number }
         ensures sound { (numbers : Numbers) → Holds self.old numbers →
-            Obeys (numbers (place_of x) -ℤ numbers (place_of y)) number → Holds self.new numbers }
+            Obeys (numbers x -ℤ numbers y) number → Holds self.new numbers }
     {
         self.table = put_table(&self.table, x.place(), y.place(), number);
     }
 }
+
+#[cfg(test)]
+mod tests;

@@ -5,4 +5,5 @@ pub returns : goal.returns
 returns c = record {
   size = length-zone_by;
   value = bound-zone_by;
-  only = zone_by-each }
+  only = zone_by-each;
+}

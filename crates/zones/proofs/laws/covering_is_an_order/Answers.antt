@@ -10,4 +10,5 @@ returns c = record {
   join_other = Covers-join_of_other;
   join_least = Covers-join_of_least;
   widen = Covers-widening_of;
-  widen_other = Covers-widening_of_other }
+  widen_other = Covers-widening_of_other;
+}

@@ -9,4 +9,5 @@ returns c = record {
   forget = Fixes-after_forget;
   guard = Fixes-after_guard;
   join = Fixes-join_of;
-  widen = Fixes-widening_of }
+  widen = Fixes-widening_of;
+}

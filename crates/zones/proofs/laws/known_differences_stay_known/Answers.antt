@@ -7,4 +7,5 @@ returns c = record {
   set_others = IsDifference-after_set_other;
   shift = IsDifference-after_shift;
   shift_others = IsDifference-after_shift_other;
-  meaning = IsDifference-Holds }
+  meaning = IsDifference-Holds;
+}

@@ -5,4 +5,5 @@ pub returns : goal.returns
 returns c = record {
   guard = after_guard-clamp;
   set = after_set-clamp;
-  shift = after_shift-clamp }
+  shift = after_shift-clamp;
+}

@@ -5,4 +5,5 @@ pub returns : goal.returns
 returns c = record {
   no_more = total_room-covers;
   at_a_pair = total_room-weakened;
-  unless_covered = total_room-not_covered }
+  unless_covered = total_room-not_covered;
+}

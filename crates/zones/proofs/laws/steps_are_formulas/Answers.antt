@@ -10,4 +10,5 @@ returns c = record {
   forget = bound-after_forget;
   join = bound-join_of;
   widen = bound-widening_of;
-  put = bound-after_put }
+  put = bound-after_put;
+}

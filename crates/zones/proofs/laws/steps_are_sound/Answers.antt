@@ -12,4 +12,5 @@ returns c = record {
   join_other = Holds-join_of_other;
   widen = Holds-widening_of;
   widen_other = Holds-widening_of_other;
-  put = Holds-after_put }
+  put = Holds-after_put;
+}

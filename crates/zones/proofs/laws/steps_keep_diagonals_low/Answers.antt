@@ -9,4 +9,5 @@ returns c = record {
   shift = HasLowDiagonal-after_shift;
   forget = HasLowDiagonal-after_forget;
   join = HasLowDiagonal-join_of;
-  widen = HasLowDiagonal-widening_of }
+  widen = HasLowDiagonal-widening_of;
+}

@@ -10,4 +10,5 @@ returns c = record {
   forget = IsZone-after_forget;
   join = IsZone-join_of;
   widen = IsZone-widening_of;
-  put = IsZone-after_put }
+  put = IsZone-after_put;
+}
