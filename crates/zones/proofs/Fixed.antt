@@ -8,20 +8,13 @@ use Rattle.zones.specs.Steps.{after_guard, guard_bound, after_set, set_bound, af
 use Rattle.zones.specs.Limits.{IsZone}
 use Rattle.zones.specs.Differences.{IsDifference, Fixes, with_name}
 use Rattle.zones.proofs.Formulas.{bound-after_guard, bound-after_set, bound-after_shift, bound-after_forget, bound-join_of, bound-widening_of, set_bound-row, set_bound-column, set_bound-corner, set_bound-other, shift_bound-row, shift_bound-column, shift_bound-corner, shift_bound-other, forget_bound-other}
-use Rattle.zones.proofs.Kept.{IsKept-bound}
-use Rattle.zones.proofs.Soundness.{Holds-after_guard}
-
-clip-is : (c d : ℤ) → c ≡ d → IsKept (Some d) → clip c ≡ Some d
-clip-is c d e h = let low = h.0 in let high = h.1 in grind (arith, ints)
+use Rattle.zones.proofs.Kept.{clip-is, IsKept-negative}
 
 raise-is : (b : Option ℤ) (k c d : ℤ) → b ≡ Some k → k +ℤ c ≡ d → IsKept (Some d) → raise b (Some c) ≡ Some d
 raise-is b k c d e f h = rw e (clip-is (k +ℤ c) d f h)
 
 lower-is : (b : Option ℤ) (k c d : ℤ) → b ≡ Some k → k -ℤ c ≡ d → IsKept (Some d) → lower b (Some c) ≡ Some d
 lower-is b k c d e f h = rw e (clip-is (k +ℤ neg_ℤ c) d (omega (arith, ints)) h)
-
-IsKept-negative : (c d : ℤ) → IsKept (Some c) → d ≡ neg_ℤ c → IsKept (Some d)
-IsKept-negative c d h e = let low = h.0 in let high = h.1 in (omega (arith, ints), omega (arith, ints))
 
 -- Pairs
 
@@ -74,8 +67,10 @@ Fixes-IsDifference zone fixed number x y hx hy fixes fx fy =
     let e : number y -ℤ number x ≡ neg_ℤ (number x -ℤ number y) = omega (arith, ints) in
     (fixes x y hx hy fx fy, fixes y x hy hx fy fx ∙ ap (λ d. Some d) e)
 
-IsKept-self : (c d : ℤ) → c ≡ d → IsKept (Some (c -ℤ d))
-IsKept-self c d e = (omega (arith, ints), omega (arith, ints))
+pub Fixes-fewer : (zone : Bounds) (fixed fewer : ℕ → Bool) (number : Numbers) →
+    ((p : ℕ) → fewer p ≡ true → fixed p ≡ true) → Fixes zone fixed number → Fixes zone fewer number
+unfolding Fixes
+Fixes-fewer zone fixed fewer number h fixes p q hp hq fp fq = fixes p q hp hq (h p fp) (h q fq)
 
 -- the name that is set, or one that was fixed
 was_fixed : (x p : ℕ) (fixed : ℕ → Bool) → p ≢ x → with_name x fixed p ≡ true → fixed p ≡ true
@@ -151,22 +146,6 @@ Fixes-after_forget zone x fixed before after fixes same f p q hp hq fp fq =
     let r : after p ≡ before p = same p n in
     let s : after q ≡ before q = same q m in
     bound-after_forget zone x p q hp hq ∙ forget_bound-other zone x p q n m ∙ fixes p q hp hq fp fq ∙ ap (λ d. Some d) (omega (arith, ints))
-
-tighten-exact : (d c : ℤ) (to from : Option ℤ) → IsKept (Some d) → Obeys d (tighten (Some d) to c from) → tighten (Some d) to c from ≡ Some d
-tighten-exact d c None from h k = clip-is d d refl h
-tighten-exact d c (Some to) None h k = clip-is d d refl h
-tighten-exact d c (Some to) (Some from) h k = let low = h.0 in let high = h.1 in grind (arith, ints)
-
-pub Fixes-after_guard : (zone : Bounds) (x y : ℕ) (c : ℤ) (fixed : ℕ → Bool) (number : Numbers) → x < 32 → y < 32 → IsZone zone →
-    Fixes zone fixed number → Holds zone number → (number x -ℤ number y) ≤ℤ c → Fixes (after_guard zone x y c) fixed number
-unfolding Fixes Holds guard_bound
-Fixes-after_guard zone x y c fixed number hx hy well fixes holds h p q hp hq fp fq =
-    let is : bound zone p q ≡ Some (number p -ℤ number q) = fixes p q hp hq fp fq in
-    let kept : IsKept (Some (number p -ℤ number q)) = rw is at (IsKept-bound zone p q well) in
-    let new : bound (after_guard zone x y c) p q ≡ tighten (Some (number p -ℤ number q)) (bound zone p x) c (bound zone y q) =
-    bound-after_guard zone x y c p q hp hq ∙ ap (λ b. tighten b (bound zone p x) c (bound zone y q)) is in
-    new ∙ tighten-exact (number p -ℤ number q) c (bound zone p x) (bound zone y q) kept
-    (rw new at (Holds-after_guard zone x y c number hx hy holds h p q hp hq))
 
 greater_of-same : (c : ℤ) → greater_of (Some c) (Some c) ≡ Some c
 greater_of-same c = grind (arith, ints)

@@ -1,5 +1,5 @@
 -- Each step gives a zone: 1024 bounds, each within the clip.
-use Rattle.std.proofs.Common.{◌≡◌, ◌<◌, ◌/◌, ◌%◌, ℕ, ℤ, pos, get_or, length, map, Option, None, Some, arith, Bool, int_lt, true, false, cond, eqb, refl, inl, inr}
+use Rattle.std.proofs.Common.{neg_ℤ, ◌≡◌, ◌<◌, ◌/◌, ◌%◌, ℕ, ℤ, pos, get_or, length, map, Option, None, Some, arith, Bool, int_lt, true, false, cond, eqb, refl, inl, inr}
 use Rattle.std.proofs.lemmas.Int.{ints}
 use Rattle.std.proofs.lemmas.Bool.{cases_lt}
 use Rattle.std.proofs.lemmas.List.{get_or_past}
@@ -18,10 +18,12 @@ IsKept-clip_bound : (b : Option ℤ) → IsKept (clip_bound b)
 IsKept-clip_bound None = tt
 IsKept-clip_bound (Some c) = IsKept-clip c
 
--- what a zone may keep, the clip leaves as it is
-pub clip_bound-kept : (b : Option ℤ) → IsKept b → clip_bound b ≡ b
-clip_bound-kept None h = refl
-clip_bound-kept (Some c) h = let low = h.0 in let high = h.1 in grind (arith, ints)
+-- a kept number is clipped to itself
+pub clip-is : (c d : ℤ) → c ≡ d → IsKept (Some d) → clip c ≡ Some d
+clip-is c d e h = let low = h.0 in let high = h.1 in grind (arith, ints)
+
+pub IsKept-negative : (c d : ℤ) → IsKept (Some c) → d ≡ neg_ℤ c → IsKept (Some d)
+IsKept-negative c d h e = let low = h.0 in let high = h.1 in (omega (arith, ints), omega (arith, ints))
 
 IsKept-greater_of : (a b : Option ℤ) → IsKept a → IsKept b → IsKept (greater_of a b)
 IsKept-greater_of None b h k = tt

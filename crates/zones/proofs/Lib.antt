@@ -7,3 +7,4 @@ pub mod Diagonal
 pub mod Clamps
 pub mod Rooms
 pub mod Fixed
+pub mod Guarded

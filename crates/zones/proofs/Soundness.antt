@@ -45,6 +45,10 @@ Holds-zone_by : (f : ℕ → ℕ → Option ℤ) (number : Numbers) →
 unfolding Holds
 Holds-zone_by f number h p q hp hq = rw (bound-zone_by f p q hp hq) (h p q hp hq)
 
+pub Obeys-bound : (zone : Bounds) (x y : ℕ) (number : Numbers) → x < 32 → y < 32 → Holds zone number → Obeys (number x -ℤ number y) (bound zone x y)
+unfolding Holds
+Obeys-bound zone x y number hx hy holds = holds x y hx hy
+
 pub Holds-any_zone : (number : Numbers) → Holds any_zone number
 unfolding any_zone
 Holds-any_zone number =

@@ -1,6 +1,6 @@
 //! Laws about the definitions of zones, for the proofs above: each is a contract of a function that does nothing.
 
-ghost use Rattle.std.specs.Prelude.{◌≡◌, ◌≢◌, ℕ, ◌<◌, ◌≤◌, ℤ, ◌+ℤ◌, ◌-ℤ◌, ◌≤ℤ◌, Bool, true, false, Option, Some, length};
+ghost use Rattle.std.specs.Prelude.{◌≡◌, ◌≢◌, ℕ, ◌<◌, ◌≤◌, ℤ, ◌+ℤ◌, ◌-ℤ◌, ◌≤ℤ◌, neg_ℤ, Bool, true, false, Option, Some, length};
 ghost use Rattle.zones.specs.Bound.{Obeys, IsKept, negative_of, covers_bound};
 ghost use Rattle.zones.specs.Zone.{Bounds, Numbers, bound, zone_by, Holds, ChangesOnly, Covers};
 ghost use Rattle.zones.specs.Steps.{any_bound, any_zone, guard_bound, after_guard, set_bound, after_set, shift_bound, after_shift, forget_bound, after_forget, join_bound, join_of, widening_bound, widening_of, put_bound, after_put};
@@ -38,6 +38,8 @@ pub fn steps_are_formulas()
 /// Where a zone holds of the numbers before a step, the zone after it holds of those after, for
 /// every change that the step allows.
 pub fn steps_are_sound()
+    ensures bound { (zone : Bounds) (x y : ℕ) (number : Numbers) → x < 32 → y < 32 → Holds zone number →
+        Obeys (number x -ℤ number y) (bound zone x y) }
     ensures any { (number : Numbers) → Holds any_zone number }
     ensures guard { (zone : Bounds) (x y : ℕ) (c : ℤ) (number : Numbers) → x < 32 → y < 32 → Holds zone number →
         (number x -ℤ number y) ≤ℤ c → Holds (after_guard zone x y c) number }
@@ -146,10 +148,18 @@ pub fn fixed_names_stay_fixed()
         Fixes zone fixed before → ChangesOnly x before after → fixed x ≡ false →
         Fixes (after_forget zone x) fixed after }
 
-    // A guard that is true of the numbers changes nothing between fixed names.
+    // A guard that is true of the numbers changes nothing between fixed names, and two guards that
+    // say a name's difference to a fixed one fix it.
     ensures guard { (zone : Bounds) (x y : ℕ) (c : ℤ) (fixed : ℕ → Bool) (number : Numbers) → x < 32 → y < 32 →
-        IsZone zone → Fixes zone fixed number → Holds zone number →
-        (number x -ℤ number y) ≤ℤ c → Fixes (after_guard zone x y c) fixed number }
+        IsZone zone → Fixes zone fixed number → Holds zone number → (number x -ℤ number y) ≤ℤ c →
+        Fixes (after_guard zone x y c) fixed number }
+    ensures guards { (zone : Bounds) (x y : ℕ) (c : ℤ) (fixed : ℕ → Bool) (number : Numbers) → x < 32 → y < 32 →
+        IsZone zone → HasLowDiagonal zone → Holds zone number → Fixes zone fixed number →
+        fixed y ≡ true → number x ≡ number y +ℤ c →
+        ((q : ℕ) → q < 32 → fixed q ≡ true → IsKept (Some (number x -ℤ number q))) →
+        Fixes (after_guard (after_guard zone y x (neg_ℤ c)) x y c) (with_name x fixed) number }
+    ensures fewer { (zone : Bounds) (fixed fewer : ℕ → Bool) (number : Numbers) →
+        ((p : ℕ) → fewer p ≡ true → fixed p ≡ true) → Fixes zone fixed number → Fixes zone fewer number }
     ensures join { (one other : Bounds) (fixed : ℕ → Bool) (number : Numbers) → Fixes one fixed number →
         Fixes other fixed number → Fixes (join_of one other) fixed number }
     ensures widen { (old new : Bounds) (fixed : ℕ → Bool) (number : Numbers) → Fixes old fixed number →

@@ -52,6 +52,9 @@ impl Zone {
     pub fn bound(&self, x: Name, y: Name) -> Option<i64>
         ensures value { result ≡ bound self.now x y }
 
+        // The difference of numbers that the zone holds of obeys it.
+        ensures sound { (number : Numbers) → Holds self.now number → Obeys (number x -ℤ number y) result }
+
         // A number lies between `-LIMIT` and `LIMIT`.
         ensures kept { IsKept result }
         ensures well_formed { IsZone self.now }

@@ -1,8 +1,9 @@
-use Rattle.zones.proofs.Soundness.{Holds-any_zone, Holds-after_guard, Holds-after_set, Holds-after_shift, Holds-after_forget, Holds-join_of, Holds-join_of_other, Holds-widening_of, Holds-widening_of_other, Holds-after_put}
+use Rattle.zones.proofs.Soundness.{Obeys-bound, Holds-any_zone, Holds-after_guard, Holds-after_set, Holds-after_shift, Holds-after_forget, Holds-join_of, Holds-join_of_other, Holds-widening_of, Holds-widening_of_other, Holds-after_put}
 use Rattle.zones.proofs.laws.steps_are_sound.Goals as goal
 
 pub returns : goal.returns
 returns c = record {
+  bound = Obeys-bound;
   any = Holds-any_zone;
   guard = Holds-after_guard;
   set = Holds-after_set;
