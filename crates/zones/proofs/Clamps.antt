@@ -1,7 +1,7 @@
 -- Offsets may be clamped before they are added.
-use Rattle.std.proofs.Common.{◌≡◌, ◌<◌, ℕ, ℤ, pos, negsuc, neg_ℤ, ◌+ℤ◌, ◌-ℤ◌, ◌≤ℤ◌, ◌<ℤ◌, int_lt, Bool, true, false, cond, eqb, Option, Some, None, arith, refl}
+use Rattle.std.proofs.Common.{◌≡◌, ℕ, ℤ, pos, negsuc, neg_ℤ, ◌+ℤ◌, ◌≤ℤ◌, ◌<ℤ◌, Bool, true, false, cond, eqb, Option, Some, None, arith, refl}
 use Rattle.std.proofs.lemmas.Int.{ints, by_lt_z}
-use Rattle.zones.specs.Bound.{highest, lowest, IsKept, clip, clip_bound, lesser_of, sum_of, raise, lower, tighten, negative_of}
+use Rattle.zones.specs.Bound.{highest, lowest, IsKept, clip, clip_bound, lesser_of, raise, lower, tighten}
 use Rattle.zones.specs.Zone.{Bounds, bound}
 use Rattle.zones.specs.Steps.{after_guard, guard_bound, after_set, set_bound, after_shift, shift_bound}
 use Rattle.zones.specs.Limits.{IsZone, clamp, clamp_side}

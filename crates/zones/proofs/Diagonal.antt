@@ -1,10 +1,10 @@
 -- Steps keep the diagonal at most 0.
-use Rattle.std.proofs.Common.{◌≡◌, ◌≢◌, ◌<◌, ℕ, ℤ, pos, ◌≤ℤ◌, int_lt, Option, None, Some, Bool, true, false, cond, ◌∙◌, refl, sym, inl, inr, arith}
+use Rattle.std.proofs.Common.{◌≡◌, ◌<◌, ℕ, ℤ, pos, ◌≤ℤ◌, int_lt, Option, None, Some, true, false, cond, refl, inl, inr, arith}
 use Rattle.std.proofs.lemmas.Int.{ints}
 use Rattle.std.proofs.lemmas.Bool.Decides.{eqb_tells}
-use Rattle.zones.specs.Bound.{clip, clip_bound, lesser_of, sum_of, tighten, greater_of, widen_diagonal}
+use Rattle.zones.specs.Bound.{clip, clip_bound, lesser_of, sum_of, greater_of, widen_diagonal}
 use Rattle.zones.specs.Zone.{Bounds, bound}
-use Rattle.zones.specs.Steps.{any_zone, any_bound, after_guard, guard_bound, after_set, set_bound, after_shift, shift_bound, after_forget, forget_bound, join_of, join_bound, widening_of, widening_bound}
+use Rattle.zones.specs.Steps.{any_zone, after_guard, guard_bound, after_set, after_shift, after_forget, join_of, join_bound, widening_of}
 use Rattle.zones.specs.Limits.{IsAtMostZero, HasLowDiagonal}
 use Rattle.zones.proofs.Formulas.{bound-any_zone, bound-after_guard, bound-after_set, bound-after_shift, bound-after_forget, bound-join_of, bound-widening_of, set_bound-corner, set_bound-other, shift_bound-corner, shift_bound-other, forget_bound-corner, forget_bound-other, widening_bound-diagonal}
 

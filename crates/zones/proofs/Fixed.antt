@@ -1,13 +1,12 @@
 -- Known differences stay known.
-use Rattle.std.proofs.Common.{◌≡◌, ◌≢◌, ◌<◌, ℕ, ℤ, pos, neg_ℤ, ◌+ℤ◌, ◌-ℤ◌, ◌≤ℤ◌, int_lt, Bool, true, false, cond, eqb, ◌||◌, Option, Some, None, arith, refl, ◌∙◌, sym, ap, inl, inr}
+use Rattle.std.proofs.Common.{◌≡◌, ◌≢◌, ◌<◌, ℕ, ℤ, neg_ℤ, ◌+ℤ◌, ◌-ℤ◌, Bool, true, false, cond, eqb, Option, Some, arith, refl, ◌∙◌, sym, ap, inl, inr}
 use Rattle.std.proofs.lemmas.Int.{ints}
 use Rattle.std.proofs.lemmas.Bool.Decides.{eqb_tells}
-use Rattle.zones.specs.Bound.{Obeys, IsKept, clip, clip_bound, lesser_of, sum_of, raise, lower, tighten, greater_of, widen_bound, widen_diagonal}
+use Rattle.zones.specs.Bound.{Obeys, IsKept, raise, lower, greater_of, widen_bound, widen_diagonal}
 use Rattle.zones.specs.Zone.{Bounds, Numbers, bound, Holds, ChangesOnly}
-use Rattle.zones.specs.Steps.{after_guard, guard_bound, after_set, set_bound, after_shift, shift_bound, after_forget, forget_bound, join_of, join_bound, widening_of, widening_bound}
-use Rattle.zones.specs.Limits.{IsZone}
+use Rattle.zones.specs.Steps.{after_set, after_shift, after_forget, join_of, join_bound, widening_of, widening_bound}
 use Rattle.zones.specs.Differences.{IsDifference, Fixes, with_name}
-use Rattle.zones.proofs.Formulas.{bound-after_guard, bound-after_set, bound-after_shift, bound-after_forget, bound-join_of, bound-widening_of, set_bound-row, set_bound-column, set_bound-corner, set_bound-other, shift_bound-row, shift_bound-column, shift_bound-corner, shift_bound-other, forget_bound-other}
+use Rattle.zones.proofs.Formulas.{bound-after_set, bound-after_shift, bound-after_forget, bound-join_of, bound-widening_of, set_bound-row, set_bound-column, set_bound-corner, set_bound-other, shift_bound-row, shift_bound-column, shift_bound-corner, shift_bound-other, forget_bound-other}
 use Rattle.zones.proofs.Kept.{clip-is, IsKept-negative}
 
 raise-is : (b : Option ℤ) (k c d : ℤ) → b ≡ Some k → k +ℤ c ≡ d → IsKept (Some d) → raise b (Some c) ≡ Some d

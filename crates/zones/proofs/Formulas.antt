@@ -1,7 +1,7 @@
 -- Zones that are made by formulas.
-use Rattle.std.proofs.Common.{◌≡◌, ◌≢◌, ◌<◌, ℕ, ℤ, pos, Option, None, Some, Bool, true, false, cond, eqb, refl, ◌∙◌, inl, inr}
+use Rattle.std.proofs.Common.{◌≡◌, ◌≢◌, ◌<◌, ℕ, ℤ, pos, Option, Some, refl, ◌∙◌, inl, inr}
 use Rattle.std.proofs.lemmas.Bool.Decides.{eqb_tells}
-use Rattle.zones.specs.Bound.{raise, lower, clip_bound, tighten, greater_of, widen_bound, widen_diagonal}
+use Rattle.zones.specs.Bound.{raise, lower, widen_diagonal}
 use Rattle.zones.specs.Zone.{Bounds, bound, zone_by}
 use Rattle.zones.specs.Steps.{any_zone, any_bound, after_guard, guard_bound, after_set, set_bound, after_shift, shift_bound, after_forget, forget_bound, join_of, join_bound, widening_of, widening_bound, after_put, put_bound}
 use Rattle.zones.proofs.Places.{bound-zone_by, length-zone_by, zone_by-each}

@@ -1,8 +1,8 @@
 -- Guards and known differences: what is known stays, and two guards fix one more name.
-use Rattle.std.proofs.Common.{◌≡◌, ◌≢◌, ◌<◌, ℕ, ℤ, pos, neg_ℤ, ◌+ℤ◌, ◌-ℤ◌, ◌≤ℤ◌, Bool, true, Option, Some, None, arith, refl, ◌∙◌, sym, ap, inl, inr}
+use Rattle.std.proofs.Common.{◌≡◌, ◌<◌, ℕ, ℤ, pos, neg_ℤ, ◌+ℤ◌, ◌-ℤ◌, ◌≤ℤ◌, Bool, true, Option, Some, None, arith, refl, ◌∙◌, ap, inl, inr}
 use Rattle.std.proofs.lemmas.Int.{ints}
 use Rattle.std.proofs.lemmas.Bool.Decides.{eqb_tells}
-use Rattle.zones.specs.Bound.{Obeys, IsKept, clip_bound, lesser_of, sum_of, tighten}
+use Rattle.zones.specs.Bound.{Obeys, IsKept, clip_bound, lesser_of, tighten}
 use Rattle.zones.specs.Zone.{Bounds, Numbers, bound, Holds}
 use Rattle.zones.specs.Steps.{after_guard, guard_bound}
 use Rattle.zones.specs.Limits.{IsZone, IsAtMostZero, HasLowDiagonal}

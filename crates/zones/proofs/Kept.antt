@@ -1,15 +1,14 @@
 -- Each step gives a zone: 1024 bounds, each within the clip.
-use Rattle.std.proofs.Common.{neg_ℤ, ◌≡◌, ◌<◌, ◌/◌, ◌%◌, ℕ, ℤ, pos, get_or, length, map, Option, None, Some, arith, Bool, int_lt, true, false, cond, eqb, refl, inl, inr}
+use Rattle.std.proofs.Common.{neg_ℤ, ◌≡◌, ◌/◌, ◌%◌, ℕ, ℤ, pos, map, Option, None, Some, arith, Bool, int_lt, true, false, cond, eqb, inl, inr}
 use Rattle.std.proofs.lemmas.Int.{ints}
 use Rattle.std.proofs.lemmas.Bool.{cases_lt}
 use Rattle.std.proofs.lemmas.List.{get_or_past}
 use Rattle.std.proofs.lemmas.List.FromFn.{get_or-map-range_with_len, length-map-range_with_len}
 use Rattle.std.specs.List.{range_with_len}
-use Rattle.zones.specs.Bound.{IsKept, clip, clip_bound, raise, greater_of, tighten, lesser_of, sum_of, negative_of, widen_bound, widen_diagonal}
+use Rattle.zones.specs.Bound.{IsKept, clip, clip_bound, greater_of, lesser_of, sum_of, negative_of, widen_bound, widen_diagonal}
 use Rattle.zones.specs.Zone.{Bounds, bound, zone_by}
 use Rattle.zones.specs.Steps.{after_guard, guard_bound, after_set, set_bound, after_shift, shift_bound, after_forget, forget_bound, join_of, join_bound, widening_of, widening_bound, after_put, put_bound, any_zone, any_bound}
 use Rattle.zones.specs.Limits.{IsZone}
-use Rattle.zones.proofs.Places.{length-zone_by}
 
 IsKept-clip : (c : ℤ) → IsKept (clip c)
 IsKept-clip c = grind (arith, ints)

@@ -1,5 +1,5 @@
 -- The order of zones: which of two is the weaker.
-use Rattle.std.proofs.Common.{◌≡◌, ◌<◌, ◌/◌, ◌%◌, ◌+◌, ◌*◌, ℕ, ℤ, pos, get_or, Option, None, Some, Bool, true, false, cond, eqb, int_lt, refl, arith, sym, ◌∙◌}
+use Rattle.std.proofs.Common.{◌≡◌, ◌<◌, ◌/◌, ◌%◌, ◌+◌, ◌*◌, ℕ, ℤ, get_or, Option, None, Some, true, false, cond, eqb, int_lt, refl, arith, sym, ◌∙◌}
 use Rattle.std.proofs.lemmas.Int.{ints}
 use Rattle.zones.specs.Bound.{covers_bound, greater_of, widen_bound, widen_diagonal}
 use Rattle.zones.specs.Zone.{Bounds, bound, zone_by, Covers}

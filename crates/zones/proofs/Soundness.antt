@@ -1,8 +1,8 @@
 -- Each step is sound: where the zone before holds of the numbers before, the zone after holds of those after.
-use Rattle.std.proofs.Common.{◌≡◌, ◌≢◌, ◌<◌, inl, inr, ℕ, ℤ, pos, neg_ℤ, ◌+ℤ◌, ◌-ℤ◌, ◌≤ℤ◌, Option, None, Some, Bool, true, cond, eqb, int_lt, false, arith}
+use Rattle.std.proofs.Common.{◌≡◌, ◌≢◌, ◌<◌, inl, inr, ℕ, ℤ, neg_ℤ, ◌+ℤ◌, ◌-ℤ◌, ◌≤ℤ◌, Option, None, Some, true, cond, eqb, int_lt, false, arith}
 use Rattle.std.proofs.lemmas.Int.{ints}
 use Rattle.std.proofs.lemmas.Bool.Decides.{eqb_tells}
-use Rattle.zones.specs.Bound.{Obeys, clip, clip_bound, lesser_of, sum_of, tighten, raise, negative_of, greater_of, covers_bound}
+use Rattle.zones.specs.Bound.{Obeys, clip, clip_bound, lesser_of, sum_of, tighten, raise, negative_of, covers_bound}
 use Rattle.zones.specs.Zone.{Bounds, Numbers, bound, zone_by, Holds, ChangesOnly, Covers}
 use Rattle.zones.specs.Steps.{any_zone, any_bound, after_guard, guard_bound, after_set, set_bound, after_shift, shift_bound, after_forget, forget_bound, join_of, widening_of, after_put, put_bound}
 use Rattle.zones.proofs.Places.{bound-zone_by}

@@ -1,5 +1,5 @@
 -- What is true of each zone, and of the diagonal of a zone that steps made.
-use Rattle.std.specs.Prelude.{◌≡◌, ℕ, ◌<◌, ℤ, pos, negsuc, ◌≤ℤ◌, int_lt, Option, Some, None, length, get_or, option_map, if◌then◌else◌}
+use Rattle.std.specs.Prelude.{◌≡◌, ℕ, ◌<◌, ℤ, pos, negsuc, ◌≤ℤ◌, int_lt, Option, Some, None, length, get_or, if◌then◌else◌}
 use Rattle.zones.specs.Bound.{IsKept}
 use Rattle.zones.specs.Zone.{Bounds, bound}
 

@@ -10,7 +10,8 @@ use crate::name::Name;
 
 // The constants are the names of the definitions.
 fn places_of_constants() -> [usize; 6]
-    ensures value { result ≡ zero ∷ current_line ∷ last_line ∷ first_address ∷ second_address ∷ target_address ∷ [] }
+    ensures value { result ≡ zero ∷ current_line ∷ last_line ∷ first_address ∷ second_address ∷
+        target_address ∷ [] }
 {
     [
         Name::ZERO.place(),
@@ -24,16 +25,21 @@ fn places_of_constants() -> [usize; 6]
 
 // A buffer of 1 to 3 lines, of which the last is current; then it loses a line.
 fn rows_of_a_deletion()
-    ensures set { let guarded = after_guard (after_guard any_zone zero last_line (negsuc 0)) last_line zero (pos 3) in
+    ensures set { let long = after_guard any_zone zero last_line (negsuc 0) in
+        let guarded = after_guard long last_line zero (pos 3) in
         let zone = after_set guarded current_line last_line (pos 0) in
-        (bound zone current_line zero ≡ Some (pos 3)) × (bound zone zero current_line ≡ Some (negsuc 0))
+        (bound zone current_line zero ≡ Some (pos 3))
+        × (bound zone zero current_line ≡ Some (negsuc 0))
         × (bound zone last_line current_line ≡ Some (pos 0)) }
-    ensures shift { let guarded = after_guard (after_guard any_zone zero last_line (negsuc 0)) last_line zero (pos 3) in
+    ensures shift { let long = after_guard any_zone zero last_line (negsuc 0) in
+        let guarded = after_guard long last_line zero (pos 3) in
         let set = after_set guarded current_line last_line (pos 0) in
         let zone = after_shift set last_line (Some (negsuc 0)) (Some (negsuc 0)) in
         (bound zone last_line zero ≡ Some (pos 2)) × (bound zone zero last_line ≡ Some (pos 0))
-        × (bound zone current_line last_line ≡ Some (pos 1)) × (bound zone last_line current_line ≡ Some (negsuc 0)) }
-    ensures forget { let zone = after_forget (after_guard any_zone last_line zero (pos 3)) last_line in
+        × (bound zone current_line last_line ≡ Some (pos 1))
+        × (bound zone last_line current_line ≡ Some (negsuc 0)) }
+    ensures forget { let guarded = after_guard any_zone last_line zero (pos 3) in
+        let zone = after_forget guarded last_line in
         (bound zone last_line zero ≡ None) × (bound zone last_line last_line ≡ Some (pos 0)) }
 {}
 
@@ -72,7 +78,8 @@ fn rows_of_two_zones()
         let three = after_put any_zone a 0 (Some (pos 3)) in
         let four = after_put any_zone a 0 (Some (pos 4)) in
         let two = after_put any_zone a 0 (Some (pos 2)) in
-        (bound (join_of three four) a 0 ≡ Some (pos 4)) × (bound (widening_of three four) a 0 ≡ None)
+        (bound (join_of three four) a 0 ≡ Some (pos 4))
+        × (bound (widening_of three four) a 0 ≡ None)
         × (bound (widening_of three two) a 0 ≡ Some (pos 3)) }
 {}
 

@@ -17,8 +17,8 @@ use std::marker::Model;
 ///
 /// Of two zones the old one comes before the new (`old.widen(&new)`), and the weaker before the
 /// stronger (`weak.covers(&strong)`). A result above [`LIMIT`](crate::LIMIT) becomes any, one below
-/// `-LIMIT` becomes `-LIMIT`: always the weaker side. A zone may contradict itself; then it holds of
-/// no numbers, and no step looks for that.
+/// `-LIMIT` becomes `-LIMIT`: always the weaker side. A zone may contradict itself, and then holds
+/// of no numbers; no step looks for that.
 #[derive(Clone, Copy, PartialEq, Eq, Debug)]
 pub struct Zone {
     table: Table,
@@ -53,7 +53,8 @@ impl Zone {
         ensures value { result ≡ bound self.now x y }
 
         // The difference of numbers that the zone holds of obeys it.
-        ensures sound { (number : Numbers) → Holds self.now number → Obeys (number x -ℤ number y) result }
+        ensures sound { (number : Numbers) → Holds self.now number →
+            Obeys (number x -ℤ number y) result }
 
         // A number lies between `-LIMIT` and `LIMIT`.
         ensures kept { IsKept result }
@@ -65,8 +66,8 @@ impl Zone {
     /// Takes up that `x - y` is at most `c`.
     pub fn guard(&mut self, x: Name, y: Name, c: i64)
         ensures exact { self.new ≡ after_guard self.old x y c }
-        ensures sound { (number : Numbers) → Holds self.old number →
-            (number x -ℤ number y) ≤ℤ c → Holds self.new number }
+        ensures sound { (number : Numbers) → Holds self.old number → (number x -ℤ number y) ≤ℤ c →
+            Holds self.new number }
     {
         self.table = guard_table(&self.table, x.place(), y.place(), c);
     }
@@ -74,8 +75,8 @@ impl Zone {
     /// Sets `x` to `y + c`. A name that is set from itself moves by `c`.
     pub fn set(&mut self, x: Name, y: Name, c: i64)
         ensures exact { self.new ≡ after_set self.old x y c }
-        ensures sound { (before after : Numbers) → Holds self.old before → ChangesOnly x before after →
-            after x ≡ before y +ℤ c → Holds self.new after }
+        ensures sound { (before after : Numbers) → Holds self.old before →
+            ChangesOnly x before after → after x ≡ before y +ℤ c → Holds self.new after }
     {
         self.table = set_table(&self.table, x.place(), y.place(), c);
     }
@@ -83,8 +84,8 @@ impl Zone {
     /// Lets `x` grow by some number from `low` to `high`; a side that is `None` has no limit.
     pub fn shift(&mut self, x: Name, low: Option<i64>, high: Option<i64>)
         ensures exact { self.new ≡ after_shift self.old x low high }
-        ensures sound { (before after : Numbers) → Holds self.old before → ChangesOnly x before after →
-            Obeys (after x -ℤ before x) high →
+        ensures sound { (before after : Numbers) → Holds self.old before →
+            ChangesOnly x before after → Obeys (after x -ℤ before x) high →
             Obeys (before x -ℤ after x) (negative_of low) → Holds self.new after }
     {
         self.table = shift_table(&self.table, x.place(), low, high);
@@ -93,8 +94,8 @@ impl Zone {
     /// Lets `x` become any number.
     pub fn forget(&mut self, x: Name)
         ensures exact { self.new ≡ after_forget self.old x }
-        ensures sound { (before after : Numbers) → Holds self.old before → ChangesOnly x before after →
-            Holds self.new after }
+        ensures sound { (before after : Numbers) → Holds self.old before →
+            ChangesOnly x before after → Holds self.new after }
     {
         self.table = forget_table(&self.table, x.place());
     }
@@ -103,7 +104,8 @@ impl Zone {
     pub fn join(&mut self, other: &Zone)
         ensures exact { self.new ≡ join_of self.old other.now }
         ensures sound { (number : Numbers) → Holds self.old number → Holds self.new number }
-        ensures sound_of_other { (number : Numbers) → Holds other.now number → Holds self.new number }
+        ensures sound_of_other { (number : Numbers) → Holds other.now number →
+            Holds self.new number }
         ensures covers { Covers self.new self.old }
         ensures covers_other { Covers self.new other.now }
     {
@@ -124,7 +126,8 @@ impl Zone {
     /// Whether this zone is the weaker: no bound of it is less than the other's.
     pub fn covers(&self, other: &Zone) -> bool
         ensures exact { IsTrue result ↔ Covers self.now other.now }
-        ensures sound { IsTrue result → (number : Numbers) → Holds other.now number → Holds self.now number }
+        ensures sound { IsTrue result → (number : Numbers) → Holds other.now number →
+            Holds self.now number }
         ensures well_formed { IsZone self.now × IsZone other.now }
     {
         table_covers(&self.table, &other.table)
