@@ -1,0 +1,10 @@
+pub mod Places
+pub mod Order
+pub mod Kept
+pub mod Soundness
+pub mod Formulas
+pub mod Diagonal
+pub mod Clamps
+pub mod Rooms
+pub mod Fixed
+pub mod Guarded

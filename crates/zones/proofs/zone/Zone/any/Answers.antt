@@ -1,0 +1,9 @@
+use Rattle.zones.proofs.Kept.{IsZone-any_zone}
+use Rattle.zones.proofs.Soundness.{Holds-any_zone}
+use Rattle.zones.proofs.zone.Zone.any.Goals as goal
+
+pub returns-clause-sound : goal.returns-clause-sound
+returns-clause-sound c number = rw c.any_table.ensures.exact (Holds-any_zone number)
+
+pub invariant_of-result : goal.invariant_of-result
+invariant_of-result c = rw c.any_table.ensures.exact IsZone-any_zone

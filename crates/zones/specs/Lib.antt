@@ -1,0 +1,9 @@
+-- to be read, and believed or refused
+pub mod Name
+pub mod Bound
+pub mod Zone
+pub mod Steps
+-- what the laws about limits, differences and room mean
+pub mod Limits
+pub mod Differences
+pub mod Room

@@ -1,0 +1,19 @@
+//! Bounds on the differences of 32 named whole numbers, by steps that are exact and sound.
+#![tactic(auto)]
+
+mod laws;
+mod name;
+mod number;
+#[cfg(test)]
+mod rows;
+mod table;
+mod zone;
+
+pub use laws::{
+    bounds_are_formulas, covering_is_an_order, covering_is_weaker, fixed_names_stay_fixed,
+    known_differences_stay_known, offsets_may_be_clamped, room_falls, steps_are_formulas,
+    steps_are_sound, steps_keep_diagonals_low, steps_keep_to_the_clip,
+};
+pub use name::Name;
+pub use number::LIMIT;
+pub use zone::Zone;

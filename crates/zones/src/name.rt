@@ -1,0 +1,116 @@
+//! The names whose numbers a zone compares.
+
+ghost use Rattle.std.specs.Prelude.{◌≡◌, ◌<◌, ◌≤◌, IfSome, IfNone};
+ghost use Rattle.zones.specs.Name.{IsLowerCase, mark};
+
+use std::marker::Model;
+
+/// What a number of an editor's state is called: zero, the current line, the last line, the three
+/// addresses of one command, or the line that a letter marks.
+///
+/// Contracts see a name's place among all names, from 0 to 31.
+#[derive(Clone, Copy, PartialEq, Eq, Debug)]
+pub struct Name {
+    place: u8,
+}
+
+impl Model for Name {
+    ghost use Rattle.std.specs.Prelude.{ℕ, ◌<◌};
+
+    ghost Value = { ℕ };
+
+    ghost view = { λ name. name.place };
+
+    ghost invariant = { λ name. name.place < 32 };
+
+    ghost inverse = { λ place. record { place = place } };
+}
+
+impl Name {
+    /// The number 0.
+    pub const ZERO: Name = Name { place: 0 };
+    /// The current line.
+    pub const CURRENT_LINE: Name = Name { place: 1 };
+    /// The last line.
+    pub const LAST_LINE: Name = Name { place: 2 };
+    /// A command's first address.
+    pub const FIRST_ADDRESS: Name = Name { place: 3 };
+    /// A command's second address.
+    pub const SECOND_ADDRESS: Name = Name { place: 4 };
+    /// The address that a command moves or copies lines to.
+    pub const TARGET_ADDRESS: Name = Name { place: 5 };
+
+    /// How many names there are.
+    pub const COUNT: usize = 32;
+
+    /// The line that a letter marks, by the letter's byte, from `b'a'` to `b'z'`.
+    pub fn mark(letter: u8) -> Self
+        requires lower_case { IsLowerCase letter }
+        ensures value { result ≡ mark letter }
+    {
+        Name {
+            place: 6 + (letter - b'a'),
+        }
+    }
+
+    /// The byte of the letter that marks the line; `None` of a name that is no mark.
+    pub fn letter(self) -> Option<u8>
+        ensures lower_case { IfSome result IsLowerCase }
+        ensures value { IfSome result (λ letter. mark letter ≡ self) }
+        ensures unmarked { IfNone result (self < 6) }
+    {
+        if self.place < 6 {
+            None
+        } else {
+            Some(b'a' + (self.place - 6))
+        }
+    }
+
+    /// The name's place among all names, from 0: the constants above in their order, then the marks
+    /// from `a` to `z`.
+    pub fn place(self) -> usize
+        ensures value { result ≡ self }
+        ensures in_range { result < 32 }
+    {
+        usize::from(self.place)
+    }
+
+    /// The name at this place. All names in their order are those at the places from 0 up to
+    /// [`Name::COUNT`].
+    pub fn from_place(place: usize) -> Self
+        requires in_range { place < 32 }
+        ensures value { result ≡ place }
+    {
+        Name { place: place as u8 }
+    }
+}
+
+#[cfg(test)]
+mod tests {
+    use super::*;
+
+    #[test]
+    fn names_go_in_their_order(rt: HostRuntime) {
+        #[rattlefmt::skip]
+        const FIRST: [Name; 6] = [
+            Name::ZERO, Name::CURRENT_LINE, Name::LAST_LINE,
+            Name::FIRST_ADDRESS, Name::SECOND_ADDRESS, Name::TARGET_ADDRESS,
+        ];
+        for (place, name) in FIRST.iter().enumerate() {
+            assert_eq!(rt; name.place(), place);
+            assert_eq!(rt; name.letter(), None);
+        }
+        for place in 0..Name::COUNT {
+            assert_eq!(rt; Name::from_place(place).place(), place);
+        }
+    }
+
+    #[test]
+    fn a_mark_gives_its_letter_back(rt: HostRuntime) {
+        assert_eq!(rt; Name::mark(b'a').place(), 6);
+        assert_eq!(rt; Name::mark(b'z').place(), 31);
+        for letter in b'a'..=b'z' {
+            assert_eq!(rt; Name::mark(letter).letter(), Some(letter));
+        }
+    }
+}

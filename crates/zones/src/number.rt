@@ -1,0 +1,149 @@
+//! Arithmetic on single bounds. Sums are made in 128 bits, so none is too large, and then clipped.
+
+ghost use Rattle.std.specs.Prelude.{◌≡◌, ◌+ℤ◌, Some};
+ghost use Rattle.zones.specs.Bound.{clip, clip_bound, sum_of, lesser_of, greater_of, tighten, raise, lower, widen_bound, widen_diagonal, covers_bound};
+
+/// The greatest number that a zone keeps, and with a minus sign the least.
+pub const LIMIT: i64 = 1_000_000_000_000_000;
+
+/// The number as a zone keeps it: one above the limit says nothing, one below it is raised.
+pub(crate) fn clip(number: i128) -> Option<i64>
+    ensures value { result ≡ clip number }
+{
+    if number > i128::from(LIMIT) {
+        None
+    } else if number < -i128::from(LIMIT) {
+        Some(-LIMIT)
+    } else {
+        Some(number as i64)
+    }
+}
+
+fn clip_wide(number: Option<i128>) -> Option<i64>
+    ensures value { result ≡ clip_bound number }
+{
+    match number {
+        Some(number) => clip(number),
+        None => None,
+    }
+}
+
+/// The bound as a zone keeps it.
+pub(crate) fn clip_bound(number: Option<i64>) -> Option<i64>
+    ensures value { result ≡ clip_bound number }
+{
+    match number {
+        Some(number) => clip(i128::from(number)),
+        None => None,
+    }
+}
+
+fn sum_of_three(to: i64, c: i64, from: i64) -> i128
+    ensures value { result ≡ to +ℤ c +ℤ from }
+{
+    i128::from(to) + i128::from(c) + i128::from(from)
+}
+
+fn way(to: Option<i64>, c: i64, from: Option<i64>) -> Option<i128>
+    ensures value { result ≡ sum_of (sum_of to (Some c)) from }
+{
+    match (to, from) {
+        (Some(to), Some(from)) => Some(sum_of_three(to, c, from)),
+        _ => None,
+    }
+}
+
+fn lesser(direct: Option<i64>, other: Option<i128>) -> Option<i128>
+    ensures value { result ≡ lesser_of direct other }
+{
+    match (direct, other) {
+        (Some(direct), Some(other)) => {
+            if other < i128::from(direct) {
+                Some(other)
+            } else {
+                Some(i128::from(direct))
+            }
+        }
+        (Some(direct), None) => Some(i128::from(direct)),
+        (None, other) => other,
+    }
+}
+
+/// The lesser of a direct bound and of that by a way of three parts.
+pub(crate) fn tighten(
+    direct: Option<i64>,
+    to: Option<i64>,
+    c: i64,
+    from: Option<i64>,
+) -> Option<i64>
+    ensures value { result ≡ tighten direct to c from }
+{
+    clip_wide(lesser(direct, way(to, c, from)))
+}
+
+/// The bound plus a number; any, where either is unbounded.
+pub(crate) fn raise(number: Option<i64>, by: Option<i64>) -> Option<i64>
+    ensures value { result ≡ raise number by }
+{
+    match (number, by) {
+        (Some(number), Some(by)) => clip(i128::from(number) + i128::from(by)),
+        _ => None,
+    }
+}
+
+/// The bound minus a number; any, where either is unbounded.
+pub(crate) fn lower(number: Option<i64>, by: Option<i64>) -> Option<i64>
+    ensures value { result ≡ lower number by }
+{
+    match (number, by) {
+        (Some(number), Some(by)) => clip(i128::from(number) - i128::from(by)),
+        _ => None,
+    }
+}
+
+/// The weaker of two bounds.
+pub(crate) fn greater(one: Option<i64>, other: Option<i64>) -> Option<i64>
+    ensures value { result ≡ greater_of one other }
+{
+    match (one, other) {
+        (Some(one), Some(other)) => { if one < other { Some(other) } else { Some(one) } }
+        _ => None,
+    }
+}
+
+/// The old bound where the new one is not greater, else any.
+pub(crate) fn widen_bound(old: Option<i64>, new: Option<i64>) -> Option<i64>
+    ensures value { result ≡ widen_bound old new }
+{
+    match (old, new) {
+        (Some(old), Some(new)) => { if old < new { None } else { Some(old) } }
+        _ => None,
+    }
+}
+
+/// The old bound of a diagonal where the new one is not greater, else the greater of 0 and the new one.
+pub(crate) fn widen_diagonal(old: Option<i64>, new: Option<i64>) -> Option<i64>
+    ensures value { result ≡ widen_diagonal old new }
+{
+    match (old, new) {
+        (Some(old), Some(new)) => {
+            if old < new {
+                if 0 < new { Some(new) } else { Some(0) }
+            } else {
+                Some(old)
+            }
+        }
+        _ => None,
+    }
+}
+
+/// Whether the first bound is no less than the second.
+pub(crate) fn covers_bound(weak: Option<i64>, strong: Option<i64>) -> bool
+    ensures value { result ≡ covers_bound weak strong }
+{
+    match (weak, strong) {
+        (Some(weak), Some(strong)) => strong <= weak,
+        (Some(_), None) => false,
+        (None, _) => true,
+    }
+}
