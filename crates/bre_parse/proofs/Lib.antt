@@ -1,0 +1,5 @@
+pub mod Sequences
+mod MatchRows
+mod AlwaysRows
+mod FaultRows
+mod TreeRows

@@ -1,0 +1,10 @@
+pub mod Tree
+pub mod Groups
+pub mod Ways
+pub mod Match
+pub mod Always
+pub mod Grammar
+pub mod Brackets
+pub mod Intervals
+pub mod Reading
+pub mod Bytes
