@@ -1,5 +1,6 @@
 -- Bracket expressions (XBD 9.3.5, "RE Bracket Expression").
 use Rattle.std.specs.Prelude.{ℕ, zero, suc, ◌+◌, Bool, true, false, not, ◌&&◌, List, [], ◌∷◌, ◌++◌, length, drop, codes, Option, Some, None, Ok, Err, nat_le, nat_eq}
+use Rattle.std.specs.Str.{bytes_eq}
 use Rattle.bre_parse.specs.Bytes.{hyphen, period, colon, equals_sign, left_square_bracket, right_square_bracket, circumflex}
 use Rattle.bre_parse.specs.Tree.{Tree, set_of}
 use Rattle.bre_parse.specs.Reading.{Read, ◌>>=◌, starts_with, starts_with_pair}
@@ -9,16 +10,10 @@ use Rattle.bre_parse.specs.declared.fault.BreFault.TheVariants as fault
 abbrev pub Ranges : Type 0
 Ranges = List (ℕ × ℕ)
 
--- two texts are the same
-abbrev pub is_text : List ℕ → List ℕ → Bool
-is_text [] [] = true
-is_text (a ∷ as') (b ∷ bs) = nat_eq a b && is_text as' bs
-is_text _ _ = false
-
 -- the ranges beside this name
 abbrev pub named : List ℕ → List (List ℕ × Ranges) → Option Ranges
 named name [] = None
-named name (class ∷ classes) = elim (is_text name class.0) [ true ↦ Some class.1 | false ↦ named name classes ]
+named name (class ∷ classes) = elim (bytes_eq name class.0) [ true ↦ Some class.1 | false ↦ named name classes ]
 
 -- The character classes of the POSIX locale (XBD 7.3.1, "LC_CTYPE"), by bytes. Bytes above 127 are in none.
 abbrev pub classes : List (List ℕ × Ranges)
@@ -50,7 +45,10 @@ behind byte (Some parts) = Some (byte ∷ parts.0, parts.1)
 abbrev pub up_to_closing : (mark : ℕ) → List ℕ → Option (List ℕ × List ℕ)
 up_to_closing mark [] = None
 up_to_closing mark (byte ∷ text) =
-    elim (starts_with_pair (byte ∷ text) mark right_square_bracket) [ true ↦ Some ([], drop 1 text) | false ↦ behind byte (up_to_closing mark text) ]
+    elim (starts_with_pair (byte ∷ text) mark right_square_bracket) [
+      | true ↦ Some ([], drop 1 text)
+      | false ↦ behind byte (up_to_closing mark text)
+    ]
 
 -- What an element begins with: a byte that may begin or end a range, or bytes that may not.
 pub data Element : Type 0 where
@@ -67,7 +65,10 @@ collating_symbol (Some _) = Err fault.Class
 abbrev pub equivalence_class : Option (List ℕ × List ℕ) → Read Element
 equivalence_class None = Err fault.Bracket
 equivalence_class (Some (byte ∷ [], rest)) =
-    elim (nat_eq byte right_square_bracket) [ true ↦ Err fault.Class | false ↦ Ok (Members ((byte, byte) ∷ []), rest) ]
+    elim (nat_eq byte right_square_bracket) [
+      | true ↦ Err fault.Class
+      | false ↦ Ok (Members ((byte, byte) ∷ []), rest)
+    ]
 equivalence_class (Some _) = Err fault.Class
 
 -- the bytes of a class, if it is known
@@ -85,12 +86,15 @@ abbrev pub element : List ℕ → Read Element
 element [] = Err fault.Bracket
 element (byte ∷ text) =
     elim (starts_with_pair (byte ∷ text) left_square_bracket period) [
-      true ↦ collating_symbol (up_to_closing period (drop 1 text))
-    | false ↦ elim (starts_with_pair (byte ∷ text) left_square_bracket equals_sign) [
-      true ↦ equivalence_class (up_to_closing equals_sign (drop 1 text))
-    | false ↦ elim (starts_with_pair (byte ∷ text) left_square_bracket colon) [
-      true ↦ character_class (up_to_closing colon (drop 1 text))
-    | false ↦ Ok (Point byte, text) ] ] ]
+      | true ↦ collating_symbol (up_to_closing period (drop 1 text))
+      | false ↦ elim (starts_with_pair (byte ∷ text) left_square_bracket equals_sign) [
+        | true ↦ equivalence_class (up_to_closing equals_sign (drop 1 text))
+        | false ↦ elim (starts_with_pair (byte ∷ text) left_square_bracket colon) [
+          | true ↦ character_class (up_to_closing colon (drop 1 text))
+          | false ↦ Ok (Point byte, text)
+        ]
+      ]
+    ]
 
 -- A `-` that makes a range: one that isn't last, before the closing `]`. At the text's end a `]` could still follow.
 abbrev pub range_follows : List ℕ → Bool
@@ -99,33 +103,50 @@ range_follows _ = false
 
 -- a range from the low end to what was read as the other, if the ends are in order
 abbrev pub range_to : (low : ℕ) → Element × List ℕ → Read Ranges
-range_to low (Point high, rest) = elim (nat_le low high) [ true ↦ Ok ((low, high) ∷ [], rest) | false ↦ Err fault.Range ]
+range_to low (Point high, rest) =
+    elim (nat_le low high) [ true ↦ Ok ((low, high) ∷ [], rest) | false ↦ Err fault.Range ]
 range_to low (Members ranges, rest) = Err fault.Range
 
 -- An element, or a range where a `-` follows. Both ends are read before anything is said of the range.
 abbrev pub ranged : Element × List ℕ → Read Ranges
-ranged (Point byte, rest) = elim (range_follows rest) [ true ↦ element (drop 1 rest) >>= range_to byte | false ↦ Ok ((byte, byte) ∷ [], rest) ]
-ranged (Members ranges, rest) = elim (range_follows rest) [ true ↦ Err fault.Range | false ↦ Ok (ranges, rest) ]
+ranged (Point byte, rest) =
+    elim (range_follows rest) [
+      | true ↦ element (drop 1 rest) >>= range_to byte
+      | false ↦ Ok ((byte, byte) ∷ [], rest)
+    ]
+ranged (Members ranges, rest) =
+    elim (range_follows rest) [ true ↦ Err fault.Range | false ↦ Ok (ranges, rest) ]
+
+-- the element or the range at the head of the text
+abbrev pub element_or_range : List ℕ → Read Ranges
+element_or_range text = element text >>= ranged
 
 -- these ranges before those that were read
 abbrev pub after_ranges : Ranges → Read Ranges → Read Ranges
 after_ranges ranges read = read >>= λ more. Ok (ranges ++ more.0, more.1)
 
--- The elements up to the closing `]`: in the first place a `]` and a `-` are themselves. At most so many elements, which no
--- text reaches.
-abbrev pub elements : (most : ℕ) → (in_first_place : Bool) → List ℕ → Read Ranges
-elements zero in_first_place text = Err fault.Bracket
-elements (suc most) in_first_place text =
-    elim (starts_with text right_square_bracket && not in_first_place) [
-      true ↦ Ok ([], drop 1 text)
-    | false ↦ elim (range_follows text && not in_first_place) [
-      true ↦ Err fault.Range
-    | false ↦ element text >>= ranged >>= λ read. after_ranges read.0 (elements most false read.1) ] ]
+-- The elements behind the first one, up to the closing `]`. A `-` may be one in the last place alone. At most so many,
+-- which no text reaches.
+abbrev pub more_elements : (most : ℕ) → List ℕ → Read Ranges
+more_elements zero text = Err fault.Bracket
+more_elements (suc most) text =
+    elim (starts_with text right_square_bracket) [
+      | true ↦ Ok ([], drop 1 text)
+      | false ↦ elim (range_follows text) [
+        | true ↦ Err fault.Range
+        | false ↦ element_or_range text >>= λ read. after_ranges read.0 (more_elements most read.1)
+      ]
+    ]
+
+-- The elements and the closing `]`. In the first place a `]` and a `-` are elements.
+abbrev pub elements : List ℕ → Read Ranges
+elements text = element_or_range text >>= λ read. after_ranges read.0 (more_elements (length read.1 + 1) read.1)
 
 -- the set of the elements, or of the bytes outside them
 abbrev pub listed : Bool → List ℕ → Read Tree
-listed negated text = elements (length text + 1) true text >>= λ read. Ok (set_of negated read.0, read.1)
+listed negated text = elements text >>= λ read. Ok (set_of negated read.0, read.1)
 
 -- the bytes behind a `[`
 abbrev pub bracket : List ℕ → Read Tree
-bracket text = elim (starts_with text circumflex) [ true ↦ listed true (drop 1 text) | false ↦ listed false text ]
+bracket text =
+    elim (starts_with text circumflex) [ true ↦ listed true (drop 1 text) | false ↦ listed false text ]

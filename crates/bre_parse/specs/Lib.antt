@@ -1,3 +1,4 @@
+-- What a reader of the crate has to believe:
 pub mod Tree
 pub mod Groups
 pub mod Ways
@@ -8,3 +9,8 @@ pub mod Brackets
 pub mod Intervals
 pub mod Reading
 pub mod Bytes
+pub mod Bre
+-- What serves clauses inside the crate alone:
+pub mod Readers
+pub mod BracketViews
+pub mod ItemViews
