@@ -1,7 +1,7 @@
 use Rattle.std.proofs.Common.{◌≡◌, ◌+◌, ◌-◌, ◌≤◌, length}
 use Rattle.bre_parse.specs.Tree.{sequence_of}
 use Rattle.bre_parse.specs.Match.{match_from, match_among}
-use Rattle.bre_match.proofs.find_in.Given as goal
+use Rattle.bre_match.proofs.first_match.Given as goal
 
 abbrev pub invariant-loop-start : goal.invariant-loop-start
 invariant-loop-start l = record {

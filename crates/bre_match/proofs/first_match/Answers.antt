@@ -2,7 +2,7 @@ use Rattle.std.proofs.Common.{◌≡◌, suc, ◌+◌, ◌-◌, length, ap, sym,
 use Rattle.bre_parse.specs.Tree.{sequence_of}
 use Rattle.bre_parse.specs.Match.{match_among}
 use Rattle.bre_match.proofs.Starts.{skip_starts, longest_within}
-use Rattle.bre_match.proofs.find_in.Goals as goal
+use Rattle.bre_match.proofs.first_match.Goals as goal
 
 pub loop-start-init : goal.loop-start-init
 loop-start-init c =
