@@ -1,7 +1,7 @@
 pub mod Places
 pub mod Rows
 pub mod Sorting
-pub mod Insertion
+pub mod Merging
 pub mod Tasks
 pub mod Turning
 pub mod Within

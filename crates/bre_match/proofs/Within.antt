@@ -11,7 +11,7 @@ in_cond : (p n : ℕ) (b : Bool) (x y : List Way) → EndBetween p n x → EndBe
 in_cond p n true x y h i = h
 in_cond p n false x y h i = i
 
-in_insert : (p n : ℕ) (w : Way) (vs : List Way) → p ≤ w.0 → w.0 ≤ n → EndBetween p n vs → EndBetween p n (insert_way w vs)
+pub in_insert : (p n : ℕ) (w : Way) (vs : List Way) → p ≤ w.0 → w.0 ≤ n → EndBetween p n vs → EndBetween p n (insert_way w vs)
 in_insert p n w [] a b h = (a, b, tt)
 in_insert p n w (v ∷ vs) a b h =
     in_cond p n (ltb w.0 v.0) (v ∷ insert_way w vs) (w ∷ v ∷ vs) (h.0, h.1, in_insert p n w vs a b h.2) (a, b, h)
@@ -20,13 +20,17 @@ pub in_by_end : (p n : ℕ) (ws : List Way) → EndBetween p n ws → EndBetween
 in_by_end p n [] h = tt
 in_by_end p n (w ∷ ws) h = in_insert p n w (by_end ws) h.0 h.1 (in_by_end p n ws h.2)
 
-in_append : (p n : ℕ) (xs ys : List Way) → EndBetween p n xs → EndBetween p n ys → EndBetween p n (xs ++ ys)
+pub in_append : (p n : ℕ) (xs ys : List Way) → EndBetween p n xs → EndBetween p n ys → EndBetween p n (xs ++ ys)
 in_append p n [] ys h i = i
 in_append p n (x ∷ xs) ys h i = (h.0, h.1, in_append p n xs ys h.2 i)
 
 in_weaker : (p q n : ℕ) (ws : List Way) → p ≤ q → EndBetween q n ws → EndBetween p n ws
 in_weaker p q n [] le h = tt
 in_weaker p q n (w ∷ ws) le h = (let a = h.0 in omega arith, h.1, in_weaker p q n ws le h.2)
+
+pub in_raised : (p m n : ℕ) (ws : List Way) → m ≤ n → EndBetween p m ws → EndBetween p n ws
+in_raised p m n [] le h = tt
+in_raised p m n (w ∷ ws) le h = (h.0, let a = h.1 in omega arith, in_raised p m n ws le h.2)
 
 in_flat_map : (p n : ℕ) (f : Way → List Way) (ws : List Way) → EndBetween p n ws → ((w : Way) → p ≤ w.0 → w.0 ≤ n → EndBetween w.0 n (f w)) → EndBetween p n (flat_map f ws)
 in_flat_map p n f [] h all = tt

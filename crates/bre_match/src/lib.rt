@@ -13,6 +13,8 @@ mod order;
 mod run;
 mod search;
 mod start;
+#[cfg(test)]
+mod tests;
 
 use bre_parse::Bre;
 use bre_parse::tree::{Groups, Node};
