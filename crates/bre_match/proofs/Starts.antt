@@ -1,11 +1,11 @@
 -- The ways from one start, and from one start to the next.
-use Rattle.std.proofs.Common.{◌≡◌, ℕ, zero, suc, ◌+◌, ◌-◌, ◌<◌, ◌≤◌, List, [], ◌∷◌, ◌++◌, flat_map, length, get_or, drop, Option, Some, None, Bool, true, false, cond, ltb, refl, ap, sym, ◌∙◌, arith, map, ◌≢◌}
+use Rattle.std.proofs.Common.{◌≡◌, ℕ, zero, suc, ◌+◌, ◌-◌, ◌<◌, ◌≤◌, List, [], ◌∷◌, ◌++◌, flat_map, length, get_or, drop, Option, Some, None, Bool, true, false, cond, ltb, refl, ap, sym, ◌∙◌, arith, map, ◌≢◌, append-nil}
 use Rattle.std.proofs.lemmas.Bool.Decides.{nat_tests}
 use Rattle.std.specs.Prelude.{◌&&◌, slice_get}
 use Rattle.bre_parse.specs.declared.tree.Node.{Node}
 use Rattle.bre_parse.specs.Tree.{Tree, Then, Set, Repeat, tree_of, sequence_of, in_set}
 use Rattle.bre_parse.specs.Groups.{Groups, no_groups}
-use Rattle.bre_parse.specs.Ways.{Way, ways, by_end, insert_way, from_way, below, has_byte_in}
+use Rattle.bre_parse.specs.Ways.{Way, ways, by_end, insert_way, from_way, only_if, below, has_byte_in}
 use Rattle.bre_parse.specs.Match.{first, longest_from, or_later, match_among}
 use Rattle.bre_match.specs.declared.run.Ahead.{Ahead}
 use Rattle.bre_match.specs.declared.run.Run.{Run}
@@ -180,6 +180,40 @@ starts_in_row (item ∷ items) part s p n k negated rs h at is e le none =
     let t : tree_of item ≡ Repeat 0 None (Set negated rs) = ap tree_of (sym at) ∙ is in
     ap (λ x. longest_from (Then x (sequence_of items)) s (p + k)) t
     ∙ later_none (sequence_of items) s p n k negated rs e le (ap (λ x. longest_from (Then x (sequence_of items)) s p) (sym t) ∙ none)
+
+-- the same where one byte of the set comes first
+later_none_after : (rest : Tree) (s : List ℕ) (p n k : ℕ) (negated : Bool) (rs : List (ℕ × ℕ)) → n ≡ members None 0 negated rs (drop (p + 1) s) → has_byte_in negated rs (slice_get s p) ≡ true → k ≤ n → longest_from (Then (Set negated rs) (Then (Repeat 0 None (Set negated rs)) rest)) s p ≡ None → longest_from (Then (Set negated rs) (Then (Repeat 0 None (Set negated rs)) rest)) s (p + k) ≡ None
+later_none_after rest s p n k negated rs e there h none = by_byte (has_byte_in negated rs (slice_get s (p + k))) refl
+  where
+    listed : (q m : ℕ) → has_byte_in negated rs (slice_get s q) ≡ true → members None 0 negated rs (drop (q + 1) s) ≡ m → ways (Then (Set negated rs) (Then (Repeat 0 None (Set negated rs)) rest)) s q no_groups ≡ flat_map (from_way (ways rest s)) (shorter_ways (q + 1 + m) m no_groups)
+    listed q m b f =
+        ap (λ x. flat_map (from_way (ways (Then (Repeat 0 None (Set negated rs)) rest) s)) (by_end (only_if x (q + 1, no_groups)))) b
+        ∙ append-nil (flat_map (from_way (ways rest s)) (by_end (ways (Repeat 0 None (Set negated rs)) s (q + 1) no_groups)))
+        ∙ ap (flat_map (from_way (ways rest s))) (row_ways s (q + 1) m negated rs no_groups f)
+    by_byte : (b : Bool) → has_byte_in negated rs (slice_get s (p + k)) ≡ b → longest_from (Then (Set negated rs) (Then (Repeat 0 None (Set negated rs)) rest)) s (p + k) ≡ None
+    by_byte false b =
+        ap (λ x. first (by_end (flat_map (from_way (ways (Then (Repeat 0 None (Set negated rs)) rest) s)) (by_end (only_if x (p + k + 1, no_groups)))))) b
+    by_byte true b =
+        let i : p + 1 + k ≡ p + k + 1 = omega arith in
+        let m : members None 0 negated rs (drop (p + k + 1) s) ≡ n - k =
+            ap (λ q. members None 0 negated rs (drop q s)) (sym i) ∙ members_later k s (p + 1) negated rs (omega arith) ∙ ap (λ x. x - k) (sym e) in
+        let j : p + k + 1 + (n - k) ≡ p + 1 + n = omega arith in
+        let here = no_ways (ways (Then (Set negated rs) (Then (Repeat 0 None (Set negated rs)) rest)) s p no_groups) none in
+        let all : flat_map (from_way (ways rest s)) (shorter_ways (p + 1 + n) n no_groups) ≡ [] = sym (listed p n there (sym e)) ∙ here in
+        let fewer = none_shorter (from_way (ways rest s)) (p + 1 + n) n (n - k) no_groups (omega arith) all in
+        ap (λ l. first (by_end l)) (listed (p + k) (n - k) b m ∙ ap (λ x. flat_map (from_way (ways rest s)) (shorter_ways x (n - k) no_groups)) j ∙ fewer)
+
+pub starts_after_one : (items : List Node) (one many : Node) (s : List ℕ) (p n k : ℕ) (negated other : Bool) (rs os : List (ℕ × ℕ)) → 2 ≤ length items → one ≡ get_or items 0 one → many ≡ get_or items 1 many → tree_of one ≡ Set other os → tree_of many ≡ Repeat 0 None (Set negated rs) → (other ≡ negated) × (os ≡ rs) → has_byte_in negated rs (slice_get s p) ≡ true → n ≡ members None 0 negated rs (drop (p + 1) s) → k ≤ n → longest_from (sequence_of items) s p ≡ None → longest_from (sequence_of items) s (p + k) ≡ None
+starts_after_one [] one many s p n k negated other rs os two at next is star same there e le none = absurd (omega arith)
+starts_after_one (x ∷ []) one many s p n k negated other rs os two at next is star same there e le none = absurd (omega arith)
+starts_after_one (x ∷ y ∷ items) one many s p n k negated other rs os two at next is star same there e le none =
+    let t : tree_of x ≡ Set negated rs =
+        ap tree_of (sym at) ∙ is ∙ ap (λ b. Set b os) same.0 ∙ ap (Set negated) same.1 in
+    let u : tree_of y ≡ Repeat 0 None (Set negated rs) = ap tree_of (sym next) ∙ star in
+    let v : sequence_of (x ∷ y ∷ items) ≡ Then (Set negated rs) (Then (Repeat 0 None (Set negated rs)) (sequence_of items)) =
+        ap (λ a. Then a (Then (tree_of y) (sequence_of items))) t ∙ ap (λ a. Then (Set negated rs) (Then a (sequence_of items))) u in
+    ap (λ a. longest_from a s (p + k)) v
+    ∙ later_none_after (sequence_of items) s p n k negated rs e there le (ap (λ a. longest_from a s p) (sym v) ∙ none)
 
 -- From one start to the next
 

@@ -9,24 +9,24 @@ use Rattle.bre_match.specs.declared.run.Simple.{Simple}
 use Rattle.bre_match.specs.declared.run.Simple.TheVariants as simple
 
 -- the way that ends at `end`, and so many more, each a byte shorter than the one before
-abbrev pub shorter_ways : ℕ → ℕ → Groups → List Way
-shorter_ways end zero g = (end, g) ∷ []
-shorter_ways end (suc n) g = (end, g) ∷ shorter_ways (end - 1) n g
+abbrev pub shorter_ways : (end more : ℕ) → Groups → List Way
+shorter_ways end zero groups = (end, groups) ∷ []
+shorter_ways end (suc more) groups = (end, groups) ∷ shorter_ways (end - 1) more groups
 
 -- the ways of a run
 abbrev pub ways_of : Run → List Way
 ways_of run = shorter_ways run.end run.shorter run.groups
 
 -- those ways but the first
-abbrev pub other_ways : ℕ → ℕ → Groups → List Way
-other_ways end zero g = []
-other_ways end (suc n) g = shorter_ways (end - 1) n g
+abbrev pub other_ways : (end more : ℕ) → Groups → List Way
+other_ways end zero groups = []
+other_ways end (suc more) groups = shorter_ways (end - 1) more groups
 
--- how many bytes in a row are members, with so many taken before and at most so many taken in all
-abbrev pub members : Option ℕ → ℕ → Bool → List (ℕ × ℕ) → List ℕ → ℕ
-members most k negated ranges [] = 0
-members most k negated ranges (b ∷ bs) =
-    elim (below k most && in_set negated ranges b) [ true ↦ suc (members most (k + 1) negated ranges bs) | false ↦ 0 ]
+-- how many bytes in a row are in the set, with so many taken before and at most so many taken in all
+abbrev pub members : (most : Option ℕ) → (taken : ℕ) → Bool → List (ℕ × ℕ) → List ℕ → ℕ
+members most taken negated ranges [] = 0
+members most taken negated ranges (byte ∷ bytes) =
+    elim (below taken most && in_set negated ranges byte) [ true ↦ suc (members most (taken + 1) negated ranges bytes) | false ↦ 0 ]
 
 -- these ways are those of a run, or none
 abbrev pub AreOf : Option Run → List Way → Type 0

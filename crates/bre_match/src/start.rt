@@ -15,7 +15,7 @@ use crate::search::follow;
 fn cannot_begin(items: &[Node], text: &[u8], start: usize) -> bool
     ensures sound { IsTrue result → longest_from (sequence_of items.now) text.now start ≡ None }
 {
-    if items.len() == 0 {
+    if items.is_empty() {
         return false;
     }
     match &items[0] {
@@ -65,17 +65,53 @@ fn any_number_of(part: &Node) -> Option<&ByteSet>
     }
 }
 
+// Whether two sets are spelled alike, so that they are one set.
+fn same_set(one: &ByteSet, other: &ByteSet) -> bool
+    ensures sound { IsTrue result → (one.now.negated ≡ other.now.negated) × (one.now.ranges.items ≡ other.now.ranges.items) }
+{
+    if one.negated != other.negated || one.ranges.len() != other.ranges.len() {
+        return false;
+    }
+    for at in 0..one.ranges.len() {
+        if one.ranges[at].0 != other.ranges[at].0 || one.ranges[at].1 != other.ranges[at].1 {
+            return false;
+        }
+    }
+    true
+}
+
+// How many starts behind one without a way have none either, where the pattern begins with one byte of a set and then
+// any number of them.
+fn after_one(items: &[Node], text: &[u8], start: usize) -> usize
+    ensures within { result ≤ length text.now - start }
+    ensures sound { longest_from (sequence_of items.now) text.now start ≡ None → (k : ℕ) → k ≤ result → longest_from (sequence_of items.now) text.now (start + k) ≡ None }
+{
+    if items.len() < 2 {
+        return 0;
+    }
+    match (&items[0], any_number_of(&items[1])) {
+        (Node::Set(one), Some(set)) => {
+            if same_set(one, set) && has_byte_in(text, start, set) {
+                count_members(set, None, text, start + 1)
+            } else {
+                0
+            }
+        }
+        _ => 0,
+    }
+}
+
 /// How many starts behind one without a way have none either: where the pattern begins with any number of bytes of a
-/// set, a way from a later start in the same row of such bytes would be one from this start too.
+/// set, a way from a later start in the same row of such bytes goes on as one from this start does.
 pub(crate) fn starts_without(items: &[Node], text: &[u8], start: usize) -> usize
     ensures within { result ≤ length text.now - start }
     ensures sound { longest_from (sequence_of items.now) text.now start ≡ None → (k : ℕ) → k ≤ result → longest_from (sequence_of items.now) text.now (start + k) ≡ None }
 {
-    if items.len() == 0 {
+    if items.is_empty() {
         return 0;
     }
     match any_number_of(&items[0]) {
         Some(set) => count_members(set, None, text, start),
-        None => 0,
+        None => after_one(items, text, start),
     }
 }
