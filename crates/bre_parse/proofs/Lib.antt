@@ -5,6 +5,8 @@ pub mod Elements
 pub mod Nesting
 pub mod Repeats
 pub mod Items
+pub mod Steps
+pub mod ReadBrackets
 mod MatchRows
 mod AlwaysRows
 mod FaultRows
