@@ -7,6 +7,9 @@ pub mod Repeats
 pub mod Items
 pub mod Steps
 pub mod ReadBrackets
+pub mod WellRead
+pub mod Within
+pub mod EmptyWays
 mod MatchRows
 mod AlwaysRows
 mod FaultRows

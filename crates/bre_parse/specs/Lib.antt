@@ -10,6 +10,7 @@ pub mod Intervals
 pub mod Reading
 pub mod Spelled
 pub mod SpelledBrackets
+pub mod WellFormed
 pub mod Bytes
 pub mod Bre
 -- What serves clauses inside the crate alone:
