@@ -10,6 +10,8 @@ pub mod ReadBrackets
 pub mod WellRead
 pub mod Within
 pub mod EmptyWays
+pub mod AlwaysSteps
+pub mod AlwaysLaw
 mod MatchRows
 mod AlwaysRows
 mod FaultRows

@@ -1,8 +1,10 @@
 //! Which patterns have a match in every text.
 
-ghost use Rattle.std.specs.Prelude.{◌≡◌};
-ghost use Rattle.bre_parse.specs.Tree.{tree_of, sequence_of};
-ghost use Rattle.bre_parse.specs.Always.{may_be_empty, is_text_start, is_text_end, is_every_byte, is_any_text, items_may_be_empty, has_text_end, has_any_text, always_anchored, always};
+ghost use Rattle.std.specs.Prelude.{◌≡◌, ◌&&◌, ◌||◌, ℕ, List, Ok, IsTrue, IsSome};
+ghost use Rattle.bre_parse.specs.Tree.{Tree, tree_of, sequence_of};
+ghost use Rattle.bre_parse.specs.Match.{match_from};
+ghost use Rattle.bre_parse.specs.Grammar.{pattern};
+ghost use Rattle.bre_parse.specs.Always.{may_be_empty, is_text_start, is_text_end, is_every_byte, is_any_text, items_may_be_empty, has_last_anchor, has_any_text, always_anchored, always};
 
 use crate::tree::Node;
 
@@ -78,24 +80,36 @@ fn is_any_text(node: &Node) -> bool
     }
 }
 
-#[tactic(auto, using(crate::proofs::Sequences::step_laws))]
+// Whether an item is the anchor `$` at the end.
+fn is_last_anchor(item: &Node, is_last: bool) -> bool
+    ensures value { result ≡ (is_text_end (tree_of item.now) && is_last) }
+{
+    is_text_end(item) && is_last
+}
+
+// Whether an item may be empty everywhere, or is the anchor `$` at the end.
+fn may_be_item(item: &Node, is_last: bool) -> bool
+    ensures value { result ≡ (is_text_end (tree_of item.now) && is_last || may_be_empty (tree_of item.now)) }
+{
+    is_last_anchor(item, is_last) || may_be_empty(item)
+}
+
 fn items_may_be_empty(items: &[Node]) -> bool
     ensures value { result ≡ items_may_be_empty (sequence_of items.now) }
 {
-    for item in items {
-        if !is_text_end(item) && !may_be_empty(item) {
+    for (at, item) in items.iter().enumerate() {
+        if !may_be_item(item, at + 1 == items.len()) {
             return false;
         }
     }
     true
 }
 
-#[tactic(auto, using(crate::proofs::Sequences::step_laws))]
-fn has_text_end(items: &[Node]) -> bool
-    ensures value { result ≡ has_text_end (sequence_of items.now) }
+fn has_last_anchor(items: &[Node]) -> bool
+    ensures value { result ≡ has_last_anchor (sequence_of items.now) }
 {
-    for item in items {
-        if is_text_end(item) {
+    for (at, item) in items.iter().enumerate() {
+        if is_last_anchor(item, at + 1 == items.len()) {
             return true;
         }
     }
@@ -117,7 +131,7 @@ fn has_any_text(items: &[Node]) -> bool
 fn always_anchored(items: &[Node]) -> bool
     ensures value { result ≡ always_anchored (sequence_of items.now) }
 {
-    items_may_be_empty(items) && (!has_text_end(items) || has_any_text(items))
+    items_may_be_empty(items) && (!has_last_anchor(items) || has_any_text(items))
 }
 
 /// Whether a pattern of these items has a match in every text.
@@ -128,4 +142,10 @@ pub fn always(items: &[Node]) -> bool
         [first, rest @ ..] if is_text_start(first) => always_anchored(rest),
         _ => items_may_be_empty(items),
     }
+}
+
+/// A pattern that always matches has a match from 0 in every text.
+pub fn always_matches()
+    ensures matched { (bytes text : List ℕ) (tree : Tree) → pattern bytes ≡ Ok tree → IsTrue (always tree) → IsSome (match_from tree text 0) }
+{
 }

@@ -6,7 +6,7 @@ ghost use Rattle.bre_parse.specs.Tree.{sequence_of};
 ghost use Rattle.bre_parse.specs.Groups.{number_of_groups};
 ghost use Rattle.bre_parse.specs.WellFormed.{repeats_in_order};
 
-mod always;
+pub mod always;
 mod bracket;
 pub mod fault;
 mod head;
@@ -29,10 +29,11 @@ pub struct Bre {
 }
 
 impl Bre {
-    ghost use Rattle.std.specs.Prelude.{◌≢◌, IfOk, IfErr};
+    ghost use Rattle.std.specs.Prelude.{◌≢◌, ℕ, List, IfOk, IfErr, IsTrue, IsSome};
     ghost use Rattle.bre_parse.specs.declared.fault.BreFault.TheVariants.{Memory};
     ghost use Rattle.bre_parse.specs.Grammar.{pattern};
     ghost use Rattle.bre_parse.specs.Always.{always};
+    ghost use Rattle.bre_parse.specs.Match.{match_from};
     ghost use Rattle.bre_parse.specs.Bre.{bre_tree};
 
     /// Reads a pattern: all of the text.
@@ -64,6 +65,7 @@ impl Bre {
     /// Whether the pattern has a match in every text.
     pub fn always(&self) -> bool
         ensures value { result ≡ always (bre_tree self.now) }
+        ensures matched { IsTrue result → (text : List ℕ) → IsSome (match_from (bre_tree self.now) text 0) }
     {
         always::always(&self.items)
     }
