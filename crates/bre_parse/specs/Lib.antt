@@ -8,6 +8,9 @@ pub mod Grammar
 pub mod Brackets
 pub mod Intervals
 pub mod Reading
+pub mod Spelled
+pub mod SpelledBrackets
+pub mod WellFormed
 pub mod Bytes
 pub mod Bre
 -- What serves clauses inside the crate alone:

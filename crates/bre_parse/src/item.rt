@@ -1,8 +1,10 @@
 //! Reads the items of a pattern, with the groups and repeats in them.
 
-ghost use Rattle.std.specs.Prelude.{◌≡◌, ◌+◌, ◌≤◌, ◌<◌, ◌^◌, [], ◌∷◌, ◌++◌, length, nat_le, nat_lt, IfOk, IfSome, OnOk, option_map, nat_eq, false, Ok};
+ghost use Rattle.std.specs.Prelude.{◌≡◌, ◌+◌, ◌≤◌, ◌<◌, ◌^◌, [], ◌∷◌, ◌++◌, length, nat_le, nat_lt, IfOk, IfSome, OnOk, option_map, nat_eq, true, false};
 ghost use Rattle.std.specs.List.{list_any};
 ghost use Rattle.bre_parse.specs.Tree.{tree_of, sequence_of, Set, Group, Repeat, every_byte};
+ghost use Rattle.bre_parse.specs.Groups.{number_of_groups};
+ghost use Rattle.bre_parse.specs.WellFormed.{repeats_in_order};
 ghost use Rattle.bre_parse.specs.Readers.{Reads, ReadsOrMemory};
 ghost use Rattle.bre_parse.specs.Grammar.{nesting, bounds_at, repeats, with_repeats, may_be_escaped, escaped, at_end, head_of, from_start, item_at, items, pattern, Open};
 ghost use Rattle.bre_parse.specs.ItemViews.{head_seen, IsShorter, after_items};
@@ -377,7 +379,8 @@ fn more_items<'a>(
 /// The items of a whole text, and how many groups they have.
 pub fn whole(alloc: Global, text: &[u8]) -> Result<(Vec<Node>, usize), Refusal>
     ensures value { ReadsOrMemory (λ x. sequence_of x.0.items) result (pattern text.now) }
-    ensures groups { IfOk result (λ x. from_start (items (length text.now + 1) []) 0 text.now ≡ Ok (sequence_of x.0.items, (x.1, []))) }
+    ensures in_order { IfOk result (λ x. repeats_in_order (sequence_of x.0.items) ≡ true) }
+    ensures counted { IfOk result (λ x. x.1 ≡ number_of_groups (sequence_of x.0.items)) }
 {
     let (nodes, opened, rest) = from_start(alloc, text.len() + 1, &[], 0, text)?;
     if !rest.is_empty() {
