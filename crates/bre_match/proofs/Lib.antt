@@ -1,0 +1,9 @@
+pub mod Places
+pub mod Rows
+pub mod Sorting
+pub mod Merging
+pub mod Tasks
+pub mod Turning
+pub mod Within
+pub mod Ends
+pub mod Starts

@@ -1,0 +1,29 @@
+use Rattle.std.proofs.Common.{◌≡◌, suc, ◌+◌, ◌-◌, length, ap, sym, ◌∙◌, arith}
+use Rattle.bre_parse.specs.Tree.{sequence_of}
+use Rattle.bre_parse.specs.Match.{match_among}
+use Rattle.bre_match.proofs.Starts.{skip_starts, longest_within}
+use Rattle.bre_match.proofs.first_match.Goals as goal
+
+pub loop-start-init : goal.loop-start-init
+loop-start-init c =
+    let e : suc (length c.args.text.now - c.args.from) ≡ length c.args.text.now + 1 - c.args.from = omega arith in
+    record {
+      passed = omega arith;
+      within = omega arith;
+      left = ap (λ n. match_among n (sequence_of c.args.items.now) c.args.text.now c.args.from) e }
+
+pub returns-in-Some-clause-within : goal.returns-in-Some-clause-within
+returns-in-Some-clause-within c =
+    let w = longest_within (sequence_of c.args.items.now) c.args.text.now c.loop-start.start c.in-Some.way (omega arith) (sym c.in-Some.is ∙ c.in_ok-way.ensures.value) in
+    (c.loop-start.invariant.passed, w.0, w.1)
+
+pub loop-start-preserved : goal.loop-start-preserved
+loop-start-preserved c =
+    record {
+      passed = omega arith;
+      within = omega arith;
+      left =
+        c.loop-start.invariant.left
+        ∙ skip_starts c.starts_without.result (length c.args.text.now + 1 - (c.loop-start.start + (1 + c.starts_without.result))) (length c.args.text.now + 1 - c.loop-start.start) (sequence_of c.args.items.now) c.args.text.now c.loop-start.start (c.loop-start.start + (1 + c.starts_without.result))
+            (omega arith) (omega arith)
+            (c.starts_without.ensures.sound (sym c.in_ok-way.ensures.value ∙ c.in-None.is)) }

@@ -1,0 +1,7 @@
+use Rattle.std.proofs.Common.{arith, rules}
+use Rattle.bre_match.proofs.Starts.{starts_in_row}
+use Rattle.bre_match.proofs.start.starts_without.Goals as goal
+
+pub returns-in-Some-clause-sound : goal.returns-in-Some-clause-sound
+returns-in-Some-clause-sound c none k le =
+    starts_in_row c.args.items.now c.index-items-0.result c.args.text.now c.args.start c.count_members.result k c.in-Some.set.now.negated c.in-Some.set.now.ranges.items (λ e. search (rules, e)) c.index-items-0.is c.in-Some.ensures.sound c.count_members.ensures.value le none
