@@ -10,6 +10,7 @@ pub mod ReadBrackets
 pub mod WellRead
 pub mod Within
 pub mod EmptyWays
+pub mod Ends
 pub mod AlwaysSteps
 pub mod AlwaysLaw
 mod MatchRows
