@@ -10,7 +10,7 @@ use Rattle.bre_parse.specs.Match.{first, longest_from, or_later, match_among, ma
 use Rattle.bre_parse.specs.WellFormed.{repeats_in_order}
 use Rattle.bre_parse.specs.Always.{may_be_empty, is_text_start, is_text_end, is_nothing, is_last_anchor, is_every_byte, is_unbounded, is_any_text, items_may_be_empty, has_last_anchor, has_any_text, always_anchored, always}
 use Rattle.bre_parse.specs.Grammar.{pattern}
-use Rattle.bre_parse.proofs.Steps.{choice, and_left, and_right, or_left, or_right}
+use Rattle.bre_parse.proofs.Tests.{choice, and_left, and_right, or_left, or_right}
 use Rattle.bre_parse.proofs.Within.{EndIn, in_by_end, ways_within}
 use Rattle.bre_parse.proofs.Ends.{HasEnd, end_by_end, end_left, end_right, end_flat_map, end_only_if, has_flat_map_end}
 use Rattle.bre_parse.proofs.EmptyWays.{HasWay, has_by_end, has_left, has_only_if, has_way}

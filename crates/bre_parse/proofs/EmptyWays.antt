@@ -7,7 +7,7 @@ use Rattle.bre_parse.specs.Groups.{Groups, cleared}
 use Rattle.bre_parse.specs.Ways.{Way, Body, ways, turns, next_turn, after_turn, stopped_or_on, from_way, with_group, fresh_turn, below, only_if, by_end, insert_way, enough}
 use Rattle.bre_parse.specs.WellFormed.{bounds_in_order, repeats_in_order}
 use Rattle.bre_parse.specs.Always.{may_be_empty}
-use Rattle.bre_parse.proofs.Steps.{and_left, and_right}
+use Rattle.bre_parse.proofs.Tests.{and_left, and_right}
 
 -- there is a way
 abbrev pub HasWay : List Way → Type 0

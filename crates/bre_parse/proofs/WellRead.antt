@@ -13,7 +13,7 @@ use Rattle.bre_parse.specs.Grammar.{Head, Finish, Anchor, Open, Refer, Matches, 
 use Rattle.bre_parse.specs.WellFormed.{bounds_in_order, repeats_in_order}
 use Rattle.bre_parse.specs.declared.fault.BreFault.{BreFault}
 use Rattle.bre_parse.specs.declared.fault.BreFault.TheVariants as fault
-use Rattle.bre_parse.proofs.Steps.{chosen}
+use Rattle.bre_parse.proofs.Tests.{chosen}
 
 -- both ways of a choice have the property
 by_test : {A : Type 0} (P : A → Type 0) (test : Bool) (one other : A) → (test ≡ true → P one) → (test ≡ false → P other) → P (chosen test one other)

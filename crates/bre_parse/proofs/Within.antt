@@ -4,7 +4,7 @@ use Rattle.std.specs.Prelude.{◌&&◌, nat_eq, nat_le, nat_lt, slice_get, slice
 use Rattle.bre_parse.specs.Tree.{Tree, Empty, Then, Set, TextStart, TextEnd, BackReference, Group, Repeat}
 use Rattle.bre_parse.specs.Groups.{Groups, cleared}
 use Rattle.bre_parse.specs.Ways.{Way, Body, ways, turns, next_turn, after_turn, stopped_or_on, from_way, with_group, fresh_turn, below, only_if, by_end, insert_way, enough, referred_ways, bytes_of, begins_with, has_byte_in}
-use Rattle.bre_parse.proofs.Steps.{and_right}
+use Rattle.bre_parse.proofs.Tests.{and_right}
 
 -- all these ways end in between
 abbrev pub EndIn : (low high : ℕ) → List Way → Type 0
