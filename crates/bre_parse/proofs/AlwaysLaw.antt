@@ -1,17 +1,18 @@
 -- A pattern that always matches has a match in every text.
-use Rattle.std.proofs.Common.{◌≡◌, ℕ, zero, suc, ◌+◌, ◌-◌, ◌<◌, ◌≤◌, List, [], ◌∷◌, ◌++◌, flat_map, length, Option, Some, None, Bool, true, false, cond, Ok, refl, ap, sym, subst, ◌∙◌, ◌⊎◌, inl, inr, ⊎_elim, arith}
-use Rattle.std.specs.Prelude.{not, ◌&&◌, ◌||◌, nat_eq, nat_le, nat_lt, slice_get}
+use Rattle.std.proofs.Common.{◌≡◌, ℕ, zero, suc, ◌+◌, ◌-◌, ◌<◌, ◌≤◌, List, [], ◌∷◌, flat_map, length, Option, Some, None, Bool, true, false, Ok, refl, ap, sym, subst, ◌∙◌, ◌⊎◌, inl, inr, ⊎_elim, arith}
+use Rattle.std.specs.Prelude.{not, ◌&&◌, ◌||◌, nat_eq, nat_le, slice_get}
 use Rattle.std.specs.Option.{IsSome}
 use Rattle.std.proofs.lemmas.Bool.Decides.{nat_tests}
 use Rattle.bre_parse.specs.Tree.{Tree, Empty, Then, Set, TextStart, TextEnd, BackReference, Group, Repeat}
 use Rattle.bre_parse.specs.Groups.{Groups, no_groups}
-use Rattle.bre_parse.specs.Ways.{Way, Body, ways, turns, next_turn, after_turn, stopped_or_on, from_way, fresh_turn, only_if, by_end, insert_way, enough, has_byte_in}
+use Rattle.bre_parse.specs.Ways.{Way, Body, ways, turns, after_turn, stopped_or_on, from_way, fresh_turn, only_if, by_end, enough, has_byte_in}
 use Rattle.bre_parse.specs.Match.{first, longest_from, or_later, match_among, match_from}
 use Rattle.bre_parse.specs.WellFormed.{repeats_in_order}
 use Rattle.bre_parse.specs.Always.{may_be_empty, is_text_start, is_text_end, is_nothing, is_last_anchor, is_every_byte, is_unbounded, is_any_text, items_may_be_empty, has_last_anchor, has_any_text, always_anchored, always}
 use Rattle.bre_parse.specs.Grammar.{pattern}
-use Rattle.bre_parse.proofs.Steps.{choice, and_left, and_right, or_left, or_right}
+use Rattle.bre_parse.proofs.Tests.{choice, and_left, and_right, or_left, or_right}
 use Rattle.bre_parse.proofs.Within.{EndIn, in_by_end, ways_within}
+use Rattle.bre_parse.proofs.Ends.{HasEnd, end_by_end, end_left, end_right, end_flat_map, end_only_if, has_flat_map_end}
 use Rattle.bre_parse.proofs.EmptyWays.{HasWay, has_by_end, has_left, has_only_if, has_way}
 use Rattle.bre_parse.proofs.WellRead.{pattern_in_order}
 
@@ -21,70 +22,6 @@ or_true false b e = inr e
 
 same_place : (n : ℕ) → nat_eq n n ≡ true
 same_place n = grind (arith, nat_tests)
-
--- Ways with a given end
-
-HasEnd : ℕ → List Way → Type 0
-HasEnd end [] = ⊥
-HasEnd end (way ∷ ways) = (way.0 ≡ end) ⊎ HasEnd end ways
-
-end_cond : (end : ℕ) (test : Bool) (one other : List Way) → HasEnd end one → HasEnd end other → HasEnd end (cond test one other)
-end_cond end true one other h i = h
-end_cond end false one other h i = i
-
-end_insert : (end : ℕ) (way : Way) (others : List Way) → (way.0 ≡ end) ⊎ HasEnd end others → HasEnd end (insert_way way others)
-unfolding HasEnd
-end_insert end way [] h = h
-end_insert end way (other ∷ others) h =
-    end_cond end (nat_lt way.0 other.0) (other ∷ insert_way way others) (way ∷ other ∷ others)
-      (⊎_elim
-        (λ (same : way.0 ≡ end). inr (end_insert end way others (inl same)))
-        (λ (later : HasEnd end (other ∷ others)). ⊎_elim (λ (same : other.0 ≡ end). inl same) (λ (more : HasEnd end others). inr (end_insert end way others (inr more))) later)
-        h)
-      h
-
-end_by_end : (end : ℕ) (ways : List Way) → HasEnd end ways → HasEnd end (by_end ways)
-unfolding HasEnd
-end_by_end end [] h = h
-end_by_end end (way ∷ ways) h =
-    end_insert end way (by_end ways) (⊎_elim (λ (same : way.0 ≡ end). inl same) (λ (later : HasEnd end ways). inr (end_by_end end ways later)) h)
-
-end_left : (end : ℕ) (one other : List Way) → HasEnd end one → HasEnd end (one ++ other)
-unfolding HasEnd
-end_left end [] other h = absurd h
-end_left end (way ∷ one) other h = ⊎_elim (λ (same : way.0 ≡ end). inl same) (λ (later : HasEnd end one). inr (end_left end one other later)) h
-
-end_right : (end : ℕ) (one other : List Way) → HasEnd end other → HasEnd end (one ++ other)
-unfolding HasEnd
-end_right end [] other h = h
-end_right end (way ∷ one) other h = inr (end_right end one other h)
-
-end_flat_map : (end next : ℕ) (f : Way → List Way) (ways : List Way) → ((way : Way) → way.0 ≡ end → HasEnd next (f way)) → HasEnd end ways → HasEnd next (flat_map f ways)
-unfolding HasEnd
-end_flat_map end next f [] all h = absurd h
-end_flat_map end next f (way ∷ ways) all h =
-    ⊎_elim
-      (λ (same : way.0 ≡ end). end_left next (f way) (flat_map f ways) (all way same))
-      (λ (later : HasEnd end ways). end_right next (f way) (flat_map f ways) (end_flat_map end next f ways all later))
-      h
-
-end_only_if : (test : Bool) (way : Way) → test ≡ true → HasEnd way.0 (only_if test way)
-unfolding HasEnd
-end_only_if true way e = inl refl
-end_only_if false way e = absurd cc
-
-has_flat_map_end : (end : ℕ) (f : Way → List Way) (ways : List Way) → ((way : Way) → way.0 ≡ end → HasWay (f way)) → HasEnd end ways → HasWay (flat_map f ways)
-unfolding HasEnd
-has_flat_map_end end f [] all h = absurd h
-has_flat_map_end end f (way ∷ ways) all h =
-    ⊎_elim
-      (λ (same : way.0 ≡ end). has_left (f way) (flat_map f ways) (all way same))
-      (λ (later : HasEnd end ways). has_more (f way) (flat_map f ways) (has_flat_map_end end f ways all later))
-      h
-  where
-    has_more : (one other : List Way) → HasWay other → HasWay (one ++ other)
-    has_more [] other h = h
-    has_more (way ∷ one) other h = tt
 
 -- At the text's end
 
@@ -123,17 +60,17 @@ anchor_at_end tree text groups e =
 item_at_end : (item rest : Tree) (text : List ℕ) (groups : Groups) → (is_last_anchor item rest || may_be_empty item) ≡ true → repeats_in_order item ≡ true → HasWay (ways item text (length text) groups)
 item_at_end item rest text groups e ordered =
     ⊎_elim
-      (λ (anchor : is_last_anchor item rest ≡ true). anchor_at_end item text groups (and_left _ _ anchor))
-      (λ (empty : may_be_empty item ≡ true). has_way item empty ordered text (length text) groups)
-      (or_true _ _ e)
+    (λ (anchor : is_last_anchor item rest ≡ true). anchor_at_end item text groups (and_left _ _ anchor))
+    (λ (empty : may_be_empty item ≡ true). has_way item empty ordered text (length text) groups)
+    (or_true _ _ e)
 
 items_at_end : (tree : Tree) → items_may_be_empty tree ≡ true → repeats_in_order tree ≡ true → (text : List ℕ) (groups : Groups) → HasWay (ways tree text (length text) groups)
 items_at_end Empty e ordered text groups = tt
 items_at_end (Then item rest) e ordered text groups =
     first_at (length text) (from_way (ways rest text)) (by_end (ways item text (length text) groups))
-      (in_by_end (length text) (length text) (ways item text (length text) groups) (ways_within item text (length text) groups (omega arith)))
-      (λ way same. subst (λ (place : ℕ). HasWay (ways rest text place way.1)) (sym same) (items_at_end rest (and_right _ _ e) (and_right _ _ ordered) text way.1))
-      (has_by_end (ways item text (length text) groups) (item_at_end item rest text groups (and_left _ _ e) (and_left _ _ ordered)))
+    (in_by_end (length text) (length text) (ways item text (length text) groups) (ways_within item text (length text) groups (omega arith)))
+    (λ way same. subst (λ (place : ℕ). HasWay (ways rest text place way.1)) (sym same) (items_at_end rest (and_right _ _ e) (and_right _ _ ordered) text way.1))
+    (has_by_end (ways item text (length text) groups) (item_at_end item rest text groups (and_left _ _ e) (and_left _ _ ordered)))
 items_at_end (Set negated ranges) e ordered text groups = absurd cc
 items_at_end TextStart e ordered text groups = absurd cc
 items_at_end TextEnd e ordered text groups = absurd cc
@@ -169,14 +106,14 @@ any_text_ends : (more : ℕ) (text : List ℕ) (done place : ℕ) (groups : Grou
 any_text_ends zero text done place groups le lt = absurd (omega arith)
 any_text_ends (suc more) text done place groups le lt =
     end_by_end (length text) _ (⊎_elim
-      (λ (here : place ≡ length text). end_right (length text) _ (only_if (nat_le 0 done) (place, groups))
-        (subst (λ (end : ℕ). HasEnd end (only_if (nat_le 0 done) (place, groups))) here (end_only_if (nat_le 0 done) (place, groups) (from_none done))))
-      (λ (before : place < length text). end_left (length text) _ (only_if (nat_le 0 done) (place, groups))
-        (end_flat_map (place + 1) (length text) (after_turn 0 done place (turns more (fresh_turn any_byte (ways any_byte text)) 0 None (done + 1))) (by_end (fresh_turn any_byte (ways any_byte text) place groups))
-          (λ way same. on_end (length text) (nat_eq way.0 place && nat_le 0 done) done (turns more (fresh_turn any_byte (ways any_byte text)) 0 None (done + 1)) way (moved place way.0 done same)
-            (any_text_ends more text (done + 1) way.0 way.1 (omega arith) (omega arith)))
-          (end_by_end (place + 1) (fresh_turn any_byte (ways any_byte text) place groups) (end_only_if (has_byte_in true [] (slice_get text place)) (place + 1, groups) (byte_at text place before)))))
-      (either place (length text) le))
+    (λ (here : place ≡ length text). end_right (length text) _ (only_if (nat_le 0 done) (place, groups))
+    (subst (λ (end : ℕ). HasEnd end (only_if (nat_le 0 done) (place, groups))) here (end_only_if (nat_le 0 done) (place, groups) (from_none done))))
+    (λ (before : place < length text). end_left (length text) _ (only_if (nat_le 0 done) (place, groups))
+    (end_flat_map (place + 1) (length text) (after_turn 0 done place (turns more (fresh_turn any_byte (ways any_byte text)) 0 None (done + 1))) (by_end (fresh_turn any_byte (ways any_byte text) place groups))
+    (λ way same. on_end (length text) (nat_eq way.0 place && nat_le 0 done) done (turns more (fresh_turn any_byte (ways any_byte text)) 0 None (done + 1)) way (moved place way.0 done same)
+    (any_text_ends more text (done + 1) way.0 way.1 (omega arith) (omega arith)))
+    (end_by_end (place + 1) (fresh_turn any_byte (ways any_byte text) place groups) (end_only_if (has_byte_in true [] (slice_get text place)) (place + 1, groups) (byte_at text place before)))))
+    (either place (length text) le))
   where
     either : (a b : ℕ) → a ≤ b → (a ≡ b) ⊎ (a < b)
     either a b le = grind arith
@@ -235,20 +172,20 @@ has_flat_map_within low high f (way ∷ ways) within all h = has_left (f way) (f
 with_any_text : (tree : Tree) → items_may_be_empty tree ≡ true → has_any_text tree ≡ true → repeats_in_order tree ≡ true → (text : List ℕ) (place : ℕ) (groups : Groups) → place ≤ length text → HasWay (ways tree text place groups)
 with_any_text (Then item rest) e any ordered text place groups le =
     ⊎_elim
-      (λ (here : is_any_text item ≡ true).
-        has_flat_map_end (length text) (from_way (ways rest text)) (by_end (ways item text place groups))
-          (λ way same. subst (λ (place : ℕ). HasWay (ways rest text place way.1)) (sym same) (items_at_end rest (and_right _ _ e) (and_right _ _ ordered) text way.1))
-          (end_by_end (length text) (ways item text place groups) (item_ends item here text place groups le)))
-      (λ (later : has_any_text rest ≡ true).
-        has_flat_map_within place (length text) (from_way (ways rest text)) (by_end (ways item text place groups))
-          (in_by_end place (length text) (ways item text place groups) (ways_within item text place groups le))
-          (λ way bound. with_any_text rest (and_right _ _ e) later (and_right _ _ ordered) text way.0 way.1 bound)
-          (has_by_end (ways item text place groups) (has_way item (empty later) (and_left _ _ ordered) text place groups)))
-      (or_true _ _ any)
+    (λ (here : is_any_text item ≡ true).
+    has_flat_map_end (length text) (from_way (ways rest text)) (by_end (ways item text place groups))
+    (λ way same. subst (λ (place : ℕ). HasWay (ways rest text place way.1)) (sym same) (items_at_end rest (and_right _ _ e) (and_right _ _ ordered) text way.1))
+    (end_by_end (length text) (ways item text place groups) (item_ends item here text place groups le)))
+    (λ (later : has_any_text rest ≡ true).
+    has_flat_map_within place (length text) (from_way (ways rest text)) (by_end (ways item text place groups))
+    (in_by_end place (length text) (ways item text place groups) (ways_within item text place groups le))
+    (λ way bound. with_any_text rest (and_right _ _ e) later (and_right _ _ ordered) text way.0 way.1 bound)
+    (has_by_end (ways item text place groups) (has_way item (empty later) (and_left _ _ ordered) text place groups)))
+    (or_true _ _ any)
   where
     empty : has_any_text rest ≡ true → may_be_empty item ≡ true
     empty later =
-      ⊎_elim
+        ⊎_elim
         (λ (anchor : is_last_anchor item rest ≡ true). absurd (nothing_has rest (and_right (is_text_end item) (is_nothing rest) anchor) later))
         (λ (h : may_be_empty item ≡ true). h)
         (or_true (is_last_anchor item rest) (may_be_empty item) (and_left (is_last_anchor item rest || may_be_empty item) (items_may_be_empty rest) e))
@@ -265,11 +202,11 @@ no_anchor : (tree : Tree) → items_may_be_empty tree ≡ true → has_last_anch
 no_anchor Empty e none = refl
 no_anchor (Then item rest) e none =
     both (may_be_empty item) (may_be_empty rest)
-      (⊎_elim
-        (λ (anchor : is_last_anchor item rest ≡ true). absurd (cc (anchor, or_left (is_last_anchor item rest) (has_last_anchor rest) none)))
-        (λ (h : may_be_empty item ≡ true). h)
-        (or_true _ _ (and_left _ _ e)))
-      (no_anchor rest (and_right _ _ e) (or_right _ _ none))
+    (⊎_elim
+    (λ (anchor : is_last_anchor item rest ≡ true). absurd (cc (anchor, or_left (is_last_anchor item rest) (has_last_anchor rest) none)))
+    (λ (h : may_be_empty item ≡ true). h)
+    (or_true _ _ (and_left _ _ e)))
+    (no_anchor rest (and_right _ _ e) (or_right _ _ none))
   where
     both : (a b : Bool) → a ≡ true → b ≡ true → (a && b) ≡ true
     both true b e f = f
@@ -310,9 +247,9 @@ behind_start rest text groups h = has_left (ways rest text 0 groups) [] h
 anchored_matches : (rest : Tree) → always_anchored rest ≡ true → repeats_in_order rest ≡ true → (text : List ℕ) → HasWay (ways rest text 0 no_groups)
 anchored_matches rest e ordered text =
     ⊎_elim
-      (λ (none : not (has_last_anchor rest) ≡ true). has_way rest (no_anchor rest (and_left _ _ e) (flipped (has_last_anchor rest) none)) ordered text 0 no_groups)
-      (λ (any : has_any_text rest ≡ true). with_any_text rest (and_left _ _ e) any ordered text 0 no_groups (omega arith))
-      (or_true _ _ (and_right _ _ e))
+    (λ (none : not (has_last_anchor rest) ≡ true). has_way rest (no_anchor rest (and_left _ _ e) (flipped (has_last_anchor rest) none)) ordered text 0 no_groups)
+    (λ (any : has_any_text rest ≡ true). with_any_text rest (and_left _ _ e) any ordered text 0 no_groups (omega arith))
+    (or_true _ _ (and_right _ _ e))
   where
     flipped : (a : Bool) → not a ≡ true → a ≡ false
     flipped true e = absurd cc
@@ -322,11 +259,11 @@ pub tree_matches : (tree : Tree) → always tree ≡ true → repeats_in_order t
 tree_matches Empty e ordered text = matches_by_end Empty e ordered text
 tree_matches (Then item rest) e ordered text =
     ⊎_elim
-      (λ (h : (is_text_start item ≡ true) × (always_anchored rest ≡ true)).
-        let ways_there = anchored_matches rest h.1 (and_right _ _ ordered) text in
-        matches_here (length text - 0) (Then item rest) text 0 (subst (λ (tree : Tree). HasWay (ways (Then tree rest) text 0 no_groups)) (sym (text_start_is item h.0)) (behind_start rest text no_groups ways_there)))
-      (λ (h : (is_text_start item ≡ false) × (items_may_be_empty (Then item rest) ≡ true)). matches_by_end (Then item rest) h.1 ordered text)
-      (choice (is_text_start item) (always_anchored rest) (items_may_be_empty (Then item rest)) true e)
+    (λ (h : (is_text_start item ≡ true) × (always_anchored rest ≡ true)).
+    let ways_there = anchored_matches rest h.1 (and_right _ _ ordered) text in
+    matches_here (length text - 0) (Then item rest) text 0 (subst (λ (tree : Tree). HasWay (ways (Then tree rest) text 0 no_groups)) (sym (text_start_is item h.0)) (behind_start rest text no_groups ways_there)))
+    (λ (h : (is_text_start item ≡ false) × (items_may_be_empty (Then item rest) ≡ true)). matches_by_end (Then item rest) h.1 ordered text)
+    (choice (is_text_start item) (always_anchored rest) (items_may_be_empty (Then item rest)) true e)
 tree_matches (Set negated ranges) e ordered text = absurd cc
 tree_matches TextStart e ordered text = absurd cc
 tree_matches TextEnd e ordered text = absurd cc

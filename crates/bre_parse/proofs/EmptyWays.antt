@@ -1,5 +1,5 @@
 -- What may be empty has a way from each place.
-use Rattle.std.proofs.Common.{◌≡◌, ℕ, zero, suc, ◌+◌, ◌-◌, ◌<◌, ◌≤◌, List, [], ◌∷◌, ◌++◌, map, flat_map, length, Option, Some, None, Bool, true, false, cond, refl, ap, sym, ◌∙◌, ◌⊎◌, ⊎_elim, arith}
+use Rattle.std.proofs.Common.{◌≡◌, ℕ, zero, suc, ◌+◌, ◌<◌, ◌≤◌, List, [], ◌∷◌, ◌++◌, map, flat_map, Option, Some, None, Bool, true, false, cond, refl, ◌⊎◌, ⊎_elim, arith}
 use Rattle.std.specs.Prelude.{◌&&◌, nat_eq, nat_le, nat_lt}
 use Rattle.std.proofs.lemmas.Bool.Decides.{nat_tests}
 use Rattle.bre_parse.specs.Tree.{Tree, Empty, Then, Set, TextStart, TextEnd, BackReference, Group, Repeat}
@@ -7,7 +7,7 @@ use Rattle.bre_parse.specs.Groups.{Groups, cleared}
 use Rattle.bre_parse.specs.Ways.{Way, Body, ways, turns, next_turn, after_turn, stopped_or_on, from_way, with_group, fresh_turn, below, only_if, by_end, insert_way, enough}
 use Rattle.bre_parse.specs.WellFormed.{bounds_in_order, repeats_in_order}
 use Rattle.bre_parse.specs.Always.{may_be_empty}
-use Rattle.bre_parse.proofs.Steps.{and_left, and_right}
+use Rattle.bre_parse.proofs.Tests.{and_left, and_right}
 
 -- there is a way
 abbrev pub HasWay : List Way → Type 0
@@ -67,14 +67,14 @@ has_turns : (more : ℕ) (turn : Body) (least : ℕ) (most : Option ℕ) (done p
 has_turns zero turn least most done place groups ordered all le = has_only_if (nat_le least done) (place, groups) (grind (arith, nat_tests))
 has_turns (suc more) turn least most done place groups ordered all le =
     has_by_end _ (⊎_elim
-      (λ (enough : least ≤ done). has_right _ (only_if (nat_le least done) (place, groups)) (has_only_if (nat_le least done) (place, groups) (grind (arith, nat_tests))))
-      (λ (lt : done < least). has_left _ (only_if (nat_le least done) (place, groups))
-        (has_flat_map (after_turn least done place (turns more turn least most (done + 1))) (next_turn (below done most) turn place groups)
-          (λ way. let needed : nat_le least done ≡ false = grind (arith, nat_tests) in
-            has_needed (nat_eq way.0 place && nat_le least done) done (turns more turn least most (done + 1)) way (rw needed (and_false (nat_eq way.0 place)))
-              (has_turns more turn least most (done + 1) way.0 way.1 ordered (λ place' groups' l. all place' groups' (omega arith)) (omega arith)))
-          (has_next_turn (below done most) turn place groups (below_most done least most ordered lt) (all place groups lt))))
-      (either least done))
+    (λ (enough : least ≤ done). has_right _ (only_if (nat_le least done) (place, groups)) (has_only_if (nat_le least done) (place, groups) (grind (arith, nat_tests))))
+    (λ (lt : done < least). has_left _ (only_if (nat_le least done) (place, groups))
+    (has_flat_map (after_turn least done place (turns more turn least most (done + 1))) (next_turn (below done most) turn place groups)
+    (λ way. let needed : nat_le least done ≡ false = grind (arith, nat_tests) in
+    has_needed (nat_eq way.0 place && nat_le least done) done (turns more turn least most (done + 1)) way (rw needed (and_false (nat_eq way.0 place)))
+    (has_turns more turn least most (done + 1) way.0 way.1 ordered (λ place' groups' l. all place' groups' (omega arith)) (omega arith)))
+    (has_next_turn (below done most) turn place groups (below_most done least most ordered lt) (all place groups lt))))
+    (either least done))
   where
     either : (a b : ℕ) → (a ≤ b) ⊎ (b < a)
     either a b = grind arith
@@ -83,13 +83,13 @@ pub has_way : (tree : Tree) → may_be_empty tree ≡ true → repeats_in_order 
 has_way Empty e h text place groups = tt
 has_way (Then first rest) e h text place groups =
     has_flat_map (from_way (ways rest text)) (by_end (ways first text place groups)) (λ way. has_way rest (and_right _ _ e) (and_right _ _ h) text way.0 way.1)
-      (has_by_end (ways first text place groups) (has_way first (and_left _ _ e) (and_left _ _ h) text place groups))
+    (has_by_end (ways first text place groups) (has_way first (and_left _ _ e) (and_left _ _ h) text place groups))
 has_way (Group group content) e h text place groups = has_map (with_group group place) (ways content text place groups) (has_way content e h text place groups)
 has_way (Repeat zero most content) e h text place groups =
     has_turns (enough zero text place) (fresh_turn content (ways content text)) zero most 0 place groups (and_left _ _ h) (λ place' groups' l. absurd (omega arith)) (omega arith)
 has_way (Repeat (suc least) most content) e h text place groups =
     has_turns (enough (suc least) text place) (fresh_turn content (ways content text)) (suc least) most 0 place groups (and_left _ _ h)
-      (λ place' groups' l. has_way content e (and_right _ _ h) text place' (cleared content groups')) (omega arith)
+    (λ place' groups' l. has_way content e (and_right _ _ h) text place' (cleared content groups')) (omega arith)
 has_way (Set negated ranges) e h text place groups = absurd cc
 has_way TextStart e h text place groups = absurd cc
 has_way TextEnd e h text place groups = absurd cc

@@ -5,11 +5,13 @@ pub mod Elements
 pub mod Nesting
 pub mod Repeats
 pub mod Items
+pub mod Tests
 pub mod Steps
 pub mod ReadBrackets
 pub mod WellRead
 pub mod Within
 pub mod EmptyWays
+pub mod Ends
 pub mod AlwaysSteps
 pub mod AlwaysLaw
 mod MatchRows

@@ -4,16 +4,16 @@ use Rattle.std.specs.Prelude.{◌&&◌, not, nat_eq, nat_le, nat_lt}
 use Rattle.std.specs.List.{list_any}
 use Rattle.std.proofs.lemmas.Bool.Decides.{nat_tests}
 use Rattle.bre_parse.specs.Bytes.{dollar_sign, left_parenthesis, right_parenthesis, asterisk, comma, period, one_digit, nine_digit, left_square_bracket, backslash, circumflex, left_brace, right_brace}
-use Rattle.bre_parse.specs.Tree.{Tree, Empty, Then, Set, TextStart, TextEnd, BackReference, Group, Repeat, every_byte, set_of, covers_below}
+use Rattle.bre_parse.specs.Tree.{Tree, Set, TextStart, BackReference, Group, Repeat, every_byte, set_of, covers_below}
 use Rattle.bre_parse.specs.Groups.{number_of_groups}
 use Rattle.bre_parse.specs.Reading.{Read, ◌>>=◌, starts_with, starts_with_pair}
 use Rattle.bre_parse.specs.Brackets.{Ranges, elements, listed, bracket}
 use Rattle.bre_parse.specs.Intervals.{Bounds, bound, closed, ordered, upper, lower, interval}
-use Rattle.bre_parse.specs.Grammar.{Head, Finish, Anchor, Open, Refer, Matches, itself, may_be_escaped, escaped, at_end, head_of, nesting, deepest, bounds_at, repeated, repeats, Opened, ReadSequence, ReadItem, with_repeats, then_rest, from_start, group_item, item_at, items_behind, items, whole, pattern}
+use Rattle.bre_parse.specs.Grammar.{Head, Finish, Anchor, Open, Refer, Matches, itself, may_be_escaped, escaped, at_end, head_of, nesting, deepest, bounds_at, repeated, repeats, ReadSequence, ReadItem, with_repeats, then_rest, from_start, group_item, item_at, items_behind, items, whole, pattern}
 use Rattle.bre_parse.specs.WellFormed.{bounds_in_order, repeats_in_order}
 use Rattle.bre_parse.specs.declared.fault.BreFault.{BreFault}
 use Rattle.bre_parse.specs.declared.fault.BreFault.TheVariants as fault
-use Rattle.bre_parse.proofs.Steps.{chosen}
+use Rattle.bre_parse.proofs.Tests.{chosen}
 
 -- both ways of a choice have the property
 by_test : {A : Type 0} (P : A → Type 0) (test : Bool) (one other : A) → (test ≡ true → P one) → (test ≡ false → P other) → P (chosen test one other)
@@ -67,8 +67,8 @@ some_good (Err wrong) good = tt
 bounds_at_good : (text : List ℕ) → GoodRepeat (bounds_at text)
 bounds_at_good text =
     by_test GoodRepeat (starts_with text asterisk) (Ok (Some ((0, None), drop 1 text))) (chosen (starts_with_pair text backslash left_brace) (interval (drop 2 text) >>= λ bounds. Ok (Some bounds)) (Ok None))
-      (λ _. refl)
-      (λ _. by_test GoodRepeat (starts_with_pair text backslash left_brace) (interval (drop 2 text) >>= λ bounds. Ok (Some bounds)) (Ok None) (λ _. some_good (interval (drop 2 text)) (then_lower (bound (drop 2 text)))) (λ _. tt))
+    (λ _. refl)
+    (λ _. by_test GoodRepeat (starts_with_pair text backslash left_brace) (interval (drop 2 text) >>= λ bounds. Ok (Some bounds)) (Ok None) (λ _. some_good (interval (drop 2 text)) (then_lower (bound (drop 2 text)))) (λ _. tt))
 
 -- the part has its repeats in order, and no groups but those before
 abbrev GoodPart : Tree → Read Tree → Type 0
@@ -172,8 +172,8 @@ then_good start between tree (Err wrong) h e good = tt
 start_good : (items : ℕ → List ℕ → ReadSequence) → ((opened : ℕ) (text : List ℕ) → GoodSequence opened (items opened text)) → (opened : ℕ) (text : List ℕ) → GoodSequence opened (from_start items opened text)
 start_good items all opened text =
     by_test (GoodSequence opened) (starts_with text circumflex) (then_rest TextStart (items opened (drop 1 text))) (items opened text)
-      (λ _. then_good opened opened TextStart (items opened (drop 1 text)) refl (omega arith) (all opened (drop 1 text)))
-      (λ _. all opened text)
+    (λ _. then_good opened opened TextStart (items opened (drop 1 text)) refl (omega arith) (all opened (drop 1 text)))
+    (λ _. all opened text)
 
 item_good : (items : List ℕ → ℕ → List ℕ → ReadSequence) → ((inside : List ℕ) (opened : ℕ) (text : List ℕ) → GoodSequence opened (items inside opened text)) → (inside : List ℕ) (opened : ℕ) (head : Head) → PlainHead head → GoodItem opened (item_at items inside opened head)
 item_good items all inside opened Finish plain = tt
@@ -181,10 +181,10 @@ item_good items all inside opened (Anchor rest) plain = (refl, omega arith)
 item_good items all inside opened (Matches set) plain = set_good opened (length inside) set plain
 item_good items all inside opened (Refer group rest) plain =
     by_test (GoodItem opened) (nat_lt group opened && not (list_any (nat_eq group) inside)) (with_repeats (length inside) opened (BackReference group, rest)) (Err fault.BackRef)
-      (λ _. with_repeats_good opened opened (length inside) (BackReference group) rest refl (omega arith)) (λ _. tt)
+    (λ _. with_repeats_good opened opened (length inside) (BackReference group) rest refl (omega arith)) (λ _. tt)
 item_good items all inside opened (Open rest) plain =
     by_test (GoodItem opened) (nat_lt (length inside) deepest) (from_start (items (inside ++ opened ∷ [])) (opened + 1) rest >>= group_item (length inside) opened) (Err fault.Depth)
-      (λ _. group_good opened (length inside) (from_start (items (inside ++ opened ∷ [])) (opened + 1) rest) (start_good (items (inside ++ opened ∷ [])) (all (inside ++ opened ∷ [])) (opened + 1) rest)) (λ _. tt)
+    (λ _. group_good opened (length inside) (from_start (items (inside ++ opened ∷ [])) (opened + 1) rest) (start_good (items (inside ++ opened ∷ [])) (all (inside ++ opened ∷ [])) (opened + 1) rest)) (λ _. tt)
 
 behind_good : (items : ℕ → List ℕ → ReadSequence) → ((opened : ℕ) (text : List ℕ) → GoodSequence opened (items opened text)) → (opened : ℕ) (text : List ℕ) (read : ReadItem) → GoodItem opened read → GoodSequence opened (read >>= items_behind items opened text)
 behind_good items all opened text (Ok None) good = (refl, omega arith)
@@ -195,7 +195,7 @@ items_good : (most : ℕ) (inside : List ℕ) (opened : ℕ) (text : List ℕ) �
 items_good zero inside opened text = tt
 items_good (suc most) inside opened text =
     behind_good (items most inside) (λ opened' text'. items_good most inside opened' text') opened text (item_at (items most) inside opened (head_of text))
-      (item_good (items most) (λ inside' opened' text'. items_good most inside' opened' text') inside opened (head_of text) (head_plain text))
+    (item_good (items most) (λ inside' opened' text'. items_good most inside' opened' text') inside opened (head_of text) (head_plain text))
 
 pub sequence_good : (text : List ℕ) → GoodSequence 0 (from_start (items (length text + 1) []) 0 text)
 sequence_good text = start_good (items (length text + 1) []) (items_good (length text + 1) []) 0 text

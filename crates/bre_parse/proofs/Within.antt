@@ -1,10 +1,10 @@
 -- Each way ends at its place or behind it, and within the text.
-use Rattle.std.proofs.Common.{◌≡◌, ℕ, zero, suc, ◌+◌, ◌-◌, ◌<◌, ◌≤◌, List, [], ◌∷◌, ◌++◌, map, flat_map, length, take, drop, Option, Some, None, Bool, true, false, cond, refl, arith, length-drop}
+use Rattle.std.proofs.Common.{◌≡◌, ℕ, zero, suc, ◌+◌, ◌≤◌, List, [], ◌∷◌, ◌++◌, map, flat_map, length, drop, Option, Some, None, Bool, true, false, cond, refl, arith, length-drop}
 use Rattle.std.specs.Prelude.{◌&&◌, nat_eq, nat_le, nat_lt, slice_get, slice_index_or}
 use Rattle.bre_parse.specs.Tree.{Tree, Empty, Then, Set, TextStart, TextEnd, BackReference, Group, Repeat}
 use Rattle.bre_parse.specs.Groups.{Groups, cleared}
 use Rattle.bre_parse.specs.Ways.{Way, Body, ways, turns, next_turn, after_turn, stopped_or_on, from_way, with_group, fresh_turn, below, only_if, by_end, insert_way, enough, referred_ways, bytes_of, begins_with, has_byte_in}
-use Rattle.bre_parse.proofs.Steps.{and_right}
+use Rattle.bre_parse.proofs.Tests.{and_right}
 
 -- all these ways end in between
 abbrev pub EndIn : (low high : ℕ) → List Way → Type 0
@@ -61,14 +61,14 @@ in_turns : (more high : ℕ) (turn : Body) (least : ℕ) (most : Option ℕ) (do
 in_turns zero high turn least most done place groups le all = in_only_if place high (nat_le least done) (place, groups) (λ _. (omega arith, le))
 in_turns (suc more) high turn least most done place groups le all =
     in_by_end place high _ (in_append place high _ (only_if (nat_le least done) (place, groups))
-      (in_flat_map place high (after_turn least done place (turns more turn least most (done + 1))) (next_turn (below done most) turn place groups) (in_next_turn high (below done most) turn place groups (all place groups le))
-        (λ way low bound. in_stopped high (nat_eq way.0 place && nat_le least done) done (turns more turn least most (done + 1)) way bound (in_turns more high turn least most (done + 1) way.0 way.1 bound all)))
-      (in_only_if place high (nat_le least done) (place, groups) (λ _. (omega arith, le))))
+    (in_flat_map place high (after_turn least done place (turns more turn least most (done + 1))) (next_turn (below done most) turn place groups) (in_next_turn high (below done most) turn place groups (all place groups le))
+    (λ way low bound. in_stopped high (nat_eq way.0 place && nat_le least done) done (turns more turn least most (done + 1)) way bound (in_turns more high turn least most (done + 1) way.0 way.1 bound all)))
+    (in_only_if place high (nat_le least done) (place, groups) (λ _. (omega arith, le))))
 
 word_fits : (text word : List ℕ) → begins_with text word ≡ true → length word ≤ length text
 word_fits text [] e = omega arith
 word_fits [] (byte ∷ word) e = absurd cc
-word_fits (head ∷ text) (byte ∷ word) e = let h = word_fits text word (and_right _ _ e) in omega arith
+word_fits (head ∷ text) (byte ∷ word) e = let h = word_fits text word (and_right (nat_eq head byte) (begins_with text word) e) in omega arith
 
 in_referred : (text : List ℕ) (span : Option (ℕ × ℕ)) (place : ℕ) (groups : Groups) → place ≤ length text → EndIn place (length text) (referred_ways text span place groups)
 in_referred text None place groups le = tt

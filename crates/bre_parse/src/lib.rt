@@ -6,16 +6,22 @@ ghost use Rattle.bre_parse.specs.Tree.{sequence_of};
 ghost use Rattle.bre_parse.specs.Groups.{number_of_groups};
 ghost use Rattle.bre_parse.specs.WellFormed.{repeats_in_order};
 
-pub mod always;
+mod always;
 mod bracket;
 pub mod fault;
 mod head;
 mod interval;
 mod item;
+mod refusal;
+mod repeat;
+#[cfg(test)]
+mod tests;
 pub mod tree;
 
-use fault::{BreFault, Refusal};
+pub use always::always_matches;
+use fault::BreFault;
 use item::whole;
+use refusal::Refusal;
 use std::alloc::{AllocError, Global};
 use tree::{Node, copies_of};
 
@@ -52,7 +58,7 @@ impl Bre {
     pub fn items(&self) -> &[Node]
         ensures value { sequence_of result.now ≡ bre_tree self.now }
     {
-        &self.items
+        self.items.as_slice()
     }
 
     /// How many groups the pattern has.
