@@ -21,13 +21,16 @@ where
     R: Env + Files + Input + Print + Eprint + AllocGlobal,
 {
     let words = match env::args(rt) {
-        Ok(words) => words,
-        Err(error) if error.kind() == io::ErrorKind::OutOfMemory => return Fault::Memory.status(),
+        Ok(words) => words.collect::<Vec<String>>(rt.alloc()),
+        Err(error) if error.kind() == io::ErrorKind::OutOfMemory => Err(AllocError),
         Err(_) => return usage(rt),
     };
-    match file_of_words(words) {
-        Some(file) => edit(rt, file.as_str()),
-        None => usage(rt),
+    match words {
+        Err(AllocError) => Fault::Memory.status(),
+        Ok(words) => match file_of_words(words.as_slice()) {
+            Some(file) => edit(rt, file),
+            None => usage(rt),
+        },
     }
 }
 
