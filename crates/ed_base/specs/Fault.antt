@@ -1,4 +1,4 @@
--- The texts and exit statuses of faults (XCU ed, "Consequences of Errors"; our choice: the texts).
+-- The texts and exit statuses of faults (XCU ed, "Consequences of Errors"; our choice: the texts and the statuses above 0).
 use Rattle.std.specs.Prelude.{ℕ, List, codes}
 use Rattle.ed_base.specs.declared.fault.Fault.{Fault}
 use Rattle.ed_base.specs.declared.fault.Fault.TheVariants.{Syntax, Address, Mark, Pattern, NoMatch, Destination, Name, Unsaved, Undo, Replacement, File, Output, Memory}

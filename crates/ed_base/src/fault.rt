@@ -18,15 +18,15 @@ pub enum Fault {
     Pattern,
     /// A search or a substitution that finds no line.
     NoMatch,
-    /// Lines moved or copied into themselves.
+    /// Lines moved into themselves.
     Destination,
     /// No path given while none is remembered.
     Name,
     /// The buffer would be lost with changes that weren't written.
     Unsaved,
-    /// Undo where no command changed the buffer.
+    /// Undo where nothing is kept that it could bring back.
     Undo,
-    /// The replacement `%` while none is remembered, or a reference to a group that the pattern lacks.
+    /// The replacement `%` while none is remembered.
     Replacement,
     /// A file that couldn't be read or written.
     File,
