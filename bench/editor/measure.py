@@ -1,7 +1,8 @@
 """Processor time and peak memory of our editor beside `ed` and `sed`, on the same inputs and interleaved.
 
 Each measure is the best of three runs. For each size the table gives seconds of processor time, mebibytes of peak memory
-and the ratio to `ed`; the last column is the exponent by which the time grows from the smallest size to the largest.
+and the ratio to `ed`; the last lines give the exponent by which the time grows from the smallest size to the largest.
+A peak of some 10 MiB is that of this script, from which each program is started: the program's own lies below it.
 """
 
 import math
@@ -40,17 +41,22 @@ def start(folder, n):
     return Work(folder, "start", n, [b"a\nb\nc\n"], [b"2d\n,p\nQ\n"], repeat=n, sed=["sed", "2d"])
 
 
+def script_of_text(n):
+    yield b"a\n"
+    yield from text_lines(n)
+    yield b".\nQ\n"
+
+
 def enter(folder, n):
-    script = [b"a\n", *text_lines(n), b".\nQ\n"]
-    return Work(folder, "enter", n, [], script)
+    return Work(folder, "enter", n, [], script_of_text(n))
 
 
 def delete_from_end(folder, n):
-    return Work(folder, "delete", n, text_lines(n), [b"$d\n" * n + b"Q\n"])
+    return Work(folder, "delete", n, text_lines(n), (b"$d\n" if i < n else b"Q\n" for i in range(n + 1)))
 
 
 def measured(words, work):
-    """Processor seconds and peak mebibytes of one run of the work."""
+    """Processor seconds and peak mebibytes of the runs of the work."""
     seconds, peak = 0.0, 0
     for _ in range(work.repeat):
         with open(work.script, "rb") as script, open(os.devnull, "wb") as out:
@@ -81,14 +87,20 @@ def programs_for(work):
     return programs
 
 
+def ratio_to_ed(figures, name):
+    """How a program's time compares with that of `ed`, where `ed` is there and took any."""
+    if "ed" not in figures or not figures["ed"][0]:
+        return ""
+    return f"{figures[name][0] / figures['ed'][0]:6.2f} x ed"
+
+
 def report(title, works):
-    print(f"{title}")
+    print(title)
     first, last = {}, {}
     for work in works:
         figures = best(programs_for(work), work)
         for name, (seconds, peak) in figures.items():
-            ratio = f"{seconds / figures['ed'][0]:6.2f} x ed" if "ed" in figures and figures["ed"][0] else ""
-            print(f"  {work.size:>8} {name:<5} {seconds:8.3f} s {peak:8.1f} MiB {ratio}")
+            print(f"  {work.size:>8} {name:<5} {seconds:8.3f} s {peak:8.1f} MiB {ratio_to_ed(figures, name)}")
             first.setdefault(name, (work.size, seconds))
             last[name] = (work.size, seconds)
     for name, (size, seconds) in last.items():
