@@ -48,7 +48,8 @@ impl Bytes {
     pub fn into_vec(self) -> Vec<u8>
         ensures value { result.items ≡ self }
     {
-        self.items
+        let Bytes { items } = self;
+        items
     }
 
     pub fn as_slice(&self) -> &[u8]
@@ -86,7 +87,7 @@ impl Bytes {
         self.items.extend_from_slice(bytes)
     }
 
-    /// Makes room for this many more bytes.
+    /// Makes room for this many more bytes. No clause speaks of room: whoever rests a proof on it keeps a `Vec`.
     pub fn reserve(&mut self, additional: usize) -> Result<(), AllocError>
         ensures unchanged { self.new ≡ self.old }
     {
@@ -115,7 +116,7 @@ impl PartialEq for Bytes {
     ghost eq = { λ a b. pointwise nat_eq a b };
 
     fn eq(&self, other: &Self) -> bool {
-        self.items.as_slice() == other.items.as_slice()
+        self.as_slice() == other.as_slice()
     }
 
     ghost use Rattle.std.proofs.Common.{rules};

@@ -15,3 +15,6 @@ pub use lines::{
 };
 pub use numbers::push_number;
 pub use text::Text;
+
+#[cfg(test)]
+mod tests;

@@ -86,7 +86,7 @@ impl PartialEq for Text {
     ghost laws = { lists_per (partial_equiv_from_equiv nat_list_eq_equiv) };
 
     fn eq(&self, other: &Self) -> bool {
-        self.lines.as_slice() == other.lines.as_slice()
+        self.as_slice() == other.as_slice()
     }
 }
 
