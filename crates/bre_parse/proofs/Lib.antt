@@ -5,7 +5,7 @@ pub mod Elements
 pub mod Nesting
 pub mod Repeats
 pub mod Items
-pub mod Tests
+pub mod Choices
 pub mod Steps
 pub mod ReadBrackets
 pub mod WellRead
