@@ -4,9 +4,8 @@
 use bre_match::matches;
 use bre_parse::Bre;
 use std::alloc::{AllocError, Global};
-use std::env;
-use std::io;
 use std::io::Read;
+use std::{env, io};
 
 // A last line without its newline is a line.
 fn count_matched(alloc: Global, pattern: &Bre, text: &[u8]) -> Result<usize, AllocError> {

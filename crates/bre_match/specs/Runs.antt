@@ -1,5 +1,5 @@
 -- Ways that differ by their ends alone, kept as one run.
-use Rattle.std.specs.Prelude.{◌≡◌, ℕ, zero, suc, ◌+◌, ◌-◌, Bool, true, false, ◌&&◌, List, [], ◌∷◌, ◌++◌, map, Option, Some, None, nat_lt, nat_le}
+use Rattle.std.specs.Prelude.{◌≡◌, ℕ, zero, suc, ◌+◌, ◌-◌, Bool, true, false, ◌&&◌, List, [], ◌∷◌, ◌++◌, map, Option, Some, None}
 use Rattle.bre_parse.specs.Tree.{in_set}
 use Rattle.bre_parse.specs.Groups.{Groups}
 use Rattle.bre_parse.specs.Ways.{Way, below}

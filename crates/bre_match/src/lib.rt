@@ -16,11 +16,10 @@ mod start;
 #[cfg(test)]
 mod tests;
 
+use crate::start::{longest_from, starts_without};
 use bre_parse::Bre;
 use bre_parse::tree::{Groups, Node};
 use std::alloc::{AllocError, Global};
-
-use crate::start::{longest_from, starts_without};
 
 /// Where a pattern matches a text.
 #[derive(Clone, Copy)]
@@ -35,7 +34,12 @@ pub struct Match {
 
 /// The match of a pattern at or after a place: of the starts from there on the first that has a way, and there the
 /// first of the ways that end last (XBD 9.1). None where no start from there on has a way.
-pub fn find(alloc: Global, pattern: &Bre, text: &[u8], from: usize) -> Result<Option<Match>, AllocError>
+pub fn find(
+    alloc: Global,
+    pattern: &Bre,
+    text: &[u8],
+    from: usize,
+) -> Result<Option<Match>, AllocError>
     requires place { from ≤ length text.now }
     ensures value { IfOk result (λ found. option_map spans found ≡ match_from (bre_tree pattern.now) text.now from) }
     ensures within { IfOk result (λ found. IfSome found (LiesWithin from (length text.now))) }
@@ -52,7 +56,12 @@ pub fn matches(alloc: Global, pattern: &Bre, text: &[u8]) -> Result<bool, AllocE
 }
 
 // The first match in a text of items one after another.
-fn first_match(alloc: Global, items: &[Node], text: &[u8], from: usize) -> Result<Option<Match>, AllocError>
+fn first_match(
+    alloc: Global,
+    items: &[Node],
+    text: &[u8],
+    from: usize,
+) -> Result<Option<Match>, AllocError>
     requires place { from ≤ length text.now }
     ensures value { IfOk result (λ found. option_map spans found ≡ match_from (sequence_of items.now) text.now from) }
     ensures within { IfOk result (λ found. IfSome found (LiesWithin from (length text.now))) }

@@ -24,7 +24,11 @@ impl Run {
     pub(crate) fn of(end: usize, groups: Groups) -> Self
         ensures { ways_of result ≡ (end, groups) ∷ [] }
     {
-        Run { end, shorter: 0, groups }
+        Run {
+            end,
+            shorter: 0,
+            groups,
+        }
     }
 }
 
@@ -110,7 +114,11 @@ pub(crate) fn count_members(set: &ByteSet, most: Option<u8>, text: &[u8], place:
 pub(crate) fn here_if(holds: bool, place: usize, groups: Groups) -> Option<Run>
     ensures value { AreOf result (only_if holds (place, groups)) }
 {
-    if holds { Some(Run::of(place, groups)) } else { None }
+    if holds {
+        Some(Run::of(place, groups))
+    } else {
+        None
+    }
 }
 
 pub(crate) fn group_at(groups: Groups, group: usize) -> Option<(usize, usize)>
@@ -145,7 +153,12 @@ fn begins_with(text: &[u8], word: &[u8]) -> bool
 }
 
 // What a back-reference matches: the group's bytes once more.
-pub(crate) fn repeated(span: Option<(usize, usize)>, text: &[u8], place: usize, groups: Groups) -> Option<Run>
+pub(crate) fn repeated(
+    span: Option<(usize, usize)>,
+    text: &[u8],
+    place: usize,
+    groups: Groups,
+) -> Option<Run>
     ensures value { AreOf result (referred_ways text.now span place groups) }
 {
     let Some(span) = span else {
@@ -160,7 +173,14 @@ pub(crate) fn repeated(span: Option<(usize, usize)>, text: &[u8], place: usize, 
 }
 
 // The longest run of bytes of a set first, and then each shorter one that has the least length.
-pub(crate) fn bytes_in_a_row(set: &ByteSet, least: u8, most: Option<u8>, text: &[u8], place: usize, groups: Groups) -> Option<Run>
+pub(crate) fn bytes_in_a_row(
+    set: &ByteSet,
+    least: u8,
+    most: Option<u8>,
+    text: &[u8],
+    place: usize,
+    groups: Groups,
+) -> Option<Run>
     ensures value { AreOf result (ways (Repeat least most (Set set.now.negated set.now.ranges.items)) text.now place groups) }
 {
     let taken = count_members(set, most, text, place);
@@ -168,14 +188,22 @@ pub(crate) fn bytes_in_a_row(set: &ByteSet, least: u8, most: Option<u8>, text: &
     if taken < least {
         return None;
     }
-    Some(Run { end: place + taken, shorter: taken - least, groups })
+    Some(Run {
+        end: place + taken,
+        shorter: taken - least,
+        groups,
+    })
 }
 
 /// The ways of a byte set: one byte of it.
 pub(crate) fn set_ways(set: &ByteSet, text: &[u8], place: usize, groups: Groups) -> Option<Run>
     ensures value { AreOf result (ways (Set set.now.negated set.now.ranges.items) text.now place groups) }
 {
-    if has_byte_in(text, place, set) { Some(Run::of(place + 1, groups)) } else { None }
+    if has_byte_in(text, place, set) {
+        Some(Run::of(place + 1, groups))
+    } else {
+        None
+    }
 }
 
 /// The ways of a part from a place on, unless there may be several with different groups.
@@ -186,7 +214,12 @@ pub(crate) fn simple_ways(part: &Node, text: &[u8], place: usize, groups: Groups
         Node::Set(set) => Simple::Ways(set_ways(set, text, place, groups)),
         Node::TextStart => Simple::Ways(here_if(place == 0, place, groups)),
         Node::TextEnd => Simple::Ways(here_if(place == text.len(), place, groups)),
-        Node::BackReference(group) => Simple::Ways(repeated(group_at(groups, *group), text, place, groups)),
+        Node::BackReference(group) => Simple::Ways(repeated(
+            group_at(groups, *group),
+            text,
+            place,
+            groups,
+        )),
         Node::Repeat(least, most, content) => match &**content {
             Node::Set(set) => Simple::Ways(bytes_in_a_row(set, *least, *most, text, place, groups)),
             _ => Simple::Several,

@@ -4,12 +4,11 @@ ghost use Rattle.std.specs.Prelude.{◌≡◌, ℕ, ◌+◌, ◌-◌, ◌≤◌,
 ghost use Rattle.bre_parse.specs.Tree.{tree_of, sequence_of, Repeat, Set};
 ghost use Rattle.bre_parse.specs.Match.{longest_from};
 
-use bre_parse::tree::{ByteSet, Node};
-use std::alloc::{AllocError, Global};
-
 use crate::order::longer;
 use crate::run::{Ahead, Run, Way, count_members, has_byte_in};
 use crate::search::follow;
+use bre_parse::tree::{ByteSet, Node};
+use std::alloc::{AllocError, Global};
 
 // Whether the first item is one byte that isn't there.
 fn cannot_begin(items: &[Node], text: &[u8], start: usize) -> bool
@@ -25,7 +24,13 @@ fn cannot_begin(items: &[Node], text: &[u8], start: usize) -> bool
 }
 
 /// Of the ways from a start, the first among those that end last. `left` is room to work in.
-pub(crate) fn longest_from(left: &mut Vec<Ahead>, alloc: Global, items: &[Node], text: &[u8], start: usize) -> Result<Option<Way>, AllocError>
+pub(crate) fn longest_from(
+    left: &mut Vec<Ahead>,
+    alloc: Global,
+    items: &[Node],
+    text: &[u8],
+    start: usize,
+) -> Result<Option<Way>, AllocError>
     requires place { start ≤ length text.now }
     ensures value { IfOk result (λ way. way ≡ longest_from (sequence_of items.now) text.now start) }
 {

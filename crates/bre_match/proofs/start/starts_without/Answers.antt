@@ -1,4 +1,4 @@
-use Rattle.std.proofs.Common.{arith, rules}
+use Rattle.std.proofs.Common.{rules}
 use Rattle.bre_match.proofs.Starts.{starts_in_row}
 use Rattle.bre_match.proofs.start.starts_without.Goals as goal
 
