@@ -17,6 +17,7 @@ pub record Halts (old new : SessionValue) (request : Request) : Type 0 where
   pub waits : WaitsFor old new request
   pub untold : new.told ≡ false
 
+-- the one or the other
 abbrev pub AdvancesBy : SessionValue → Option Request → SessionValue → Type 0
 AdvancesBy old None new = Advances old new
 AdvancesBy old (Some request) new = Halts old new request

@@ -21,9 +21,11 @@ Log = List (Request × Answer)
 abbrev pub added : Log → Log → Log
 added old new = drop (length old) new
 
+-- what was asked
 abbrev pub requests : Log → List Request
 requests log = map (λ entry. entry.0) log
 
+-- what was answered
 abbrev pub answers : Log → List Answer
 answers log = map (λ entry. entry.1) log
 

@@ -15,6 +15,7 @@ abbrev pub file_at : List ℕ → Files → Option (List ℕ)
 file_at path [] = None
 file_at path (file ∷ files) = elim (pointwise nat_eq file.0 path) [ true ↦ Some file.1 | false ↦ file_at path files ]
 
+-- its files
 abbrev pub files_of : MemFiles → Files
 files_of m = m.files.items
 
@@ -34,6 +35,7 @@ refusals m = m.failures
 abbrev pub refuses_now : MemFiles → Bool
 refuses_now m = nat_eq (refused_call m) (length (log_of m) + 1)
 
+-- what is answered of a file
 abbrev pub found : Option (List ℕ) → Answer
 found None = answer.Missing
 found (Some bytes) = answer.Bytes bytes

@@ -12,6 +12,7 @@ pub record MemSinkValue : Type 0 where
   pub writes : ℕ
   pub failures : ℕ
 
+-- a sink that has taken nothing, and refuses no write
 abbrev pub empty_sink : ℕ → ℕ → MemSinkValue
 empty_sink room piece = record { taken = []; room = room; piece = piece; refused = 0; writes = 0; failures = 0 }
 

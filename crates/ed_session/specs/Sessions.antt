@@ -45,6 +45,7 @@ lost_by Waiting = None
 lost_by (Over result) = None
 lost_by (Lost fault) = Some fault
 
+-- it waits for the answer to a request
 abbrev pub is_waiting : Phase → Bool
 is_waiting (Fresh path) = false
 is_waiting Between = false
@@ -52,6 +53,7 @@ is_waiting Waiting = true
 is_waiting (Over result) = false
 is_waiting (Lost fault) = false
 
+-- it was given its start file, or none; one that was lost counts as started
 abbrev pub is_started : Phase → Bool
 is_started (Fresh path) = false
 is_started Between = true

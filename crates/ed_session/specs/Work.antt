@@ -4,6 +4,7 @@ use Rattle.ed_session.specs.declared.session.Ask.{Ask}
 use Rattle.ed_session.specs.declared.session.Ask.TheVariants as ask
 use Rattle.ed_session.specs.Sessions.{SessionValue, Phase, Fresh, Between, Waiting, Over, Lost}
 
+-- what a phase still has to do
 abbrev pub phase_work : Phase → ℕ
 phase_work (Fresh path) = 2
 phase_work Between = 2
@@ -11,6 +12,7 @@ phase_work Waiting = 1
 phase_work (Over result) = 0
 phase_work (Lost fault) = 0
 
+-- output is handed out in one step
 abbrev pub pending_work : List ℕ → ℕ
 pending_work [] = 0
 pending_work (byte ∷ bytes) = 1

@@ -12,10 +12,15 @@ use ed_base::Fault;
 use ed_syntax::{Answer, Ending, Request};
 
 // Has the outside do what the session waits for, and gives it the answer.
-fn perform<S: LineStore, O: Outside>(session: &mut Session<S>, outside: &mut O, request: Request)
+fn perform<S: LineStore, O: Outside>(
+    session: &mut Session<S>,
+    outside: &mut O,
+    request: Request,
+)
     requires waiting { session.old.phase ≡ Waiting }
     requires asked { awaited session.old ≡ Some request }
-    ensures done { Performs session.old request session.new (O.log outside.old) (O.log outside.new) (O.failures outside.old) (O.failures outside.new) }
+    ensures done { Performs session.old request session.new
+        (O.log outside.old) (O.log outside.new) (O.failures outside.old) (O.failures outside.new) }
     ensures work { work session.new ≤ work session.old }
 {
     let answered = match &request {
@@ -30,7 +35,8 @@ fn perform<S: LineStore, O: Outside>(session: &mut Session<S>, outside: &mut O, 
 
 // Brings a session to where it can be stepped: one that is fresh gets its start file, one that waits its answer.
 fn begin<S: LineStore, O: Outside>(session: &mut Session<S>, outside: &mut O)
-    ensures begun { Begins session.old session.new (O.log outside.old) (O.log outside.new) (O.failures outside.old) (O.failures outside.new) }
+    ensures begun { Begins session.old session.new
+        (O.log outside.old) (O.log outside.new) (O.failures outside.old) (O.failures outside.new) }
 {
     if session.waits() {
         match session.requested() {
@@ -67,10 +73,13 @@ pub fn drive<S: LineStore, O: Outside, W: Sink>(
 
     // The run of these answers has ended so and its output was written; or memory ran out; or the sink failed.
     ensures run { lost_by session.old.phase ≡ None →
-        Drove (rest session.old) (added (O.log outside.old) (O.log outside.new)) (W.taken sink.old) (W.taken sink.new) (W.failures sink.old) (W.failures sink.new) result }
+        Drove (rest session.old) (added (O.log outside.old) (O.log outside.new))
+            (W.taken sink.old) (W.taken sink.new) (W.failures sink.old) (W.failures sink.new) result }
 
+    // A lost session writes what it had to hand out, and ends by its fault again; or the sink failed.
     ensures lost { IfSome (lost_by session.old.phase) (λ fault.
-        DroveLost fault session.old.pending (O.log outside.old) (O.log outside.new) (W.taken sink.old) (W.taken sink.new) (W.failures sink.old) (W.failures sink.new) result) }
+        DroveLost fault session.old.pending (O.log outside.old) (O.log outside.new)
+            (W.taken sink.old) (W.taken sink.new) (W.failures sink.old) (W.failures sink.new) result) }
 
     // Driven again it asks and writes nothing, and ends so again.
     ensures closed { Closed session.new result }
@@ -78,7 +87,8 @@ pub fn drive<S: LineStore, O: Outside, W: Sink>(
     // Where the faults of files and of output come from.
     ensures file_refused { lost_by session.old.phase ≡ None → result ≡ Err Fault.File →
         FileRefused (rest session.old) (O.failures outside.old) (O.failures outside.new) }
-    ensures output_refused { lost_by session.old.phase ≡ None → result ≡ Err Fault.Output → W.failures sink.old < W.failures sink.new }
+    ensures output_refused { lost_by session.old.phase ≡ None → result ≡ Err Fault.Output →
+        W.failures sink.old < W.failures sink.new }
 {
     begin(session, outside);
     'turns: loop {

@@ -41,7 +41,8 @@ impl MemFiles {
 
     /// Gives the file at a path these bytes, in place of those that it had.
     pub fn add(&mut self, path: &[u8], bytes: &[u8]) -> Result<(), AllocError>
-        ensures added { OnOk result (ChangesFiles self.old self.new ((path.now, bytes.now) ∷ files_of self.old)) }
+        ensures added { OnOk result
+            (ChangesFiles self.old self.new ((path.now, bytes.now) ∷ files_of self.old)) }
         ensures unchanged { OnErr result (ChangesFiles self.old self.new (files_of self.old)) }
     {
         let name = Bytes::from_slice(self.alloc, path)?;
@@ -87,8 +88,10 @@ impl Outside for MemFiles {
     ghost few_failures = { λ m. m.few };
 
     fn read(&mut self, path: &[u8]) -> Result<Answer, AllocError>
-        ensures logged { IfOk result (λ a. log_of self.new ≡ log_of self.old ++ (request.Read path.now, a) ∷ []) }
-        ensures unchanged { OnErr result ((log_of self.new ≡ log_of self.old) × (refusals self.new ≡ refusals self.old)) }
+        ensures logged { IfOk result (λ a.
+            log_of self.new ≡ log_of self.old ++ (request.Read path.now, a) ∷ []) }
+        ensures unchanged { OnErr result
+            ((log_of self.new ≡ log_of self.old) × (refusals self.new ≡ refusals self.old)) }
         ensures rises { refusals self.old ≤ refusals self.new }
         ensures refused { IfOk result (λ a. a ≡ answer.Refused → refusals self.old < refusals self.new) }
         ensures not_done { IfOk result (λ a. a ≢ answer.Done) }
@@ -96,7 +99,8 @@ impl Outside for MemFiles {
         // Beside what any outside ensures: the answer, and that the files stay.
         ensures value { IfOk result (λ a. a ≡ read_answer self.old path.now) }
         ensures count { OnOk result (refusals self.new ≡ refusals_after self.old) }
-        ensures files { (files_of self.new ≡ files_of self.old) × (refused_call self.new ≡ refused_call self.old) }
+        ensures files { (files_of self.new ≡ files_of self.old)
+            × (refused_call self.new ≡ refused_call self.old) }
     {
         self.log.reserve(1)?;
         let asked = Request::Read(Bytes::from_slice(self.alloc, path)?);
@@ -114,8 +118,10 @@ impl Outside for MemFiles {
     }
 
     fn write(&mut self, path: &[u8], bytes: &[u8]) -> Result<Answer, AllocError>
-        ensures logged { IfOk result (λ a. log_of self.new ≡ log_of self.old ++ (request.Write path.now bytes.now, a) ∷ []) }
-        ensures unchanged { OnErr result ((log_of self.new ≡ log_of self.old) × (refusals self.new ≡ refusals self.old)) }
+        ensures logged { IfOk result (λ a.
+            log_of self.new ≡ log_of self.old ++ (request.Write path.now bytes.now, a) ∷ []) }
+        ensures unchanged { OnErr result
+            ((log_of self.new ≡ log_of self.old) × (refusals self.new ≡ refusals self.old)) }
         ensures rises { refusals self.old ≤ refusals self.new }
         ensures refused { IfOk result (λ a. a ≡ answer.Refused → refusals self.old < refusals self.new) }
         ensures done_or_refused { IfOk result (λ a. (a ≡ answer.Done) ⊎ (a ≡ answer.Refused)) }

@@ -19,10 +19,12 @@ pub trait Outside {
 
     /// The bytes of the file at a path, or that there is none, or that it can't be read.
     fn read(&mut self, path: &[u8]) -> Result<Answer, AllocError>
-        ensures logged { IfOk result (λ a. log self.new ≡ log self.old ++ (request.Read path.now, a) ∷ []) }
+        ensures logged { IfOk result (λ a.
+            log self.new ≡ log self.old ++ (request.Read path.now, a) ∷ []) }
 
         // A call that finds no memory leaves the log and the count.
-        ensures unchanged { OnErr result ((log self.new ≡ log self.old) × (failures self.new ≡ failures self.old)) }
+        ensures unchanged { OnErr result
+            ((log self.new ≡ log self.old) × (failures self.new ≡ failures self.old)) }
 
         // The count rises at least where it refuses.
         ensures rises { failures self.old ≤ failures self.new }
@@ -32,10 +34,12 @@ pub trait Outside {
 
     /// Gives the file at a path just these bytes, or says that it can't be written.
     fn write(&mut self, path: &[u8], bytes: &[u8]) -> Result<Answer, AllocError>
-        ensures logged { IfOk result (λ a. log self.new ≡ log self.old ++ (request.Write path.now bytes.now, a) ∷ []) }
+        ensures logged { IfOk result (λ a.
+            log self.new ≡ log self.old ++ (request.Write path.now bytes.now, a) ∷ []) }
 
         // A call that finds no memory leaves the log and the count.
-        ensures unchanged { OnErr result ((log self.new ≡ log self.old) × (failures self.new ≡ failures self.old)) }
+        ensures unchanged { OnErr result
+            ((log self.new ≡ log self.old) × (failures self.new ≡ failures self.old)) }
 
         // The count rises at least where it refuses.
         ensures rises { failures self.old ≤ failures self.new }

@@ -55,7 +55,8 @@ impl<S: LineStore> Model for Session<S> {
     ghost use Rattle.ed_session.specs.Insides.{IsSound, phase_of, quiet};
 
     ghost view = { λ s. record {
-        phase = phase_of s.stage; present = quiet s.editor.state; commands = map command_value (drop s.next s.commands.items);
+        phase = phase_of s.stage; present = quiet s.editor.state;
+        commands = map command_value (drop s.next s.commands.items);
         fault = s.fault; pending = s.pending; told = s.told } };
 
     ghost invariant = { λ s. IsSound s.stage s.editor.state s.editor.failed (vec_len s.commands) s.next
@@ -94,7 +95,8 @@ impl<S: LineStore> Session<S> {
         requires prompt { options.prompt ≡ None }
         ensures value { IfOk result (λ s. s ≡ made (script_value script) options) }
         // What is left of it is the whole run.
-        ensures rest { IfOk result (λ s. (answers : List Answer) → rest s answers ≡ run (script_value script) options answers) }
+        ensures rest { IfOk result (λ s. (answers : List Answer) →
+            rest s answers ≡ run (script_value script) options answers) }
     {
         let report = make_report(alloc)?;
         let store = S::empty(alloc)?;
@@ -147,7 +149,8 @@ impl<S: LineStore> Session<S> {
     /// file's bytes ends the run by `Fault::File`.
     pub fn start(&mut self, answer: Answer)
         requires fresh { is_started self.old.phase ≡ false }
-        ensures given { lost_by self.new.phase ≡ None → Starts (path_of self.old.phase) self.old answer self.new }
+        ensures given { lost_by self.new.phase ≡ None →
+            Starts (path_of self.old.phase) self.old answer self.new }
         ensures broke { lost_by self.new.phase ≢ None → BreaksOff self.new }
         ensures started { is_started self.new.phase ≡ true }
         ensures idle { is_waiting self.new.phase ≡ false }
@@ -230,8 +233,10 @@ impl<S: LineStore> Session<S> {
     pub fn step(&mut self) -> Ask
         requires started { is_started self.old.phase ≡ true }
         requires idle { is_waiting self.old.phase ≡ false }
-        ensures given { lost_by self.old.phase ≡ None → lost_by self.new.phase ≡ None → Steps self.old result self.new }
-        ensures broke { lost_by self.old.phase ≡ None → lost_by self.new.phase ≢ None → StepBreaks result self.new }
+        ensures given { lost_by self.old.phase ≡ None → lost_by self.new.phase ≡ None →
+            Steps self.old result self.new }
+        ensures broke { lost_by self.old.phase ≡ None → lost_by self.new.phase ≢ None →
+            StepBreaks result self.new }
         ensures lost { IfSome (lost_by self.old.phase) (λ fault. LostSteps fault self.old result self.new) }
         ensures started { is_started self.new.phase ≡ true }
         ensures told { Tells result self.new }
@@ -259,7 +264,8 @@ impl<S: LineStore> Session<S> {
     // The request that is awaited. A session that has no memory to tell it is lost.
     pub(crate) fn requested(&mut self) -> Option<Request>
         requires waiting { self.old.phase ≡ Waiting }
-        ensures value { IfSome result (λ request. (awaited self.old ≡ Some request) × (self.new ≡ self.old)) }
+        ensures value { IfSome result (λ request.
+            (awaited self.old ≡ Some request) × (self.new ≡ self.old)) }
         ensures broke { IfNone result (BreaksOff self.new) }
         ensures work { work self.new ≤ work self.old }
     {
@@ -278,7 +284,8 @@ impl<S: LineStore> Session<S> {
     pub fn answer(&mut self, answer: Answer)
         requires waiting { self.old.phase ≡ Waiting }
         ensures awaited { IsSome (awaited self.old) }
-        ensures given { lost_by self.new.phase ≡ None → IfSome (awaited self.old) (λ request. Answers self.old request answer self.new) }
+        ensures given { lost_by self.new.phase ≡ None →
+            IfSome (awaited self.old) (λ request. Answers self.old request answer self.new) }
         ensures broke { lost_by self.new.phase ≢ None → BreaksOff self.new }
         ensures idle { is_waiting self.new.phase ≡ false }
         ensures started { is_started self.new.phase ≡ true }

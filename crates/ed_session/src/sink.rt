@@ -81,9 +81,10 @@ impl<W: io::Write + Drop> Sink for Out<W> {
 pub(crate) fn give<W: Sink>(sink: &mut W, bytes: &[u8]) -> bool
     requires count { W.failures sink.old < 2 ^ 64 - 1 }
 
-    ensures all { IsTrue result → Appends (W.taken sink.old) (W.taken sink.new) bytes.now × (W.failures sink.new ≡ W.failures sink.old) }
-
-    ensures part { result ≡ false → AppendsFront (W.taken sink.old) (W.taken sink.new) bytes.now × (W.failures sink.old < W.failures sink.new) }
+    ensures all { IsTrue result → Appends (W.taken sink.old) (W.taken sink.new) bytes.now
+        × (W.failures sink.new ≡ W.failures sink.old) }
+    ensures part { result ≡ false → AppendsFront (W.taken sink.old) (W.taken sink.new) bytes.now
+        × (W.failures sink.old < W.failures sink.new) }
 {
     let mut done = 0;
     'pieces: while done < bytes.len() {

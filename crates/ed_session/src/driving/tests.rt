@@ -1,6 +1,6 @@
 //! What no clause says: that runs are what the standard says, and what they write where they break off (XCU ed).
 use crate::line_store::PlainStore;
-use crate::{Ask, MemFiles, MemSink, Session, drive};
+use crate::{Ask, MemFiles, MemSink, Out, Session, drive};
 use ed_base::{Bytes, Fault};
 use ed_syntax::{Answer, Ending, Options, read_script};
 use std::alloc::{AllocError, Global};
@@ -100,17 +100,35 @@ fn a_refused_start_file_is_reported_and_ends_the_run(rt: HostRuntime) -> Result<
     Ok(())
 }
 
+// Row 1 in this case ends by the refusal of its output, of which so many bytes were taken.
+fn is_refused_behind(alloc: Global, case: Case, taken: usize) -> Result<bool, AllocError> {
+    let (ends, sink) = run(alloc, case)?;
+    Ok(ends == Err(Fault::Output) && sink.taken().len() == taken && ROWS[0].output.starts_with(sink.taken()))
+}
+
 #[test]
 fn each_refused_write_and_each_full_room_ends_the_run(rt: HostRuntime) -> Result<(), Fail> {
-    for taken in 0..ROWS[0].output.len() {
-        let refused = Case { piece: 1, refused_write: taken as u64 + 1, ..plain(ROWS[0].script, ROWS[0].file) };
+    for (taken, number) in (0..4).zip(1..) {
+        let refused = Case { piece: 1, refused_write: number, ..plain(ROWS[0].script, ROWS[0].file) };
         let full = Case { room: taken, ..plain(ROWS[0].script, ROWS[0].file) };
         for case in [refused, full] {
-            let (ends, sink) = run(rt.alloc(), case)?;
-            assert_eq!(rt; sink.taken(), &ROWS[0].output[..taken], "{taken} bytes");
-            assert_eq!(rt; ends, Err(Fault::Output), "{taken} bytes");
+            assert!(rt; is_refused_behind(rt.alloc(), case, taken)?, "{taken} bytes");
         }
     }
+    Ok(())
+}
+
+#[test]
+fn a_writer_takes_the_output_till_it_is_full(rt: HostRuntime) -> Result<(), Fail> {
+    let mut files = MemFiles::new(rt.alloc());
+    files.add(b"F", b"a\nb\nc\n")?;
+    let mut room = [0u8; 3];
+    let mut sink = Out::new(room.as_mut_slice());
+    let mut session = session_of(rt.alloc(), ROWS[0].script, Some(Bytes::from_slice(rt.alloc(), b"F")?))?;
+    let end = drive(&mut session, &mut files, &mut sink);
+    assert_eq!(rt; lines(end), Err(Fault::Output));
+    drop(sink);
+    assert_eq!(rt; room.as_slice(), b"a\nc".as_slice());
     Ok(())
 }
 
@@ -119,13 +137,15 @@ fn a_session_without_a_path_is_stepped_to_its_end(rt: HostRuntime) -> Result<(),
     let mut session = session_of(rt.alloc(), b"a\nx\n.\np\nx\n", None)?;
     assert!(rt; !session.started());
     session.start(Answer::Refused);
-    assert!(rt; session.started() && !session.waits());
-    assert_eq!(rt; session.step(), Ask::Output(Bytes::from_slice(rt.alloc(), b"x\n")?));
-    assert!(rt; !session.waits());
-    assert_eq!(rt; session.step(), Ask::Output(Bytes::from_slice(rt.alloc(), b"?\n")?));
-    assert_eq!(rt; session.step(), Ask::Ended(Err(Fault::Syntax)));
-    session.fail_output();
-    assert_eq!(rt; session.step(), Ask::Ended(Err(Fault::Syntax)));
+    for output in ["x\n", "?\n"] {
+        assert!(rt; session.started() && !session.waits());
+        assert_eq!(rt; session.step(), Ask::Output(Bytes::from_slice(rt.alloc(), output.as_bytes())?));
+    }
+    for _ in 0..2 {
+        assert!(rt; session.started() && !session.waits());
+        assert_eq!(rt; session.step(), Ask::Ended(Err(Fault::Syntax)));
+        session.fail_output();
+    }
     Ok(())
 }
 
@@ -133,12 +153,12 @@ fn a_session_without_a_path_is_stepped_to_its_end(rt: HostRuntime) -> Result<(),
 fn an_ended_session_that_is_driven_again_ends_so_again(rt: HostRuntime) -> Result<(), Fail> {
     let mut files = MemFiles::new(rt.alloc());
     files.refuse(2);
-    let mut sink = MemSink::new(rt.alloc(), 64, 64)?;
     let mut session = session_of(rt.alloc(), b"x\n", Some(Bytes::from_slice(rt.alloc(), b"F")?))?;
-    for _ in 0..2 {
+    for output in ["?\n", ""] {
+        let mut sink = MemSink::new(rt.alloc(), 64, 64)?;
         let end = drive(&mut session, &mut files, &mut sink);
         assert_eq!(rt; lines(end), Err(Fault::Syntax));
-        assert_eq!(rt; sink.taken(), b"?\n".as_slice());
+        assert_eq!(rt; sink.taken(), output.as_bytes());
     }
     Ok(())
 }
