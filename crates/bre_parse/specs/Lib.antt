@@ -10,6 +10,9 @@ pub mod Intervals
 pub mod Reading
 pub mod Bytes
 pub mod Bre
+pub mod Spelled
+pub mod SpelledBrackets
+pub mod SpelledIntervals
 -- What serves clauses inside the crate alone:
 pub mod Readers
 pub mod BracketViews

@@ -6,10 +6,14 @@ pub mod fault;
 mod head;
 mod interval;
 mod item;
+mod spelling;
 pub mod tree;
 
 use fault::{BreFault, Refusal};
 use item::whole;
+pub use spelling::{
+    brackets_are_read_as_spelled, intervals_are_read_as_spelled, patterns_are_read_as_spelled,
+};
 use std::alloc::{AllocError, Global};
 use tree::{Node, copies_of};
 
