@@ -5,11 +5,14 @@ pub mod Elements
 pub mod Nesting
 pub mod Repeats
 pub mod Items
-pub mod Steps
+pub mod SpelledSteps
 pub mod SpelledIntervals
 pub mod ReadBrackets
 pub mod SpelledBrackets
+pub mod ReadItems
+pub mod SpelledItems
 mod MatchRows
 mod AlwaysRows
 mod FaultRows
 mod TreeRows
+mod SpelledRows

@@ -1,6 +1,6 @@
 -- Which bytes spell a basic regular expression, and its tree (XBD 9.3, "Basic Regular Expressions"): the relation, apart
 -- from any way of reading. Each names a text, what stands behind the part at its head, and what that part means.
-use Rattle.std.specs.Prelude.{ℕ, ◌+◌, ◌-◌, ◌<◌, ◌≤◌, ◌≡◌, ◌≢◌, false, List, [], ◌∷◌, ◌++◌, Option, None, IsTrue, IsFalse, nat_eq}
+use Rattle.std.specs.Prelude.{ℕ, ◌+◌, ◌-◌, ◌<◌, ◌≤◌, ◌≢◌, false, List, [], ◌∷◌, ◌++◌, Option, None, IsTrue, IsFalse, nat_eq}
 use Rattle.std.specs.List.{list_any}
 use Rattle.bre_parse.specs.Bytes.{dollar_sign, left_parenthesis, right_parenthesis, asterisk, period, one_digit, nine_digit, left_square_bracket, backslash, circumflex, left_brace}
 use Rattle.bre_parse.specs.Tree.{Tree, Empty, Then, Set, TextStart, TextEnd, BackReference, Group, Repeat, every_byte}
