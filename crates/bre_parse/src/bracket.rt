@@ -6,8 +6,9 @@ ghost use Rattle.bre_parse.specs.Readers.{Reads, ReadsOrMemory};
 ghost use Rattle.bre_parse.specs.Brackets.{class_named, up_to_closing, collating_symbol, equivalence_class, character_class, element, range_follows, element_or_range, after_ranges, more_elements, elements, bracket};
 ghost use Rattle.bre_parse.specs.BracketViews.{element_of, ranges_of};
 
-use crate::fault::{BreFault, Refusal};
+use crate::fault::BreFault;
 use crate::head::{starts_with, starts_with_pair};
+use crate::refusal::Refusal;
 use crate::tree::{ByteSet, in_ranges};
 use std::alloc::{AllocError, Global};
 

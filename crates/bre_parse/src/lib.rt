@@ -1,16 +1,28 @@
 //! Basic regular expressions: what a pattern means, and its tree.
 #![tactic(auto)]
 
+ghost use Rattle.std.specs.Prelude.{◌≡◌, true};
+ghost use Rattle.bre_parse.specs.Tree.{sequence_of};
+ghost use Rattle.bre_parse.specs.Groups.{number_of_groups};
+ghost use Rattle.bre_parse.specs.WellFormed.{repeats_in_order};
+
+mod always;
 mod bracket;
 pub mod fault;
 mod head;
 mod interval;
 mod item;
+mod refusal;
+mod repeat;
 mod spelling;
+#[cfg(test)]
+mod tests;
 pub mod tree;
 
-use fault::{BreFault, Refusal};
+pub use always::always_matches;
+use fault::BreFault;
 use item::whole;
+use refusal::Refusal;
 pub use spelling::{
     brackets_are_read_as_spelled, intervals_are_read_as_spelled, patterns_are_read_as_spelled,
 };
@@ -22,13 +34,16 @@ use tree::{Node, copies_of};
 pub struct Bre {
     items: Vec<Node>,
     groups: usize,
+    ghost in_order: { repeats_in_order (sequence_of items.items) ≡ true },
+    ghost counted: { groups ≡ number_of_groups (sequence_of items.items) },
 }
 
 impl Bre {
-    ghost use Rattle.std.specs.Prelude.{◌≡◌, ◌≢◌, IfOk, IfErr, Err, Ok};
+    ghost use Rattle.std.specs.Prelude.{◌≢◌, ℕ, List, IfOk, IfErr, IsTrue, IsSome};
     ghost use Rattle.bre_parse.specs.declared.fault.BreFault.TheVariants.{Memory};
-    ghost use Rattle.bre_parse.specs.Tree.{sequence_of};
     ghost use Rattle.bre_parse.specs.Grammar.{pattern};
+    ghost use Rattle.bre_parse.specs.Always.{always};
+    ghost use Rattle.bre_parse.specs.Match.{match_from};
     ghost use Rattle.bre_parse.specs.Bre.{bre_tree};
 
     /// Reads a pattern: all of the text.
@@ -47,7 +62,22 @@ impl Bre {
     pub fn items(&self) -> &[Node]
         ensures value { sequence_of result.now ≡ bre_tree self.now }
     {
-        &self.items
+        self.items.as_slice()
+    }
+
+    /// How many groups the pattern has.
+    pub fn groups(&self) -> usize
+        ensures value { result ≡ number_of_groups (bre_tree self.now) }
+    {
+        self.groups
+    }
+
+    /// Whether the pattern has a match in every text.
+    pub fn always(&self) -> bool
+        ensures value { result ≡ always (bre_tree self.now) }
+        ensures matched { IsTrue result → (text : List ℕ) → IsSome (match_from (bre_tree self.now) text 0) }
+    {
+        always::always(&self.items)
     }
 
     /// An equal pattern.
