@@ -14,6 +14,7 @@ mod interval;
 mod item;
 mod refusal;
 mod repeat;
+mod spelling;
 #[cfg(test)]
 mod tests;
 pub mod tree;
@@ -22,6 +23,9 @@ pub use always::always_matches;
 use fault::BreFault;
 use item::whole;
 use refusal::Refusal;
+pub use spelling::{
+    brackets_are_read_as_spelled, intervals_are_read_as_spelled, patterns_are_read_as_spelled,
+};
 use std::alloc::{AllocError, Global};
 use tree::{Node, copies_of};
 
