@@ -1,0 +1,41 @@
+#!/bin/sh
+# Refuses each allocation of the program in turn, on runs that delete, enter and print lines. Each has to end by want of memory
+# (status 2), its output being a front of the run's own, followed by the report `?` where the run had begun; or, where the
+# library under it can do without, just as the run does.
+# Build crates/ed_main first. It needs a C compiler. Usage: bench/editor/refused.sh, from anywhere.
+cd "$(dirname "$0")" || exit 1
+program=$(pwd)/../../crates/ed_main/out/ed_main
+work=$(mktemp -d)
+trap 'rm -rf "$work"' EXIT
+cc -shared -fPIC -O1 -o "$work/refuse.so" ../patterns/refuse.c -ldl || exit 1
+printf 'a\nb\nc\n' > "$work/FILE"
+cd "$work" || exit 1
+
+# The output is a front of the whole one, or that with the report behind it.
+is_front() {
+    head -c "$(wc -c < "$1")" whole | cmp -s - "$1" && return 0
+    [ "$(tail -n 1 "$1")" = '?' ] || return 1
+    sed '$d' "$1" > front
+    head -c "$(wc -c < front)" whole | cmp -s - front
+}
+
+on() { # SCRIPT: refuses the allocations of its run one after the other
+    printf "$1" > script
+    "$program" edit -s FILE < script > whole
+    refused=0
+    while :; do
+        REFUSE=$((refused + 1)) LD_PRELOAD="$work/refuse.so" "$program" edit -s FILE < script > output 2> errors
+        status=$?
+        grep -q '^refused$' errors || break
+        refused=$((refused + 1))
+        if [ "$status" -eq 2 ] && is_front output; then continue; fi
+        if [ "$status" -eq 0 ] && cmp -s output whole; then continue; fi
+        echo "another answer with allocation $refused refused: status $status"
+        exit 1
+    done
+    echo "$refused allocations, each refused once"
+}
+
+on '2d\n,p\nQ\n'
+on '1,2a\nz\n.\n,p\nQ\n'
+on '1p\n2a\nx\ny\n.\n1d\n,p\n$p\nQ\n'
