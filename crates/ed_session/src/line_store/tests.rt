@@ -27,23 +27,25 @@ fn lines_are_put_told_and_taken_in_their_order(rt: HostRuntime) -> Result<(), Fa
     Ok(())
 }
 
-// For runs in which an allocation is refused (`rt try --test --fail-alloc N`).
+// For runs in which an allocation is refused (`rt try --test --fail-alloc N`): none of them may fail.
 #[test]
-fn a_refused_line_comes_back_and_the_store_is_as_before(rt: HostRuntime) -> Result<(), Fail> {
-    let mut store = PlainStore::empty(rt.alloc())?;
+fn a_refused_line_comes_back_and_the_store_is_as_before(rt: HostRuntime) {
+    let Ok(mut store) = PlainStore::empty(rt.alloc()) else {
+        return;
+    };
     let mut left: &[u8] = b"a\nb\nc\nd\ne\nf\ng\nh\ni\n";
     while let Some((text, rest)) = next_line(left) {
+        let Ok(line) = Line::new(rt.alloc(), text) else {
+            return;
+        };
         let before = store.len();
-        let line = Line::new(rt.alloc(), text)?;
         match store.put(before, line) {
             Ok(()) => assert_eq!(rt; store.len(), before + 1),
             Err(refused) => {
                 assert_eq!(rt; refused.bytes(), text);
                 assert_eq!(rt; store.len(), before);
-                return Ok(());
             }
         }
         left = rest;
     }
-    Ok(())
 }
