@@ -1,6 +1,6 @@
 -- Worked scripts, computed from their bytes.
-use Rattle.std.specs.Prelude.{◌≡◌, refl, ℕ, false, List, [], ◌∷◌, Option, Some, None, codes}
-use Rattle.ed_syntax.specs.Commands.{Base, Number, Current, Last, Addresses, Without, One, Comma, Plain, Verb, Append, Delete, Write, QuitAnyway, Command, Script, at_base}
+use Rattle.std.specs.Prelude.{◌≡◌, refl, ℕ, false, List, [], ◌∷◌, Some, None, codes}
+use Rattle.ed_syntax.specs.Commands.{Number, Current, Last, Addresses, Without, One, Comma, Plain, Verb, Append, Delete, Write, QuitAnyway, Command, Script, at_base}
 use Rattle.ed_syntax.specs.Reading.{script_of}
 
 abbrev command : Addresses → Verb → Command

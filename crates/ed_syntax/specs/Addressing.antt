@@ -1,6 +1,6 @@
 -- Which bytes spell an address (XCU ed, "Addresses in ed").
 use Rattle.std.specs.Prelude.{ℕ, ◌<◌, ◌≤◌, ◌≡◌, List, [], ◌∷◌, ◌++◌, length, All, Option, Some, None, IsTrue}
-use Rattle.ed_syntax.specs.Characters.{is_blank, is_digit, value_of}
+use Rattle.ed_syntax.specs.Characters.{dollar_sign, comma_byte, full_stop, is_blank, is_digit, value_of}
 use Rattle.ed_syntax.specs.Commands.{Base, Number, Current, Last, Address, Addresses, Without, One, Comma, at_base}
 
 -- spaces and tabs
@@ -17,8 +17,8 @@ pub record Numeral (bytes : List ℕ) (n : ℕ) : Type 0 where
 -- the base of an address: a number, `.` or `$`
 pub data SpellsBase : List ℕ → Base → Type 0 where
   number : (bytes : List ℕ) (n : ℕ) → Numeral bytes n → SpellsBase bytes (Number n)
-  current : SpellsBase (46 ∷ []) Current
-  last : SpellsBase (36 ∷ []) Last
+  current : SpellsBase (full_stop ∷ []) Current
+  last : SpellsBase (dollar_sign ∷ []) Last
 
 -- an address
 pub data SpellsAddress : List ℕ → Address → Type 0 where
@@ -42,4 +42,4 @@ pub data SpellsAddresses : List ℕ → Addresses → Type 0 where
   without : (bytes : List ℕ) → SpellsSome bytes None → SpellsAddresses bytes Without
   one : (bytes : List ℕ) (a : Address) → SpellsSome bytes (Some a) → SpellsAddresses bytes (One a)
   pair : (bytes others : List ℕ) (a b : Option Address) (both : Addresses) → SpellsSome bytes a → SpellsSome others b →
-      Pair a b both → SpellsAddresses (bytes ++ 44 ∷ others) both
+      Pair a b both → SpellsAddresses (bytes ++ comma_byte ∷ others) both

@@ -40,6 +40,7 @@ pub data Reply : Type 0 where
   Done : (output : List ℕ) → Reply
   Wants : Request → Reply
 
+-- the file that a command asks for, or what it did and what its suffix writes
 abbrev pub replied : State → Option Form → Effect → Result (State × Reply) Fault
 replied s suffix (Asks r) = Ok (s, Wants r)
 replied s suffix (Makes o) = suffix_written suffix o.state >> λ more. Ok (settled (kept s) o, Done (o.output ++ more))

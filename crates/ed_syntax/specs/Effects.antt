@@ -20,6 +20,7 @@ altered lines current s = record { state = record s { lines = lines; current = c
 abbrev pub only : State → List ℕ → Outcome
 only s output = record { state = s; output = output; alters = false }
 
+-- the buffer stays, and this line is current
 abbrev pub at_line : ℕ → State → State
 at_line n s = record s { current = n }
 

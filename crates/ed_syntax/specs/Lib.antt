@@ -17,3 +17,4 @@ pub mod PublicTypes
 -- the reader's own words, tied to the spellings by a law
 pub mod Tokens
 pub mod Reading
+pub mod ReadParts

@@ -34,6 +34,7 @@ pub record Progress : Type 0 where
 abbrev pub Rest : Type 0
 Rest = List Answer → Progress
 
+-- nothing more is written or asked
 abbrev pub stopping : Stop → Progress
 stopping stop = record { output = []; asked = []; stop = stop }
 
@@ -46,9 +47,11 @@ abbrev pub report : Bool → Fault → List ℕ
 report true f = codes "?" ++ newline ∷ (text_of f ++ newline ∷ [])
 report false f = codes "?" ++ newline ∷ []
 
+-- a fault is reported, and ends the run
 abbrev pub failing : Present → Fault → Progress
 failing m f = behind (report m.help f) [] (stopping (Ends (Err f)))
 
+-- the run ends without a fault
 abbrev pub ending : Present → Progress
 ending m = stopping (Ends (Ok (record { lines = last m.state })))
 

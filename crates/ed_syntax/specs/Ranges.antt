@@ -9,9 +9,11 @@ pub record Span : Type 0 where
   pub first : ℕ
   pub last : ℕ
 
+-- the lines from a to b
 abbrev pub span : ℕ → ℕ → Span
 span a b = record { first = a; last = b }
 
+-- the first value that was given
 abbrev pub first_of_two : List ℕ → ℕ
 first_of_two [] = 0
 first_of_two (a ∷ more) = a

@@ -14,6 +14,7 @@ use Rattle.ed_syntax.specs.States.{State, Nothing, opening}
 use Rattle.ed_syntax.specs.Applied.{Reply, Done, Wants, command}
 use Rattle.ed_syntax.specs.Progress.{Present, Waits, Progress, Rest, stopping, behind, failing, ending, quitting, count}
 
+-- the same run with another state
 abbrev pub with_state : State → Present → Present
 with_state s m = record m { state = s }
 

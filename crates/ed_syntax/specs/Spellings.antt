@@ -1,6 +1,7 @@
 -- Which bytes spell a command, and which a script (XCU ed, "Commands in ed").
 use Rattle.std.specs.Prelude.{ℕ, ◌+◌, ◌≡◌, ◌≢◌, false, List, [], ◌∷◌, ◌++◌, length, Option, Some, None, IsTrue}
 use Rattle.ed_base.specs.Lines.{newline, IsLine, lines_of, bytes_of}
+use Rattle.ed_syntax.specs.Characters.{full_stop, capital_q, letter_a, letter_d, letter_p}
 use Rattle.ed_syntax.specs.Commands as ed
 use Rattle.ed_syntax.specs.Commands.{Addresses, Verb, Command, Script}
 use Rattle.ed_syntax.specs.Verbs.{may_have}
@@ -9,16 +10,16 @@ use Rattle.ed_syntax.specs.Addressing.{Blanks, SpellsAddresses}
 -- Whole lines that are a text, up to a line that is `.` or to the end of the script, and what follows.
 pub data SpellsText : List ℕ → List ℕ → List (List ℕ) → Type 0 where
   over : SpellsText [] [] []
-  dot : (rest : List ℕ) → SpellsText (46 ∷ newline ∷ []) rest []
-  line : (line bytes rest : List ℕ) (lines : List (List ℕ)) → IsLine line → line ≢ 46 ∷ [] → SpellsText bytes rest lines →
+  dot : (rest : List ℕ) → SpellsText (full_stop ∷ newline ∷ []) rest []
+  line : (line bytes rest : List ℕ) (lines : List (List ℕ)) → IsLine line → line ≢ full_stop ∷ [] → SpellsText bytes rest lines →
       SpellsText (line ++ newline ∷ bytes) rest (line ∷ lines)
 
 -- A command's letter, the whole lines behind the command's own line that belong to it, and what follows them.
 pub data SpellsVerb : ℕ → List ℕ → List ℕ → Verb → Type 0 where
-  append : (bytes rest : List ℕ) (text : List (List ℕ)) → SpellsText bytes rest text → SpellsVerb 97 bytes rest (ed.Append text)
-  delete : (rest : List ℕ) → SpellsVerb 100 [] rest ed.Delete
-  write : (rest : List ℕ) → SpellsVerb 112 [] rest (ed.Write ed.Plain)
-  quit_anyway : (rest : List ℕ) → SpellsVerb 81 [] rest ed.QuitAnyway
+  append : (bytes rest : List ℕ) (text : List (List ℕ)) → SpellsText bytes rest text → SpellsVerb letter_a bytes rest (ed.Append text)
+  delete : (rest : List ℕ) → SpellsVerb letter_d [] rest ed.Delete
+  write : (rest : List ℕ) → SpellsVerb letter_p [] rest (ed.Write ed.Plain)
+  quit_anyway : (rest : List ℕ) → SpellsVerb capital_q [] rest ed.QuitAnyway
 
 -- Whole lines that spell a command, and the lines that follow: addresses, a letter, blanks, a newline, a text.
 pub data Spells : List ℕ → List ℕ → Command → Type 0 where

@@ -11,12 +11,14 @@ pub data Taking : Type 0 where
   -- two; 0 is refused
   Range : Taking
 
+-- what each command takes
 abbrev pub taking : Verb → Taking
 taking (ed.Append text) = Place
 taking ed.Delete = Range
 taking (ed.Write form) = Range
 taking ed.QuitAnyway = NoAddress
 
+-- the current line
 abbrev pub here : Address
 here = at_base ed.Current
 
@@ -33,12 +35,7 @@ given_or Without default = default
 given_or (One a) default = One a
 given_or (Comma a b) default = Comma a b
 
--- no address stands before it
-abbrev pub has_none : Addresses → Bool
-has_none Without = true
-has_none (One a) = false
-has_none (Comma a b) = false
-
+-- whether a command takes addresses at all
 abbrev pub takes_any : Taking → Bool
 takes_any NoAddress = false
 takes_any Place = true

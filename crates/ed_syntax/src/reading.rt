@@ -2,7 +2,8 @@
 ghost use Rattle.std.specs.Prelude.{◌≡◌, ◌+◌, ◌≤◌, length, Option, Some, None, option_map, IfOk, MatchOption};
 ghost use Rattle.ed_syntax.specs.Verbs.{may_have};
 ghost use Rattle.ed_syntax.specs.Reading.{verb_at, is_over, heading, with_text, command_at, script_of};
-ghost use Rattle.ed_syntax.specs.PublicTypes.{addresses_value, verb_value, optional_verb, heading_value, command_behind, script_value};
+ghost use Rattle.ed_syntax.specs.PublicTypes.{addresses_value, verb_value, script_value};
+ghost use Rattle.ed_syntax.specs.ReadParts.{optional_verb, heading_value, command_behind};
 
 use crate::script_lines::ScriptLines;
 use crate::tokens::{addresses, behind_blanks};

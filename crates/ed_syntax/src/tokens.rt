@@ -4,7 +4,8 @@ ghost use Rattle.std.specs.List.{prefix_len};
 ghost use Rattle.ed_syntax.specs.Characters.{is_digit, value_of};
 ghost use Rattle.ed_syntax.specs.Tokens.{behind_blanks, number, address, comma, alone, pair, addresses};
 ghost use Rattle.ed_syntax.specs.Commands as ed;
-ghost use Rattle.ed_syntax.specs.PublicTypes.{base_value, address_value, optional_value, addresses_value};
+ghost use Rattle.ed_syntax.specs.PublicTypes.{base_value, address_value, addresses_value};
+ghost use Rattle.ed_syntax.specs.ReadParts.{optional_value};
 
 use crate::{Address, Addresses, Base};
 

@@ -1,7 +1,8 @@
 use Rattle.std.proofs.Common.{◌≡◌, ◌+◌, length, Some, map, sym, ap, ◌∙◌, arith}
 use Rattle.std.proofs.lemmas.List.{map_push}
 use Rattle.ed_syntax.specs.Reading.{script, command_at}
-use Rattle.ed_syntax.specs.PublicTypes.{command_value, command_behind}
+use Rattle.ed_syntax.specs.PublicTypes.{command_value}
+use Rattle.ed_syntax.specs.ReadParts.{command_behind}
 use Rattle.ed_syntax.proofs.ScriptLemmas.{all_before, all_before-next}
 use Rattle.ed_syntax.proofs.reading.read_script.Goals as goal
 
