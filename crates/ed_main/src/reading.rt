@@ -90,11 +90,7 @@ const PIECE: usize = 65536;
 
 /// All bytes of a source, which may be at most `limit`. It makes at most `limit` + 1 reads and takes at most `limit` + 1
 /// bytes. After an `Err` those that were taken are gone.
-pub fn read_all<S: Source>(
-    alloc: Global,
-    source: &mut S,
-    limit: usize,
-) -> Result<Bytes, ReadFault>
+pub fn read_all<S: Source>(alloc: Global, source: &mut S, limit: usize) -> Result<Bytes, ReadFault>
     requires count { S.failures source.old < 2 ^ 64 - 1 }
     ensures value { IfOk result (λ bytes. IsAll (S.remaining source.old) (S.remaining source.new) limit bytes) }
     ensures taken { TakesAtMost (limit + 1) (S.remaining source.old) (S.remaining source.new) }
@@ -180,7 +176,10 @@ mod tests {
 
     #[test]
     fn a_byte_past_the_limit_is_refused(rt: HostRuntime) {
-        assert_eq!(rt; read(&rt, b"abcd", false, 3).err(), Some(ReadFault::Refused));
+        assert_eq!(rt;
+            read(&rt, b"abcd", false, 3).err(),
+            Some(ReadFault::Refused)
+        );
         assert_eq!(rt; read(&rt, b"a", false, 0).err(), Some(ReadFault::Refused));
     }
 

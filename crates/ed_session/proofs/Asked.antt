@@ -43,7 +43,7 @@ asking_asks m (Ok (t, Wants r)) again go h = refl
 step_asks : (c : Command) (m : Present) (go : Present → Rest) → Quiet go → (step c m go []).asked ≡ []
 step_asks c m go h =
     elim (step_cases c m go) [
-        inl e ↦ ap (λ p. p.asked) (e [])
+      | inl e ↦ ap (λ p. p.asked) (e [])
       | inr e ↦ ap (λ p. p.asked) (e []) ∙ asking_asks m (command m.state c None) (λ a. command m.state c (Some a)) go h
     ]
 
@@ -64,7 +64,7 @@ step_one_asked : (r : Request) (a : Answer) (c : Command) (m : Present) (go : Pr
     → Quiet go → Takes r a go → request_of (step c m go []).stop ≡ Some r → (step c m go (a ∷ [])).asked ≡ r ∷ []
 step_one_asked r a c m go n h e =
     elim (step_cases c m go) [
-        inl is ↦ let w : request_of (ending m).stop ≡ Some r = ap (λ p. request_of p.stop) (sym (is [])) ∙ e in cc
+      | inl is ↦ let w : request_of (ending m).stop ≡ Some r = ap (λ p. request_of p.stop) (sym (is [])) ∙ e in cc
       | inr is ↦ ap (λ p. p.asked) (is (a ∷ [])) ∙ asking_one r a m (command m.state c None) (λ b. command m.state c (Some b)) go n h (ap (λ p. request_of p.stop) (sym (is [])) ∙ e)
     ]
 

@@ -10,16 +10,18 @@ use Rattle.ed_syntax.specs.Runs.{one, step, prompted}
 pub step_cases : (c : Command) (m : Present) (go : Present → Rest) → ((answers : List Answer) → step c m go answers ≡ ending m) ⊎ ((answers : List Answer) → step c m go answers ≡ one c m go answers)
 step_cases c m go =
     elim c.verb as (λ v. ((answers : List Answer) → (elim v [
-          ed.QuitAnyway ↦ ending m
-        | ed.Append text ↦ one c m go answers
-        | ed.Delete ↦ one c m go answers
-        | ed.Write form ↦ one c m go answers ]) ≡ ending m)
-      ⊎ ((answers : List Answer) → (elim v [
-          ed.QuitAnyway ↦ ending m
-        | ed.Append text ↦ one c m go answers
-        | ed.Delete ↦ one c m go answers
-        | ed.Write form ↦ one c m go answers ]) ≡ one c m go answers)) [
-        ed.QuitAnyway ↦ inl (λ answers. refl)
+      | ed.QuitAnyway ↦ ending m
+      | ed.Append text ↦ one c m go answers
+      | ed.Delete ↦ one c m go answers
+      | ed.Write form ↦ one c m go answers
+    ]) ≡ ending m)
+    ⊎ ((answers : List Answer) → (elim v [
+      | ed.QuitAnyway ↦ ending m
+      | ed.Append text ↦ one c m go answers
+      | ed.Delete ↦ one c m go answers
+      | ed.Write form ↦ one c m go answers
+    ]) ≡ one c m go answers)) [
+      | ed.QuitAnyway ↦ inl (λ answers. refl)
       | ed.Append text ↦ inr (λ answers. refl)
       | ed.Delete ↦ inr (λ answers. refl)
       | ed.Write form ↦ inr (λ answers. refl)

@@ -43,7 +43,7 @@ module _ (Q : Fault → Type 0) (own : (f : Fault) → IsScriptFault f → Q f) 
   step_stops : (c : Command) (m : Present) (go : Present → Rest) → ((t : Present) (more : List Answer) → StopsBy Q (go t more).stop) → (given : List Answer) → StopsBy Q (step c m go given).stop
   step_stops c m go h given =
       elim (step_cases c m go) [
-          inl e ↦ subst (λ (p : Progress). StopsBy Q p.stop) (sym (e given)) tt
+        | inl e ↦ subst (λ (p : Progress). StopsBy Q p.stop) (sym (e given)) tt
         | inr e ↦ subst (λ (p : Progress). StopsBy Q p.stop) (sym (e given)) (asking_stops m (command m.state c None) (λ a. command m.state c (Some a)) go (command_replies m.state c None) h given)
       ]
 

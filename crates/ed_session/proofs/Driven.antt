@@ -76,7 +76,7 @@ module _ (left : Rest) (log : Log) (output : List ℕ) (s : SessionValue) (d : A
       → ((more : List Answer) → rest s more ≡ behind bytes [] (rest t more)) → Along left log (output ++ bytes) t
   goes_on t bytes whole whole_after same = record {
     intact = λ _ more. d.intact whole more ∙ ap (behind output (requests log)) (same more)
-      ∙ behind-behind output bytes (requests log) [] (rest t more) ∙ ap (λ a. behind (output ++ bytes) a (rest t more)) (append-nil (requests log));
+        ∙ behind-behind output bytes (requests log) [] (rest t more) ∙ ap (λ a. behind (output ++ bytes) a (rest t more)) (append-nil (requests log));
     broken = λ lost. absurd (lost whole_after);
   }
 
@@ -108,12 +108,12 @@ module _ (left : Rest) (log : Log) (output : List ℕ) (s : SessionValue) (d : A
       → IfSome (lost_by s.phase) (λ fault. LostSteps fault s (ask.Output bytes) t) → Along left log (output ++ bytes) t
   along_output t bytes given broke lost =
       elim (cases_lost (lost_by s.phase)) [
-          inl whole ↦ elim (cases_lost (lost_by t.phase)) [
-              inl whole_after ↦ goes_on t bytes whole whole_after (given whole whole_after).2
-            | inr f ↦ let b = broke whole (some_not_none _ f.0 f.1) in
-                let e : bytes ≡ memory_report = let g = b.gives in cc in
-                broken_now t (output ++ bytes) whole b.lost (rw (b.pending, append-nil (output ++ bytes), e) refl)
-          ]
+        | inl whole ↦ elim (cases_lost (lost_by t.phase)) [
+          | inl whole_after ↦ goes_on t bytes whole whole_after (given whole whole_after).2
+          | inr f ↦ let b = broke whole (some_not_none _ f.0 f.1) in
+              let e : bytes ≡ memory_report = let g = b.gives in cc in
+              broken_now t (output ++ bytes) whole b.lost (rw (b.pending, append-nil (output ++ bytes), e) refl)
+        ]
         | inr f ↦ let l = rw f.1 at lost in lost_goes_on t bytes (some_not_none _ f.0 f.1) l.0 l.2 l.3
       ]
 
@@ -130,14 +130,14 @@ module _ (left : Rest) (log : Log) (output : List ℕ) (s : SessionValue) (d : A
       → Along left (log ++ (request, answer) ∷ []) output t
   along_answer t request answer whole waits given broke =
       let reads : (more : List Answer) → left (answers (log ++ (request, answer) ∷ []) ++ more) ≡ behind output (requests log) (rest s (answer ∷ more)) =
-            λ more. ap left (ap (λ a. a ++ more) (map-append (λ (e : Request × Answer). e.1) log ((request, answer) ∷ [])) ∙ append_assoc (answers log) (answer ∷ []) more)
-              ∙ d.intact whole (answer ∷ more) in
+      λ more. ap left (ap (λ a. a ++ more) (map-append (λ (e : Request × Answer). e.1) log ((request, answer) ∷ [])) ∙ append_assoc (answers log) (answer ∷ []) more)
+      ∙ d.intact whole (answer ∷ more) in
       let asks : requests (log ++ (request, answer) ∷ []) ≡ requests log ++ request ∷ [] = map-append (λ (e : Request × Answer). e.0) log ((request, answer) ∷ []) in
       let ends = ap left (sym (append-nil (answers (log ++ (request, answer) ∷ [])))) ∙ reads [] in
       record {
         intact = λ whole_after more.
             reads more ∙ ap (behind output (requests log)) (given whole_after more) ∙ behind-behind output [] (requests log) (request ∷ []) (rest t more)
-              ∙ rw (append-nil output, asks) refl;
+            ∙ rw (append-nil output, asks) refl;
         broken = λ lost.
             let b = broke lost in
             record {
@@ -160,10 +160,13 @@ pub step_waits : (s u : SessionValue) (asks : Ask) (request : Request) → (asks
     → IfSome (lost_by s.phase) (λ fault. ⊥) → (lost_by s.phase ≡ None) × WaitsFor s u request
 step_waits s u asks request other given broke lost =
     elim (cases_lost (lost_by s.phase)) [
-        inl whole ↦ (whole, elim (cases_lost (lost_by u.phase)) [
-            inl whole_after ↦ given whole whole_after
+      | inl whole ↦ (
+        whole,
+        elim (cases_lost (lost_by u.phase)) [
+          | inl whole_after ↦ given whole whole_after
           | inr f ↦ absurd (other (broke whole (some_not_none _ f.0 f.1)).gives)
-        ])
+        ],
+      )
       | inr f ↦ absurd (rw f.1 at lost)
     ]
 
@@ -174,10 +177,10 @@ pub step_idle : (s t : SessionValue) (bytes : List ℕ) → is_waiting s.phase �
     → IfSome (lost_by s.phase) (λ fault. LostSteps fault s (ask.Output bytes) t) → is_waiting t.phase ≡ false
 step_idle s t bytes idle given broke lost =
     elim (cases_lost (lost_by s.phase)) [
-        inl whole ↦ elim (cases_lost (lost_by t.phase)) [
-            inl whole_after ↦ (given whole whole_after).1
-          | inr f ↦ ap is_waiting (broke whole (some_not_none _ f.0 f.1)).lost
-        ]
+      | inl whole ↦ elim (cases_lost (lost_by t.phase)) [
+        | inl whole_after ↦ (given whole whole_after).1
+        | inr f ↦ ap is_waiting (broke whole (some_not_none _ f.0 f.1)).lost
+      ]
       | inr f ↦ let l = rw f.1 at lost in ap is_waiting l.2 ∙ idle
     ]
 
@@ -215,10 +218,10 @@ pub step_closes : (s t : SessionValue) (result : Result Ending Fault)
     → IfSome (lost_by s.phase) (λ fault. LostSteps fault s (ask.Ended result) t) → Closed t result
 step_closes s t result given broke lost =
     elim (cases_lost (lost_by s.phase)) [
-        inl whole ↦ elim (cases_lost (lost_by t.phase)) [
-            inl whole_after ↦ let g = given whole whole_after in ended t result g.0 g.2 g.1
-          | inr f ↦ let b = broke whole (some_not_none _ f.0 f.1) in absurd (let g = b.gives in cc)
-        ]
+      | inl whole ↦ elim (cases_lost (lost_by t.phase)) [
+        | inl whole_after ↦ let g = given whole whole_after in ended t result g.0 g.2 g.1
+        | inr f ↦ let b = broke whole (some_not_none _ f.0 f.1) in absurd (let g = b.gives in cc)
+      ]
       | inr f ↦ let l = rw f.1 at lost in rw l.0 (drives.lost t f.0 (l.2 ∙ lost_at s.phase f.0 f.1) (inl l.4) l.3)
     ]
 
@@ -227,10 +230,10 @@ pub cut_off : (left : Rest) (log : Log) (output bytes : List ℕ) (t : SessionVa
     → Along left log (output ++ bytes) t → Appends old mid output → AppendsFront mid new bytes → CutOff left log old new
 cut_off left log output bytes t old mid new d written part =
     let f : (asked : (left (answers log)).asked ≡ requests log) × (front : List ℕ) × BeginsWith (left (answers log)).output front × BeginsWith (front ++ memory_report) (output ++ bytes)
-          = elim (cases_lost (lost_by t.phase)) [
-                inl whole ↦ front_now left log (output ++ bytes) t d whole
-              | inr f ↦ front_lost left log (output ++ bytes) t d (some_not_none _ f.0 f.1)
-            ] in
+    = elim (cases_lost (lost_by t.phase)) [
+      | inl whole ↦ front_now left log (output ++ bytes) t d whole
+      | inr f ↦ front_lost left log (output ++ bytes) t d (some_not_none _ f.0 f.1)
+    ] in
     record {
       asked = f.0;
       front = f.1;
@@ -249,27 +252,33 @@ pub driven_ends : (left : Rest) (log : Log) (s t : SessionValue) (old new : Opti
     → ((lost_by t.phase ≡ None) × Finished left log old new result) ⊎ ((result ≡ Err Memory) × RanOut left log old new)
 driven_ends left log s t old new result d given broke lost =
     elim (cases_lost (lost_by s.phase)) [
-        inl whole ↦ elim (cases_lost (lost_by t.phase)) [
-            inl whole_after ↦
-              let g = given whole whole_after in
-              let r : left (answers log) ≡ behind d.output (requests log) (rest t []) = at_now left log d.output s d.along whole ∙ ap (behind d.output (requests log)) (g.3 []) in
-              let e : rest t [] ≡ stopping (Ends result) = rest_over t result g.0 g.1 in
-              let q : left (answers log) ≡ behind d.output (requests log) (stopping (Ends result)) = r ∙ ap (behind d.output (requests log)) e in
-              inl (whole_after, record {
+      | inl whole ↦ elim (cases_lost (lost_by t.phase)) [
+        | inl whole_after ↦
+            let g = given whole whole_after in
+            let r : left (answers log) ≡ behind d.output (requests log) (rest t []) = at_now left log d.output s d.along whole ∙ ap (behind d.output (requests log)) (g.3 []) in
+            let e : rest t [] ≡ stopping (Ends result) = rest_over t result g.0 g.1 in
+            let q : left (answers log) ≡ behind d.output (requests log) (stopping (Ends result)) = r ∙ ap (behind d.output (requests log)) e in
+            inl (
+              whole_after,
+              record {
                 asked = ap (λ p. p.asked) q ∙ append-nil (requests log);
                 ended = ap (λ p. p.stop) q;
                 written = rw (ap (λ p. p.output) q ∙ append-nil d.output) d.written;
-              })
-          | inr f ↦ let b = broke whole (some_not_none _ f.0 f.1) in absurd (let g = b.gives in cc)
-        ]
+              },
+            )
+        | inr f ↦ let b = broke whole (some_not_none _ f.0 f.1) in absurd (let g = b.gives in cc)
+      ]
       | inr f ↦
           let l = rw f.1 at lost in
           let b = d.along.broken (some_not_none _ f.0 f.1) in
           let m : f.0 ≡ Memory = let h : Some f.0 ≡ Some Memory = sym f.1 ∙ ap lost_by b.lost in cc in
-          inr (l.0 ∙ ap (λ x. Err x) m, record {
-            asked = b.asked;
-            front = b.front;
-            begins = b.begins;
-            written = rw (sym b.whole, l.1, append-nil d.output) d.written;
-          })
+          inr (
+            l.0 ∙ ap (λ x. Err x) m,
+            record {
+              asked = b.asked;
+              front = b.front;
+              begins = b.begins;
+              written = rw (sym b.whole, l.1, append-nil d.output) d.written;
+            },
+          )
     ]

@@ -60,11 +60,12 @@ advances_ended false f old new phase pending told same = record {
 step_one : (c : Command) (m : Present) (go : Present → Rest) (answers : List Answer) → quits_anyway c.verb ≡ false → step c m go answers ≡ one c m go answers
 step_one c m go answers =
     elim c.verb as (λ v. quits_anyway v ≡ false → (elim v [
-          ed.QuitAnyway ↦ ending m
-        | ed.Append text ↦ one c m go answers
-        | ed.Delete ↦ one c m go answers
-        | ed.Write form ↦ one c m go answers ]) ≡ one c m go answers) [
-        ed.QuitAnyway ↦ λ h. cc
+      | ed.QuitAnyway ↦ ending m
+      | ed.Append text ↦ one c m go answers
+      | ed.Delete ↦ one c m go answers
+      | ed.Write form ↦ one c m go answers
+    ]) ≡ one c m go answers) [
+      | ed.QuitAnyway ↦ λ h. cc
       | ed.Append text ↦ λ h. refl
       | ed.Delete ↦ λ h. refl
       | ed.Write form ↦ λ h. refl
@@ -75,7 +76,7 @@ pub fails_next : (all more : List Command) (c : Command) (bad : Option ℕ) (s :
     → (answers : List Answer) → steps all bad (quiet s) answers ≡ failing (quiet s) f
 fails_next all more c bad s f e h fails answers =
     rw e (step_one c (quiet s) (λ t later. steps more bad t later) answers h
-      ∙ ap (λ r. asking (quiet s) r (λ a. command s c (Some a)) (λ t later. steps more bad t later) answers) fails)
+    ∙ ap (λ r. asking (quiet s) r (λ a. command s c (Some a)) (λ t later. steps more bad t later) answers) fails)
 
 -- so a session whose next command fails has only the report left to write
 pub rest_fails : (old v : SessionValue) (c : Command) (more : List Command) (s : State) (f : Fault) → v ≡ old → old.phase ≡ Between → old.pending ≡ []

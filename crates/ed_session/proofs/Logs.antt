@@ -48,7 +48,7 @@ pub raises_more : (log : Log) (r : Request) (a : Answer) (before now after : ℕ
 raises_more log r a before now after below (inr rise) raises h = inr (omega arith)
 raises_more log r a before now after below (inl fit) raises h =
     elim (fit_cases (fits r a)) [
-        inl one ↦ inl (All-append (λ (entry : Request × Answer). fits entry.0 entry.1 ≡ true) log ((r, a) ∷ []) fit (one_fits r a one))
+      | inl one ↦ inl (All-append (λ (entry : Request × Answer). fits entry.0 entry.1 ≡ true) log ((r, a) ∷ []) fit (one_fits r a one))
       | inr bad ↦ let more = raises bad in inr (omega arith)
     ]
 

@@ -16,21 +16,21 @@ module _ (l0 l1 l2 : Log) (s : SessionValue) (r : Request) (t : SessionValue) (n
   pub performed_log : l2 ≡ l0 ++ added l0 l2
   performed_log =
       elim p.done [
-          inl x ↦ log_more l0 l1 l2 ((r, x.answer) ∷ []) e x.logged
+        | inl x ↦ log_more l0 l1 l2 ((r, x.answer) ∷ []) e x.logged
         | inr x ↦ rw x.logged e
       ]
 
   pub performed_along : (left : Rest) (output : List ℕ) → lost_by s.phase ≡ None → awaited s ≡ Some r → Along left (added l0 l1) output s → Along left (added l0 l2) output t
   performed_along left output whole waits d =
       elim p.done [
-          inl x ↦ rw (added_more l0 l1 l2 ((r, x.answer) ∷ []) e x.logged) (along_answer left (added l0 l1) output s d t r x.answer whole waits x.given x.broke)
+        | inl x ↦ rw (added_more l0 l1 l2 ((r, x.answer) ∷ []) e x.logged) (along_answer left (added l0 l1) output s d t r x.answer whole waits x.given x.broke)
         | inr x ↦ rw x.logged (along_no_answer left (added l0 l1) output s d t whole x.broke)
       ]
 
   pub performed_raises : (before : ℕ) → before ≤ now → Raises (added l0 l1) before now → Raises (added l0 l2) before after
   performed_raises before below raises =
       elim p.done [
-          inl x ↦ rw (added_more l0 l1 l2 ((r, x.answer) ∷ []) e x.logged) (raises_more (added l0 l1) r x.answer before now after below raises x.raises p.rises)
+        | inl x ↦ rw (added_more l0 l1 l2 ((r, x.answer) ∷ []) e x.logged) (raises_more (added l0 l1) r x.answer before now after below raises x.raises p.rises)
         | inr x ↦ rw x.logged (elim raises [ inl fit ↦ inl fit | inr rise ↦ let h = p.rises in inr (omega arith) ])
       ]
 
@@ -55,7 +55,7 @@ pub begins_alone : (old new : SessionValue) (l : Log) (count : ℕ) → lost_by 
 begins_alone old new l count whole same broke idle begun = record {
   log = log_none l l refl;
   along = λ _. rw (added_none l) (elim (cases_lost (lost_by new.phase)) [
-      inl w ↦ along_same (rest old) [] [] old (along_start old whole) new whole w (same w)
+    | inl w ↦ along_same (rest old) [] [] old (along_start old whole) new whole w (same w)
     | inr f ↦ along_no_answer (rest old) [] [] old (along_start old whole) new whole (broke (some_not_none _ f.0 f.1))
   ]);
   lost = rw whole tt;

@@ -64,7 +64,7 @@ values_sound (ed.Comma a b) s = sound_then (value a s) _ (value_sound a s) (λ r
 ordered_sound : (a b : ℕ) → Sound (ordered a b)
 ordered_sound a b =
     elim (nat_le 1 a) as (λ x. Sound {A = Span} (elim x [ true ↦ elim (nat_le a b) [ true ↦ Ok (span a b) | false ↦ Err fault.Address ] | false ↦ Err fault.Address ])) [
-        true ↦ elim (nat_le a b) as (λ y. Sound {A = Span} (elim y [ true ↦ Ok (span a b) | false ↦ Err fault.Address ])) [ true ↦ tt | false ↦ address_fault ]
+      | true ↦ elim (nat_le a b) as (λ y. Sound {A = Span} (elim y [ true ↦ Ok (span a b) | false ↦ Err fault.Address ])) [ true ↦ tt | false ↦ address_fault ]
       | false ↦ address_fault
     ]
 
@@ -91,8 +91,8 @@ effect_replies ed.QuitAnyway x s t given form = made_replies s form (effect.only
 pub command_replies : (s : State) (c : Command) (given : Option Answer) → Replies (command s c given)
 command_replies s c given =
     replies_then (values (given_or c.addresses (default c.verb)) s) _ (values_sound (given_or c.addresses (default c.verb)) s) (λ v.
-      replies_then (spanned (taking c.verb) v.1) _ (spanned_sound (taking c.verb) v.1) (λ x.
-        effect_replies c.verb x s v.0 given c.suffix))
+    replies_then (spanned (taking c.verb) v.1) _ (spanned_sound (taking c.verb) v.1) (λ x.
+    effect_replies c.verb x s v.0 given c.suffix))
 
 -- so it asks for no file
 pub asks_nothing : (s t : State) (c : Command) (given : Option Answer) (request : Request) → command s c given ≡ Ok (t, Wants request) → ⊥

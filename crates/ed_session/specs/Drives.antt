@@ -77,8 +77,8 @@ Drove left log old new failed_before failed result =
 pub record DroveLost (fault : Fault) (pending : List ℕ) (old_log new_log : Log) (old new : Option (List ℕ)) (failed_before failed : ℕ) (result : Result Ending Fault) : Type 0 where
   pub asked : new_log ≡ old_log
   pub ended :
-    (result ≡ Err fault) × (failed ≡ failed_before) × Appends old new pending
-    ⊎ (result ≡ Err Output) × (failed_before < failed) × AppendsFront old new pending
+      (result ≡ Err fault) × (failed ≡ failed_before) × Appends old new pending
+      ⊎ (result ≡ Err Output) × (failed_before < failed) × AppendsFront old new pending
 
 -- How a session is left: its end was told, or it is lost, and nothing is pending. So it asks and writes nothing more.
 pub data Closed : SessionValue → Result Ending Fault → Type 0 where

@@ -26,7 +26,7 @@ takes s bytes = elim (nat_eq (counted s.writes) s.refused) [ true ↦ 0 | false 
 
 -- what a write that took so many bytes answers
 abbrev pub write_answer : ℕ → Result ℕ SinkFault
-write_answer n = elim (nat_eq n 0) [ true ↦ Err (record { }) | false ↦ Ok n ]
+write_answer n = elim (nat_eq n 0) [ true ↦ Err (record {}) | false ↦ Ok n ]
 
 -- the sink behind a write
 abbrev pub written : MemSinkValue → List ℕ → MemSinkValue

@@ -5,18 +5,14 @@ ghost use Rattle.ed_session.specs.Drives.{added, Drove, DroveLost, Closed, FileR
 ghost use Rattle.ed_session.specs.Turns.{Performs, Begins};
 ghost use Rattle.ed_session.specs.Work.{work};
 
+use crate::line_store::LineStore;
 use crate::sink::give;
 use crate::{Ask, Outside, Session, Sink};
-use crate::line_store::LineStore;
 use ed_base::Fault;
 use ed_syntax::{Answer, Ending, Request};
 
 // Has the outside do what the session waits for, and gives it the answer.
-fn perform<S: LineStore, O: Outside>(
-    session: &mut Session<S>,
-    outside: &mut O,
-    request: Request,
-)
+fn perform<S: LineStore, O: Outside>(session: &mut Session<S>, outside: &mut O, request: Request)
     requires waiting { session.old.phase ≡ Waiting }
     requires asked { awaited session.old ≡ Some request }
     ensures done { Performs session.old request session.new
@@ -74,12 +70,12 @@ pub fn drive<S: LineStore, O: Outside, W: Sink>(
     // The run of these answers has ended so and its output was written; or memory ran out; or the sink failed.
     ensures run { lost_by session.old.phase ≡ None →
         Drove (rest session.old) (added (O.log outside.old) (O.log outside.new))
-            (W.taken sink.old) (W.taken sink.new) (W.failures sink.old) (W.failures sink.new) result }
+        (W.taken sink.old) (W.taken sink.new) (W.failures sink.old) (W.failures sink.new) result }
 
     // A lost session writes what it had to hand out, and ends by its fault again; or the sink failed.
     ensures lost { IfSome (lost_by session.old.phase) (λ fault.
         DroveLost fault session.old.pending (O.log outside.old) (O.log outside.new)
-            (W.taken sink.old) (W.taken sink.new) (W.failures sink.old) (W.failures sink.new) result) }
+        (W.taken sink.old) (W.taken sink.new) (W.failures sink.old) (W.failures sink.new) result) }
 
     // Driven again it asks and writes nothing, and ends so again.
     ensures closed { Closed session.new result }

@@ -14,13 +14,11 @@ pub fn no_run_ends_by_its_surroundings()
         (run script options given).stop ≢ Ends (Err fault.Memory) }
     ensures output { (script : Script) (options : Options) (given : List Answer) →
         (run script options given).stop ≢ Ends (Err fault.Output) }
-{
-}
+{}
 
 /// A run whose answers all fit their requests doesn't end by the fault of a file.
 pub fn a_file_fault_has_a_cause()
     ensures only_if_refused { (script : Script) (options : Options) (log : Log) →
         (run script options (answers log)).asked ≡ requests log → AllFit log →
         (run script options (answers log)).stop ≢ Ends (Err fault.File) }
-{
-}
+{}

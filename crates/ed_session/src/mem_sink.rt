@@ -26,8 +26,13 @@ impl Model for MemSink {
     ghost Value = { MemSinkValue };
 
     ghost view = { λ s. record {
-        taken = s.taken.items; room = s.room; piece = s.piece;
-        refused = s.refused; writes = s.writes; failures = s.failures } };
+      taken = s.taken.items;
+      room = s.room;
+      piece = s.piece;
+      refused = s.refused;
+      writes = s.writes;
+      failures = s.failures;
+    } };
 
     ghost invariant = { λ s. (vec_len s.taken ≤ s.room) × (s.room ≤ vec_capacity s.taken) };
 }

@@ -55,9 +55,13 @@ impl<S: LineStore> Model for Session<S> {
     ghost use Rattle.ed_session.specs.Insides.{IsSound, phase_of, quiet};
 
     ghost view = { λ s. record {
-        phase = phase_of s.stage; present = quiet s.editor.state;
-        commands = map command_value (drop s.next s.commands.items);
-        fault = s.fault; pending = s.pending; told = s.told } };
+      phase = phase_of s.stage;
+      present = quiet s.editor.state;
+      commands = map command_value (drop s.next s.commands.items);
+      fault = s.fault;
+      pending = s.pending;
+      told = s.told;
+    } };
 
     ghost invariant = { λ s. IsSound s.stage s.editor.state s.editor.failed (vec_len s.commands) s.next
         (map command_value (drop s.next s.commands.items)) s.pending s.report s.told };

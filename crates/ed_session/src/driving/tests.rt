@@ -45,7 +45,14 @@ const ROWS: [Row; 13] = [
 ];
 
 fn plain(script: &'static [u8], file: Option<&'static [u8]>) -> Case {
-    Case { script, file, refused_call: 0, room: 64, piece: 64, refused_write: 0 }
+    Case {
+        script,
+        file,
+        refused_call: 0,
+        room: 64,
+        piece: 64,
+        refused_write: 0,
+    }
 }
 
 fn lines(end: Result<Ending, Fault>) -> Result<usize, Fault> {
@@ -55,9 +62,21 @@ fn lines(end: Result<Ending, Fault>) -> Result<usize, Fault> {
     }
 }
 
-fn session_of(alloc: Global, script: &[u8], path: Option<Bytes>) -> Result<Session<PlainStore>, AllocError> {
+fn session_of(
+    alloc: Global,
+    script: &[u8],
+    path: Option<Bytes>,
+) -> Result<Session<PlainStore>, AllocError> {
     let script = read_script(alloc, script)?;
-    Session::new(alloc, script, Options { silent: true, prompt: None, path })
+    Session::new(
+        alloc,
+        script,
+        Options {
+            silent: true,
+            prompt: None,
+            path,
+        },
+    )
 }
 
 // How the case ends, and what its sink took.
@@ -78,7 +97,10 @@ fn run(alloc: Global, case: Case) -> Result<(Result<usize, Fault>, MemSink), All
 fn runs_write_and_end_as_the_standard_says(rt: HostRuntime) -> Result<(), Fail> {
     for (row, number) in ROWS.iter().zip(1..) {
         for piece in [64, 1] {
-            let case = Case { piece, ..plain(row.script, row.file) };
+            let case = Case {
+                piece,
+                ..plain(row.script, row.file)
+            };
             let (ends, sink) = run(rt.alloc(), case)?;
             assert_eq!(rt; sink.taken(), row.output, "row {number}, {piece} at once");
             assert_eq!(rt; ends, row.ends, "row {number}, {piece} at once");
@@ -89,11 +111,17 @@ fn runs_write_and_end_as_the_standard_says(rt: HostRuntime) -> Result<(), Fail> 
 
 #[test]
 fn a_refused_start_file_is_reported_and_ends_the_run(rt: HostRuntime) -> Result<(), Fail> {
-    let case = Case { refused_call: 1, ..plain(ROWS[0].script, ROWS[0].file) };
+    let case = Case {
+        refused_call: 1,
+        ..plain(ROWS[0].script, ROWS[0].file)
+    };
     let (ends, sink) = run(rt.alloc(), case)?;
     assert_eq!(rt; sink.taken(), b"?\n".as_slice());
     assert_eq!(rt; ends, Err(Fault::File));
-    let later = Case { refused_call: 2, ..case };
+    let later = Case {
+        refused_call: 2,
+        ..case
+    };
     let (ends, sink) = run(rt.alloc(), later)?;
     assert_eq!(rt; sink.taken(), ROWS[0].output);
     assert_eq!(rt; ends, Ok(2));
@@ -103,16 +131,30 @@ fn a_refused_start_file_is_reported_and_ends_the_run(rt: HostRuntime) -> Result<
 // Row 1 in this case ends by the refusal of its output, of which so many bytes were taken.
 fn is_refused_behind(alloc: Global, case: Case, taken: usize) -> Result<bool, AllocError> {
     let (ends, sink) = run(alloc, case)?;
-    Ok(ends == Err(Fault::Output) && sink.taken().len() == taken && ROWS[0].output.starts_with(sink.taken()))
+    Ok(
+        ends == Err(Fault::Output)
+            && sink.taken().len() == taken
+            && ROWS[0].output.starts_with(sink.taken()),
+    )
 }
 
 #[test]
 fn each_refused_write_and_each_full_room_ends_the_run(rt: HostRuntime) -> Result<(), Fail> {
     for (taken, number) in (0..4).zip(1..) {
-        let refused = Case { piece: 1, refused_write: number, ..plain(ROWS[0].script, ROWS[0].file) };
-        let full = Case { room: taken, ..plain(ROWS[0].script, ROWS[0].file) };
+        let refused = Case {
+            piece: 1,
+            refused_write: number,
+            ..plain(ROWS[0].script, ROWS[0].file)
+        };
+        let full = Case {
+            room: taken,
+            ..plain(ROWS[0].script, ROWS[0].file)
+        };
         for case in [refused, full] {
-            assert!(rt; is_refused_behind(rt.alloc(), case, taken)?, "{taken} bytes");
+            assert!(rt;
+                is_refused_behind(rt.alloc(), case, taken)?,
+                "{taken} bytes"
+            );
         }
     }
     Ok(())
@@ -124,7 +166,11 @@ fn a_writer_takes_the_output_till_it_is_full(rt: HostRuntime) -> Result<(), Fail
     files.add(b"F", b"a\nb\nc\n")?;
     let mut room = [0u8; 3];
     let mut sink = Out::new(room.as_mut_slice());
-    let mut session = session_of(rt.alloc(), ROWS[0].script, Some(Bytes::from_slice(rt.alloc(), b"F")?))?;
+    let mut session = session_of(
+        rt.alloc(),
+        ROWS[0].script,
+        Some(Bytes::from_slice(rt.alloc(), b"F")?),
+    )?;
     let end = drive(&mut session, &mut files, &mut sink);
     assert_eq!(rt; lines(end), Err(Fault::Output));
     drop(sink);
@@ -139,7 +185,10 @@ fn a_session_without_a_path_is_stepped_to_its_end(rt: HostRuntime) -> Result<(),
     session.start(Answer::Refused);
     for output in ["x\n", "?\n"] {
         assert!(rt; session.started() && !session.waits());
-        assert_eq!(rt; session.step(), Ask::Output(Bytes::from_slice(rt.alloc(), output.as_bytes())?));
+        assert_eq!(rt;
+            session.step(),
+            Ask::Output(Bytes::from_slice(rt.alloc(), output.as_bytes())?)
+        );
     }
     for _ in 0..2 {
         assert!(rt; session.started() && !session.waits());
@@ -153,7 +202,11 @@ fn a_session_without_a_path_is_stepped_to_its_end(rt: HostRuntime) -> Result<(),
 fn an_ended_session_that_is_driven_again_ends_so_again(rt: HostRuntime) -> Result<(), Fail> {
     let mut files = MemFiles::new(rt.alloc());
     files.refuse(2);
-    let mut session = session_of(rt.alloc(), b"x\n", Some(Bytes::from_slice(rt.alloc(), b"F")?))?;
+    let mut session = session_of(
+        rt.alloc(),
+        b"x\n",
+        Some(Bytes::from_slice(rt.alloc(), b"F")?),
+    )?;
     for output in ["?\n", ""] {
         let mut sink = MemSink::new(rt.alloc(), 64, 64)?;
         let end = drive(&mut session, &mut files, &mut sink);
@@ -172,7 +225,10 @@ fn a_run_that_finds_no_memory_writes_a_front_and_its_report(rt: HostRuntime) -> 
         };
         if ends == Err(Fault::Memory) {
             let front = sink.taken().strip_suffix(b"?\n".as_slice());
-            assert!(rt; front.is_some_and(|bytes| row.output.starts_with(bytes)), "row {number}");
+            assert!(rt;
+                front.is_some_and(|bytes| row.output.starts_with(bytes)),
+                "row {number}"
+            );
             return Ok(());
         }
         assert_eq!(rt; sink.taken(), row.output, "row {number}");

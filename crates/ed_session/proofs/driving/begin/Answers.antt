@@ -36,15 +36,17 @@ returns-in-Ok g c =
     let a = c.in-Ok.answer in
     let whole = fresh_whole s.phase (sym c.if-started.ensures.value) in
     let at = c.in-Some-start_path.ensures.given in
-    record { begun = begins_performed s t (request.Read path) _ _ _ _ whole (fresh_awaits s path at) (record {
-      done = inl (record {
-        answer = a;
-        logged = c.in-Ok.ensures.logged;
-        given = λ h. starts_answers path s a t at (e.given h);
-        broke = e.broke;
-        raises = read_raises path a _ _ c.in-Ok.ensures.refused c.in-Ok.ensures.not_done;
+    record {
+      begun = begins_performed s t (request.Read path) _ _ _ _ whole (fresh_awaits s path at) (record {
+        done = inl (record {
+          answer = a;
+          logged = c.in-Ok.ensures.logged;
+          given = λ h. starts_answers path s a t at (e.given h);
+          broke = e.broke;
+          raises = read_raises path a _ _ c.in-Ok.ensures.refused c.in-Ok.ensures.not_done;
+        });
+        rises = c.in-Ok.ensures.rises;
+        idle = e.idle;
+        started = e.started;
       });
-      rises = c.in-Ok.ensures.rises;
-      idle = e.idle;
-      started = e.started;
-    }) }
+    }

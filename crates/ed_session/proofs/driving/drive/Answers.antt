@@ -38,12 +38,12 @@ turns-preserved-in-Output g c =
     record {
       log = i.log;
       driven = λ whole.
-        let d = i.driven whole in
-        record {
-          output = d.output ++ bytes;
-          written = Appends-more _ _ _ _ _ d.written gave.0;
-          along = along_output _ _ _ _ d.along t bytes e.given e.broke e.lost;
-        };
+          let d = i.driven whole in
+          record {
+            output = d.output ++ bytes;
+            written = Appends-more _ _ _ _ _ d.written gave.0;
+            along = along_output _ _ _ _ d.along t bytes e.given e.broke e.lost;
+          };
       lost = λ fault is. lost_hands_out fault _ s t bytes _ _ _ _ _ is (i.lost fault is) e.lost gave.0;
       raises = i.raises;
       rises = i.rises;
@@ -64,12 +64,12 @@ turns-preserved-in-Read g c =
     record {
       log = performed_log _ _ _ u asked _ _ _ i.log p;
       driven = λ whole.
-        let d = i.driven whole in
-        record {
-          output = d.output;
-          written = d.written;
-          along = performed_along _ _ _ u asked _ _ _ i.log p _ _ whole_now w.1.asks (along_same _ _ _ _ d.along u w.0 whole_now w.1.same);
-        };
+          let d = i.driven whole in
+          record {
+            output = d.output;
+            written = d.written;
+            along = performed_along _ _ _ u asked _ _ _ i.log p _ _ whole_now w.1.asks (along_same _ _ _ _ d.along u w.0 whole_now w.1.same);
+          };
       lost = λ fault is. absurd (let l = ap lost_by (i.lost fault is).phase ∙ is in let n = w.0 in cc);
       raises = performed_raises _ _ _ u asked _ _ _ i.log p _ i.rises i.raises;
       rises = omega (arith, i.rises, p.rises);
@@ -90,12 +90,12 @@ turns-preserved g c =
     record {
       log = performed_log _ _ _ u asked _ _ _ i.log p;
       driven = λ whole.
-        let d = i.driven whole in
-        record {
-          output = d.output;
-          written = d.written;
-          along = performed_along _ _ _ u asked _ _ _ i.log p _ _ whole_now w.1.asks (along_same _ _ _ _ d.along u w.0 whole_now w.1.same);
-        };
+          let d = i.driven whole in
+          record {
+            output = d.output;
+            written = d.written;
+            along = performed_along _ _ _ u asked _ _ _ i.log p _ _ whole_now w.1.asks (along_same _ _ _ _ d.along u w.0 whole_now w.1.same);
+          };
       lost = λ fault is. absurd (let l = ap lost_by (i.lost fault is).phase ∙ is in let n = w.0 in cc);
       raises = performed_raises _ _ _ u asked _ _ _ i.log p _ i.rises i.raises;
       rises = omega (arith, i.rises, p.rises);
@@ -111,15 +111,19 @@ returns-then-not-give-clause-run g c = λ whole.
     let e = c.in-Output.ensures in
     let bytes = c.in-Output.bytes in
     let gave = rw c.as_slice.ensures.value at c.if-not-give.ensures.part refl in
-    inr (inr (refl, omega (arith, gave.1, i.count), cut_off _ _ _ bytes c.step.new.self _ _ _
-      (along_output _ _ _ _ d.along c.step.new.self bytes e.given e.broke e.lost) d.written gave.0))
+    inr (inr (
+      refl,
+      omega (arith, gave.1, i.count),
+      cut_off _ _ _ bytes c.step.new.self _ _ _
+          (along_output _ _ _ _ d.along c.step.new.self bytes e.given e.broke e.lost) d.written gave.0,
+    ))
 
 pub returns-then-not-give-clause-lost : goal.returns-then-not-give-clause-lost
 returns-then-not-give-clause-lost g c =
     let i = c.turns.invariant in
     let gave = rw c.as_slice.ensures.value at c.if-not-give.ensures.part refl in
     elim (cases_lost (lost_by c.args.session.now.phase)) [
-        inl w ↦ rw w tt
+      | inl w ↦ rw w tt
       | inr f ↦
           let d = i.lost f.0 f.1 in
           rw f.1 (record { asked = d.same_log; ended = inr (refl, omega (arith, gave.1, i.count), lost_cut_off f.0 _ c.turns.session c.step.new.self c.in-Output.bytes _ _ _ _ _ f.1 d c.in-Output.ensures.lost gave.0) })
@@ -134,7 +138,7 @@ pub returns-in-Ended-clause-run : goal.returns-in-Ended-clause-run
 returns-in-Ended-clause-run g c = λ whole.
     let e = c.in-Ended.ensures in
     elim (driven_ends _ _ _ _ _ _ _ (c.turns.invariant.driven whole) e.given e.broke e.lost) [
-        inl x ↦ inl (c.turns.invariant.count, x.1)
+      | inl x ↦ inl (c.turns.invariant.count, x.1)
       | inr x ↦ inr (inl (x.0, c.turns.invariant.count, x.1))
     ]
 
@@ -142,7 +146,7 @@ pub returns-in-Ended-clause-lost : goal.returns-in-Ended-clause-lost
 returns-in-Ended-clause-lost g c =
     let i = c.turns.invariant in
     elim (cases_lost (lost_by c.args.session.now.phase)) [
-        inl w ↦ rw w tt
+      | inl w ↦ rw w tt
       | inr f ↦
           let d = i.lost f.0 f.1 in
           let e = lost_ends f.0 _ c.turns.session c.step.new.self _ _ _ _ _ f.1 d c.in-Ended.ensures.lost in
@@ -154,10 +158,10 @@ returns-in-Ended-clause-file_refused g c = λ whole is.
     let e = c.in-Ended.ensures in
     let v = c.args.session.now in
     elim (driven_ends _ _ _ _ _ _ _ (c.turns.invariant.driven whole) e.given e.broke e.lost) [
-        inl x ↦ elim c.turns.invariant.raises [
-            inl fit ↦ inr (rest_no_file v _ x.1.asked fit (x.1.ended ∙ ap Ends is), rest_asks_nothing v)
-          | inr rise ↦ inl rise
-        ]
+      | inl x ↦ elim c.turns.invariant.raises [
+        | inl fit ↦ inr (rest_no_file v _ x.1.asked fit (x.1.ended ∙ ap Ends is), rest_asks_nothing v)
+        | inr rise ↦ inl rise
+      ]
       | inr x ↦ absurd (let h = x.0 in cc)
     ]
 
@@ -165,7 +169,7 @@ pub returns-in-Ended-clause-output_refused : goal.returns-in-Ended-clause-output
 returns-in-Ended-clause-output_refused g c = λ whole is.
     let e = c.in-Ended.ensures in
     absurd (elim (driven_ends _ _ _ _ _ _ _ (c.turns.invariant.driven whole) e.given e.broke e.lost) [
-        inl x ↦ (subst IsOwnEnd is (e.told.1 x.0)).1 refl
+      | inl x ↦ (subst IsOwnEnd is (e.told.1 x.0)).1 refl
       | inr x ↦ let h = x.0 in cc
     ])
 

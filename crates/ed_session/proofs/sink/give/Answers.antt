@@ -22,7 +22,7 @@ returns-then-n-eq0-clause-part g c =
     let n = c.in-Ok.n in
     let fits : n ≤ length bs - i = omega (arith, c.in-Ok.ensures.within, length-take {A = ℕ}, length-drop {A = ℕ}) in
     let taken : Appends (g.W.Sink.taken c.args.sink.now) (g.W.Sink.taken c.write.new.self) (take (i + n) bs) =
-          rw (take-next bs i n (omega arith) fits) (Appends-more _ _ _ _ _ c.pieces.invariant.taken c.in-Ok.ensures.appended) in
+    rw (take-next bs i n (omega arith) fits) (Appends-more _ _ _ _ _ c.pieces.invariant.taken c.in-Ok.ensures.appended) in
     λ _. (front-taken _ _ bs (i + n) (omega (arith, c.if-n-eq0.true)) taken, grind (arith, c.in-Ok.ensures.rises))
 
 pub returns-in-Err-clause-part : goal.returns-in-Err-clause-part

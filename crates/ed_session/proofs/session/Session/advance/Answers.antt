@@ -30,6 +30,6 @@ returns-in-Err-clause-given g c =
     let goes : quits_anyway (command_value x).verb ≡ false = sym c.if-ends_run.ensures.value in
     let untold = is_false i.told (λ h. let n = (c.self.invariant.ended h).0 in cc) in
     advances_ended (is_memory f) f c.args.self.now _ (ap phase_of c.ended_by.ensures.value) (c.replace.ensures.value ∙ c.self.invariant.can_report live) untold
-      (λ (h : is_memory f ≡ false).
-        rest_fails c.args.self.now _ (command_value x) (map command_value (drop (i.next + 1) i.commands.items)) i.editor.state f c.self.view_is c.requires.between c.requires.handed_out
-          (left_next i.commands.items i.next x (omega arith) c.index-command.ensures) refl goes (c.in-Err.ensures.exact (c.self.invariant.works live) (not_memory f h)))
+    (λ (h : is_memory f ≡ false).
+    rest_fails c.args.self.now _ (command_value x) (map command_value (drop (i.next + 1) i.commands.items)) i.editor.state f c.self.view_is c.requires.between c.requires.handed_out
+    (left_next i.commands.items i.next x (omega arith) c.index-command.ensures) refl goes (c.in-Err.ensures.exact (c.self.invariant.works live) (not_memory f h)))
