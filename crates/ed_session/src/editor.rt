@@ -13,10 +13,10 @@ mod change;
 mod effects;
 mod lines;
 
-use crate::line_store::LineStore;
 use change::Change;
 use ed_base::{Bytes, Fault};
 use ed_syntax::{Answer, Command, Request};
+use line_store::LineStore;
 use lines::put_file;
 use std::alloc::Global;
 use std::marker::Model;

@@ -4,7 +4,6 @@
 mod driving;
 mod editor;
 pub mod laws;
-pub mod line_store;
 mod mem_files;
 mod mem_sink;
 mod outside;

@@ -5,10 +5,10 @@ ghost use Rattle.ed_session.specs.Insides.{quits_anyway};
 ghost use Rattle.ed_session.specs.Steps.{memory_report};
 
 use crate::editor::{Editor, Reply};
-use crate::line_store::LineStore;
 use crate::stage::Stage;
 use ed_base::{Bytes, Fault};
 use ed_syntax::{Answer, Command, Ending, Options, Request, Script, Verb};
+use line_store::LineStore;
 use std::alloc::{AllocError, Global};
 use std::marker::Model;
 use std::mem;

@@ -8,9 +8,9 @@ ghost use Rattle.ed_syntax.specs.Ranges.{spanned};
 ghost use Rattle.ed_session.specs.Editors.{Fits, beside, lines_of_command, value_of_span};
 
 use crate::editor::Editor;
-use crate::line_store::LineStore;
 use ed_base::Fault;
 use ed_syntax::{Address, Addresses, Base, Command, Verb};
+use line_store::LineStore;
 
 /// The lines from first to last, counted from 1.
 #[derive(Clone, Copy, Debug, PartialEq, Eq)]

@@ -13,9 +13,9 @@ use crate::editor::Editor;
 use crate::editor::addressing::Span;
 use crate::editor::change::Change;
 use crate::editor::lines::{put_lines, take_lines, write_lines};
-use crate::line_store::LineStore;
 use ed_base::{Bytes, Fault, Text};
 use ed_syntax::{Form, Verb};
+use line_store::LineStore;
 use std::alloc::AllocError;
 
 impl<S: LineStore> Editor<S> {

@@ -7,9 +7,9 @@ ghost use Rattle.ed_syntax.specs.States.{between, replaced, inserted};
 ghost use Rattle.ed_syntax.specs.Forms.{lines_written};
 
 use crate::editor::addressing::Span;
-use crate::line_store::{Line, LineStore};
 use ed_base::{Bytes, count_lines, next_line};
 use ed_syntax::Form;
+use line_store::{Line, LineStore};
 use std::alloc::{AllocError, Global};
 
 /// Appends the lines of a span, as the form writes them.

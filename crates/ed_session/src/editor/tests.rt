@@ -1,9 +1,9 @@
 //! What no clause says: that calls succeed, and that the definitions are the standard's (XCU ed, "Commands in ed").
 use crate::editor::{Editor, Reply};
-use crate::line_store::{LineStore, PlainStore};
 use ed_base::{Bytes, Fault, split_lines};
 use ed_syntax::Addresses::{Comma, One, Without};
 use ed_syntax::{Address, Addresses, Base, Command, Form, Verb};
+use line_store::{LineStore, PlainStore};
 use std::alloc::{AllocError, Global};
 use std::test::Fail;
 

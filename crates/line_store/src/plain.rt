@@ -1,7 +1,7 @@
 //! The plain store: a vector of lines.
 ghost use Rattle.std.specs.Prelude.{◌-◌, vec_capacity, vec_len};
 
-use crate::line_store::{Line, LineStore};
+use crate::{Line, LineStore};
 use std::alloc::{AllocError, Global};
 
 /// Lines in one vector: a line put or taken moves all the lines behind it.

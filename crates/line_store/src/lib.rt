@@ -1,4 +1,5 @@
 //! Lines, and stores of them.
+#![tactic(auto)]
 
 mod line;
 mod plain;

@@ -1,5 +1,5 @@
 //! What no clause says: that calls succeed.
-use crate::line_store::{Line, LineStore, PlainStore};
+use crate::{Line, LineStore, PlainStore};
 use ed_base::next_line;
 use std::test::Fail;
 

@@ -2,7 +2,7 @@
 ghost use Rattle.std.specs.Prelude.{◌≡◌, ◌+◌, ◌<◌, ◌≤◌, ℕ, List, [], length, insert, remove, slice_index_or, IfOk, IfErr, OnOk, OnErr, IsOk};
 ghost use Rattle.ed_base.specs.Buffer.{Line, plain_line};
 
-use crate::line_store::Line;
+use crate::Line;
 use std::alloc::{AllocError, Global};
 
 /// A list of lines. Places count from 0.
