@@ -2,7 +2,6 @@
 #![tactic(auto)]
 
 mod driving;
-mod editor;
 pub mod laws;
 mod mem_files;
 mod mem_sink;
