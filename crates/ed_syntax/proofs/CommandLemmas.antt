@@ -11,7 +11,7 @@ use Rattle.ed_syntax.specs.Tokens.{◌>>=◌}
 use Rattle.ed_syntax.specs.Reading.{Heading, with_text, finished, heading, command_at}
 use Rattle.ed_syntax.proofs.NumberLemmas.{Some-same}
 use Rattle.ed_syntax.proofs.AddressLemmas.{bind-some}
-use Rattle.ed_syntax.proofs.HeadingLemmas.{IsLetter, append, delete, write, quit_anyway, SpellsHeading, heading-sound, heading-complete, heading-line}
+use Rattle.ed_syntax.proofs.HeadingLemmas.{IsLetter, append, delete, write, help, help_mode, prompt_mode, quit_anyway, SpellsHeading, heading-sound, heading-complete, heading-line}
 use Rattle.ed_syntax.proofs.TextLemmas.{first_line, LeftLines, text-sound, text-complete}
 
 -- the lines of a verb's text, read from lines: its bytes, and as many lines as they are
@@ -33,6 +33,9 @@ verb-sound append lines are =
     record { bytes = read.bytes; split = read.split; spells = spelled.append read.bytes _ _ read.spells; counted = read.counted; are = read.are }
 verb-sound delete lines are = verb_alone 100 ed.Delete lines are (spelled.delete (bytes_of lines))
 verb-sound write lines are = verb_alone 112 (ed.Write ed.Plain) lines are (spelled.write (bytes_of lines))
+verb-sound help lines are = verb_alone 104 ed.Help lines are (spelled.help (bytes_of lines))
+verb-sound help_mode lines are = verb_alone 72 ed.HelpMode lines are (spelled.help_mode (bytes_of lines))
+verb-sound prompt_mode lines are = verb_alone 80 ed.PromptMode lines are (spelled.prompt_mode (bytes_of lines))
 verb-sound quit_anyway lines are = verb_alone 81 ed.QuitAnyway lines are (spelled.quit_anyway (bytes_of lines))
 
 -- a verb that is spelled so: the verb of its letter, and what its text makes of it
@@ -48,12 +51,18 @@ verb-complete (spelled.append bytes rest text is) lines are same =
     record { entered = ed.Append []; letter_is = append; left = read.0; read = ap (λ r. (ed.Append r.0, r.1)) read.1 }
 verb-complete (spelled.delete rest) lines are same = record { entered = ed.Delete; letter_is = delete; left = record { lines = lines; split = same; are = are }; read = refl }
 verb-complete (spelled.write rest) lines are same = record { entered = ed.Write ed.Plain; letter_is = write; left = record { lines = lines; split = same; are = are }; read = refl }
+verb-complete (spelled.help rest) lines are same = record { entered = ed.Help; letter_is = help; left = record { lines = lines; split = same; are = are }; read = refl }
+verb-complete (spelled.help_mode rest) lines are same = record { entered = ed.HelpMode; letter_is = help_mode; left = record { lines = lines; split = same; are = are }; read = refl }
+verb-complete (spelled.prompt_mode rest) lines are same = record { entered = ed.PromptMode; letter_is = prompt_mode; left = record { lines = lines; split = same; are = are }; read = refl }
 verb-complete (spelled.quit_anyway rest) lines are same = record { entered = ed.QuitAnyway; letter_is = quit_anyway; left = record { lines = lines; split = same; are = are }; read = refl }
 
 letter_of : {letter : ℕ} {bytes rest : List ℕ} {verb : Verb} → SpellsVerb letter bytes rest verb → (entered : Verb) × IsLetter letter entered
 letter_of (spelled.append bytes rest text is) = (ed.Append [], append)
 letter_of (spelled.delete rest) = (ed.Delete, delete)
 letter_of (spelled.write rest) = (ed.Write ed.Plain, write)
+letter_of (spelled.help rest) = (ed.Help, help)
+letter_of (spelled.help_mode rest) = (ed.HelpMode, help_mode)
+letter_of (spelled.prompt_mode rest) = (ed.PromptMode, prompt_mode)
 letter_of (spelled.quit_anyway rest) = (ed.QuitAnyway, quit_anyway)
 
 -- a text changes nothing about which addresses may stand before its command
@@ -61,6 +70,9 @@ taking-text : (verb : Verb) (later : List (List ℕ)) → taking (with_text verb
 taking-text (ed.Append entered) later = refl
 taking-text ed.Delete later = refl
 taking-text (ed.Write form) later = refl
+taking-text ed.Help later = refl
+taking-text ed.HelpMode later = refl
+taking-text ed.PromptMode later = refl
 taking-text ed.QuitAnyway later = refl
 
 may_have-text : (given : Addresses) (verb : Verb) (later : List (List ℕ)) → may_have given (with_text verb later).0 ≡ may_have given verb

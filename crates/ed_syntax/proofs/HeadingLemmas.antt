@@ -21,6 +21,9 @@ pub data IsLetter : ℕ → Verb → Type 0 where
   append : IsLetter 97 (ed.Append [])
   delete : IsLetter 100 ed.Delete
   write : IsLetter 112 (ed.Write ed.Plain)
+  help : IsLetter 104 ed.Help
+  help_mode : IsLetter 72 ed.HelpMode
+  prompt_mode : IsLetter 80 ed.PromptMode
   quit_anyway : IsLetter 81 ed.QuitAnyway
 
 -- a letter is read as its verb
@@ -28,6 +31,9 @@ pub verb_at-letter : {letter : ℕ} {verb : Verb} → IsLetter letter verb → v
 verb_at-letter append = refl
 verb_at-letter delete = refl
 verb_at-letter write = refl
+verb_at-letter help = refl
+verb_at-letter help_mode = refl
+verb_at-letter prompt_mode = refl
 verb_at-letter quit_anyway = refl
 
 -- a letter ends the addresses, and is no newline
@@ -40,6 +46,9 @@ pub letter-ends : {letter : ℕ} {verb : Verb} → IsLetter letter verb → Ends
 letter-ends append = record { stops = record { blank = refl; digit = refl; current = refl; last = refl }; no_comma = refl; no_newline = λ same. cc }
 letter-ends delete = record { stops = record { blank = refl; digit = refl; current = refl; last = refl }; no_comma = refl; no_newline = λ same. cc }
 letter-ends write = record { stops = record { blank = refl; digit = refl; current = refl; last = refl }; no_comma = refl; no_newline = λ same. cc }
+letter-ends help = record { stops = record { blank = refl; digit = refl; current = refl; last = refl }; no_comma = refl; no_newline = λ same. cc }
+letter-ends help_mode = record { stops = record { blank = refl; digit = refl; current = refl; last = refl }; no_comma = refl; no_newline = λ same. cc }
+letter-ends prompt_mode = record { stops = record { blank = refl; digit = refl; current = refl; last = refl }; no_comma = refl; no_newline = λ same. cc }
 letter-ends quit_anyway = record { stops = record { blank = refl; digit = refl; current = refl; last = refl }; no_comma = refl; no_newline = λ same. cc }
 
 -- one code of a letter
@@ -56,11 +65,20 @@ verb_at-delete letter a d = rw (a, d, verb_at) refl
 verb_at-write : (letter : ℕ) → nat_eq letter 97 ≡ false → nat_eq letter 100 ≡ false → nat_eq letter 112 ≡ true → verb_at letter ≡ Some (ed.Write ed.Plain)
 verb_at-write letter a d p = rw (a, d, p, verb_at) refl
 
-verb_at-quit_anyway : (letter : ℕ) → nat_eq letter 97 ≡ false → nat_eq letter 100 ≡ false → nat_eq letter 112 ≡ false → nat_eq letter 81 ≡ true → verb_at letter ≡ Some ed.QuitAnyway
-verb_at-quit_anyway letter a d p q = rw (a, d, p, q, verb_at) refl
+verb_at-help : (letter : ℕ) → nat_eq letter 97 ≡ false → nat_eq letter 100 ≡ false → nat_eq letter 112 ≡ false → nat_eq letter 104 ≡ true → verb_at letter ≡ Some ed.Help
+verb_at-help letter a d p h = rw (a, d, p, h, verb_at) refl
 
-verb_at-other : (letter : ℕ) → nat_eq letter 97 ≡ false → nat_eq letter 100 ≡ false → nat_eq letter 112 ≡ false → nat_eq letter 81 ≡ false → verb_at letter ≡ None
-verb_at-other letter a d p q = rw (a, d, p, q, verb_at) refl
+verb_at-help_mode : (letter : ℕ) → nat_eq letter 97 ≡ false → nat_eq letter 100 ≡ false → nat_eq letter 112 ≡ false → nat_eq letter 104 ≡ false → nat_eq letter 72 ≡ true → verb_at letter ≡ Some ed.HelpMode
+verb_at-help_mode letter a d p h k = rw (a, d, p, h, k, verb_at) refl
+
+verb_at-prompt_mode : (letter : ℕ) → nat_eq letter 97 ≡ false → nat_eq letter 100 ≡ false → nat_eq letter 112 ≡ false → nat_eq letter 104 ≡ false → nat_eq letter 72 ≡ false → nat_eq letter 80 ≡ true → verb_at letter ≡ Some ed.PromptMode
+verb_at-prompt_mode letter a d p h k r = rw (a, d, p, h, k, r, verb_at) refl
+
+verb_at-quit_anyway : (letter : ℕ) → nat_eq letter 97 ≡ false → nat_eq letter 100 ≡ false → nat_eq letter 112 ≡ false → nat_eq letter 104 ≡ false → nat_eq letter 72 ≡ false → nat_eq letter 80 ≡ false → nat_eq letter 81 ≡ true → verb_at letter ≡ Some ed.QuitAnyway
+verb_at-quit_anyway letter a d p h k r q = rw (a, d, p, h, k, r, q, verb_at) refl
+
+verb_at-other : (letter : ℕ) → nat_eq letter 97 ≡ false → nat_eq letter 100 ≡ false → nat_eq letter 112 ≡ false → nat_eq letter 104 ≡ false → nat_eq letter 72 ≡ false → nat_eq letter 80 ≡ false → nat_eq letter 81 ≡ false → verb_at letter ≡ None
+verb_at-other letter a d p h k r q = rw (a, d, p, h, k, r, q, verb_at) refl
 
 -- what is read as a verb is its letter
 pub verb_at-sound : (letter : ℕ) (verb : Verb) → verb_at letter ≡ Some verb → IsLetter letter verb
@@ -72,9 +90,18 @@ verb_at-sound letter verb is =
     (λ no_d. ⊎_elim
     (λ p. letter_with letter 112 verb (ed.Write ed.Plain) write p (sym (verb_at-write letter no_a no_d p) ∙ is))
     (λ no_p. ⊎_elim
-    (λ q. letter_with letter 81 verb ed.QuitAnyway quit_anyway q (sym (verb_at-quit_anyway letter no_a no_d no_p q) ∙ is))
-    (λ no_q. let none : None ≡ Some verb = sym (verb_at-other letter no_a no_d no_p no_q) ∙ is in cc)
+    (λ h. letter_with letter 104 verb ed.Help help h (sym (verb_at-help letter no_a no_d no_p h) ∙ is))
+    (λ no_h. ⊎_elim
+    (λ k. letter_with letter 72 verb ed.HelpMode help_mode k (sym (verb_at-help_mode letter no_a no_d no_p no_h k) ∙ is))
+    (λ no_k. ⊎_elim
+    (λ r. letter_with letter 80 verb ed.PromptMode prompt_mode r (sym (verb_at-prompt_mode letter no_a no_d no_p no_h no_k r) ∙ is))
+    (λ no_r. ⊎_elim
+    (λ q. letter_with letter 81 verb ed.QuitAnyway quit_anyway q (sym (verb_at-quit_anyway letter no_a no_d no_p no_h no_k no_r q) ∙ is))
+    (λ no_q. let none : None ≡ Some verb = sym (verb_at-other letter no_a no_d no_p no_h no_k no_r no_q) ∙ is in cc)
     (cases_Bool (nat_eq letter 81)))
+    (cases_Bool (nat_eq letter 80)))
+    (cases_Bool (nat_eq letter 72)))
+    (cases_Bool (nat_eq letter 104)))
     (cases_Bool (nat_eq letter 112)))
     (cases_Bool (nat_eq letter 100)))
     (cases_Bool (nat_eq letter 97))

@@ -182,6 +182,32 @@ prompt_before_end = refl
 prompt_before_unreadable : run (script_of (codes "z\n")) (options true (Some (codes "> "))) (answer.Bytes [] ∷ []) ≡ fails (codes "> ?\n") fault.Syntax
 prompt_before_unreadable = refl
 
+prompting_turned_on : run (script_of (codes "P\n")) (options true None) (answer.Bytes letters ∷ []) ≡ ends (codes "*") 3
+prompting_turned_on = refl
+
+prompting_turned_off : run (script_of (codes "P\n1p\nP\n1p\n")) (options true (Some (codes "> "))) (answer.Bytes letters ∷ []) ≡ ends (codes "> a\n> a\n> ") 3
+prompting_turned_off = refl
+
+empty_prompt : run (script_of (codes "1p\nP\nP\n")) (options true (Some [])) (answer.Bytes letters ∷ []) ≡ ends (codes "a\n") 3
+empty_prompt = refl
+
+-- help mode
+
+help_turned_on : edited letters (codes "H\nz\n") ≡ fails (codes "?\ninvalid command\n") fault.Syntax
+help_turned_on = refl
+
+help_turned_off : edited letters (codes "H\nH\n9p\n") ≡ fails (codes "?\n") fault.Address
+help_turned_off = refl
+
+help_with_prompts : run (script_of (codes "1p\nH\nx\n")) (options true (Some (codes "> "))) (answer.Bytes (codes "a\nb\n") ∷ []) ≡ fails (codes "> a\n> > ?\ninvalid command\n") fault.Syntax
+help_with_prompts = refl
+
+no_fault_to_tell : edited letters (codes "h\n1p\nQ\n") ≡ ends (codes "a\n") 3
+no_fault_to_tell = refl
+
+address_before_help : edited letters (codes "H\n1H\n") ≡ fails (codes "?\ninvalid command\n") fault.Syntax
+address_before_help = refl
+
 missing_file : run (script_of (codes "a\nx\n.\n,p\nQ\n")) (options true None) (answer.Missing ∷ []) ≡ ends (codes "x\n") 1
 missing_file = refl
 

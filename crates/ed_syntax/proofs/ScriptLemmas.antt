@@ -23,6 +23,9 @@ pub with_text-later : (verb : Verb) (later : List (List ℕ)) → length (with_t
 with_text-later (ed.Append entered) later = text-later later
 with_text-later ed.Delete later = omega arith
 with_text-later (ed.Write form) later = omega arith
+with_text-later ed.Help later = omega arith
+with_text-later ed.HelpMode later = omega arith
+with_text-later ed.PromptMode later = omega arith
 with_text-later ed.QuitAnyway later = omega arith
 
 -- the same of a command

@@ -24,6 +24,9 @@ abbrev pub effect_of : Verb → Span → State → Option Answer → Result Effe
 effect_of (ed.Append text) x s given = Ok (Makes (effect.append text x s))
 effect_of ed.Delete x s given = Ok (Makes (effect.delete x s))
 effect_of (ed.Write form) x s given = Ok (Makes (effect.write form x s))
+effect_of ed.Help x s given = Ok (Makes (only s []))
+effect_of ed.HelpMode x s given = Ok (Makes (only s []))
+effect_of ed.PromptMode x s given = Ok (Makes (only s []))
 effect_of ed.QuitAnyway x s given = Ok (Makes (only s []))
 
 -- what a suffix writes: the new current line, which isn't 0

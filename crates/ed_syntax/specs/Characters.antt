@@ -14,6 +14,14 @@ comma_byte = 44
 abbrev pub full_stop : ℕ
 full_stop = 46
 
+-- `H`
+abbrev pub capital_h : ℕ
+capital_h = 72
+
+-- `P`
+abbrev pub capital_p : ℕ
+capital_p = 80
+
 -- `Q`
 abbrev pub capital_q : ℕ
 capital_q = 81
@@ -25,6 +33,10 @@ letter_a = 97
 -- `d`
 abbrev pub letter_d : ℕ
 letter_d = 100
+
+-- `h`
+abbrev pub letter_h : ℕ
+letter_h = 104
 
 -- `p`
 abbrev pub letter_p : ℕ

@@ -26,11 +26,14 @@ pub data Addresses : Type 0 where
 pub data Form : Type 0 where
   Plain : Form
 
--- A command's letter with its parameters: `a` with its text, `d`, `p` by the form that it writes in, `Q`.
+-- A command's letter with its parameters: `a` with its text, `d`, `p` by the form that it writes in, `h`, `H`, `P`, `Q`.
 pub data Verb : Type 0 where
   Append : (text : List (List ℕ)) → Verb
   Delete : Verb
   Write : (form : Form) → Verb
+  Help : Verb
+  HelpMode : Verb
+  PromptMode : Verb
   QuitAnyway : Verb
 
 -- a command; `listed` where it stands in the list of a global command

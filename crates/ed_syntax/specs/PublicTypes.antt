@@ -43,6 +43,9 @@ abbrev pub verb_value : Verb → ed.Verb
 verb_value (verb.Append text) = ed.Append text
 verb_value verb.Delete = ed.Delete
 verb_value (verb.Write f) = ed.Write (form_value f)
+verb_value verb.Help = ed.Help
+verb_value verb.HelpMode = ed.HelpMode
+verb_value verb.PromptMode = ed.PromptMode
 verb_value verb.QuitAnyway = ed.QuitAnyway
 
 -- a command

@@ -17,9 +17,18 @@ verb_at b =
         | true ↦ Some ed.Delete
         | false ↦ elim (nat_eq b 112) [
           | true ↦ Some (ed.Write ed.Plain)
-          | false ↦ elim (nat_eq b 81) [
-            | true ↦ Some ed.QuitAnyway
-            | false ↦ None
+          | false ↦ elim (nat_eq b 104) [
+            | true ↦ Some ed.Help
+            | false ↦ elim (nat_eq b 72) [
+              | true ↦ Some ed.HelpMode
+              | false ↦ elim (nat_eq b 80) [
+                | true ↦ Some ed.PromptMode
+                | false ↦ elim (nat_eq b 81) [
+                  | true ↦ Some ed.QuitAnyway
+                  | false ↦ None
+                ]
+              ]
+            ]
           ]
         ]
       ]
@@ -67,6 +76,9 @@ abbrev pub with_text : Verb → List (List ℕ) → Verb × List (List ℕ)
 with_text (ed.Append entered) later = let r = text later in (ed.Append r.0, r.1)
 with_text ed.Delete later = (ed.Delete, later)
 with_text (ed.Write form) later = (ed.Write form, later)
+with_text ed.Help later = (ed.Help, later)
+with_text ed.HelpMode later = (ed.HelpMode, later)
+with_text ed.PromptMode later = (ed.PromptMode, later)
 with_text ed.QuitAnyway later = (ed.QuitAnyway, later)
 
 -- the command of a heading, and the lines behind it

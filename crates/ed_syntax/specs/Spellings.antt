@@ -1,7 +1,7 @@
 -- Which bytes spell a command, and which a script (XCU ed, "Commands in ed").
 use Rattle.std.specs.Prelude.{ℕ, ◌+◌, ◌≡◌, ◌≢◌, false, List, [], ◌∷◌, ◌++◌, length, Option, Some, None, IsTrue}
 use Rattle.ed_base.specs.Lines.{newline, IsLine, lines_of, bytes_of}
-use Rattle.ed_syntax.specs.Characters.{full_stop, capital_q, letter_a, letter_d, letter_p}
+use Rattle.ed_syntax.specs.Characters.{full_stop, capital_h, capital_p, capital_q, letter_a, letter_d, letter_h, letter_p}
 use Rattle.ed_syntax.specs.Commands as ed
 use Rattle.ed_syntax.specs.Commands.{Addresses, Verb, Command, Script}
 use Rattle.ed_syntax.specs.Verbs.{may_have}
@@ -19,6 +19,9 @@ pub data SpellsVerb : ℕ → List ℕ → List ℕ → Verb → Type 0 where
   append : (bytes rest : List ℕ) (text : List (List ℕ)) → SpellsText bytes rest text → SpellsVerb letter_a bytes rest (ed.Append text)
   delete : (rest : List ℕ) → SpellsVerb letter_d [] rest ed.Delete
   write : (rest : List ℕ) → SpellsVerb letter_p [] rest (ed.Write ed.Plain)
+  help : (rest : List ℕ) → SpellsVerb letter_h [] rest ed.Help
+  help_mode : (rest : List ℕ) → SpellsVerb capital_h [] rest ed.HelpMode
+  prompt_mode : (rest : List ℕ) → SpellsVerb capital_p [] rest ed.PromptMode
   quit_anyway : (rest : List ℕ) → SpellsVerb capital_q [] rest ed.QuitAnyway
 
 -- Whole lines that spell a command, and the lines that follow: addresses, a letter, blanks, a newline, a text.

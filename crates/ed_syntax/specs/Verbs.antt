@@ -16,6 +16,9 @@ abbrev pub taking : Verb → Taking
 taking (ed.Append text) = Place
 taking ed.Delete = Range
 taking (ed.Write form) = Range
+taking ed.Help = NoAddress
+taking ed.HelpMode = NoAddress
+taking ed.PromptMode = NoAddress
 taking ed.QuitAnyway = NoAddress
 
 -- the current line
@@ -27,6 +30,9 @@ abbrev pub default : Verb → Addresses
 default (ed.Append text) = One here
 default ed.Delete = Comma here here
 default (ed.Write form) = Comma here here
+default ed.Help = Without
+default ed.HelpMode = Without
+default ed.PromptMode = Without
 default ed.QuitAnyway = Without
 
 -- the given addresses, or the command's own where there are none
@@ -52,4 +58,7 @@ abbrev pub has_text : Verb → Bool
 has_text (ed.Append text) = true
 has_text ed.Delete = false
 has_text (ed.Write form) = false
+has_text ed.Help = false
+has_text ed.HelpMode = false
+has_text ed.PromptMode = false
 has_text ed.QuitAnyway = false

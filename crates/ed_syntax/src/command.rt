@@ -45,6 +45,12 @@ pub enum Verb {
     Delete,
     /// `p`, by its form.
     Write(Form),
+    /// `h`: the text of the fault before it, of which there is none in a run.
+    Help,
+    /// `H`: turns help mode on or off, in which reports have their fault's text.
+    HelpMode,
+    /// `P`: turns prompting on or off.
+    PromptMode,
     /// `Q`: the end of the run, whether or not changes were written.
     QuitAnyway,
 }

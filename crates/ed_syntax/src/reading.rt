@@ -67,7 +67,12 @@ fn with_text(alloc: Global, verb: Verb, later: &mut ScriptLines<'_>) -> Result<V
 {
     match verb {
         Verb::Append(_) => Ok(Verb::Append(later.read_text(alloc)?)),
-        Verb::Delete | Verb::Write(_) | Verb::QuitAnyway => Ok(verb),
+        Verb::Delete
+        | Verb::Write(_)
+        | Verb::Help
+        | Verb::HelpMode
+        | Verb::PromptMode
+        | Verb::QuitAnyway => Ok(verb),
     }
 }
 
@@ -96,6 +101,9 @@ fn verb_at(alloc: Global, letter: u8) -> Option<Verb>
         b'a' => Some(Verb::Append(Text::new(alloc))),
         b'd' => Some(Verb::Delete),
         b'p' => Some(Verb::Write(Form::Plain)),
+        b'h' => Some(Verb::Help),
+        b'H' => Some(Verb::HelpMode),
+        b'P' => Some(Verb::PromptMode),
         b'Q' => Some(Verb::QuitAnyway),
         _ => None,
     }
@@ -107,7 +115,7 @@ fn may_have(given: Addresses, verb: &Verb) -> bool
 {
     match (given, verb) {
         (Addresses::Without, _) => true,
-        (_, Verb::QuitAnyway) => false,
+        (_, Verb::Help | Verb::HelpMode | Verb::PromptMode | Verb::QuitAnyway) => false,
         (_, Verb::Append(_) | Verb::Delete | Verb::Write(_)) => true,
     }
 }

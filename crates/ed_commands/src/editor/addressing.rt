@@ -49,7 +49,9 @@ fn spanned(verb: &Verb, values: &[usize]) -> Result<Span, Fault>
         Verb::Append(_) => Ok(Span { first: last, last }),
         Verb::Delete | Verb::Write(_) if first == 0 || last < first => Err(Fault::Address),
         Verb::Delete | Verb::Write(_) => Ok(Span { first, last }),
-        Verb::QuitAnyway => Ok(Span { first: 0, last: 0 }),
+        Verb::Help | Verb::HelpMode | Verb::PromptMode | Verb::QuitAnyway => {
+            Ok(Span { first: 0, last: 0 })
+        }
     }
 }
 

@@ -36,7 +36,9 @@ impl<S: LineStore> Editor<S> {
                 Ok(Bytes::new(self.alloc))
             }
             Verb::Write(form) => self.write(*form, span),
-            Verb::QuitAnyway => Ok(Bytes::new(self.alloc)),
+            Verb::Help | Verb::HelpMode | Verb::PromptMode | Verb::QuitAnyway => {
+                Ok(Bytes::new(self.alloc))
+            }
         }
     }
 
