@@ -85,6 +85,9 @@ effect_replies : (verb : Verb) (x : Span) (s t : State) (given : Option Answer) 
 effect_replies (ed.Append text) x s t given form = made_replies s form (effect.append text x t)
 effect_replies ed.Delete x s t given form = made_replies s form (effect.delete x t)
 effect_replies (ed.Write f) x s t given form = made_replies s form (effect.write f x t)
+effect_replies ed.Help x s t given form = made_replies s form (effect.only t [])
+effect_replies ed.HelpMode x s t given form = made_replies s form (effect.only t [])
+effect_replies ed.PromptMode x s t given form = made_replies s form (effect.only t [])
 effect_replies ed.QuitAnyway x s t given form = made_replies s form (effect.only t [])
 
 -- a command is done or has a fault of the script's own
