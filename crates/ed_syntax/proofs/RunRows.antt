@@ -6,6 +6,7 @@ use Rattle.ed_base.specs.declared.fault.Fault.TheVariants as fault
 use Rattle.ed_syntax.specs.declared.options.Options.{Options}
 use Rattle.ed_syntax.specs.declared.request.Answer.TheVariants as answer
 use Rattle.ed_syntax.specs.declared.request.Request.TheVariants as request
+use Rattle.ed_syntax.specs.Commands.{Without, HelpMode, Plain}
 use Rattle.ed_syntax.specs.Reading.{script_of}
 use Rattle.ed_syntax.specs.Progress.{Progress, Ends}
 use Rattle.ed_syntax.specs.Runs.{run}
@@ -207,6 +208,11 @@ no_fault_to_tell = refl
 
 address_before_help : edited letters (codes "H\n1H\n") ≡ fails (codes "?\ninvalid command\n") fault.Syntax
 address_before_help = refl
+
+-- a suffix whose line isn't there is reported in the mode from before
+suffix_before_help_mode : run (record { commands = record { addresses = Without; verb = HelpMode; suffix = Some Plain; listed = false } ∷ []; fault = None }) (record { silent = true; prompt = None; path = None }) []
+    ≡ record { output = codes "?\n"; asked = []; stop = Ends (Err fault.Address) }
+suffix_before_help_mode = refl
 
 missing_file : run (script_of (codes "a\nx\n.\n,p\nQ\n")) (options true None) (answer.Missing ∷ []) ≡ ends (codes "x\n") 1
 missing_file = refl
