@@ -21,7 +21,7 @@ invariant_of-self-in-Err g c =
     let e = c.ending-stage.result in
     let live = prompted_live i.stage (ap (λ v. v.phase) c.self.view_is ∙ c.requires.prompted) in
     let own : f ≢ Memory → IsOwnEnd (Err f) = λ h. let s = fault_is_own i.editor.state (command_value c.index-command.result.now) None f (c.in-Err.ensures.exact (c.self.invariant.works live) h) in (s.not_memory, s.not_output) in
-    let keeps = keeps_ended f i.modes.help e.0 e.1 c.apply.new.self.state (map command_value (drop i.next i.commands.items)) e.1 c.ending-stage.ensures.value own in
+    let keeps = keeps_ended f _ e.0 e.1 c.apply.new.self.state (map command_value (drop i.next i.commands.items)) e.1 c.ending-stage.ensures.value own in
     record {
       within = c.self.invariant.within;
       works = λ h. absurd (let n = keeps.0 in cc);
