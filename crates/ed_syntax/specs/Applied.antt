@@ -23,6 +23,9 @@ pub data Effect : Type 0 where
 abbrev pub effect_of : Verb → Span → State → Option Answer → Result Effect Fault
 effect_of (ed.Append text) x s given = Ok (Makes (effect.append text x s))
 effect_of ed.Delete x s given = Ok (Makes (effect.delete x s))
+effect_of (ed.Mark letter) x s given = Ok (Makes (effect.mark letter x s))
+effect_of ed.LineNumber x s given = Ok (Makes (effect.line_number x s))
+effect_of ed.Null x s given = Ok (Makes (effect.write ed.Plain x s))
 effect_of (ed.Write form) x s given = Ok (Makes (effect.write form x s))
 effect_of ed.QuitAnyway x s given = Ok (Makes (only s []))
 

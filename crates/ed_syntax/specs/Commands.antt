@@ -1,11 +1,15 @@
 -- The commands of a script (XCU ed, "Addresses in ed", "Commands in ed").
 use Rattle.std.specs.Prelude.{ℕ, ℤ, pos, Bool, List, Option}
 
--- where an address begins: a line's number, the current line or the last line
+-- Where an address begins: a line's number, the current line, the last line, a line with a mark, or the next line forward or
+-- backward that a pattern matches. Letters count from 0, which is `a`; a pattern is its text, and none is the remembered one.
 pub data Base : Type 0 where
   Number : (number : ℕ) → Base
   Current : Base
   Last : Base
+  Marked : (letter : ℕ) → Base
+  Forward : (pattern : Option (List ℕ)) → Base
+  Backward : (pattern : Option (List ℕ)) → Base
 
 -- an address: its base and the sum of its offsets
 pub record Address : Type 0 where
@@ -16,20 +20,25 @@ pub record Address : Type 0 where
 abbrev pub at_base : Base → Address
 at_base base = record { base = base; offset = pos 0 }
 
--- the addresses before a command, omitted parts filled in
+-- The addresses before a command, omitted parts filled in. A second one that is omitted behind `;` has the first one's value.
 pub data Addresses : Type 0 where
   Without : Addresses
   One : (only : Address) → Addresses
   Comma : (first second : Address) → Addresses
+  Semicolon : (first : Address) → (second : Option Address) → Addresses
 
 -- how a line is written: as it is
 pub data Form : Type 0 where
   Plain : Form
 
--- A command's letter with its parameters: `a` with its text, `d`, `p` by the form that it writes in, `Q`.
+-- A command's letter with its parameters: `a` with its text, `d`, `k` with the letter that marks, `=`, the null command, `p` by
+-- the form that it writes in, `Q`.
 pub data Verb : Type 0 where
   Append : (text : List (List ℕ)) → Verb
   Delete : Verb
+  Mark : (letter : ℕ) → Verb
+  LineNumber : Verb
+  Null : Verb
   Write : (form : Form) → Verb
   QuitAnyway : Verb
 

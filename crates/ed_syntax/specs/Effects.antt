@@ -1,6 +1,7 @@
 -- What each command does to the buffer (XCU ed, "Commands in ed").
-use Rattle.std.specs.Prelude.{ℕ, ◌+◌, Bool, true, false, List, [], ◌∷◌, map, length, min}
-use Rattle.ed_base.specs.Buffer.{Line, plain_line}
+use Rattle.std.specs.Prelude.{ℕ, ◌+◌, ◌-◌, Bool, true, false, List, [], ◌∷◌, ◌++◌, map, length, min, decimal}
+use Rattle.ed_base.specs.Buffer.{Line, plain_line, marked_at}
+use Rattle.ed_base.specs.Lines.{newline}
 use Rattle.ed_syntax.specs.Commands.{Form}
 use Rattle.ed_syntax.specs.States.{State, replaced, inserted}
 use Rattle.ed_syntax.specs.Forms.{lines_written}
@@ -37,6 +38,14 @@ append text x s = entered x.first text s
 abbrev pub delete : Span → State → Outcome
 delete x s = let left = replaced x.first x.last [] s.lines in altered left (min x.first (length left)) s
 
--- `p`: the last line written is current
+-- `k`: the letter marks the addressed line, and no other
+abbrev pub mark : (letter : ℕ) → Span → State → Outcome
+mark letter x s = only (record s { lines = marked_at (x.last - 1) letter s.lines }) []
+
+-- `=`: the number of the addressed line
+abbrev pub line_number : Span → State → Outcome
+line_number x s = only s (decimal x.last ++ newline ∷ [])
+
+-- `p`, and the null command: the last line written is current
 abbrev pub write : Form → Span → State → Outcome
 write form x s = only (at_line x.last s) (lines_written form x.first x.last s.lines)

@@ -18,16 +18,25 @@ abbrev pub base_value : Base → ed.Base
 base_value (base.Number n) = ed.Number n
 base_value base.Current = ed.Current
 base_value base.Last = ed.Last
+base_value (base.Marked letter) = ed.Marked letter
+base_value (base.Forward pattern) = ed.Forward pattern
+base_value (base.Backward pattern) = ed.Backward pattern
 
 -- an address
 abbrev pub address_value : Address → ed.Address
 address_value a = record { base = base_value a.base; offset = a.offset }
+
+-- an address, where one is given
+abbrev pub optional_address : Option Address → Option ed.Address
+optional_address None = None
+optional_address (Some a) = Some (address_value a)
 
 -- the addresses before a command
 abbrev pub addresses_value : Addresses → ed.Addresses
 addresses_value addresses.Without = ed.Without
 addresses_value (addresses.One a) = ed.One (address_value a)
 addresses_value (addresses.Comma a b) = ed.Comma (address_value a) (address_value b)
+addresses_value (addresses.Semicolon a b) = ed.Semicolon (address_value a) (optional_address b)
 
 -- how a line is written
 abbrev pub form_value : Form → ed.Form
@@ -42,6 +51,9 @@ suffix_value (Some f) = Some (form_value f)
 abbrev pub verb_value : Verb → ed.Verb
 verb_value (verb.Append text) = ed.Append text
 verb_value verb.Delete = ed.Delete
+verb_value (verb.Mark letter) = ed.Mark letter
+verb_value verb.LineNumber = ed.LineNumber
+verb_value verb.Null = ed.Null
 verb_value (verb.Write f) = ed.Write (form_value f)
 verb_value verb.QuitAnyway = ed.QuitAnyway
 

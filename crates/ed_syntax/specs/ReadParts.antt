@@ -1,21 +1,16 @@
 -- What the reader's functions give, as plain data.
 use Rattle.std.specs.Prelude.{ℕ, List, Option, Some, None}
 use Rattle.ed_syntax.specs.Commands as ed
-use Rattle.ed_syntax.specs.declared.command.Address.{Address}
+use Rattle.ed_syntax.specs.declared.command.Base.{Base}
 use Rattle.ed_syntax.specs.declared.command.Addresses.{Addresses}
 use Rattle.ed_syntax.specs.declared.command.Verb.{Verb}
 use Rattle.ed_syntax.specs.declared.command.Command.{Command}
-use Rattle.ed_syntax.specs.PublicTypes.{address_value, addresses_value, verb_value, command_value}
+use Rattle.ed_syntax.specs.PublicTypes.{base_value, addresses_value, verb_value, command_value}
 
--- an address, where one is given
-abbrev pub optional_value : Option Address → Option ed.Address
-optional_value None = None
-optional_value (Some a) = Some (address_value a)
-
--- a verb, where there is one
-abbrev pub optional_verb : Option Verb → Option ed.Verb
-optional_verb None = None
-optional_verb (Some v) = Some (verb_value v)
+-- a base, where one is given
+abbrev pub optional_base : Option Base → Option ed.Base
+optional_base None = None
+optional_base (Some base) = Some (base_value base)
 
 -- what stands on a command's own line, where it can be read
 abbrev pub heading_value : Option (Addresses × Verb) → Option (ed.Addresses × ed.Verb)

@@ -5,24 +5,33 @@ use Rattle.ed_base.specs.Lines.{lines_of}
 use Rattle.ed_syntax.specs.Commands as ed
 use Rattle.ed_syntax.specs.Commands.{Addresses, Verb, Command, Script}
 use Rattle.ed_syntax.specs.Verbs.{may_have}
-use Rattle.ed_syntax.specs.Characters.{is_blank}
-use Rattle.ed_syntax.specs.Tokens.{◌>>=◌, addresses}
+use Rattle.ed_syntax.specs.Characters.{equals_sign, capital_q, letter_a, letter_d, letter_k, letter_p, is_blank}
+use Rattle.ed_syntax.specs.Tokens.{Parsed, ◌>>=◌, letter, addresses}
 
--- a letter's command, before its text is read
-abbrev pub verb_at : ℕ → Option Verb
-verb_at b =
-    elim (nat_eq b 97) [
+-- a command by its letter without parameters, before its text is read
+abbrev pub plain_verb : ℕ → Option Verb
+plain_verb b =
+    elim (nat_eq b letter_a) [
       | true ↦ Some (ed.Append [])
-      | false ↦ elim (nat_eq b 100) [
+      | false ↦ elim (nat_eq b letter_d) [
         | true ↦ Some ed.Delete
-        | false ↦ elim (nat_eq b 112) [
+        | false ↦ elim (nat_eq b letter_p) [
           | true ↦ Some (ed.Write ed.Plain)
-          | false ↦ elim (nat_eq b 81) [
-            | true ↦ Some ed.QuitAnyway
-            | false ↦ None
+          | false ↦ elim (nat_eq b equals_sign) [
+            | true ↦ Some ed.LineNumber
+            | false ↦ elim (nat_eq b capital_q) [ true ↦ Some ed.QuitAnyway | false ↦ None ]
           ]
         ]
       ]
+    ]
+
+-- a command's letter with its parameters, before its text is read; nothing is the null command
+abbrev pub verb_at : List ℕ → Parsed Verb
+verb_at [] = Some (ed.Null, [])
+verb_at (b ∷ bs) =
+    elim (nat_eq b letter_k) [
+      | true ↦ letter bs >>= λ r. Some (ed.Mark r.0, r.1)
+      | false ↦ plain_verb b >>= λ verb. Some (verb, bs)
     ]
 
 -- nothing but blanks stands behind the letter
@@ -37,10 +46,9 @@ Heading = Addresses × Verb
 abbrev pub heading_with : Addresses → List ℕ → Verb → Option Heading
 heading_with given bs verb = elim (may_have given verb && is_over bs) [ true ↦ Some (given, verb) | false ↦ None ]
 
--- the letter behind the addresses
+-- what stands behind the addresses
 abbrev pub heading_behind : Addresses → List ℕ → Option Heading
-heading_behind given [] = None
-heading_behind given (b ∷ bs) = verb_at b >>= heading_with given bs
+heading_behind given bs = verb_at bs >>= λ r. heading_with given r.1 r.0
 
 -- what stands on a command's own line
 abbrev pub heading : List ℕ → Option Heading
@@ -66,6 +74,9 @@ text (line ∷ lines) = elim (is_dot line) [ true ↦ ([], lines) | false ↦ le
 abbrev pub with_text : Verb → List (List ℕ) → Verb × List (List ℕ)
 with_text (ed.Append entered) later = let r = text later in (ed.Append r.0, r.1)
 with_text ed.Delete later = (ed.Delete, later)
+with_text (ed.Mark letter) later = (ed.Mark letter, later)
+with_text ed.LineNumber later = (ed.LineNumber, later)
+with_text ed.Null later = (ed.Null, later)
 with_text (ed.Write form) later = (ed.Write form, later)
 with_text ed.QuitAnyway later = (ed.QuitAnyway, later)
 

@@ -41,6 +41,9 @@ step c m go answers = elim c.verb [
   | ed.QuitAnyway ↦ ending m
   | ed.Append text ↦ one c m go answers
   | ed.Delete ↦ one c m go answers
+  | ed.Mark letter ↦ one c m go answers
+  | ed.LineNumber ↦ one c m go answers
+  | ed.Null ↦ one c m go answers
   | ed.Write form ↦ one c m go answers
 ]
 

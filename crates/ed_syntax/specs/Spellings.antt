@@ -1,7 +1,7 @@
 -- Which bytes spell a command, and which a script (XCU ed, "Commands in ed").
-use Rattle.std.specs.Prelude.{ℕ, ◌+◌, ◌≡◌, ◌≢◌, false, List, [], ◌∷◌, ◌++◌, length, Option, Some, None, IsTrue}
+use Rattle.std.specs.Prelude.{ℕ, ◌+◌, ◌<◌, ◌≡◌, ◌≢◌, false, List, [], ◌∷◌, ◌++◌, length, Option, Some, None, IsTrue}
 use Rattle.ed_base.specs.Lines.{newline, IsLine, lines_of, bytes_of}
-use Rattle.ed_syntax.specs.Characters.{full_stop, capital_q, letter_a, letter_d, letter_p}
+use Rattle.ed_syntax.specs.Characters.{full_stop, equals_sign, capital_q, letter_a, letter_d, letter_k, letter_p}
 use Rattle.ed_syntax.specs.Commands as ed
 use Rattle.ed_syntax.specs.Commands.{Addresses, Verb, Command, Script}
 use Rattle.ed_syntax.specs.Verbs.{may_have}
@@ -14,18 +14,22 @@ pub data SpellsText : List ℕ → List ℕ → List (List ℕ) → Type 0 where
   line : (line bytes rest : List ℕ) (lines : List (List ℕ)) → IsLine line → line ≢ full_stop ∷ [] → SpellsText bytes rest lines →
       SpellsText (line ++ newline ∷ bytes) rest (line ∷ lines)
 
--- A command's letter, the whole lines behind the command's own line that belong to it, and what follows them.
-pub data SpellsVerb : ℕ → List ℕ → List ℕ → Verb → Type 0 where
-  append : (bytes rest : List ℕ) (text : List (List ℕ)) → SpellsText bytes rest text → SpellsVerb letter_a bytes rest (ed.Append text)
-  delete : (rest : List ℕ) → SpellsVerb letter_d [] rest ed.Delete
-  write : (rest : List ℕ) → SpellsVerb letter_p [] rest (ed.Write ed.Plain)
-  quit_anyway : (rest : List ℕ) → SpellsVerb capital_q [] rest ed.QuitAnyway
+-- What stands behind the addresses on a command's own line, but for blanks at its end: a letter with its parameters, or nothing;
+-- then the whole lines behind it that belong to it, and what follows them.
+pub data SpellsVerb : (own text rest : List ℕ) → Verb → Type 0 where
+  append : (text rest : List ℕ) (entered : List (List ℕ)) → SpellsText text rest entered → SpellsVerb (letter_a ∷ []) text rest (ed.Append entered)
+  delete : (rest : List ℕ) → SpellsVerb (letter_d ∷ []) [] rest ed.Delete
+  mark : (letter : ℕ) (rest : List ℕ) → letter < 26 → SpellsVerb (letter_k ∷ letter_a + letter ∷ []) [] rest (ed.Mark letter)
+  line_number : (rest : List ℕ) → SpellsVerb (equals_sign ∷ []) [] rest ed.LineNumber
+  null : (rest : List ℕ) → SpellsVerb [] [] rest ed.Null
+  write : (rest : List ℕ) → SpellsVerb (letter_p ∷ []) [] rest (ed.Write ed.Plain)
+  quit_anyway : (rest : List ℕ) → SpellsVerb (capital_q ∷ []) [] rest ed.QuitAnyway
 
--- Whole lines that spell a command, and the lines that follow: addresses, a letter, blanks, a newline, a text.
+-- Whole lines that spell a command, and the lines that follow: a line with addresses, a letter and blanks, and a text.
 pub data Spells : List ℕ → List ℕ → Command → Type 0 where
-  command : (before : List ℕ) (letter : ℕ) (blanks text rest : List ℕ) (given : Addresses) (verb : Verb) →
-      SpellsAddresses before given → SpellsVerb letter text rest verb → IsTrue (may_have given verb) → Blanks blanks →
-      Spells (before ++ letter ∷ (blanks ++ newline ∷ text)) rest (record { addresses = given; verb = verb; suffix = None; listed = false })
+  command : (line own blanks text rest : List ℕ) (given : Addresses) (verb : Verb) → IsLine line → SpellsAddresses line (own ++ blanks) given →
+      SpellsVerb own text rest verb → IsTrue (may_have given verb) → Blanks blanks →
+      Spells (line ++ newline ∷ text) rest (record { addresses = given; verb = verb; suffix = None; listed = false })
 
 -- Whole lines, the first of which has this number: commands to the end, or to a rest no front of which spells a command.
 pub data SpellsCommands : ℕ → List ℕ → List Command → Option ℕ → Type 0 where

@@ -1,9 +1,13 @@
 //! The commands of a script.
+ghost use Rattle.std.specs.Prelude.{◌≡◌, IfOk};
+ghost use Rattle.ed_syntax.specs.PublicTypes.{address_value, base_value};
 
-use ed_base::Text;
+use crate::Pattern;
+use ed_base::{Letter, Text};
+use std::alloc::AllocError;
 
 /// Where an address begins.
-#[derive(Clone, Copy, Debug, PartialEq, Eq)]
+#[derive(Debug, PartialEq, Eq, Drop)]
 pub enum Base {
     /// A line's number, from 0 to 999999999.
     Number(u32),
@@ -11,22 +15,30 @@ pub enum Base {
     Current,
     /// `$`, the last line.
     Last,
+    /// `'x`, the line with this mark.
+    Marked(Letter),
+    /// `/RE/`, the next line that matches; `None` is the remembered pattern.
+    Forward(Option<Pattern>),
+    /// `?RE?`, the line before that matches; `None` is the remembered pattern.
+    Backward(Option<Pattern>),
 }
 
 /// An address: its base and the sum of its offsets, in lines.
-#[derive(Clone, Copy, Debug, PartialEq, Eq)]
+#[derive(Debug, PartialEq, Eq, Drop)]
 pub struct Address {
     pub base: Base,
     pub offset: i128,
 }
 
 /// The addresses before a command, omitted parts filled in.
-#[derive(Clone, Copy, Debug, PartialEq, Eq)]
+#[derive(Debug, PartialEq, Eq, Drop)]
 pub enum Addresses {
     Without,
     One(Address),
     /// Two with a `,` between them.
     Comma(Address, Address),
+    /// Two with a `;` between them; a second one that is omitted has the first one's value.
+    Semicolon(Address, Option<Address>),
 }
 
 /// How a line is written.
@@ -43,6 +55,12 @@ pub enum Verb {
     Append(Text),
     /// `d`
     Delete,
+    /// `k`: the letter marks the addressed line.
+    Mark(Letter),
+    /// `=`: writes the addressed line's number.
+    LineNumber,
+    /// No letter: writes the addressed line.
+    Null,
     /// `p`, by its form.
     Write(Form),
     /// `Q`: the end of the run, whether or not changes were written.
@@ -66,4 +84,41 @@ pub struct Script {
     pub commands: Vec<Command>,
     /// The line on which the first command begins that can't be read, counted from 1.
     pub fault: Option<usize>,
+}
+
+impl Base {
+    /// An equal base.
+    pub fn try_copy(&self) -> Result<Base, AllocError>
+        ensures value { IfOk result (λ copy. base_value copy ≡ base_value self.now) }
+    {
+        match self {
+            Base::Number(number) => Ok(Base::Number(*number)),
+            Base::Current => Ok(Base::Current),
+            Base::Last => Ok(Base::Last),
+            Base::Marked(letter) => Ok(Base::Marked(*letter)),
+            Base::Forward(pattern) => Ok(Base::Forward(copy_of(pattern)?)),
+            Base::Backward(pattern) => Ok(Base::Backward(copy_of(pattern)?)),
+        }
+    }
+}
+
+impl Address {
+    /// An equal address.
+    pub fn try_copy(&self) -> Result<Address, AllocError>
+        ensures value { IfOk result (λ copy. address_value copy ≡ address_value self.now) }
+    {
+        Ok(Address {
+            base: self.base.try_copy()?,
+            offset: self.offset,
+        })
+    }
+}
+
+fn copy_of(pattern: &Option<Pattern>) -> Result<Option<Pattern>, AllocError>
+    ensures value { IfOk result (λ copy. copy ≡ pattern.now) }
+{
+    match pattern {
+        Some(pattern) => Ok(Some(pattern.try_copy()?)),
+        None => Ok(None),
+    }
 }

@@ -1,13 +1,14 @@
 //! Reads a script: its commands up to the first that can't be read.
 ghost use Rattle.std.specs.Prelude.{◌≡◌, ◌+◌, ◌≤◌, length, Option, Some, None, option_map, IfOk, MatchOption};
 ghost use Rattle.ed_syntax.specs.Verbs.{may_have};
-ghost use Rattle.ed_syntax.specs.Reading.{verb_at, is_over, heading, with_text, command_at, script_of};
+ghost use Rattle.ed_syntax.specs.Reading.{verb_at, is_over, heading, heading_behind, with_text, command_at, script_of};
 ghost use Rattle.ed_syntax.specs.PublicTypes.{addresses_value, verb_value, script_value};
-ghost use Rattle.ed_syntax.specs.ReadParts.{optional_verb, heading_value, command_behind};
+ghost use Rattle.ed_syntax.specs.ReadParts.{heading_value, command_behind};
 
 use crate::script_lines::ScriptLines;
-use crate::tokens::{addresses, behind_blanks};
-use crate::{Addresses, Command, Form, Script, Verb};
+use crate::addresses::addresses;
+use crate::tokens::{behind_blanks, letter};
+use crate::{Addresses, Command, Form, Script, Taking, Verb};
 use ed_base::Text;
 use std::alloc::{AllocError, Global};
 
@@ -45,7 +46,7 @@ fn read_command(
     ensures number { later.new.number + length later.new.lines ≡ later.old.number + length later.old.lines }
     ensures later { length later.new.lines ≤ length later.old.lines }
 {
-    match heading(alloc, line) {
+    match heading(alloc, line)? {
         None => Ok(None),
         Some((addresses, verb)) => {
             let verb = with_text(alloc, verb, later)?;
@@ -67,49 +68,64 @@ fn with_text(alloc: Global, verb: Verb, later: &mut ScriptLines<'_>) -> Result<V
 {
     match verb {
         Verb::Append(_) => Ok(Verb::Append(later.read_text(alloc)?)),
-        Verb::Delete | Verb::Write(_) | Verb::QuitAnyway => Ok(verb),
+        Verb::Delete
+        | Verb::Mark(_)
+        | Verb::LineNumber
+        | Verb::Null
+        | Verb::Write(_)
+        | Verb::QuitAnyway => Ok(verb),
     }
 }
 
 // What stands on a command's own line; its text is still empty.
-fn heading(alloc: Global, line: &[u8]) -> Option<(Addresses, Verb)>
-    ensures value { heading_value result ≡ heading line.now }
+fn heading(alloc: Global, line: &[u8]) -> Result<Option<(Addresses, Verb)>, AllocError>
+    ensures value { IfOk result (λ h. heading_value h ≡ heading line.now) }
 {
-    let (given, rest) = addresses(line)?;
-    match rest {
-        [letter, rest @ ..] => {
-            let verb = verb_at(alloc, *letter)?;
-            if may_have(given, &verb) && is_over(rest) {
-                Some((given, verb))
-            } else {
-                None
-            }
-        }
-        [] => None,
+    match addresses(alloc, line)? {
+        Some((given, rest)) => Ok(heading_behind(alloc, given, rest)),
+        None => Ok(None),
     }
 }
 
-fn verb_at(alloc: Global, letter: u8) -> Option<Verb>
-    ensures value { optional_verb result ≡ verb_at letter }
+// What stands behind the addresses.
+fn heading_behind(alloc: Global, given: Addresses, bytes: &[u8]) -> Option<(Addresses, Verb)>
+    ensures value { heading_value result ≡ heading_behind (addresses_value given) bytes.now }
 {
-    match letter {
-        b'a' => Some(Verb::Append(Text::new(alloc))),
-        b'd' => Some(Verb::Delete),
-        b'p' => Some(Verb::Write(Form::Plain)),
-        b'Q' => Some(Verb::QuitAnyway),
+    let (verb, rest) = verb_at(alloc, bytes)?;
+    if may_have(&given, &verb) && is_over(rest) {
+        Some((given, verb))
+    } else {
+        None
+    }
+}
+
+// A command's letter with its parameters; its text is still empty. Nothing is the null command.
+fn verb_at(alloc: Global, bytes: &[u8]) -> Option<(Verb, &[u8])>
+    ensures value { MatchOption result (verb_at bytes.now ≡ None)
+        (λ (verb, rest). verb_at bytes.now ≡ Some (verb_value verb, rest.now)) }
+{
+    let [byte, rest @ ..] = bytes else {
+        return Some((Verb::Null, bytes));
+    };
+    match *byte {
+        b'a' => Some((Verb::Append(Text::new(alloc)), rest)),
+        b'd' => Some((Verb::Delete, rest)),
+        b'k' => {
+            let (letter, rest) = letter(rest)?;
+            Some((Verb::Mark(letter), rest))
+        }
+        b'p' => Some((Verb::Write(Form::Plain), rest)),
+        b'=' => Some((Verb::LineNumber, rest)),
+        b'Q' => Some((Verb::QuitAnyway, rest)),
         _ => None,
     }
 }
 
 // Whether addresses may stand before a command.
-fn may_have(given: Addresses, verb: &Verb) -> bool
-    ensures value { result ≡ may_have (addresses_value given) (verb_value verb.now) }
+fn may_have(given: &Addresses, verb: &Verb) -> bool
+    ensures value { result ≡ may_have (addresses_value given.now) (verb_value verb.now) }
 {
-    match (given, verb) {
-        (Addresses::Without, _) => true,
-        (_, Verb::QuitAnyway) => false,
-        (_, Verb::Append(_) | Verb::Delete | Verb::Write(_)) => true,
-    }
+    matches!(given, Addresses::Without) || verb.taking() != Taking::NoAddress
 }
 
 // Nothing but blanks is left of the line.
