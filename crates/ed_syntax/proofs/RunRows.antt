@@ -1,6 +1,7 @@
 -- Worked runs, computed from the bytes of script and file; the outputs are those that the standard says.
 use Rattle.std.specs.Prelude.{◌≡◌, refl, ℕ, Bool, true, false, List, [], ◌∷◌, ◌++◌, Option, Some, None, Ok, Err, codes}
 use Rattle.std.specs.Fmt.{digits}
+use Rattle.bre_parse.specs.Tree as tree
 use Rattle.ed_base.specs.declared.fault.Fault.{Fault}
 use Rattle.ed_base.specs.declared.fault.Fault.TheVariants as fault
 use Rattle.ed_syntax.specs.declared.options.Options.{Options}
@@ -191,3 +192,152 @@ refused_file = refl
 no_file : run (script_of (codes "a\nx\n.\n,p\nQ\n")) (record { silent = true; prompt = None; path = None }) []
     ≡ record { output = codes "x\n"; asked = []; stop = Ends (Ok (record { lines = 1 })) }
 no_file = refl
+
+-- offsets, which may lead outside on the way
+
+partial_sum_outside : edited letters (codes "-5+4=\nQ\n") ≡ ends (codes "2\n") 3
+unfolding digits
+partial_sum_outside = refl
+
+sum_outside : edited letters (codes "-5+6=\n") ≡ fails (codes "?\n") fault.Address
+sum_outside = refl
+
+signs_alone : edited letters (codes "1p\n++p\n-p\nQ\n") ≡ ends (codes "a\nc\nb\n") 3
+signs_alone = refl
+
+blanks_around : edited letters (codes " 1 + 1 - , $ - p\nQ\n") ≡ fails (codes "?\n") fault.Syntax
+blanks_around = refl
+
+blanks_between : edited letters (codes " 1 +1 - , $ - p\nQ\n") ≡ ends (codes "a\nb\n") 3
+blanks_between = refl
+
+ten_digits_in_an_offset : edited letters (codes "$-0000000001p\n") ≡ fails (codes "?\n") fault.Syntax
+ten_digits_in_an_offset = refl
+
+-- pairs
+
+last_of_two_in_any_order : edited letters (codes "3,1=\nQ\n") ≡ ends (codes "1\n") 3
+unfolding digits
+last_of_two_in_any_order = refl
+
+dropped_first_is_valued : edited letters (codes "9,1=\n") ≡ fails (codes "?\n") fault.Address
+dropped_first_is_valued = refl
+
+line_zero_is_current : edited letters (codes "0;1=\nQ\n") ≡ ends (codes "1\n") 3
+unfolding digits
+line_zero_is_current = refl
+
+semicolon_moves : edited letters (codes "1;+1p\nQ\n") ≡ ends (codes "a\nb\n") 3
+semicolon_moves = refl
+
+comma_does_not_move : edited letters (codes "1,+1p\n") ≡ fails (codes "?\n") fault.Address
+comma_does_not_move = refl
+
+out_of_order : edited letters (codes "3,1p\n") ≡ fails (codes "?\n") fault.Address
+out_of_order = refl
+
+semicolon_alone : edited letters (codes "2p\n;p\nQ\n") ≡ ends (codes "b\nb\nc\n") 3
+semicolon_alone = refl
+
+semicolon_without_second : edited letters (codes "2;p\n.p\nQ\n") ≡ ends (codes "b\nb\n") 3
+semicolon_without_second = refl
+
+comma_without_second_is_valued_twice : edited (codes "x\ny\nx\n") (codes "/x/,p\nQ\n") ≡ ends (codes "x\n") 3
+comma_without_second_is_valued_twice = refl
+
+whole_of_an_empty_buffer : edited [] (codes ",=\n") ≡ fails (codes "?\n") fault.Address
+whole_of_an_empty_buffer = refl
+
+no_third_address : edited letters (codes "1,2,3p\n") ≡ fails (codes "?\n") fault.Syntax
+no_third_address = refl
+
+-- marks
+
+mark_moves_with_its_line : edited letters (codes "2ka\n1d\n'a=\nQ\n") ≡ ends (codes "1\n") 2
+unfolding digits
+mark_moves_with_its_line = refl
+
+mark_goes_with_its_line : edited letters (codes "2ka\n2d\n'a=\n") ≡ fails (codes "?\n") fault.Mark
+mark_goes_with_its_line = refl
+
+mark_is_taken_from_where_it_was : edited letters (codes "2ka\n3ka\n2d\n'a=\nQ\n") ≡ ends (codes "2\n") 2
+unfolding digits
+mark_is_taken_from_where_it_was = refl
+
+no_mark : edited letters (codes "'a\n") ≡ fails (codes "?\n") fault.Mark
+no_mark = refl
+
+marking_keeps_the_current_line : edited letters (codes "1kz\n.=\nkb\n'z,'bp\nQ\n") ≡ ends (codes "3\na\nb\nc\n") 3
+unfolding digits
+marking_keeps_the_current_line = refl
+
+line_zero_is_not_marked : edited letters (codes "0ka\n") ≡ fails (codes "?\n") fault.Address
+line_zero_is_not_marked = refl
+
+no_capital_letter : edited letters (codes "1kA\n") ≡ fails (codes "?\n") fault.Syntax
+no_capital_letter = refl
+
+-- searches
+
+abbrev repeated : List ℕ
+repeated = codes "a\nb\na\n"
+
+remembered_pattern : edited repeated (codes "/b/\n//=\nQ\n") ≡ ends (codes "b\n2\n") 3
+unfolding digits
+remembered_pattern = refl
+
+wraps_forward : edited repeated (codes "/a/=\nQ\n") ≡ ends (codes "1\n") 3
+unfolding digits
+wraps_forward = refl
+
+no_match : edited repeated (codes "/z/\n") ≡ fails (codes "?\n") fault.NoMatch
+no_match = refl
+
+no_remembered_pattern : edited repeated (codes "//\n") ≡ fails (codes "?\n") fault.Pattern
+no_remembered_pattern = refl
+
+backward : edited repeated (codes "?a?\n?a?\nQ\n") ≡ ends (codes "a\na\n") 3
+backward = refl
+
+backward_comes_last_to_its_own_line : edited repeated (codes "2p\n?b?=\nQ\n") ≡ ends (codes "b\n2\n") 3
+unfolding digits
+backward_comes_last_to_its_own_line = refl
+
+from_line_zero_backward : edited repeated (codes "0;?a?=\nQ\n") ≡ ends (codes "3\n") 3
+unfolding digits
+from_line_zero_backward = refl
+
+open_delimiter : edited repeated (codes "1p\n/b\n?a\nQ\n") ≡ ends (codes "a\nb\na\n") 3
+open_delimiter = refl
+
+other_delimiter_is_ordinary : edited (codes "?\n/\n") (codes "/?/=\n?/?=\nQ\n") ≡ ends (codes "1\n2\n") 2
+unfolding digits
+other_delimiter_is_ordinary = refl
+
+delimiter_as_itself : edited (codes "a/b\nab\n") (codes "/a\\/b/=\n/[/]/=\nQ\n") ≡ ends (codes "1\n1\n") 2
+unfolding digits tree.covers_below
+delimiter_as_itself = refl
+
+no_pattern : edited repeated (codes "/[/\n") ≡ fails (codes "?\n") fault.Syntax
+no_pattern = refl
+
+backslash_at_the_end : edited repeated (codes "/a\\\n") ≡ fails (codes "?\n") fault.Syntax
+backslash_at_the_end = refl
+
+search_with_offset : edited repeated (codes "/b/+1,$p\nQ\n") ≡ ends (codes "a\n") 3
+search_with_offset = refl
+
+-- null command
+
+next_line : edited letters (codes "1p\n\n \n2\nQ\n") ≡ ends (codes "a\nb\nc\nb\n") 3
+next_line = refl
+
+no_next_line : edited letters (codes " \n") ≡ fails (codes "?\n") fault.Address
+no_next_line = refl
+
+last_of_two_for_the_null_command : edited letters (codes "3,1\nQ\n") ≡ ends (codes "a\n") 3
+last_of_two_for_the_null_command = refl
+
+line_number_is_the_last_by_default : edited letters (codes "1p\n=\n.=\n0=\nQ\n") ≡ ends (codes "a\n3\n1\n0\n") 3
+unfolding digits
+line_number_is_the_last_by_default = refl

@@ -19,7 +19,7 @@ pub data SpellsBase : (text rest : List ℕ) → Base → Type 0 where
   number : (text rest : List ℕ) (n : ℕ) → SpellsNumber text rest n → SpellsBase text rest (Number n)
   current : (rest : List ℕ) → SpellsBase (full_stop ∷ rest) rest Current
   last : (rest : List ℕ) → SpellsBase (dollar_sign ∷ rest) rest Last
-  marked : (letter : ℕ) (rest : List ℕ) → letter < 26 → SpellsBase (apostrophe ∷ letter_a + letter ∷ rest) rest (Marked letter)
+  marked : (letter : ℕ) (rest : List ℕ) → letter < 26 → SpellsBase (apostrophe ∷ (letter_a + letter) ∷ rest) rest (Marked letter)
   forward : (text rest : List ℕ) (pattern : Option (List ℕ)) → SpellsPattern slash text rest pattern → SpellsBase (slash ∷ text) rest (Forward pattern)
   backward : (text rest : List ℕ) (pattern : Option (List ℕ)) → SpellsPattern question_mark text rest pattern →
       SpellsBase (question_mark ∷ text) rest (Backward pattern)
@@ -65,9 +65,9 @@ semicolon (Some a) b = Semicolon a b
 
 -- the addresses before a command, with the blanks around them
 pub data SpellsAddresses : (text rest : List ℕ) → Addresses → Type 0 where
-  alone : (text rest : List ℕ) (a : Option Address) → SpellsAddress (behind_blanks text) rest a → IsFalse (begins is_separator rest) →
+  single : (text rest : List ℕ) (a : Option Address) → SpellsAddress (behind_blanks text) rest a → IsFalse (begins is_separator rest) →
       SpellsAddresses text rest (alone a)
-  comma : (text more rest : List ℕ) (a b : Option Address) → SpellsAddress (behind_blanks text) (comma_byte ∷ more) a →
+  comma_pair : (text more rest : List ℕ) (a b : Option Address) → SpellsAddress (behind_blanks text) (comma_byte ∷ more) a →
       SpellsAddress (behind_blanks more) rest b → SpellsAddresses text rest (comma a b)
-  semicolon : (text more rest : List ℕ) (a b : Option Address) → SpellsAddress (behind_blanks text) (semicolon_byte ∷ more) a →
+  semicolon_pair : (text more rest : List ℕ) (a b : Option Address) → SpellsAddress (behind_blanks text) (semicolon_byte ∷ more) a →
       SpellsAddress (behind_blanks more) rest b → SpellsAddresses text rest (semicolon a b)

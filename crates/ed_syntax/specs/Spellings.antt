@@ -19,7 +19,7 @@ pub data SpellsText : List ℕ → List ℕ → List (List ℕ) → Type 0 where
 pub data SpellsVerb : (own text rest : List ℕ) → Verb → Type 0 where
   append : (text rest : List ℕ) (entered : List (List ℕ)) → SpellsText text rest entered → SpellsVerb (letter_a ∷ []) text rest (ed.Append entered)
   delete : (rest : List ℕ) → SpellsVerb (letter_d ∷ []) [] rest ed.Delete
-  mark : (letter : ℕ) (rest : List ℕ) → letter < 26 → SpellsVerb (letter_k ∷ letter_a + letter ∷ []) [] rest (ed.Mark letter)
+  mark : (letter : ℕ) (rest : List ℕ) → letter < 26 → SpellsVerb (letter_k ∷ (letter_a + letter) ∷ []) [] rest (ed.Mark letter)
   line_number : (rest : List ℕ) → SpellsVerb (equals_sign ∷ []) [] rest ed.LineNumber
   null : (rest : List ℕ) → SpellsVerb [] [] rest ed.Null
   write : (rest : List ℕ) → SpellsVerb (letter_p ∷ []) [] rest (ed.Write ed.Plain)

@@ -108,20 +108,29 @@ fn base(alloc: Global, bytes: &[u8]) -> Parsed<'_, Option<Base>>
     ensures value { IfOk result (λ read. MatchOption read (base bytes.now ≡ None)
         (λ (b, rest). base bytes.now ≡ Some (optional_base b, rest.now))) }
 {
-    Ok(match bytes {
-        [b'0'..=b'9', ..] => {
-            number(bytes).map(|(line, rest)| (Some(Base::Number(line)), rest))
-        }
-        [b'.', rest @ ..] => Some((Some(Base::Current), rest)),
-        [b'$', rest @ ..] => Some((Some(Base::Last), rest)),
-        [b'\'', rest @ ..] => letter(rest).map(|(letter, rest)| (Some(Base::Marked(letter)), rest)),
-        [b'/', rest @ ..] => pattern_at(alloc, b'/', rest)?
-            .map(|(pattern, rest)| (Some(Base::Forward(pattern)), rest)),
-        [b'?', rest @ ..] => pattern_at(alloc, b'?', rest)?
-            .map(|(pattern, rest)| (Some(Base::Backward(pattern)), rest)),
-        [b'+' | b'-', ..] => Some((Some(Base::Current), bytes)),
-        _ => Some((None, bytes)),
-    })
+    let (base, rest) = match bytes {
+        [b'0'..=b'9', ..] => match number(bytes) {
+            Some((line, rest)) => (Base::Number(line), rest),
+            None => return Ok(None),
+        },
+        [b'.', rest @ ..] => (Base::Current, rest),
+        [b'$', rest @ ..] => (Base::Last, rest),
+        [b'\'', rest @ ..] => match letter(rest) {
+            Some((letter, rest)) => (Base::Marked(letter), rest),
+            None => return Ok(None),
+        },
+        [b'/', rest @ ..] => match pattern_at(alloc, b'/', rest)? {
+            Some((pattern, rest)) => (Base::Forward(pattern), rest),
+            None => return Ok(None),
+        },
+        [b'?', rest @ ..] => match pattern_at(alloc, b'?', rest)? {
+            Some((pattern, rest)) => (Base::Backward(pattern), rest),
+            None => return Ok(None),
+        },
+        [b'+' | b'-', ..] => (Base::Current, bytes),
+        _ => return Ok(Some((None, bytes))),
+    };
+    Ok(Some((Some(base), rest)))
 }
 
 // An address without offsets.

@@ -110,10 +110,10 @@ fn verb_at(alloc: Global, bytes: &[u8]) -> Option<(Verb, &[u8])>
     match *byte {
         b'a' => Some((Verb::Append(Text::new(alloc)), rest)),
         b'd' => Some((Verb::Delete, rest)),
-        b'k' => {
-            let (letter, rest) = letter(rest)?;
-            Some((Verb::Mark(letter), rest))
-        }
+        b'k' => match letter(rest) {
+            Some((letter, rest)) => Some((Verb::Mark(letter), rest)),
+            None => None,
+        },
         b'p' => Some((Verb::Write(Form::Plain), rest)),
         b'=' => Some((Verb::LineNumber, rest)),
         b'Q' => Some((Verb::QuitAnyway, rest)),
