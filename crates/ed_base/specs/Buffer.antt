@@ -1,5 +1,5 @@
 -- The buffer's lines (XCU ed, "Extended Description"; XBD 3, "Line").
-use Rattle.std.specs.Prelude.{ℕ, ◌-◌, List, [], Bool, true, false, ◌&&◌, map, replicate, position, Option, Some, None, nat_le, slice_index_or, slice_set}
+use Rattle.std.specs.Prelude.{ℕ, ◌-◌, List, [], Bool, true, false, ◌&&◌, map, replicate, position, Option, Some, None, nat_le, slice_index_or, slice_set, ◌≡◌, length, All}
 
 -- a line of the buffer: its bytes, whether each of the letters a to z marks it, and a global command's flag
 pub record Line : Type 0 where
@@ -40,3 +40,16 @@ abbrev pub marked_at : (place letter : ℕ) → List Line → List Line
 marked_at place letter lines =
     let others = map (with_letter letter false) lines in
     slice_set others place (with_letter letter true (slice_index_or others place (plain_line [])))
+
+-- a letter marks one line at most
+abbrev pub AtMostOnce : List Line → Type 0
+AtMostOnce lines = (letter i j : ℕ) → has_letter letter (slice_index_or lines i (plain_line [])) ≡ true →
+    has_letter letter (slice_index_or lines j (plain_line [])) ≡ true → i ≡ j
+
+-- of each line it is known whether each of the letters marks it
+abbrev pub KnowLetters : List Line → Type 0
+KnowLetters lines = All (λ line. length line.letters ≡ 26) lines
+
+-- no letter that marks this line marks one of these
+abbrev pub SharesNoLetter : Line → List Line → Type 0
+SharesNoLetter line lines = (letter : ℕ) → has_letter letter line ≡ true → marked_place letter lines ≡ None

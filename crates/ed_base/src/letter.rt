@@ -4,7 +4,7 @@ ghost use Rattle.ed_base.specs.Buffer.{letter_of};
 
 use std::marker::Model;
 
-/// A lower-case letter, which may mark a line (XCU ed, "Mark Command").
+/// One of the letters `a` to `z`. Contracts see it as its place among them: `a` is 0.
 #[derive(Clone, Copy, Debug, PartialEq, Eq)]
 pub struct Letter {
     place: u8,
@@ -17,23 +17,24 @@ impl Model for Letter {
 
     ghost view = { λ l. l.place };
 
-    ghost inverse = { λ place. record { place = place } };
-
     ghost invariant = { λ l. l.place < 26 };
+
+    ghost inverse = { λ n. record { place = n } };
 }
 
 impl Letter {
-    /// The letter of a byte. Any other byte than `a` to `z` is none.
+    /// The letter that a byte spells.
     pub fn new(byte: u8) -> Option<Letter>
-        ensures value { result ≡ letter_of byte }
+        ensures exact { result ≡ letter_of byte }
     {
-        match byte {
-            b'a'..=b'z' => Some(Letter { place: byte - b'a' }),
-            _ => None,
+        if byte.is_ascii_lowercase() {
+            Some(Letter { place: byte - b'a' })
+        } else {
+            None
         }
     }
 
-    /// Its place in the alphabet, from 0 for `a` to 25 for `z`.
+    /// Its place among the letters.
     pub fn place(self) -> usize
         ensures value { result ≡ self }
         ensures within { result < 26 }

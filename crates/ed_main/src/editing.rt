@@ -2,9 +2,9 @@
 use crate::reading::{In, ReadFault, read_all};
 use crate::words::{USAGE, file_of_words};
 use ed_base::{Bytes, Fault};
-use ed_session::line_store::PlainStore;
 use ed_session::{MemFiles, Out, Session, drive};
 use ed_syntax::{Options, read_script};
+use line_store::PlainStore;
 use std::alloc::AllocError;
 use std::rt::{Env, Files};
 use std::{env, fs, io};

@@ -1,11 +1,9 @@
 pub mod Asked
 pub mod Cases
 pub mod Causes
-pub mod Commanding
 pub mod Driven
 pub mod Ended
 pub mod Logs
 pub mod Performed
-pub mod Ranges
 pub mod Replies
 pub mod Taken

@@ -7,7 +7,6 @@ pub mod Drives
 pub mod MemFiles
 pub mod MemSinks
 -- what serves clauses inside the crate
-pub mod Editors
 pub mod Faults
 pub mod Insides
 pub mod Advances

@@ -5,11 +5,11 @@ ghost use Rattle.ed_session.specs.Drives.{added, Drove, DroveLost, Closed, FileR
 ghost use Rattle.ed_session.specs.Turns.{Performs, Begins};
 ghost use Rattle.ed_session.specs.Work.{work};
 
-use crate::line_store::LineStore;
 use crate::sink::give;
 use crate::{Ask, Outside, Session, Sink};
 use ed_base::Fault;
 use ed_syntax::{Answer, Ending, Request};
+use line_store::LineStore;
 
 // Has the outside do what the session waits for, and gives it the answer.
 fn perform<S: LineStore, O: Outside>(session: &mut Session<S>, outside: &mut O, request: Request)

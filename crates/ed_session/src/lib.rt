@@ -2,9 +2,7 @@
 #![tactic(auto)]
 
 mod driving;
-mod editor;
 pub mod laws;
-pub mod line_store;
 mod mem_files;
 mod mem_sink;
 mod outside;

@@ -4,11 +4,11 @@ ghost use Rattle.ed_syntax.specs.PublicTypes.{verb_value};
 ghost use Rattle.ed_session.specs.Insides.{quits_anyway};
 ghost use Rattle.ed_session.specs.Steps.{memory_report};
 
-use crate::editor::{Editor, Reply};
-use crate::line_store::LineStore;
 use crate::stage::Stage;
 use ed_base::{Bytes, Fault};
+use ed_commands::{Editor, Reply};
 use ed_syntax::{Answer, Command, Ending, Options, Request, Script, Verb};
+use line_store::LineStore;
 use std::alloc::{AllocError, Global};
 use std::marker::Model;
 use std::mem;
@@ -189,7 +189,7 @@ impl<S: LineStore> Session<S> {
             Fault::Unsaved
         } else {
             self.stage = Stage::Over(Ok(Ending {
-                lines: self.editor.len(),
+                lines: self.editor.lines().len(),
             }));
             return;
         };
@@ -211,7 +211,7 @@ impl<S: LineStore> Session<S> {
         let command = &self.commands[self.next];
         if ends_run(&command.verb) {
             self.stage = Stage::Over(Ok(Ending {
-                lines: self.editor.len(),
+                lines: self.editor.lines().len(),
             }));
             return None;
         }

@@ -1,8 +1,8 @@
 //! What no clause says: that runs are what the standard says, and what they write where they break off (XCU ed).
-use crate::line_store::PlainStore;
 use crate::{Ask, MemFiles, MemSink, Out, Session, drive};
 use ed_base::{Bytes, Fault};
 use ed_syntax::{Answer, Ending, Options, read_script};
+use line_store::PlainStore;
 use std::alloc::{AllocError, Global};
 use std::test::Fail;
 

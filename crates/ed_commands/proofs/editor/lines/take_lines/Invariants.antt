@@ -1,0 +1,14 @@
+-- The lines from i on are taken, the last one first.
+use Rattle.std.proofs.Common.{◌≡◌, ◌+◌, ◌-◌, ◌≤◌, ◌++◌, drop, take, reverse}
+use Rattle.std.specs.Prelude.{vec_len, vec_capacity}
+use Rattle.ed_commands.proofs.editor.lines.take_lines.Given as goal
+
+abbrev pub invariant-loop-i : goal.invariant-loop-i
+invariant-loop-i g l =
+    let lines = g.S.LineStore.lines in
+    record {
+      left : lines l.store ≡ take l.i (lines l.fn.store) ++ drop l.fn.span.last (lines l.fn.store);
+      taken : reverse l.taken.items ≡ drop l.i (take l.fn.span.last (lines l.fn.store));
+      count : vec_len l.taken + l.i ≡ l.fn.span.last;
+      room : l.fn.span.last ≤ vec_capacity l.taken + (l.fn.span.first - 1);
+    }

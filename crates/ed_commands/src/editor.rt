@@ -1,0 +1,155 @@
+//! An editor over any store: one command at a time.
+ghost use Rattle.std.specs.Prelude.{◌≡◌, ◌≢◌, [], Option, None, IfErr, IfSome, OnOk, MatchResult};
+ghost use Rattle.ed_base.specs.declared.fault.Fault.TheVariants.{Memory};
+ghost use Rattle.ed_syntax.specs.PublicTypes.{command_value};
+ghost use Rattle.ed_syntax.specs.declared.request.Answer.{Answer};
+ghost use Rattle.ed_syntax.specs.Applied as applied;
+ghost use Rattle.ed_syntax.specs.Applied.{Done};
+ghost use Rattle.ed_syntax.specs.Runs.{loaded};
+ghost use Rattle.ed_commands.specs.Editors.{Applied, opening_value, failure_of};
+
+mod addressing;
+mod change;
+mod effects;
+mod lines;
+
+use change::Change;
+use ed_base::{Bytes, Fault};
+use ed_syntax::{Answer, Command, Request};
+use line_store::LineStore;
+use lines::put_file;
+use std::alloc::Global;
+use std::marker::Model;
+
+/// What a command answers.
+#[derive(Debug, PartialEq, Eq, Drop)]
+pub enum Reply {
+    /// What it wrote.
+    Done(Bytes),
+    /// The file that it needs first.
+    Wants(Request),
+}
+
+/// A buffer with what commands remember. After a fault it has failed, and each later call answers that fault.
+#[derive(Drop)]
+pub struct Editor<S: LineStore> {
+    alloc: Global,
+    store: S,
+    current: usize,
+    name: Option<Bytes>,
+    changed: bool,
+    change: Option<Change>,
+    failed: Option<Fault>,
+}
+
+impl<S: LineStore> Model for Editor<S> {
+    ghost use Rattle.std.specs.Prelude.{◌≤◌, length, None};
+    ghost use Rattle.ed_commands.specs.Editors.{EditorValue, past_of};
+
+    ghost Value = { EditorValue };
+
+    ghost view = { λ e. record { state = record { lines = S.lines e.store; current = e.current; pattern = None; replacement = None; name = e.name; changed = e.changed; past = past_of e.change (S.lines e.store) }; failed = e.failed } };
+
+    ghost invariant = { λ e. e.current ≤ length (S.lines e.store) };
+}
+
+impl<S: LineStore> Editor<S> {
+    /// An editor of an empty store. It takes no memory.
+    pub fn new(alloc: Global, store: S) -> Self
+        requires empty { S.lines store ≡ [] }
+        ensures value { result ≡ opening_value }
+    {
+        Editor {
+            alloc,
+            store,
+            current: 0,
+            name: None,
+            changed: false,
+            change: None,
+            failed: None,
+        }
+    }
+
+    /// Loads a file's bytes into an editor that was just made: its lines are the buffer, the last one is current, and the path is
+    /// remembered.
+    pub fn load(&mut self, bytes: &[u8], path: Bytes) -> Result<(), Fault>
+        requires opening { self.old ≡ opening_value }
+        ensures loaded { OnOk result (self.new.state ≡ loaded bytes.now path self.old.state) }
+        ensures memory { IfErr result (λ fault. fault ≡ Memory) }
+        ensures failed { self.new.failed ≡ failure_of self.old.failed result }
+    {
+        match put_file(self.alloc, bytes, &mut self.store) {
+            Ok(()) => {
+                self.current = self.store.len();
+                self.name = Some(path);
+                Ok(())
+            }
+            Err(_) => {
+                self.failed = Some(Fault::Memory);
+                Err(Fault::Memory)
+            }
+        }
+    }
+
+    /// Carries out a command (XCU ed, "Commands in ed"). No command asks for a file yet, so the answer isn't looked at. After an
+    /// `Err` the editor has failed, and what else it holds isn't said.
+    pub fn apply(&mut self, command: &Command, answer: Option<Answer>) -> Result<Reply, Fault>
+        ensures exact { self.old.failed ≡ None →
+            Applied (applied.command self.old.state (command_value command.now) answer) result self.new.state }
+        ensures failed { self.new.failed ≡ failure_of self.old.failed result }
+        ensures sticky { IfSome self.old.failed (λ fault. (result ≡ Err fault) × (self.new ≡ self.old)) }
+    {
+        if let Some(fault) = self.failed {
+            return Err(fault);
+        }
+        match self.perform(command) {
+            Ok(output) => Ok(Reply::Done(output)),
+            Err(fault) => {
+                self.failed = Some(fault);
+                Err(fault)
+            }
+        }
+    }
+
+    // The lines that a command is applied to, its effect there, and its suffix.
+    fn perform(&mut self, command: &Command) -> Result<Bytes, Fault>
+        ensures exact { (given : Option Answer) → let expected = applied.command self.old.state (command_value command.now) given in
+            MatchResult result (λ output. expected ≡ Ok (self.new.state, Done output)) (λ fault. fault ≢ Memory → expected ≡ Err fault) }
+        ensures failed { self.new.failed ≡ self.old.failed }
+    {
+        let span = self.span(command)?;
+        let output = self.effect(&command.verb, span)?;
+        self.write_suffix(command.suffix, output)
+    }
+
+    /// The current line's number, counted from 1; 0 in an empty buffer or before the first line.
+    pub fn current(&self) -> usize
+        ensures value { result ≡ self.now.state.current }
+    {
+        self.current
+    }
+
+    /// Whether the buffer has changes that weren't written.
+    pub fn changed(&self) -> bool
+        ensures value { result ≡ self.now.state.changed }
+    {
+        self.changed
+    }
+
+    /// The store of the buffer's lines.
+    pub fn lines(&self) -> &S
+        ensures value { S.lines result.now ≡ self.now.state.lines }
+    {
+        &self.store
+    }
+
+    /// The fault that it has failed by.
+    pub fn failed(&self) -> Option<Fault>
+        ensures value { result ≡ self.now.failed }
+    {
+        self.failed
+    }
+}
+
+#[cfg(test)]
+mod tests;

@@ -1,0 +1,118 @@
+//! Ranges of lines of a store: written, put, taken out.
+ghost use Rattle.std.specs.Prelude.{◌≡◌, ◌-◌, ◌^◌, ◌≤◌, [], ◌++◌, length, map, min, flat_map, IfOk, OnOk, OnErr};
+ghost use Rattle.ed_base.specs.Lines.{AreLines, lines_of};
+ghost use Rattle.ed_base.specs.Buffer.{plain_line};
+ghost use Rattle.ed_syntax.specs.PublicTypes.{form_value};
+ghost use Rattle.ed_syntax.specs.States.{between, replaced, inserted};
+ghost use Rattle.ed_syntax.specs.Forms.{lines_written};
+
+use crate::editor::addressing::Span;
+use ed_base::{Bytes, count_lines, next_line};
+use ed_syntax::Form;
+use line_store::{Line, LineStore};
+use std::alloc::{AllocError, Global};
+
+/// Appends the lines of a span, as the form writes them.
+pub fn write_lines<S: LineStore>(
+    output: &mut Bytes,
+    form: Form,
+    span: Span,
+    store: &S,
+) -> Result<(), AllocError>
+    requires first { 1 ≤ span.first }
+    requires order { span.first ≤ span.last }
+    requires last { span.last ≤ length (S.lines store.now) }
+    ensures appended { OnOk result
+        (output.new ≡ output.old ++ lines_written (form_value form) span.first span.last (S.lines store.now)) }
+{
+    match form {
+        Form::Plain => {
+            output.reserve(plain_size(span, store))?;
+            for i in span.first - 1..span.last {
+                output.extend_from_slice(store.text(i))?;
+                output.push(b'\n')?;
+            }
+            Ok(())
+        }
+    }
+}
+
+// How many bytes the lines of a span have with their newlines, or the greatest `usize` where that is more.
+fn plain_size<S: LineStore>(span: Span, store: &S) -> usize
+    requires first { 1 ≤ span.first }
+    requires order { span.first ≤ span.last }
+    requires last { span.last ≤ length (S.lines store.now) }
+    ensures value { result
+        ≡ min (length (lines_written (form_value Form.Plain) span.first span.last (S.lines store.now))) (2 ^ 64 - 1) }
+{
+    let mut size: usize = 0;
+    for i in span.first - 1..span.last {
+        size = size.saturating_add(store.text(i).len()).saturating_add(1);
+    }
+    size
+}
+
+/// Puts lines behind line `at`, the first one first.
+pub fn put_lines<S: LineStore>(
+    alloc: Global,
+    texts: &[Bytes],
+    at: usize,
+    store: &mut S,
+) -> Result<(), AllocError>
+    requires place { at ≤ length (S.lines store.old) }
+    requires lines { AreLines texts.now }
+    ensures inserted { OnOk result (S.lines store.new ≡ inserted at (map plain_line texts.now) (S.lines store.old)) }
+    ensures no_fewer { length (S.lines store.old) ≤ length (S.lines store.new) }
+{
+    // Places are counted from the end, where no sum can be too great.
+    let behind = store.len() - at;
+    store.reserve(texts.len())?;
+    for text in texts {
+        let line = Line::new(alloc, text.as_slice())?;
+        match store.put(store.len() - behind, line) {
+            Ok(()) => {}
+            Err(_refused) => return Err(AllocError),
+        }
+    }
+    Ok(())
+}
+
+/// Puts the lines of a file's bytes behind all others.
+pub fn put_file<S: LineStore>(alloc: Global, bytes: &[u8], store: &mut S) -> Result<(), AllocError>
+    ensures appended { OnOk result (S.lines store.new ≡ S.lines store.old ++ map plain_line (lines_of bytes.now)) }
+    ensures no_fewer { length (S.lines store.old) ≤ length (S.lines store.new) }
+{
+    store.reserve(count_lines(bytes))?;
+    let mut left = bytes;
+    while let Some((text, rest)) = next_line(left) {
+        let line = Line::new(alloc, text)?;
+        match store.put(store.len(), line) {
+            Ok(()) => {}
+            Err(_refused) => return Err(AllocError),
+        }
+        left = rest;
+    }
+    Ok(())
+}
+
+/// Takes the lines of a span out, the last one first, so that at the end of a store nothing has to move. Where there is no
+/// room to hand them back, the store is as before.
+pub fn take_lines<S: LineStore>(
+    alloc: Global,
+    span: Span,
+    store: &mut S,
+) -> Result<Vec<Line>, AllocError>
+    requires first { 1 ≤ span.first }
+    requires order { span.first ≤ span.last }
+    requires last { span.last ≤ length (S.lines store.old) }
+    ensures taken { IfOk result (λ taken. taken.items ≡ between span.first span.last (S.lines store.old)) }
+    ensures left { OnOk result (S.lines store.new ≡ replaced span.first span.last [] (S.lines store.old)) }
+    ensures unchanged { OnErr result (S.lines store.new ≡ S.lines store.old) }
+{
+    let mut taken = Vec::with_capacity(alloc, span.last - (span.first - 1))?;
+    for i in (span.first - 1..span.last).rev() {
+        taken.push_reserved(store.take(i));
+    }
+    taken.reverse();
+    Ok(taken)
+}

@@ -1,0 +1,56 @@
+//! A list of lines, however it is kept.
+ghost use Rattle.std.specs.Prelude.{◌≡◌, ◌+◌, ◌<◌, ◌≤◌, ℕ, List, [], length, insert, remove, slice_index_or, IfOk, IfErr, OnOk, OnErr, IsOk};
+ghost use Rattle.ed_base.specs.Buffer.{Line, plain_line};
+
+use crate::Line;
+use std::alloc::{AllocError, Global};
+
+/// A list of lines. Places count from 0.
+pub trait LineStore: Drop {
+    /// The lines, in order.
+    ghost lines: { Self → List Line };
+
+    /// How many lines can be put before memory is asked for.
+    ghost spare: { Self → ℕ };
+
+    /// A store without lines.
+    fn empty(alloc: Global) -> Result<Self, AllocError>
+        ensures value { IfOk result (λ store. lines store ≡ []) };
+
+    /// How many lines there are.
+    fn len(&self) -> usize
+        ensures value { result ≡ length (lines self.now) };
+
+    /// The bytes of a line.
+    fn text(&self, i: usize) -> &[u8]
+        requires place { i < length (lines self.now) }
+        ensures value { result.now ≡ (slice_index_or (lines self.now) i (plain_line [])).bytes };
+
+    /// Makes room for `n` more lines.
+    fn reserve(&mut self, n: usize) -> Result<(), AllocError>
+        ensures room { OnOk result (n ≤ spare self.new) }
+        ensures unchanged { lines self.new ≡ lines self.old }
+        ensures keeps_room { spare self.old ≤ spare self.new };
+
+    /// Puts a line before place `at`.
+    fn put(&mut self, at: usize, line: Line) -> Result<(), Line>
+        requires place { at ≤ length (lines self.old) }
+
+        ensures inserted { OnOk result (lines self.new ≡ insert (lines self.old) at line) }
+
+        // A refused line comes back, and the store is as before.
+        ensures handed_back { IfErr result (λ back. back ≡ line) }
+        ensures unchanged { OnErr result (lines self.new ≡ lines self.old) }
+
+        // Where `reserve` made room, nothing is refused.
+        ensures room { 0 < spare self.old → IsOk result }
+        ensures spends_one { spare self.old ≤ spare self.new + 1 }
+        ensures keeps_room { OnErr result (spare self.old ≤ spare self.new) };
+
+    /// Takes a line out.
+    fn take(&mut self, i: usize) -> Line
+        requires place { i < length (lines self.old) }
+        ensures value { result ≡ slice_index_or (lines self.old) i (plain_line []) }
+        ensures removed { lines self.new ≡ remove (lines self.old) i }
+        ensures keeps_room { spare self.old ≤ spare self.new };
+}

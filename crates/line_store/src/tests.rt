@@ -1,0 +1,51 @@
+//! What no clause says: that calls succeed.
+use crate::{Line, LineStore, PlainStore};
+use ed_base::next_line;
+use std::test::Fail;
+
+#[test]
+fn lines_are_put_told_and_taken_in_their_order(rt: HostRuntime) -> Result<(), Fail> {
+    let mut store = PlainStore::empty(rt.alloc())?;
+    assert_eq!(rt; store.len(), 0);
+    store.reserve(3)?;
+    let mut left: &[u8] = b"c\n\0\r\xff\x80\n\n";
+    while let Some((text, rest)) = next_line(left) {
+        let line = Line::new(rt.alloc(), text)?;
+        assert_eq!(rt; line.bytes(), text);
+        assert!(rt; store.put(0, line).is_ok());
+        left = rest;
+    }
+    assert_eq!(rt; store.len(), 3);
+    assert_eq!(rt; store.text(0), b"".as_slice());
+    assert_eq!(rt; store.text(1), b"\0\r\xff\x80".as_slice());
+    assert_eq!(rt; store.text(2), b"c".as_slice());
+    let taken = store.take(1);
+    assert_eq!(rt; taken.bytes(), b"\0\r\xff\x80".as_slice());
+    assert_eq!(rt; store.len(), 2);
+    assert_eq!(rt; store.text(0), b"".as_slice());
+    assert_eq!(rt; store.text(1), b"c".as_slice());
+    Ok(())
+}
+
+// For runs in which an allocation is refused (`rt try --test --fail-alloc N`): none of them may fail.
+#[test]
+fn a_refused_line_comes_back_and_the_store_is_as_before(rt: HostRuntime) {
+    let Ok(mut store) = PlainStore::empty(rt.alloc()) else {
+        return;
+    };
+    let mut left: &[u8] = b"a\nb\nc\nd\ne\nf\ng\nh\ni\n";
+    while let Some((text, rest)) = next_line(left) {
+        let Ok(line) = Line::new(rt.alloc(), text) else {
+            return;
+        };
+        let before = store.len();
+        match store.put(before, line) {
+            Ok(()) => assert_eq!(rt; store.len(), before + 1),
+            Err(refused) => {
+                assert_eq!(rt; refused.bytes(), text);
+                assert_eq!(rt; store.len(), before);
+            }
+        }
+        left = rest;
+    }
+}
