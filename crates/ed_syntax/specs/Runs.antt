@@ -40,6 +40,11 @@ abbrev pub step : Command → Present → (Present → Rest) → Rest
 step c m go answers = elim c.verb [
   | ed.QuitAnyway ↦ ending m
   | ed.Append text ↦ one c m go answers
+  | ed.Change text ↦ one c m go answers
+  | ed.Insert text ↦ one c m go answers
+  | ed.Join ↦ one c m go answers
+  | ed.Move target ↦ one c m go answers
+  | ed.Copy target ↦ one c m go answers
   | ed.Delete ↦ one c m go answers
   | ed.Mark letter ↦ one c m go answers
   | ed.LineNumber ↦ one c m go answers
