@@ -5,8 +5,8 @@ ghost use Rattle.ed_syntax.specs.Reading.{verb_at, is_over, heading, heading_beh
 ghost use Rattle.ed_syntax.specs.PublicTypes.{addresses_value, verb_value, script_value};
 ghost use Rattle.ed_syntax.specs.ReadParts.{heading_value, command_behind};
 
-use crate::script_lines::ScriptLines;
 use crate::addresses::addresses;
+use crate::script_lines::ScriptLines;
 use crate::tokens::{behind_blanks, letter};
 use crate::{Addresses, Command, Form, Script, Taking, Verb};
 use ed_base::Text;
