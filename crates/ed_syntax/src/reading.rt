@@ -5,9 +5,9 @@ ghost use Rattle.ed_syntax.specs.Reading.{beside_letter, plain_verbs, target, ve
 ghost use Rattle.ed_syntax.specs.PublicTypes.{address_value, addresses_value, suffix_value, verb_value, script_value};
 ghost use Rattle.ed_syntax.specs.ReadParts.{optional_verb, optional_own_line, command_behind};
 
-use crate::script_lines::ScriptLines;
 use crate::addresses::{address, addresses};
 use crate::quoting::Parsed;
+use crate::script_lines::ScriptLines;
 use crate::tokens::{behind_blanks, letter};
 use crate::{Address, Addresses, Command, Form, Script, Taking, Verb};
 use ed_base::Text;
