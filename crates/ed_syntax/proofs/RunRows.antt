@@ -454,3 +454,22 @@ no_suffix_behind_quit = refl
 
 no_target : edited letters (codes "1m\n") ≡ fails (codes "?\n") fault.Syntax
 no_target = refl
+
+-- help mode and prompting
+
+help_and_prompt : run (script_of (codes "1n\nH\nx\n")) (options true (Some (codes "> "))) (answer.Bytes (codes "a\nb\n") ∷ [])
+    ≡ fails (codes "> 1\ta\n> > ?\ninvalid command\n") fault.Syntax
+unfolding digits
+help_and_prompt = refl
+
+prompt_turned_on : run (script_of (codes "P\n")) (options true None) (answer.Bytes letters ∷ []) ≡ ends (codes "*") 3
+prompt_turned_on = refl
+
+suffix_before_help_mode : edited [] (codes "Hp\n") ≡ fails (codes "?\n") fault.Address
+suffix_before_help_mode = refl
+
+help_mode_turned_off : edited letters (codes "H\nH\nh\nx\n") ≡ fails (codes "?\n") fault.Syntax
+help_mode_turned_off = refl
+
+no_address_before_help : edited letters (codes "1h\n") ≡ fails (codes "?\n") fault.Syntax
+no_address_before_help = refl

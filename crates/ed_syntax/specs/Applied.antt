@@ -32,6 +32,9 @@ effect_of (ed.Copy to) x target s given = Ok (Makes (effect.copy x target s))
 effect_of ed.LineNumber x target s given = Ok (Makes (effect.line_number x s))
 effect_of ed.Null x target s given = Ok (Makes (effect.write ed.Plain x s))
 effect_of (ed.Write form) x target s given = Ok (Makes (effect.write form x s))
+effect_of ed.Help x target s given = Ok (Makes (only s []))
+effect_of ed.HelpMode x target s given = Ok (Makes (only s []))
+effect_of ed.PromptMode x target s given = Ok (Makes (only s []))
 effect_of ed.QuitAnyway x target s given = Ok (Makes (only s []))
 
 -- the value of a target, where there is one

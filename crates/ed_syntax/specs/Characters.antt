@@ -42,6 +42,14 @@ equals_sign = 61
 abbrev pub question_mark : ℕ
 question_mark = 63
 
+-- `H`
+abbrev pub capital_h : ℕ
+capital_h = 72
+
+-- `P`
+abbrev pub capital_p : ℕ
+capital_p = 80
+
 -- `Q`
 abbrev pub capital_q : ℕ
 capital_q = 81
@@ -65,6 +73,10 @@ letter_c = 99
 -- `d`
 abbrev pub letter_d : ℕ
 letter_d = 100
+
+-- `h`
+abbrev pub letter_h : ℕ
+letter_h = 104
 
 -- `i`
 abbrev pub letter_i : ℕ

@@ -34,7 +34,7 @@ pub data Form : Type 0 where
   Unambiguous : Form
 
 -- A command's letter with its parameters: `a`, `c` and `i` with their text, `d`, `j`, `k` with the letter that marks, `m` and `t`
--- with their target, `=`, the null command, `l`, `n` and `p` by the form that they write in, `Q`.
+-- with their target, `=`, the null command, `l`, `n` and `p` by the form that they write in, `h`, `H`, `P`, `Q`.
 pub data Verb : Type 0 where
   Append : (text : List (List ℕ)) → Verb
   Change : (text : List (List ℕ)) → Verb
@@ -47,6 +47,9 @@ pub data Verb : Type 0 where
   LineNumber : Verb
   Null : Verb
   Write : (form : Form) → Verb
+  Help : Verb
+  HelpMode : Verb
+  PromptMode : Verb
   QuitAnyway : Verb
 
 -- a command; `listed` where it stands in the list of a global command

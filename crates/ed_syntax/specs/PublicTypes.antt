@@ -62,6 +62,9 @@ verb_value (verb.Mark letter) = ed.Mark letter
 verb_value verb.LineNumber = ed.LineNumber
 verb_value verb.Null = ed.Null
 verb_value (verb.Write f) = ed.Write (form_value f)
+verb_value verb.Help = ed.Help
+verb_value verb.HelpMode = ed.HelpMode
+verb_value verb.PromptMode = ed.PromptMode
 verb_value verb.QuitAnyway = ed.QuitAnyway
 
 -- a command

@@ -5,7 +5,7 @@ use Rattle.ed_base.specs.Lines.{lines_of}
 use Rattle.ed_syntax.specs.Commands as ed
 use Rattle.ed_syntax.specs.Commands.{Address, Addresses, Form, Verb, Command, Script}
 use Rattle.ed_syntax.specs.Verbs.{may_have, takes_suffix}
-use Rattle.ed_syntax.specs.Characters.{equals_sign, capital_q, letter_a, letter_c, letter_d, letter_i, letter_j, letter_k, letter_l, letter_m, letter_n, letter_p, letter_t, is_blank, behind_blanks}
+use Rattle.ed_syntax.specs.Characters.{equals_sign, capital_h, capital_p, capital_q, letter_a, letter_c, letter_d, letter_h, letter_i, letter_j, letter_k, letter_l, letter_m, letter_n, letter_p, letter_t, is_blank, behind_blanks}
 use Rattle.ed_syntax.specs.Tokens.{Parsed, ◌>>=◌, letter, address, addresses}
 
 -- the verb beside this letter
@@ -25,6 +25,9 @@ plain_verbs =
     ∷ (letter_n, ed.Write ed.Numbered)
     ∷ (letter_p, ed.Write ed.Plain)
     ∷ (equals_sign, ed.LineNumber)
+    ∷ (letter_h, ed.Help)
+    ∷ (capital_h, ed.HelpMode)
+    ∷ (capital_p, ed.PromptMode)
     ∷ (capital_q, ed.QuitAnyway)
     ∷ []
 
@@ -122,6 +125,9 @@ with_text (ed.Copy target) later = (ed.Copy target, later)
 with_text ed.LineNumber later = (ed.LineNumber, later)
 with_text ed.Null later = (ed.Null, later)
 with_text (ed.Write form) later = (ed.Write form, later)
+with_text ed.Help later = (ed.Help, later)
+with_text ed.HelpMode later = (ed.HelpMode, later)
+with_text ed.PromptMode later = (ed.PromptMode, later)
 with_text ed.QuitAnyway later = (ed.QuitAnyway, later)
 
 -- the command of a heading, and the lines behind it

@@ -1,7 +1,7 @@
 -- Which bytes spell a command, and which a script (XCU ed, "Commands in ed").
 use Rattle.std.specs.Prelude.{ℕ, ◌+◌, ◌<◌, ◌≡◌, ◌≢◌, false, List, [], ◌∷◌, ◌++◌, length, Option, Some, None, IsTrue}
 use Rattle.ed_base.specs.Lines.{newline, IsLine, lines_of, bytes_of}
-use Rattle.ed_syntax.specs.Characters.{full_stop, equals_sign, capital_q, letter_a, letter_c, letter_d, letter_i, letter_j, letter_k, letter_l, letter_m, letter_n, letter_p, letter_t, behind_blanks}
+use Rattle.ed_syntax.specs.Characters.{full_stop, equals_sign, capital_h, capital_p, capital_q, letter_a, letter_c, letter_d, letter_h, letter_i, letter_j, letter_k, letter_l, letter_m, letter_n, letter_p, letter_t, behind_blanks}
 use Rattle.ed_syntax.specs.Commands as ed
 use Rattle.ed_syntax.specs.Commands.{Address, Addresses, Form, Verb, Command, Script}
 use Rattle.ed_syntax.specs.Verbs.{may_have, takes_suffix}
@@ -45,6 +45,9 @@ pub data SpellsVerb : (own more text rest : List ℕ) → Verb → Type 0 where
   line_number : (more rest : List ℕ) → SpellsVerb (equals_sign ∷ more) more [] rest ed.LineNumber
   null : (rest : List ℕ) → SpellsVerb [] [] [] rest ed.Null
   write : (letter : ℕ) (more rest : List ℕ) (form : Form) → SpellsForm letter form → SpellsVerb (letter ∷ more) more [] rest (ed.Write form)
+  help : (more rest : List ℕ) → SpellsVerb (letter_h ∷ more) more [] rest ed.Help
+  help_mode : (more rest : List ℕ) → SpellsVerb (capital_h ∷ more) more [] rest ed.HelpMode
+  prompt_mode : (more rest : List ℕ) → SpellsVerb (capital_p ∷ more) more [] rest ed.PromptMode
   quit_anyway : (more rest : List ℕ) → SpellsVerb (capital_q ∷ more) more [] rest ed.QuitAnyway
 
 -- Whole lines that spell a command, and the lines that follow: a line with addresses, a letter and a suffix, and a text.

@@ -18,6 +18,9 @@ taking (ed.Copy target) = takes.Range
 taking ed.LineNumber = takes.Place
 taking ed.Null = takes.OneLine
 taking (ed.Write form) = takes.Range
+taking ed.Help = takes.NoAddress
+taking ed.HelpMode = takes.NoAddress
+taking ed.PromptMode = takes.NoAddress
 taking ed.QuitAnyway = takes.NoAddress
 
 -- the current line
@@ -41,6 +44,9 @@ default (ed.Copy target) = Comma here here
 default ed.LineNumber = One (at_base ed.Last)
 default ed.Null = One next
 default (ed.Write form) = Comma here here
+default ed.Help = Without
+default ed.HelpMode = Without
+default ed.PromptMode = Without
 default ed.QuitAnyway = Without
 
 -- the given addresses, or the command's own where there are none
@@ -79,6 +85,9 @@ has_text (ed.Copy target) = false
 has_text ed.LineNumber = false
 has_text ed.Null = false
 has_text (ed.Write form) = false
+has_text ed.Help = false
+has_text ed.HelpMode = false
+has_text ed.PromptMode = false
 has_text ed.QuitAnyway = false
 
 -- the address that it has for its target
@@ -94,6 +103,9 @@ target_of (ed.Copy target) = Some target
 target_of ed.LineNumber = None
 target_of ed.Null = None
 target_of (ed.Write form) = None
+target_of ed.Help = None
+target_of ed.HelpMode = None
+target_of ed.PromptMode = None
 target_of ed.QuitAnyway = None
 
 -- a suffix may follow
@@ -109,4 +121,7 @@ takes_suffix (ed.Copy target) = true
 takes_suffix ed.LineNumber = true
 takes_suffix ed.Null = false
 takes_suffix (ed.Write form) = true
+takes_suffix ed.Help = true
+takes_suffix ed.HelpMode = true
+takes_suffix ed.PromptMode = true
 takes_suffix ed.QuitAnyway = false

@@ -77,6 +77,12 @@ pub enum Verb {
     Null,
     /// `l`, `n` and `p`, by their form.
     Write(Form),
+    /// `h`: nothing, since a run has no earlier fault.
+    Help,
+    /// `H`: turns help mode on or off, in which a fault's text is written behind its `?`.
+    HelpMode,
+    /// `P`: turns prompting on or off.
+    PromptMode,
     /// `Q`: the end of the run, whether or not changes were written.
     QuitAnyway,
 }

@@ -164,6 +164,9 @@ fn plain_verb(alloc: Global, letter: u8) -> Option<Verb>
         b'n' => Some(Verb::Write(Form::Numbered)),
         b'p' => Some(Verb::Write(Form::Plain)),
         b'=' => Some(Verb::LineNumber),
+        b'h' => Some(Verb::Help),
+        b'H' => Some(Verb::HelpMode),
+        b'P' => Some(Verb::PromptMode),
         b'Q' => Some(Verb::QuitAnyway),
         _ => None,
     }

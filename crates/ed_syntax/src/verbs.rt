@@ -55,7 +55,7 @@ impl Verb {
             Verb::Delete | Verb::Join | Verb::Move(_) | Verb::Copy(_) | Verb::Write(_) => {
                 Taking::Range
             }
-            Verb::QuitAnyway => Taking::NoAddress,
+            Verb::Help | Verb::HelpMode | Verb::PromptMode | Verb::QuitAnyway => Taking::NoAddress,
         }
     }
 
@@ -74,7 +74,7 @@ impl Verb {
                 offset: 0,
             }),
             Verb::Null => Addresses::One(next()),
-            Verb::QuitAnyway => Addresses::Without,
+            Verb::Help | Verb::HelpMode | Verb::PromptMode | Verb::QuitAnyway => Addresses::Without,
         }
     }
 
