@@ -1,11 +1,11 @@
 -- Blanks at the front of bytes.
-use Rattle.std.proofs.Common.{◌≡◌, ◌≢◌, ℕ, true, false, List, [], ◌∷◌, ◌++◌, refl, sym, ap, ◌∙◌, ⊎_elim}
+use Rattle.std.proofs.Common.{◌≡◌, ◌≢◌, ℕ, ◌≤◌, true, false, List, [], ◌∷◌, ◌++◌, length, refl, sym, ap, ◌∙◌, ⊎_elim, arith}
+use Rattle.std.specs.Prelude.{IsFalse}
 use Rattle.std.proofs.lemmas.Bool.{cases_Bool, false≢true}
 use Rattle.std.proofs.lemmas.List.Elements.{All-nil, All-cons, All-head, All-tail, All-weaker}
 use Rattle.ed_base.specs.Lines.{newline, IsLine}
-use Rattle.ed_syntax.specs.Characters.{is_blank}
+use Rattle.ed_syntax.specs.Characters.{is_blank, begins, behind_blanks}
 use Rattle.ed_syntax.specs.Addressing.{Blanks}
-use Rattle.ed_syntax.specs.Tokens.{behind_blanks}
 
 abbrev pub IsBlank : ℕ → Type 0
 IsBlank b = is_blank b ≡ true
@@ -41,6 +41,24 @@ behind_blanks-twice (b ∷ bytes) =
     ⊎_elim
     (λ yes. ap behind_blanks (behind_blanks-blank b bytes yes) ∙ behind_blanks-twice bytes ∙ sym (behind_blanks-blank b bytes yes))
     (λ no. ap behind_blanks (behind_blanks-other b bytes no))
+    (cases_Bool (is_blank b))
+
+-- no blank stands there
+pub behind_blanks-first : (bytes : List ℕ) → IsFalse (begins is_blank (behind_blanks bytes))
+behind_blanks-first [] = refl
+behind_blanks-first (b ∷ bytes) =
+    ⊎_elim
+    (λ yes. ap (begins is_blank) (behind_blanks-blank b bytes yes) ∙ behind_blanks-first bytes)
+    (λ no. ap (begins is_blank) (behind_blanks-other b bytes no) ∙ no)
+    (cases_Bool (is_blank b))
+
+-- no more bytes stand behind the blanks
+pub behind_blanks-short : (bytes : List ℕ) → length (behind_blanks bytes) ≤ length bytes
+behind_blanks-short [] = omega arith
+behind_blanks-short (b ∷ bytes) =
+    ⊎_elim
+    (λ yes. omega (arith, ap length (behind_blanks-blank b bytes yes), behind_blanks-short bytes))
+    (λ no. omega (arith, ap length (behind_blanks-other b bytes no)))
     (cases_Bool (is_blank b))
 
 -- no blank is a newline

@@ -1,6 +1,8 @@
 mod RunRows
 mod ScriptRows
+pub mod StepLemmas
 pub mod ScriptLemmas
 pub mod BlankLemmas
 pub mod NumberLemmas
+pub mod OffsetLemmas
 pub mod TextLemmas
