@@ -5,4 +5,7 @@ pub mod ScriptLemmas
 pub mod BlankLemmas
 pub mod NumberLemmas
 pub mod OffsetLemmas
+pub mod BracketLemmas
+pub mod QuotingLemmas
+pub mod AddressLemmas
 pub mod TextLemmas
