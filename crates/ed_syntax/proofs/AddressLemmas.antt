@@ -1,11 +1,11 @@
 -- Addresses: what is read is spelled so, and what is spelled so is read.
-use Rattle.std.proofs.Common.{◌≡◌, ◌≢◌, ℕ, ◌+◌, ◌-◌, ◌<◌, ◌≤◌, ◌&&◌, ℤ, true, false, nat_eq, nat_le, List, [], ◌∷◌, length, Option, Some, None, refl, sym, ap, ◌∙◌, subst, arith}
+use Rattle.std.proofs.Common.{◌≡◌, ◌≢◌, ℕ, ◌+◌, ◌-◌, ◌<◌, ◌≤◌, ◌&&◌, ◌||◌, ℤ, true, false, nat_eq, nat_le, List, [], ◌∷◌, length, Option, Some, None, refl, sym, ap, ◌∙◌, ⊎_elim, subst, arith}
 use Rattle.std.specs.Prelude.{IsTrue, IsFalse}
-use Rattle.std.proofs.lemmas.Bool.{eqb-true, leb-true, le-leb, and_parts, and_from, or_from, or_parts, or_right}
+use Rattle.std.proofs.lemmas.Bool.{eqb-true, leb-true, le-leb, and_parts, and_from, or_parts, or_cases, false≢true}
 use Rattle.ed_base.specs.Buffer.{letter_of}
-use Rattle.ed_syntax.specs.Characters.{dollar_sign, apostrophe, full_stop, slash, question_mark, backslash, letter_a, is_digit, is_sign, begins_address, begins}
+use Rattle.ed_syntax.specs.Characters.{dollar_sign, apostrophe, plus_sign, hyphen, full_stop, slash, question_mark, backslash, letter_a, is_digit, is_sign, begins_address, begins}
 use Rattle.ed_syntax.specs.Commands.{Base, Number, Current, Last, Marked, Forward, Backward, Address}
-use Rattle.ed_syntax.specs.Addressing.{SpellsBase, SpellsAddress}
+use Rattle.ed_syntax.specs.Addressing.{SpellsBase, SpellsOffsets, SpellsAddress}
 use Rattle.ed_syntax.specs.Tokens.{Parsed, ◌>>=◌, number, letter, pattern_at, offsets, base, with_offsets, address}
 use Rattle.ed_syntax.proofs.StepLemmas.{Some-same, none_some, bind-some, chosen, either}
 use Rattle.ed_syntax.proofs.NumberLemmas.{number-sound, number-complete, number-first}
@@ -93,3 +93,99 @@ base-sound (b ∷ bs) =
     (λ no_backward. either P (is_sign b) _ _
     (λ sign. known (b ∷ bs) (b ∷ bs) (Some Current) (signed sign))
     (λ no_sign. known (b ∷ bs) (b ∷ bs) None (nothing (rw (no_digit, no_stop, no_dollar, no_mark, no_forward, no_backward, no_sign, begins_address) refl)))))))))
+
+-- where no address begins, none is read
+base-none : (text : List ℕ) → IsFalse (begins begins_address text) → base text ≡ Some (None, text)
+base-none [] none = refl
+base-none (b ∷ bs) none =
+    let signs = or_parts (is_digit b || nat_eq b full_stop || nat_eq b dollar_sign || nat_eq b apostrophe || nat_eq b slash || nat_eq b question_mark) (is_sign b) none in
+    let backwards = or_parts (is_digit b || nat_eq b full_stop || nat_eq b dollar_sign || nat_eq b apostrophe || nat_eq b slash) (nat_eq b question_mark) signs.0 in
+    let forwards = or_parts (is_digit b || nat_eq b full_stop || nat_eq b dollar_sign || nat_eq b apostrophe) (nat_eq b slash) backwards.0 in
+    let marks = or_parts (is_digit b || nat_eq b full_stop || nat_eq b dollar_sign) (nat_eq b apostrophe) forwards.0 in
+    let dollars = or_parts (is_digit b || nat_eq b full_stop) (nat_eq b dollar_sign) marks.0 in
+    let stops = or_parts (is_digit b) (nat_eq b full_stop) dollars.0 in
+    rw (stops.0, stops.1, dollars.1, marks.1, forwards.1, backwards.1, signs.1, base) refl
+
+-- before an offset the current line is read
+base-signed : (text : List ℕ) → IsTrue (begins is_sign text) → base text ≡ Some (Some Current, text)
+base-signed [] sign = absurd (false≢true sign)
+base-signed (b ∷ bs) sign =
+    ⊎_elim
+    (λ plus. ap (λ b. base (b ∷ bs)) (eqb-true b plus_sign plus) ∙ ap (λ b. Some (Some Current, b ∷ bs)) (sym (eqb-true b plus_sign plus)))
+    (λ minus. ap (λ b. base (b ∷ bs)) (eqb-true b hyphen minus) ∙ ap (λ b. Some (Some Current, b ∷ bs)) (sym (eqb-true b hyphen minus)))
+    (or_cases (nat_eq b plus_sign) (nat_eq b hyphen) sign)
+
+base-digit : (text : List ℕ) → IsTrue (begins is_digit text) → base text ≡ (number text >>= λ r. Some (Some (Number r.0), r.1))
+base-digit [] digit = absurd (false≢true digit)
+base-digit (b ∷ bs) digit = rw (digit, base) refl
+
+base-current : (rest : List ℕ) → base (full_stop ∷ rest) ≡ Some (Some Current, rest)
+base-current rest = refl
+
+base-last : (rest : List ℕ) → base (dollar_sign ∷ rest) ≡ Some (Some Last, rest)
+base-last rest = refl
+
+base-marked : (text : List ℕ) → base (apostrophe ∷ text) ≡ (letter text >>= λ r. Some (Some (Marked r.0), r.1))
+base-marked text = refl
+
+base-forward : (text : List ℕ) → base (slash ∷ text) ≡ (pattern_at slash text >>= λ r. Some (Some (Forward r.0), r.1))
+base-forward text = refl
+
+base-backward : (text : List ℕ) → base (question_mark ∷ text) ≡ (pattern_at question_mark text >>= λ r. Some (Some (Backward r.0), r.1))
+base-backward text = refl
+
+-- what is read of a part makes a base
+part-complete : {A : Type 0} (of : A → Base) (text rest : List ℕ) (part : Parsed A) (found : A) → base text ≡ (part >>= λ r. Some (Some (of r.0), r.1)) → part ≡ Some (found, rest) →
+    base text ≡ Some (Some (of found), rest)
+part-complete {A} of text rest part found is read = is ∙ ap (λ (o : Parsed A). o >>= λ r. Some (Some (of r.0), r.1)) read
+
+slash_plain : slash ≢ backslash
+slash_plain same = cc
+
+question_mark_plain : question_mark ≢ backslash
+question_mark_plain same = cc
+
+-- a base that is spelled so is read
+base-complete : {text rest : List ℕ} {found : Base} → SpellsBase text rest found → base text ≡ Some (Some found, rest)
+base-complete (SpellsBase.number text rest n is) = part-complete Number text rest (number text) n (base-digit text (number-first is)) (number-complete is)
+base-complete (SpellsBase.current rest) = base-current rest
+base-complete (SpellsBase.last rest) = base-last rest
+base-complete (SpellsBase.marked l rest small) =
+    part-complete Marked (apostrophe ∷ (letter_a + l) ∷ rest) rest (letter ((letter_a + l) ∷ rest)) l (base-marked ((letter_a + l) ∷ rest)) (letter-complete l rest small)
+base-complete (SpellsBase.forward text rest pattern is) =
+    part-complete Forward (slash ∷ text) rest (pattern_at slash text) pattern (base-forward text) (pattern_at-complete slash is slash_plain)
+base-complete (SpellsBase.backward text rest pattern is) =
+    part-complete Backward (question_mark ∷ text) rest (pattern_at question_mark text) pattern (base-backward text) (pattern_at-complete question_mark is question_mark_plain)
+
+-- an address that is read is spelled so
+abbrev AddressRead : List ℕ → Parsed (Option Address) → Type 0
+AddressRead text read = (r : Option Address × List ℕ) → read ≡ Some r → SpellsAddress text r.1 r.0
+
+-- offsets behind a base
+offset-sound : (text more : List ℕ) (base : Base) → ((rest : List ℕ) (offset : ℤ) → SpellsOffsets more rest offset → SpellsAddress text rest (Some (record { base = base; offset = offset }))) →
+    AddressRead text (with_offsets (Some base) more)
+offset-sound text more base spells r is =
+    let sum = bind-some (offsets (length more) more) (λ r. Some (Some (record { base = base; offset = r.0 }), r.1)) r is in
+    subst (λ (r : Option Address × List ℕ). SpellsAddress text r.1 r.0) (Some-same (Some (record { base = base; offset = sum.0.0 }), sum.0.1) r sum.2)
+    (spells sum.0.1 sum.0.0 (offsets-sound (length more) more (omega arith) sum.0 sum.1))
+
+with_offsets-sound : {text more : List ℕ} {found : Option Base} → ReadsBase text more found → AddressRead text (with_offsets found more)
+with_offsets-sound {text} (nothing none) = λ r is. subst (λ (r : Option Address × List ℕ). SpellsAddress text r.1 r.0) (Some-same (None, text) r is) (SpellsAddress.none text none)
+with_offsets-sound {text} (given more base is) = offset-sound text more base (λ rest offset. SpellsAddress.based text more rest base offset is)
+with_offsets-sound {text} (signed sign) = offset-sound text text Current (λ rest offset. SpellsAddress.relative text rest offset sign)
+
+pub address-sound : (text : List ℕ) (r : Option Address × List ℕ) → address text ≡ Some r → SpellsAddress text r.1 r.0
+address-sound text r is =
+    let found = bind-some (base text) (λ r. with_offsets r.0 r.1) r is in
+    with_offsets-sound (base-sound text found.0 found.1) r found.2
+
+offset-complete : (base : Base) {text rest : List ℕ} {offset : ℤ} → SpellsOffsets text rest offset → with_offsets (Some base) text ≡ Some (Some (record { base = base; offset = offset }), rest)
+offset-complete base {text} is = ap (λ (o : Parsed ℤ). o >>= λ r. Some (Some (record { base = base; offset = r.0 }), r.1)) (offsets-complete is (length text) (omega arith))
+
+-- an address that is spelled so is read
+pub address-complete : {text rest : List ℕ} {a : Option Address} → SpellsAddress text rest a → address text ≡ Some (a, rest)
+address-complete (SpellsAddress.none rest none) = ap (λ (o : Parsed (Option Base)). o >>= λ r. with_offsets r.0 r.1) (base-none rest none)
+address-complete (SpellsAddress.based text more rest base offset is later) =
+    ap (λ (o : Parsed (Option Base)). o >>= λ r. with_offsets r.0 r.1) (base-complete is) ∙ offset-complete base later
+address-complete (SpellsAddress.relative text rest offset sign later) =
+    ap (λ (o : Parsed (Option Base)). o >>= λ r. with_offsets r.0 r.1) (base-signed text sign) ∙ offset-complete Current later

@@ -8,4 +8,5 @@ pub mod OffsetLemmas
 pub mod BracketLemmas
 pub mod QuotingLemmas
 pub mod AddressLemmas
+pub mod AddressesLemmas
 pub mod TextLemmas
