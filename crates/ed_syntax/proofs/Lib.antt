@@ -9,4 +9,7 @@ pub mod BracketLemmas
 pub mod QuotingLemmas
 pub mod AddressLemmas
 pub mod AddressesLemmas
+pub mod HeadingLemmas
+pub mod CommandLemmas
+pub mod LawLemmas
 pub mod TextLemmas
