@@ -1,5 +1,5 @@
 -- What stands behind a bracket expression is the end of its text.
-use Rattle.std.proofs.Common.{◌≡◌, ℕ, ◌+◌, ◌-◌, List, [], ◌∷◌, ◌++◌, length, take, Option, Some, None, Result, Ok, Err, refl, sym, ap, ◌∙◌, subst, arith, append_assoc}
+use Rattle.std.proofs.Common.{◌≡◌, ℕ, ◌-◌, List, [], ◌∷◌, ◌++◌, length, take, Option, Some, None, Ok, Err, refl, sym, ap, ◌∙◌, subst, arith, append_assoc}
 use Rattle.std.proofs.lemmas.List.{take_at, length-append}
 use Rattle.bre_parse.specs.Bytes.{hyphen, period, colon, equals_sign, left_square_bracket, right_square_bracket, circumflex}
 use Rattle.bre_parse.specs.Tree.{Tree}
@@ -27,9 +27,9 @@ element_front (SpellsElement.range text behind rest low high from open_end to or
 element_front (SpellsElement.equivalence_class byte rest other no_range) =
     (left_square_bracket ∷ equals_sign ∷ byte ∷ equals_sign ∷ right_square_bracket ∷ [], refl)
 element_front (SpellsElement.character_class name rest ranges known no_range) = (
-    left_square_bracket ∷ colon ∷ (name ++ colon ∷ right_square_bracket ∷ []),
-    ap (λ bs. left_square_bracket ∷ colon ∷ bs) (sym (append_assoc name (colon ∷ right_square_bracket ∷ []) rest)),
-  )
+  left_square_bracket ∷ colon ∷ (name ++ colon ∷ right_square_bracket ∷ []),
+  ap (λ bs. left_square_bracket ∷ colon ∷ bs) (sym (append_assoc name (colon ∷ right_square_bracket ∷ []) rest)),
+)
 
 elements_front : {text rest : List ℕ} {ranges : Ranges} → SpellsElements text rest ranges → Front text rest
 elements_front (SpellsElements.closing rest) = (right_square_bracket ∷ [], refl)

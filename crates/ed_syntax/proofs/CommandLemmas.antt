@@ -6,7 +6,6 @@ use Rattle.std.proofs.lemmas.List.Elements.{All-cons, All-head, All-tail}
 use Rattle.ed_syntax.specs.Commands as ed
 use Rattle.ed_syntax.specs.Commands.{Addresses, Verb, Command}
 use Rattle.ed_syntax.specs.Verbs.{taking, takes_any, may_have}
-use Rattle.ed_syntax.specs.Spellings as spelled
 use Rattle.ed_syntax.specs.Spellings.{SpellsVerb, Spells}
 use Rattle.ed_syntax.specs.Tokens.{◌>>=◌}
 use Rattle.ed_syntax.specs.Reading.{Heading, with_text, finished, heading, command_at}

@@ -1,8 +1,7 @@
 -- Scripts: what is read is spelled so, and what is spelled so is read.
 use Rattle.std.proofs.Common.{◌≡◌, ℕ, zero, suc, ◌+◌, ◌-◌, ◌≤◌, List, [], ◌∷◌, ◌++◌, length, Option, Some, None, refl, sym, ap, ◌∙◌, subst, arith}
 use Rattle.std.proofs.lemmas.List.{append_cancel_right}
-use Rattle.std.proofs.lemmas.List.Elements.{All-tail}
-use Rattle.ed_base.specs.Lines.{IsLine, AreLines, lines_of, bytes_of}
+use Rattle.ed_base.specs.Lines.{AreLines, lines_of, bytes_of}
 use Rattle.ed_base.proofs.LineLemmas.{HoldsLines-lines, HoldsLines-lines_of}
 use Rattle.ed_syntax.specs.Commands.{Command, Script}
 use Rattle.ed_syntax.specs.Spellings as spelled

@@ -46,9 +46,9 @@ number-spelled bytes len counted few =
     let within : len ≤ length bytes = omega (arith, counted, prefix_len-le-length is_digit bytes) in
     let all : length (take len bytes) ≡ len = length-take-le len bytes within in
     let are : All IsDigit (take len bytes) = All-from_get_or IsDigit (take len bytes) 0 (λ k short.
-        let in_front : k < len = omega (arith, all, short) in
-        let passed : k < prefix_len is_digit bytes = omega (arith, counted, in_front) in
-        ap is_digit (get_or-take len bytes k 0 in_front) ∙ prefix_len_passes is_digit bytes k 0 passed) in
+    let in_front : k < len = omega (arith, all, short) in
+    let passed : k < prefix_len is_digit bytes = omega (arith, counted, in_front) in
+    ap is_digit (get_or-take len bytes k 0 in_front) ∙ prefix_len_passes is_digit bytes k 0 passed) in
     let some : 0 < length (take len bytes) = omega (arith, all, leb-true 1 len parts.0) in
     let at_most : length (take len bytes) ≤ 9 = omega (arith, all, leb-true len 9 parts.1) in
     let behind : IsFalse (begins is_digit (drop len bytes)) = ap (λ n. begins is_digit (drop n bytes)) (sym counted) ∙ behind_digits bytes in

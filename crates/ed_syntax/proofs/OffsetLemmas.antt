@@ -1,13 +1,12 @@
 -- Offsets: what is read is spelled so, and what is spelled so is read.
-use Rattle.std.proofs.Common.{◌≡◌, ℕ, zero, suc, ◌<◌, ◌≤◌, ℤ, pos, ◌+ℤ◌, neg_ℤ, true, false, nat_eq, List, [], ◌∷◌, length, Some, refl, sym, ap, ◌∙◌, subst, arith}
-use Rattle.std.specs.Prelude.{IsTrue, IsFalse}
+use Rattle.std.proofs.Common.{◌≡◌, ℕ, zero, suc, ◌<◌, ◌≤◌, ℤ, pos, ◌+ℤ◌, neg_ℤ, true, nat_eq, List, [], ◌∷◌, length, Some, refl, sym, ap, ◌∙◌, subst, arith}
+use Rattle.std.specs.Prelude.{IsFalse}
 use Rattle.std.proofs.lemmas.Bool.{eqb-true, or_from, or_parts}
-use Rattle.ed_syntax.specs.Characters.{plus_sign, hyphen, is_blank, is_digit, is_sign, begins, behind_blanks}
-use Rattle.ed_syntax.specs.Addressing as spelled
+use Rattle.ed_syntax.specs.Characters.{plus_sign, hyphen, is_digit, is_sign, begins, behind_blanks}
 use Rattle.ed_syntax.specs.Addressing.{SpellsDistance, SpellsOffsets}
 use Rattle.ed_syntax.specs.Tokens.{Parsed, ◌>>=◌, number, distance, summed, offsets}
 use Rattle.ed_syntax.proofs.StepLemmas.{Some-same, bind-some, chosen, either}
-use Rattle.ed_syntax.proofs.BlankLemmas.{behind_blanks-short, behind_blanks-first}
+use Rattle.ed_syntax.proofs.BlankLemmas.{behind_blanks-short}
 use Rattle.ed_syntax.proofs.NumberLemmas.{number-sound, number-complete, number-first, number-shorter}
 
 -- a distance that is read is spelled so
