@@ -1,8 +1,7 @@
 //! Where the lines are that letters mark.
-ghost use Rattle.std.specs.Prelude.{◌≡◌, ◌-◌, ◌^◌, Some, None, replicate, length, slice_index_or, slice_set};
-ghost use Rattle.line_store.specs.Marks.{AllBelow, letters_at, marks_of, with_line, without_line};
+ghost use Rattle.std.specs.Prelude.{◌≡◌, ◌-◌, ◌<◌, ◌^◌, Some, None, replicate, slice_index_or, slice_set, IfSome};
+ghost use Rattle.line_store.specs.Marks.{AllBelow, letters_at, opened, closed, with_line, without_line};
 
-use crate::LineStore;
 use ed_base::Letter;
 use std::marker::Model;
 
@@ -16,11 +15,38 @@ pub struct Marks {
 }
 
 impl Model for Marks {
-    ghost use Rattle.std.specs.Prelude.{ℕ, List, Option};
+    ghost use Rattle.std.specs.Prelude.{ℕ, ◌≡◌, List, Option, length};
 
     ghost Value = { List (Option ℕ) };
 
     ghost view = { λ m. m.places };
+
+    ghost invariant = { λ m. length m.places ≡ 26 };
+}
+
+// Where a letter is behind a line that has come in with it or without it.
+fn place_opened(at: usize, comes: bool, place: Option<usize>) -> Option<usize>
+    requires bound { IfSome place (λ other. other < 2 ^ 64 - 1) }
+    ensures value { result ≡ opened at comes place }
+{
+    if comes {
+        return Some(at);
+    }
+    match place {
+        Some(other) if at <= other => Some(other + 1),
+        _ => place,
+    }
+}
+
+// Where a letter is behind a line that has gone out.
+fn place_closed(at: usize, place: Option<usize>) -> Option<usize>
+    ensures value { result ≡ closed at place }
+{
+    match place {
+        Some(other) if other == at => None,
+        Some(other) if at < other => Some(other - 1),
+        _ => place,
+    }
 }
 
 impl Marks {
@@ -36,6 +62,7 @@ impl Marks {
     /// The place of a letter's line.
     pub fn place_of(&self, letter: Letter) -> Option<usize>
         ensures value { result ≡ slice_index_or self.now letter None }
+        ensures letter { letter < 26 }
     {
         self.places[letter.place()]
     }
@@ -43,6 +70,7 @@ impl Marks {
     /// The letter marks the line at this place, and no other.
     pub fn set(&mut self, letter: Letter, place: usize)
         ensures value { self.new ≡ slice_set self.old letter (Some place) }
+        ensures letter { letter < 26 }
     {
         self.places[letter.place()] = Some(place);
     }
@@ -53,12 +81,7 @@ impl Marks {
         ensures value { self.new ≡ with_line at letters.now self.old }
     {
         for letter in 0..LETTERS {
-            let before = self.places[letter];
-            self.places[letter] = match before {
-                _ if letters[letter] => Some(at),
-                Some(place) if at <= place => Some(place + 1),
-                _ => before,
-            };
+            self.places[letter] = place_opened(at, letters[letter], self.places[letter]);
         }
     }
 
@@ -69,13 +92,8 @@ impl Marks {
     {
         let mut letters = [false; LETTERS];
         for letter in 0..LETTERS {
-            let before = self.places[letter];
-            letters[letter] = before == Some(at);
-            self.places[letter] = match before {
-                Some(place) if place == at => None,
-                Some(place) if at < place => Some(place - 1),
-                _ => before,
-            };
+            letters[letter] = self.places[letter] == Some(at);
+            self.places[letter] = place_closed(at, self.places[letter]);
         }
         letters
     }

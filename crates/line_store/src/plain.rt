@@ -24,7 +24,7 @@ impl Model for PlainStore {
 
     ghost view = { λ s. record { texts = s.items.items; marks = s.marks; room = vec_capacity s.items - vec_len s.items } };
 
-    ghost invariant = { λ s. AllBelow (vec_len s.items) s.marks × (length s.marks ≡ 26) };
+    ghost invariant = { λ s. AllBelow (length s.items.items) s.marks × (length s.marks ≡ 26) };
 }
 
 impl LineStore for PlainStore {
