@@ -2,7 +2,7 @@
 use Rattle.std.proofs.Common.{◌≡◌, ℕ, zero, suc, ◌+◌, ◌-◌, ◌<◌, ◌≤◌, List, [], ◌∷◌, ◌++◌, take, drop, Bool, true, false, not, cond, length, map, get_or, set, insert, remove, replicate, nat_lt, Option, Some, None, refl, ap, ◌∙◌, sym, arith, get_or-set_same, get_or-set_other, length-set, ⊎_elim}
 use Rattle.std.specs.List.{range_with_len, position_or_len}
 use Rattle.std.proofs.lemmas.Bool.{cases_lt, cases_eq, cases_order, cond-true, cond-false, lt-ltb, le-ltb}
-use Rattle.std.proofs.lemmas.List.{same_lists, set-set, set_past, get_or-replicate, length-replicate, get_or_past, map-append, take-map, drop-map, length-map, get_or-map}
+use Rattle.std.proofs.lemmas.List.{same_lists, set-set, set_past, get_or_past, map-append, take-map, drop-map, length-map, get_or-map}
 use Rattle.std.proofs.lemmas.List.Edits.{length-insert, get_or-insert_below, get_or-insert_at, get_or-insert_above, length-remove, get_or-remove_below, get_or-remove_above}
 use Rattle.std.proofs.lemmas.List.FromFn.{length-map-range_with_len, get_or-map-range_with_len, fill_by_all}
 use Rattle.ed_base.specs.Buffer.{Line, plain_line, has_letter, with_letter, marked_place, marked_at, SharesNoLetter}
@@ -214,11 +214,13 @@ set-below marks count i at below h letter place e = ⊎_elim
     (cases_eq letter i)
 
 -- no letter has a place yet
+pub none_at : (n letter : ℕ) → get_or {A = Option ℕ} (replicate n None) letter None ≡ None
+none_at zero letter = refl
+none_at (suc n) zero = refl
+none_at (suc n) (suc letter) = none_at n letter
+
 pub none-below : (count n : ℕ) → AllBelow count (replicate n None)
-none-below count n letter place e = ⊎_elim
-    (λ l. let f : ◌≡◌ {A = Option ℕ} None (Some place) = sym (get_or-replicate n letter None None l) ∙ e in absurd cc)
-    (λ l. let f : ◌≡◌ {A = Option ℕ} None (Some place) = sym (get_or_past (replicate n None) letter None (omega (arith, length-replicate {A = Option ℕ} n None))) ∙ e in absurd cc)
-    (cases_lt letter n)
+none-below count n letter place e = let f : ◌≡◌ {A = Option ℕ} None (Some place) = sym (none_at n letter) ∙ e in absurd cc
 
 -- a place behind a line that came in is below the greater count
 below-opened : (count at : ℕ) (b : Bool) (o : Option ℕ) → at ≤ count → ((place : ℕ) → o ≡ Some place → place < count) → (place : ℕ) → opened at b o ≡ Some place → place < count + 1

@@ -1,7 +1,8 @@
 //! Where the lines are that letters mark.
-ghost use Rattle.std.specs.Prelude.{◌≡◌, ◌-◌, ◌<◌, ◌^◌, Some, None, replicate, slice_index_or, slice_set, IfSome};
-ghost use Rattle.line_store.specs.Marks.{AllBelow, letters_at, opened, closed, with_line, without_line};
+ghost use Rattle.std.specs.Prelude.{◌≡◌, ◌-◌, ◌<◌, ◌^◌, Some, None, length, replicate, slice_index_or, slice_set, IfSome};
+ghost use Rattle.line_store.specs.Marks.{AllBelow, letters_at, marks_of, opened, closed, with_line, without_line};
 
+use crate::LineStore;
 use ed_base::Letter;
 use std::marker::Model;
 
@@ -59,6 +60,21 @@ impl Marks {
         }
     }
 
+    /// The places of the letters in a store.
+    pub fn of<S: LineStore>(store: &S) -> Self
+        ensures value { result ≡ marks_of (S.lines store.now) }
+    {
+        let mut marks = Marks::none();
+        for place in 0..26 {
+            if let Some(letter) = Letter::new(b'a' + place) {
+                if let Some(line) = store.marked(letter) {
+                    marks.set(letter, line);
+                }
+            }
+        }
+        marks
+    }
+
     /// The place of a letter's line.
     pub fn place_of(&self, letter: Letter) -> Option<usize>
         ensures value { result ≡ slice_index_or self.now letter None }
@@ -71,6 +87,7 @@ impl Marks {
     pub fn set(&mut self, letter: Letter, place: usize)
         ensures value { self.new ≡ slice_set self.old letter (Some place) }
         ensures letter { letter < 26 }
+        ensures count { length self.old ≡ 26 }
     {
         self.places[letter.place()] = Some(place);
     }

@@ -1,7 +1,6 @@
 -- No letter has a place.
-use Rattle.std.proofs.Common.{refl}
 use Rattle.line_store.proofs.Lettered.{none-below}
 use Rattle.line_store.proofs.plain.PlainStoreLineStore.empty.Goals as goal
 
 pub invariant_of-result : goal.invariant_of-result
-invariant_of-result c = rw c.none.ensures.value (none-below _ 26, refl)
+invariant_of-result c = rw c.none.ensures.value (none-below _ 26)

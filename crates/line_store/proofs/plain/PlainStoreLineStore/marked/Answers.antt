@@ -13,6 +13,6 @@ returns c =
     let texts = e.items.items in
     record {
       value = c.place_of.ensures.value
-          ∙ sym (marked_place-lettered e.marks c.args.letter (map plain_line texts) c.place_of.ensures.letter (subst (λ n. AllBelow n e.marks) (sym (length-map texts plain_line)) c.self.invariant.0))
+          ∙ sym (marked_place-lettered e.marks c.args.letter (map plain_line texts) c.place_of.ensures.letter (subst (λ n. AllBelow n e.marks) (sym (length-map texts plain_line)) c.self.invariant))
           ∙ ap (λ v. marked_place c.args.letter (lines_of v)) c.self.view_is;
     }

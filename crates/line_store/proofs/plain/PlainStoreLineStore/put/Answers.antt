@@ -1,5 +1,5 @@
 -- The texts are those with the line's, and its letters are at its place.
-use Rattle.std.proofs.Common.{◌≡◌, ◌≤◌, ◌+◌, ◌∙◌, ap, sym, map, length, arith, insert, subst, refl}
+use Rattle.std.proofs.Common.{◌≡◌, ◌≤◌, ◌+◌, ◌∙◌, ap, sym, map, length, arith, insert, subst}
 use Rattle.std.proofs.lemmas.List.{length-map}
 use Rattle.std.proofs.lemmas.List.Edits.{length-insert}
 use Rattle.ed_base.specs.Buffer.{plain_line, SharesNoLetter}
@@ -17,7 +17,7 @@ invariant_of-self c =
     let at : c.args.at ≤ length e.items.items = omega (arith, c.requires.place, length-plain e.marks e.items.items, ap (λ v. length (lines_of v)) c.self.view_is) in
     let more : length c.insert.new.self.items ≡ length e.items.items + 1 =
     ap length c.in-Ok.ensures.items ∙ length-insert e.items.items c.args.at c.line.inside.bytes at in
-    rw c.open.ensures.value (with_line-below _ _ c.args.at c.line.inside.letters e.marks at more c.self.invariant.0, refl)
+    rw c.open.ensures.value (with_line-below _ _ c.args.at c.line.inside.letters e.marks at more c.self.invariant)
 
 pub returns-in-Ok-clause-inserted : goal.returns-in-Ok-clause-inserted
 returns-in-Ok-clause-inserted c =
@@ -27,7 +27,7 @@ returns-in-Ok-clause-inserted c =
     let bytes = c.line.inside.bytes in
     let letters = c.line.inside.letters in
     let at : c.args.at ≤ length lines = omega (arith, c.requires.place, length-plain e.marks texts, length-map texts plain_line, ap (λ v. length (lines_of v)) c.self.view_is) in
-    let below : AllBelow (length lines) e.marks = subst (λ n. AllBelow n e.marks) (sym (length-map texts plain_line)) c.self.invariant.0 in
+    let below : AllBelow (length lines) e.marks = subst (λ n. AllBelow n e.marks) (sym (length-map texts plain_line)) c.self.invariant in
     let shares : SharesNoLetter c.args.line (lettered e.marks 0 lines) = subst (λ v. SharesNoLetter c.args.line (lines_of v)) (sym c.self.view_is) c.requires.letters in
     let none : HaveNoPlace letters e.marks = subst (λ l. HaveNoPlace l.letters e.marks) (sym c.line.view_is) (without_places e.marks lines c.args.line below shares) in
     rw (c.open.ensures.value, c.in-Ok.ensures.items) (

@@ -1,5 +1,5 @@
 -- The texts are those without the line's, and its letters have gone with it.
-use Rattle.std.proofs.Common.{◌≡◌, ◌<◌, ◌+◌, ◌∙◌, ap, sym, map, length, arith, remove, refl, get_or, []}
+use Rattle.std.proofs.Common.{◌≡◌, ◌<◌, ◌+◌, ◌∙◌, ap, sym, map, length, arith, remove, get_or, []}
 use Rattle.std.proofs.lemmas.List.{length-map}
 use Rattle.std.proofs.lemmas.List.Edits.{length-remove}
 use Rattle.ed_base.specs.Buffer.{plain_line}
@@ -16,7 +16,7 @@ invariant_of-self c =
     let e = c.self.inside in
     let place : c.args.i < length e.items.items = omega (arith, c.requires.place, length-plain e.marks e.items.items, ap (λ v. length (lines_of v)) c.self.view_is) in
     let fewer : length c.remove.new.self.items + 1 ≡ length e.items.items = ap (λ t. length t + 1) c.remove.ensures.items ∙ length-remove e.items.items c.args.i place in
-    rw c.close.ensures.value (without_line-below _ _ c.args.i e.marks place fewer c.self.invariant.0, refl)
+    rw c.close.ensures.value (without_line-below _ _ c.args.i e.marks place fewer c.self.invariant)
 
 pub returns-clause-value : goal.returns-clause-value
 returns-clause-value c =
