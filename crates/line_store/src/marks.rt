@@ -52,7 +52,7 @@ fn place_closed(at: usize, place: Option<usize>) -> Option<usize>
 
 impl Marks {
     /// No letter marks a line.
-    pub fn none() -> Self
+    pub(crate) fn none() -> Self
         ensures value { result ≡ replicate 26 None }
     {
         Marks {
@@ -84,7 +84,7 @@ impl Marks {
     }
 
     /// The letter marks the line at this place, and no other.
-    pub fn set(&mut self, letter: Letter, place: usize)
+    pub(crate) fn set(&mut self, letter: Letter, place: usize)
         ensures value { self.new ≡ slice_set self.old letter (Some place) }
         ensures letter { letter < 26 }
         ensures count { length self.old ≡ 26 }
@@ -93,7 +93,7 @@ impl Marks {
     }
 
     /// A line has come in at this place, which these letters mark.
-    pub fn open(&mut self, at: usize, letters: &[bool; LETTERS])
+    pub(crate) fn open(&mut self, at: usize, letters: &[bool; LETTERS])
         requires bound { AllBelow (2 ^ 64 - 1) self.old }
         ensures value { self.new ≡ with_line at letters.now self.old }
     {
@@ -103,7 +103,7 @@ impl Marks {
     }
 
     /// The line at this place has gone out, with the letters that are told.
-    pub fn close(&mut self, at: usize) -> [bool; LETTERS]
+    pub(crate) fn close(&mut self, at: usize) -> [bool; LETTERS]
         ensures letters { result ≡ letters_at at self.old }
         ensures value { self.new ≡ without_line at self.old }
     {
