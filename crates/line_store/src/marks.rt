@@ -64,7 +64,7 @@ impl Marks {
     pub fn of<S: LineStore>(store: &S) -> Self
         ensures value { result ≡ marks_of (S.lines store.now) }
 
-        // Given to these lines, whatever letters they have by then, they make them what they are.
+        // The lines have just the letters whose places these are.
         ensures own { lettered result 0 (S.lines store.now) ≡ S.lines store.now }
         ensures places { AllBelow (length (S.lines store.now)) result }
     {
