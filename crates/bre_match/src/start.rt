@@ -1,8 +1,9 @@
 //! The ways from one start: the first of those that end last.
 
-ghost use Rattle.std.specs.Prelude.{◌≡◌, ℕ, ◌+◌, ◌-◌, ◌≤◌, ◌<◌, None, IsTrue, IfOk, IfSome, length};
-ghost use Rattle.bre_parse.specs.Tree.{tree_of, sequence_of, Repeat, Set};
+ghost use Rattle.std.specs.Prelude.{◌≡◌, ◌↔◌, ℕ, ◌+◌, ◌-◌, ◌≤◌, ◌<◌, None, IsTrue, IfOk, length, option_map};
+ghost use Rattle.bre_parse.specs.Tree.{tree_of, sequence_of};
 ghost use Rattle.bre_parse.specs.Match.{longest_from};
+ghost use Rattle.bre_match.specs.Starts.{one_byte_of, any_number_of, LacksFirst, PassesRow, PassesRowBehind};
 
 use crate::order::longer;
 use crate::run::{Ahead, Run, Way, count_members, has_byte_in};
@@ -10,16 +11,29 @@ use crate::search::follow;
 use bre_parse::tree::{ByteSet, Node};
 use std::alloc::{AllocError, Global};
 
+// The set of a part that is one byte of a set.
+#[tactic(auto, using(crate::proofs::Firsts::kind_laws))]
+fn one_byte_of(part: &Node) -> Option<&ByteSet>
+    ensures value { option_map (λ set. (set.now.negated, set.now.ranges.items)) result ≡ one_byte_of (tree_of part.now) }
+{
+    match part {
+        Node::Set(set) => Some(set),
+        Node::Sequence(_) => None,
+        _ => None,
+    }
+}
+
 // Whether the first item is one byte that isn't there.
 fn cannot_begin(items: &[Node], text: &[u8], start: usize) -> bool
     ensures sound { IsTrue result → longest_from (sequence_of items.now) text.now start ≡ None }
+    ensures told { LacksFirst (sequence_of items.now) text.now start → IsTrue result }
 {
     if items.is_empty() {
         return false;
     }
-    match &items[0] {
-        Node::Set(set) => !has_byte_in(text, start, set),
-        _ => false,
+    match one_byte_of(&items[0]) {
+        Some(set) => !has_byte_in(text, start, set),
+        None => false,
     }
 }
 
@@ -58,21 +72,20 @@ pub(crate) fn longest_from(
 }
 
 // The set of a part that is a repeat from 0 without bound of one set.
+#[tactic(auto, using(crate::proofs::Firsts::kind_laws))]
 fn any_number_of(part: &Node) -> Option<&ByteSet>
-    ensures sound { IfSome result (λ set. tree_of part.now ≡ Repeat 0 None (Set set.now.negated set.now.ranges.items)) }
+    ensures value { option_map (λ set. (set.now.negated, set.now.ranges.items)) result ≡ any_number_of (tree_of part.now) }
 {
     match part {
-        Node::Repeat(0, None, content) => match &**content {
-            Node::Set(set) => Some(set),
-            _ => None,
-        },
+        Node::Repeat(0, None, content) => one_byte_of(content),
+        Node::Sequence(_) => None,
         _ => None,
     }
 }
 
 // Whether two sets are spelled alike, so that they are one set.
 fn same_set(one: &ByteSet, other: &ByteSet) -> bool
-    ensures sound { IsTrue result → (one.now.negated ≡ other.now.negated) × (one.now.ranges.items ≡ other.now.ranges.items) }
+    ensures exact { IsTrue result ↔ (one.now.negated ≡ other.now.negated) × (one.now.ranges.items ≡ other.now.ranges.items) }
 {
     if one.negated != other.negated || one.ranges.len() != other.ranges.len() {
         return false;
@@ -90,12 +103,13 @@ fn same_set(one: &ByteSet, other: &ByteSet) -> bool
 fn after_one(items: &[Node], text: &[u8], start: usize) -> usize
     ensures within { result ≤ length text.now - start }
     ensures sound { longest_from (sequence_of items.now) text.now start ≡ None → (k : ℕ) → k ≤ result → longest_from (sequence_of items.now) text.now (start + k) ≡ None }
+    ensures row_behind { PassesRowBehind (sequence_of items.now) text.now start result }
 {
     if items.len() < 2 {
         return 0;
     }
-    match (&items[0], any_number_of(&items[1])) {
-        (Node::Set(one), Some(set)) => {
+    match (one_byte_of(&items[0]), any_number_of(&items[1])) {
+        (Some(one), Some(set)) => {
             if same_set(one, set) && has_byte_in(text, start, set) {
                 count_members(set, None, text, start + 1)
             } else {
@@ -111,6 +125,8 @@ fn after_one(items: &[Node], text: &[u8], start: usize) -> usize
 pub(crate) fn starts_without(items: &[Node], text: &[u8], start: usize) -> usize
     ensures within { result ≤ length text.now - start }
     ensures sound { longest_from (sequence_of items.now) text.now start ≡ None → (k : ℕ) → k ≤ result → longest_from (sequence_of items.now) text.now (start + k) ≡ None }
+    ensures row { PassesRow (sequence_of items.now) text.now start result }
+    ensures row_behind { PassesRowBehind (sequence_of items.now) text.now start result }
 {
     if items.is_empty() {
         return 0;
