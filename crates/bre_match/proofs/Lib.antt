@@ -7,4 +7,4 @@ pub mod Turning
 pub mod Within
 pub mod Ends
 pub mod Starts
-pub mod Firsts
+pub mod PartKinds

@@ -12,7 +12,7 @@ use bre_parse::tree::{ByteSet, Node};
 use std::alloc::{AllocError, Global};
 
 // The set of a part that is one byte of a set.
-#[tactic(auto, using(crate::proofs::Firsts::kind_laws))]
+#[tactic(auto, using(crate::proofs::PartKinds::kind_laws))]
 fn one_byte_of(part: &Node) -> Option<&ByteSet>
     ensures value { option_map (λ set. (set.now.negated, set.now.ranges.items)) result ≡ one_byte_of (tree_of part.now) }
 {
@@ -72,7 +72,7 @@ pub(crate) fn longest_from(
 }
 
 // The set of a part that is a repeat from 0 without bound of one set.
-#[tactic(auto, using(crate::proofs::Firsts::kind_laws))]
+#[tactic(auto, using(crate::proofs::PartKinds::kind_laws))]
 fn any_number_of(part: &Node) -> Option<&ByteSet>
     ensures value { option_map (λ set. (set.now.negated, set.now.ranges.items)) result ≡ any_number_of (tree_of part.now) }
 {

@@ -1,8 +1,9 @@
--- The first items of a pattern.
-use Rattle.std.proofs.Common.{◌≡◌, ℕ, zero, suc, ◌≤◌, Bool, List, [], ◌∷◌, length, Option, Some, None, refl, ap, sym, arith}
+-- Parts that are told apart by their kind.
+use Rattle.std.proofs.Common.{◌≡◌, ℕ, zero, suc, ◌≤◌, Bool, false, List, [], ◌∷◌, length, Option, Some, None, refl, ap, sym, arith}
 use Rattle.bre_parse.specs.declared.tree.Node.{Node}
 use Rattle.bre_parse.specs.Tree.{Tree, Empty, Then, Set, TextStart, TextEnd, BackReference, Group, Repeat, sequence_of}
 use Rattle.bre_parse.proofs.Sequences.{tree_of-Sequence}
+use Rattle.bre_match.specs.Runs.{is_set, has_one_run}
 use Rattle.bre_match.specs.Starts.{one_byte_of, any_number_of}
 
 -- a sequence is none of the parts that are told apart
@@ -13,6 +14,16 @@ sequence-one_byte (item ∷ items) = refl
 pub sequence-any_number : (items : List Node) → any_number_of (sequence_of items) ≡ None
 sequence-any_number [] = refl
 sequence-any_number (item ∷ items) = refl
+
+pub sequence-set : (items : List Node) → is_set (sequence_of items) ≡ false
+sequence-set [] = refl
+sequence-set (item ∷ items) = refl
+
+pub sequence-one_run : (items : List Node) → has_one_run (sequence_of items) ≡ false
+sequence-one_run [] = refl
+sequence-one_run (item ∷ items) = refl
+
+pub ruleset run_laws = (tree_of-Sequence, sequence-set, sequence-one_run)
 
 pub ruleset kind_laws = (tree_of-Sequence, sequence-one_byte, sequence-any_number)
 
