@@ -13,3 +13,6 @@ pub mod HeadingLemmas
 pub mod CommandLemmas
 pub mod LawLemmas
 pub mod TextLemmas
+pub mod Fronts
+pub mod OffsetSteps
+pub mod QuotedSteps
