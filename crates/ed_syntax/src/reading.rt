@@ -198,13 +198,7 @@ fn suffix_at(verb: &Verb, bytes: &[u8]) -> Option<Option<Form>>
                 None
             }
         }
-        _ => {
-            if is_over(bytes) {
-                Some(None)
-            } else {
-                None
-            }
-        }
+        _ => { if is_over(bytes) { Some(None) } else { None } }
     }
 }
 
