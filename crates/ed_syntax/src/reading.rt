@@ -191,20 +191,11 @@ fn suffix_at(verb: &Verb, bytes: &[u8]) -> Option<Option<Form>>
     ensures value { option_map suffix_value result ≡ suffix_at (verb_value verb.now) bytes.now }
 {
     match bytes {
-        [letter @ (b'l' | b'n' | b'p'), rest @ ..] => {
-            if verb.takes_suffix() && is_over(rest) {
-                Some(form_of(*letter))
-            } else {
-                None
-            }
+        [letter @ (b'l' | b'n' | b'p'), rest @ ..] if verb.takes_suffix() && is_over(rest) => {
+            Some(form_of(*letter))
         }
-        _ => {
-            if is_over(bytes) {
-                Some(None)
-            } else {
-                None
-            }
-        }
+        _ if is_over(bytes) => Some(None),
+        _ => None,
     }
 }
 
