@@ -60,7 +60,7 @@ LINES = 100_000
 
 def search_onwards(folder, n):
     """Each search finds its line a hundred lines further, so that a thousand go once over the file."""
-    return Work(folder, "onwards", n, text_lines(LINES), (b"/00 of a/=\n" if i < n else b"Q\n" for i in range(n + 1)))
+    return Work(folder, "onwards", n, text_lines(LINES), (b"/00 of a/p\n" if i < n else b"Q\n" for i in range(n + 1)))
 
 
 def search_around(folder, n):
