@@ -61,9 +61,7 @@ fn semicolon(first: Option<Address>, second: Option<Address>) -> Addresses
     ensures value { addresses_value result ≡ semicolon (optional_address first) (optional_address second) }
 {
     match (first, second) {
-        (None, None) => {
-            Addresses::Semicolon(at_base(Base::Current), Some(at_base(Base::Last)))
-        }
+        (None, None) => { Addresses::Semicolon(at_base(Base::Current), Some(at_base(Base::Last))) }
         (None, Some(second)) => Addresses::Semicolon(at_base(Base::Current), Some(second)),
         (Some(first), second) => Addresses::Semicolon(first, second),
     }
