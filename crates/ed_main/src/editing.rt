@@ -83,7 +83,7 @@ where
 {
     let mut files = MemFiles::new(rt.alloc());
     match fs::read(rt, file) {
-        Ok(bytes) => files.add(file.as_bytes(), bytes.as_slice())?,
+        Ok(bytes) => files.add(file.as_bytes(), Bytes::from_vec(bytes))?,
         Err(error) => match error.kind() {
             io::ErrorKind::NotFound => {}
             io::ErrorKind::OutOfMemory => return Err(AllocError),

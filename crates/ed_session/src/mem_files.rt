@@ -39,15 +39,14 @@ impl MemFiles {
         }
     }
 
-    /// Gives the file at a path these bytes, in place of those that it had.
-    pub fn add(&mut self, path: &[u8], bytes: &[u8]) -> Result<(), AllocError>
+    /// Gives the file at a path these bytes, in place of those that it had. The bytes themselves aren't copied.
+    pub fn add(&mut self, path: &[u8], bytes: Bytes) -> Result<(), AllocError>
         ensures added { OnOk result
-            (ChangesFiles self.old self.new ((path.now, bytes.now) ∷ files_of self.old)) }
+            (ChangesFiles self.old self.new ((path.now, bytes) ∷ files_of self.old)) }
         ensures unchanged { OnErr result (ChangesFiles self.old self.new (files_of self.old)) }
     {
         let name = Bytes::from_slice(self.alloc, path)?;
-        let held = Bytes::from_slice(self.alloc, bytes)?;
-        self.files.insert(0, (name, held))?;
+        self.files.insert(0, (name, bytes))?;
         Ok(())
     }
 
@@ -142,7 +141,8 @@ impl Outside for MemFiles {
             self.failures += 1;
             return Ok(Answer::Refused);
         }
-        self.add(path, bytes)?;
+        let held = Bytes::from_slice(self.alloc, bytes)?;
+        self.add(path, held)?;
         self.log.push((asked, Answer::Done))?;
         Ok(Answer::Done)
     }
