@@ -1,1 +1,2 @@
+mod FourWords
 mod Taking
