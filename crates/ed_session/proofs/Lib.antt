@@ -4,6 +4,7 @@ pub mod Causes
 pub mod Commanding
 pub mod Driven
 pub mod Ended
+pub mod KeptLemmas
 pub mod Logs
 pub mod Performed
 pub mod Ranges

@@ -3,6 +3,7 @@
 
 mod driving;
 mod editor;
+mod kept;
 pub mod laws;
 pub mod line_store;
 mod mem_files;
