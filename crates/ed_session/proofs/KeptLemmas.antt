@@ -1,5 +1,5 @@
 -- Kept answers stay the same when files are added, and the file that a search comes to.
-use Rattle.std.proofs.Common.{drop-cons, true, Some, drop, get_or, nat_eq, sym, ◌≡◌, ◌+◌, ◌-◌, ◌<◌, ◌≤◌, ℕ, List, [], ◌∷◌, map, length, option_map, suc, refl, ap, ◌∙◌, arith}
+use Rattle.std.proofs.Common.{drop-cons, true, Some, drop, get_or, nat_eq, sym, ◌≡◌, ◌+◌, ◌-◌, ◌<◌, ◌≤◌, ℕ, List, [], ◌∷◌, length, option_map, suc, refl, ap, ◌∙◌, arith}
 use Rattle.std.specs.List.{slice_get}
 use Rattle.std.specs.Cmp.Lexicographic.{pointwise}
 use Rattle.std.proofs.lemmas.Option.{slice_get_read}
