@@ -1,2 +1,3 @@
+mod Endings
 mod FourWords
 mod Taking

@@ -1,6 +1,6 @@
 //! One run of the program: its words, its script, its file, and the status that it ends with.
 ghost use Rattle.std.specs.Prelude.{◌≡◌, ◌≤◌, IfOk};
-ghost use Rattle.ed_main.specs.Outcomes.{HoldOnly};
+ghost use Rattle.ed_main.specs.Outcomes.{HoldOnly, EndsOrBreaks};
 
 use crate::reading::{In, ReadFault, read_all};
 use crate::words::{USAGE, file_of_words};
@@ -67,6 +67,7 @@ fn run<R>(rt: &R, file: &str, bytes: Bytes) -> Result<u8, AllocError>
 where
     R: Files + Print + AllocGlobal,
     ensures status { IfOk result (λ status. status ≤ 3) }
+    ensures ended { IfOk result (λ status. EndsOrBreaks bytes file.now status) }
 {
     let alloc = rt.alloc();
     let script = read_script(alloc, bytes.as_slice())?;
