@@ -1,7 +1,7 @@
 -- What one run of the program starts from, and the status that it ends with (our choice).
 use Rattle.std.specs.Prelude.{◌≡◌, ◌⊎◌, ℕ, true, List, [], ◌∷◌, Some, None, Result, Ok, Err}
 use Rattle.ed_base.specs.declared.fault.Fault.{Fault}
-use Rattle.ed_base.specs.declared.fault.Fault.TheVariants.{Memory, Output}
+use Rattle.ed_base.specs.declared.fault.Fault.TheVariants.{File, Memory, Output}
 use Rattle.ed_base.specs.Fault.{status_of}
 use Rattle.ed_syntax.specs.declared.request.Answer.{Answer}
 use Rattle.ed_syntax.specs.declared.options.Options.{Options}
@@ -49,3 +49,7 @@ pub record RunEnds (bytes path : List ℕ) (status : ℕ) : Type 0 where
 -- a run ended so, or it broke off for want of memory or because its output was refused
 abbrev pub EndsOrBreaks : List ℕ → List ℕ → ℕ → Type 0
 EndsOrBreaks bytes path status = RunEnds bytes path status ⊎ ((status ≡ status_of Memory) ⊎ (status ≡ status_of Output))
+
+-- a run of some script on the file at a path ended so or broke off, or the script was refused, or there was no memory for it
+abbrev pub EndsSome : List ℕ → ℕ → Type 0
+EndsSome path status = ((bytes : List ℕ) × EndsOrBreaks bytes path status) ⊎ ((status ≡ status_of File) ⊎ (status ≡ status_of Memory))

@@ -1,6 +1,6 @@
 //! One run of the program: its words, its script, its file, and the status that it ends with.
-ghost use Rattle.std.specs.Prelude.{◌≡◌, ◌≤◌, IfOk};
-ghost use Rattle.ed_main.specs.Outcomes.{HoldOnly, EndsOrBreaks};
+ghost use Rattle.std.specs.Prelude.{◌≡◌, ◌≤◌, ◌⊎◌, ℕ, List, IfOk};
+ghost use Rattle.ed_main.specs.Outcomes.{HoldOnly, EndsOrBreaks, EndsSome};
 
 use crate::reading::{In, ReadFault, read_all};
 use crate::words::{USAGE, file_of_words};
@@ -23,6 +23,7 @@ pub fn status_of_run<R>(rt: &R) -> u8
 where
     R: Env + Files + Input + Print + Eprint + AllocGlobal,
     ensures status { result ≤ 4 }
+    ensures ended { (result ≡ 4) ⊎ ((path : List ℕ) × EndsSome path result) }
 {
     let words = match env::args(rt) {
         Ok(words) => words.collect::<Vec<String>>(rt.alloc()),
@@ -50,6 +51,7 @@ fn edit<R>(rt: &R, file: &str) -> u8
 where
     R: Files + Input + Print + AllocGlobal,
     ensures status { result ≤ 3 }
+    ensures ended { EndsSome file.now result }
 {
     let script = match read_all(rt.alloc(), &mut In::new(rt.reader()), LIMIT) {
         Ok(script) => script,
