@@ -13,17 +13,26 @@ step_cases c m go =
       | ed.QuitAnyway ↦ ending m
       | ed.Append text ↦ one c m go answers
       | ed.Delete ↦ one c m go answers
+      | ed.Mark letter ↦ one c m go answers
+      | ed.LineNumber ↦ one c m go answers
+      | ed.Null ↦ one c m go answers
       | ed.Write form ↦ one c m go answers
     ]) ≡ ending m)
     ⊎ ((answers : List Answer) → (elim v [
       | ed.QuitAnyway ↦ ending m
       | ed.Append text ↦ one c m go answers
       | ed.Delete ↦ one c m go answers
+      | ed.Mark letter ↦ one c m go answers
+      | ed.LineNumber ↦ one c m go answers
+      | ed.Null ↦ one c m go answers
       | ed.Write form ↦ one c m go answers
     ]) ≡ one c m go answers)) [
       | ed.QuitAnyway ↦ inl (λ answers. refl)
       | ed.Append text ↦ inr (λ answers. refl)
       | ed.Delete ↦ inr (λ answers. refl)
+      | ed.Mark letter ↦ inr (λ answers. refl)
+      | ed.LineNumber ↦ inr (λ answers. refl)
+      | ed.Null ↦ inr (λ answers. refl)
       | ed.Write form ↦ inr (λ answers. refl)
     ]
 

@@ -1,6 +1,7 @@
 -- What a command can answer so far: it asks for no file, and its fault is one of the script's own.
 use Rattle.std.proofs.Common.{◌≡◌, ℕ, ℤ, pos, negsuc, true, false, zero, suc, List, [], Option, Some, None, Result, Ok, Err, nat_le, subst}
-use Rattle.std.specs.Prelude.{◌≢◌}
+use Rattle.std.specs.Prelude.{◌≢◌, find, ok_or}
+use Rattle.ed_base.specs.Buffer.{marked_place}
 use Rattle.ed_base.specs.declared.fault.Fault.{Fault}
 use Rattle.ed_base.specs.declared.fault.Fault.TheVariants as fault
 use Rattle.ed_syntax.specs.declared.request.Answer.{Answer}
@@ -11,10 +12,12 @@ use Rattle.ed_syntax.specs.Commands.{Addresses, Address, Base, Command, Form, Ve
 use Rattle.ed_syntax.specs.Effects as effect
 use Rattle.ed_syntax.specs.Effects.{Outcome}
 use Rattle.ed_syntax.specs.Forms.{lines_written}
-use Rattle.ed_syntax.specs.Ranges.{Span, span, spanned, ordered, first_of_two, last_of_two}
+use Rattle.ed_syntax.specs.Ranges.{Span, span, single, spanned, ordered, first_of_two, last_of_two}
 use Rattle.ed_syntax.specs.States.{State, last}
-use Rattle.ed_syntax.specs.Values.{◌>>◌, base_number, within, value, values}
-use Rattle.ed_syntax.specs.Verbs.{Taking, NoAddress, Place, Range, taking, default, given_or}
+use Rattle.ed_syntax.specs.Values.{◌>>◌, matches_line, lines_forward, lines_backward, sought, searched, line_at, base_number, within, value, valued, moved, values}
+use Rattle.ed_syntax.specs.Verbs.{taking, default, given_or}
+use Rattle.ed_syntax.specs.declared.verbs.Taking.{Taking}
+use Rattle.ed_syntax.specs.declared.verbs.Taking.TheVariants as takes
 
 -- a fault of the script's own
 pub record IsScriptFault (f : Fault) : Type 0 where
@@ -24,6 +27,15 @@ pub record IsScriptFault (f : Fault) : Type 0 where
 
 address_fault : IsScriptFault fault.Address
 address_fault = record { not_memory = λ e. cc; not_output = λ e. cc; not_file = λ e. cc }
+
+mark_fault : IsScriptFault fault.Mark
+mark_fault = record { not_memory = λ e. cc; not_output = λ e. cc; not_file = λ e. cc }
+
+pattern_fault : IsScriptFault fault.Pattern
+pattern_fault = record { not_memory = λ e. cc; not_output = λ e. cc; not_file = λ e. cc }
+
+match_fault : IsScriptFault fault.NoMatch
+match_fault = record { not_memory = λ e. cc; not_output = λ e. cc; not_file = λ e. cc }
 
 -- only such a fault
 abbrev Sound : {A : Type 0} → Result A Fault → Type 0
@@ -45,21 +57,39 @@ replies_then (Ok y) g h k = k y
 replies_then (Err f) g h k = h
 
 within_sound : (s : State) (z : ℤ) → Sound (within s z)
-within_sound s (pos n) = elim (nat_le n (last s)) as (λ b. Sound {A = State × ℕ} (elim b [ true ↦ Ok (s, n) | false ↦ Err fault.Address ])) [ true ↦ tt | false ↦ address_fault ]
+within_sound s (pos n) = elim (nat_le n (last s)) as (λ b. Sound {A = ℕ} (elim b [ true ↦ Ok n | false ↦ Err fault.Address ])) [ true ↦ tt | false ↦ address_fault ]
 within_sound s (negsuc n) = address_fault
+
+line_sound : (place : Option ℕ) → Sound (line_at place)
+line_sound None = mark_fault
+line_sound (Some place) = tt
+
+found_sound : (found : Option ℕ) → Sound (ok_or found fault.NoMatch)
+found_sound None = match_fault
+found_sound (Some n) = tt
+
+searched_sound : (text : Option (List ℕ)) (order : List ℕ) (s : State) → Sound (searched text order s)
+searched_sound None order s = pattern_fault
+searched_sound (Some text) order s = found_sound (find (matches_line text s.lines) order)
 
 base_sound : (b : Base) (s : State) → Sound (base_number b s)
 base_sound (ed.Number n) s = tt
 base_sound ed.Current s = tt
 base_sound ed.Last s = tt
+base_sound (ed.Marked letter) s = line_sound (marked_place letter s.lines)
+base_sound (ed.Forward pattern) s = searched_sound (sought pattern s) (lines_forward s) s
+base_sound (ed.Backward pattern) s = searched_sound (sought pattern s) (lines_backward s) s
 
 value_sound : (a : Address) (s : State) → Sound (value a s)
-value_sound a s = sound_then (base_number a.base s) _ (base_sound a.base s) (λ r. within_sound r.0 _)
+value_sound a s = sound_then (base_number a.base s) _ (base_sound a.base s) (λ n. within_sound s _)
 
 values_sound : (a : Addresses) (s : State) → Sound (values a s)
 values_sound ed.Without s = tt
-values_sound (ed.One a) s = sound_then (value a s) _ (value_sound a s) (λ r. tt)
-values_sound (ed.Comma a b) s = sound_then (value a s) _ (value_sound a s) (λ r. sound_then (value b r.0) _ (value_sound b r.0) (λ t. tt))
+values_sound (ed.One a) s = sound_then (value a s) _ (value_sound a s) (λ n. tt)
+values_sound (ed.Comma a b) s = sound_then (value a s) _ (value_sound a s) (λ n. sound_then (value b (valued a s)) _ (value_sound b (valued a s)) (λ m. tt))
+values_sound (ed.Semicolon a None) s = sound_then (value a s) _ (value_sound a s) (λ n. tt)
+values_sound (ed.Semicolon a (Some b)) s =
+    sound_then (value a s) _ (value_sound a s) (λ n. sound_then (value b (moved n (valued a s))) _ (value_sound b (moved n (valued a s))) (λ m. tt))
 
 ordered_sound : (a b : ℕ) → Sound (ordered a b)
 ordered_sound a b =
@@ -68,10 +98,15 @@ ordered_sound a b =
       | false ↦ address_fault
     ]
 
+single_sound : (n : ℕ) → Sound (single n)
+single_sound zero = address_fault
+single_sound (suc n) = tt
+
 spanned_sound : (t : Taking) (v : List ℕ) → Sound (spanned t v)
-spanned_sound NoAddress v = tt
-spanned_sound Place v = tt
-spanned_sound Range v = ordered_sound (first_of_two v) (last_of_two v)
+spanned_sound takes.NoAddress v = tt
+spanned_sound takes.Place v = tt
+spanned_sound takes.OneLine v = single_sound (last_of_two v)
+spanned_sound takes.Range v = ordered_sound (first_of_two v) (last_of_two v)
 
 suffix_sound : (form : Option Form) (s : State) → Sound (suffix_written form s)
 suffix_sound None s = tt
@@ -84,6 +119,9 @@ made_replies s form o = replies_then (suffix_written form o.state) _ (suffix_sou
 effect_replies : (verb : Verb) (x : Span) (s t : State) (given : Option Answer) (form : Option Form) → Replies (effect_of verb x t given >> replied s form)
 effect_replies (ed.Append text) x s t given form = made_replies s form (effect.append text x t)
 effect_replies ed.Delete x s t given form = made_replies s form (effect.delete x t)
+effect_replies (ed.Mark letter) x s t given form = made_replies s form (effect.mark letter x t)
+effect_replies ed.LineNumber x s t given form = made_replies s form (effect.line_number x t)
+effect_replies ed.Null x s t given form = made_replies s form (effect.write ed.Plain x t)
 effect_replies (ed.Write f) x s t given form = made_replies s form (effect.write f x t)
 effect_replies ed.QuitAnyway x s t given form = made_replies s form (effect.only t [])
 

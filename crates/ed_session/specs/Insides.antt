@@ -36,6 +36,9 @@ quiet s = record { state = s; silent = true; prompting = false; prompt = codes "
 abbrev pub quits_anyway : Verb → Bool
 quits_anyway (ed.Append text) = false
 quits_anyway ed.Delete = false
+quits_anyway (ed.Mark letter) = false
+quits_anyway ed.LineNumber = false
+quits_anyway ed.Null = false
 quits_anyway (ed.Write form) = false
 quits_anyway ed.QuitAnyway = true
 

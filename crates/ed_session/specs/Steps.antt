@@ -9,7 +9,7 @@ use Rattle.ed_syntax.specs.declared.request.Request.TheVariants as request
 use Rattle.ed_session.specs.declared.session.Ask.{Ask}
 use Rattle.ed_session.specs.declared.session.Ask.TheVariants as ask
 use Rattle.ed_syntax.specs.Progress.{behind, report}
-use Rattle.ed_session.specs.Sessions.{SessionValue, Phase, Fresh, Between, Waiting, Over, Lost, rest, awaited, lost_by, is_waiting}
+use Rattle.ed_session.specs.Sessions.{SessionValue, Waiting, Over, Lost, rest, awaited, lost_by, is_waiting}
 
 -- what is written where memory runs out, in no help mode
 abbrev pub memory_report : List ℕ
