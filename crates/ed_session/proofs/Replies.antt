@@ -123,6 +123,9 @@ effect_replies (ed.Mark letter) x s t given form = made_replies s form (effect.m
 effect_replies ed.LineNumber x s t given form = made_replies s form (effect.line_number x t)
 effect_replies ed.Null x s t given form = made_replies s form (effect.write ed.Plain x t)
 effect_replies (ed.Write f) x s t given form = made_replies s form (effect.write f x t)
+effect_replies ed.Help x s t given form = made_replies s form (effect.only t [])
+effect_replies ed.HelpMode x s t given form = made_replies s form (effect.only t [])
+effect_replies ed.PromptMode x s t given form = made_replies s form (effect.only t [])
 effect_replies ed.QuitAnyway x s t given form = made_replies s form (effect.only t [])
 
 -- a command is done or has a fault of the script's own

@@ -8,7 +8,6 @@ pub mod MemFiles
 pub mod MemSinks
 pub mod KeptAnswers
 -- what serves clauses inside the crate
-pub mod Faults
 pub mod Insides
 pub mod Advances
 pub mod Work

@@ -35,8 +35,16 @@ asking m (Ok (s, Wants r)) again go (a ∷ answers) = behind [] (r ∷ []) (answ
 abbrev pub one : Command → Present → (Present → Rest) → Rest
 one c m go = asking m (command m.state c None) (λ a. command m.state c (Some a)) go
 
--- A command that ends the run, or goes on. A mode is toggled once the command with its suffix is done; `h` writes nothing, since a
--- run has no earlier fault.
+-- the same run with help mode turned on or off
+abbrev pub help_turned : Present → Present
+help_turned m = record m { help = not m.help }
+
+-- the same run with prompting turned on or off
+abbrev pub prompting_turned : Present → Present
+prompting_turned m = record m { prompting = not m.prompting }
+
+-- A command that ends the run, or goes on. A command that turns a mode does so when it is done with its suffix; `h` writes
+-- nothing, since no fault comes before it in a run.
 abbrev pub step : Command → Present → (Present → Rest) → Rest
 step c m go answers = elim c.verb [
   | ed.QuitAnyway ↦ ending m
@@ -52,8 +60,8 @@ step c m go answers = elim c.verb [
   | ed.Null ↦ one c m go answers
   | ed.Write form ↦ one c m go answers
   | ed.Help ↦ one c m go answers
-  | ed.HelpMode ↦ one c m (λ t. go (record t { help = not t.help })) answers
-  | ed.PromptMode ↦ one c m (λ t. go (record t { prompting = not t.prompting })) answers
+  | ed.HelpMode ↦ one c m (λ t. go (help_turned t)) answers
+  | ed.PromptMode ↦ one c m (λ t. go (prompting_turned t)) answers
 ]
 
 -- where prompting is on, the prompt is written before each command and before the end is found
@@ -70,7 +78,7 @@ abbrev pub steps : List Command → Option ℕ → Present → Rest
 steps [] bad m answers = prompted m (at_end bad m)
 steps (c ∷ cs) bad m answers = prompted m (step c m (λ t more. steps cs bad t more) answers)
 
--- the same, where the prompt before them was written
+-- the commands that are left where the prompt before the first was written, and the end of the script
 abbrev pub unprompted : List Command → Option ℕ → Present → Rest
 unprompted [] bad m answers = at_end bad m
 unprompted (c ∷ cs) bad m answers = step c m (λ t more. steps cs bad t more) answers
