@@ -1,6 +1,6 @@
 -- Worked scripts, computed from their bytes.
 use Rattle.std.specs.Prelude.{◌≡◌, refl, ℕ, pos, false, List, [], ◌∷◌, Some, None, codes}
-use Rattle.ed_syntax.specs.Commands.{Base, Number, Current, Last, Forward, Addresses, Without, One, Comma, Form, Plain, Numbered, Unambiguous, Verb, Append, Change, Delete, Insert, Mark, Move, Copy, Write, HelpMode, QuitAnyway, Command, Script, at_base}
+use Rattle.ed_syntax.specs.Commands.{Number, Current, Last, Forward, Addresses, Without, One, Comma, Form, Plain, Numbered, Unambiguous, Verb, Append, Change, Delete, Insert, Mark, Move, Copy, Write, HelpMode, QuitAnyway, Command, Script, at_base}
 use Rattle.ed_syntax.specs.Reading.{script_of}
 
 abbrev command : Addresses → Verb → Command
