@@ -1,5 +1,5 @@
 -- A run of a script, from its start or from any command on (XCU ed, "Options", "Consequences of Errors").
-use Rattle.std.specs.Prelude.{ℕ, true, false, List, [], ◌∷◌, ◌++◌, map, length, codes, Option, Some, None, Result, Ok, Err, is_some}
+use Rattle.std.specs.Prelude.{ℕ, true, false, not, List, [], ◌∷◌, ◌++◌, map, length, codes, Option, Some, None, Result, Ok, Err, is_some}
 use Rattle.ed_base.specs.Buffer.{plain_line}
 use Rattle.ed_base.specs.Lines.{lines_of}
 use Rattle.ed_base.specs.declared.fault.Fault.{Fault}
@@ -35,16 +35,25 @@ asking m (Ok (s, Wants r)) again go (a ∷ answers) = behind [] (r ∷ []) (answ
 abbrev pub one : Command → Present → (Present → Rest) → Rest
 one c m go = asking m (command m.state c None) (λ a. command m.state c (Some a)) go
 
--- a command that ends the run, or goes on
+-- A command that ends the run, or goes on. A mode is toggled once the command with its suffix is done; `h` writes nothing, since a
+-- run has no earlier fault.
 abbrev pub step : Command → Present → (Present → Rest) → Rest
 step c m go answers = elim c.verb [
   | ed.QuitAnyway ↦ ending m
   | ed.Append text ↦ one c m go answers
+  | ed.Change text ↦ one c m go answers
+  | ed.Insert text ↦ one c m go answers
+  | ed.Join ↦ one c m go answers
+  | ed.Move target ↦ one c m go answers
+  | ed.Copy target ↦ one c m go answers
   | ed.Delete ↦ one c m go answers
   | ed.Mark letter ↦ one c m go answers
   | ed.LineNumber ↦ one c m go answers
   | ed.Null ↦ one c m go answers
   | ed.Write form ↦ one c m go answers
+  | ed.Help ↦ one c m go answers
+  | ed.HelpMode ↦ one c m (λ t. go (record t { help = not t.help })) answers
+  | ed.PromptMode ↦ one c m (λ t. go (record t { prompting = not t.prompting })) answers
 ]
 
 -- where prompting is on, the prompt is written before each command and before the end is found
@@ -60,6 +69,11 @@ at_end (Some line) m = failing m fault.Syntax
 abbrev pub steps : List Command → Option ℕ → Present → Rest
 steps [] bad m answers = prompted m (at_end bad m)
 steps (c ∷ cs) bad m answers = prompted m (step c m (λ t more. steps cs bad t more) answers)
+
+-- the same, where the prompt before them was written
+abbrev pub unprompted : List Command → Option ℕ → Present → Rest
+unprompted [] bad m answers = at_end bad m
+unprompted (c ∷ cs) bad m answers = step c m (λ t more. steps cs bad t more) answers
 
 -- the lines of a file's bytes in place of all, the last one current
 abbrev pub loaded : List ℕ → List ℕ → State → State
