@@ -20,6 +20,7 @@ mod tests;
 pub mod tree;
 
 pub use always::always_matches;
+pub use bracket::behind_bracket;
 use fault::BreFault;
 use item::whole;
 use refusal::Refusal;

@@ -1,1 +1,2 @@
+pub mod BufferRows
 pub mod LineLemmas

@@ -3,12 +3,14 @@
 
 mod bytes;
 mod fault;
+mod letter;
 mod lines;
 mod numbers;
 mod text;
 
 pub use bytes::Bytes;
 pub use fault::Fault;
+pub use letter::Letter;
 pub use lines::{
     bytes_hold_their_lines, count_lines, join_lines, next_line, split_lines,
     written_lines_are_read_back,

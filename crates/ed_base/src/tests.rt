@@ -1,5 +1,7 @@
 //! What no clause says: that calls succeed, and that the definitions are the standard's.
-use crate::{Bytes, Fault, Text, count_lines, join_lines, next_line, push_number, split_lines};
+use crate::{
+    Bytes, Fault, Letter, Text, count_lines, join_lines, next_line, push_number, split_lines,
+};
 use std::alloc::{AllocError, Global};
 use std::test::Fail;
 
@@ -95,6 +97,16 @@ fn numbers_are_written_in_decimal_digits(rt: HostRuntime) -> Result<(), Fail> {
         b"0\n10\n18446744073709551615\n".as_slice()
     );
     Ok(())
+}
+
+#[test]
+fn small_letters_mark_lines_and_nothing_else_does(rt: HostRuntime) {
+    for (byte, place) in (b'a'..=b'z').zip(0..) {
+        assert_eq!(rt; Letter::new(byte).map(Letter::place), Some(place));
+    }
+    for byte in *b"`{AZ0 \n\xe1" {
+        assert_eq!(rt; Letter::new(byte), None);
+    }
 }
 
 // Copies by the allocator, with a fault of its own for want of memory.

@@ -6,6 +6,7 @@ pub mod Drives
 -- the tools for runs in memory
 pub mod MemFiles
 pub mod MemSinks
+pub mod KeptAnswers
 -- what serves clauses inside the crate
 pub mod Insides
 pub mod Advances

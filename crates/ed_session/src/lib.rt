@@ -2,6 +2,7 @@
 #![tactic(auto)]
 
 mod driving;
+mod kept;
 pub mod laws;
 mod mem_files;
 mod mem_sink;

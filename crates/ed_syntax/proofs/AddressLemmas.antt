@@ -1,163 +1,191 @@
 -- Addresses: what is read is spelled so, and what is spelled so is read.
-use Rattle.std.proofs.Common.{◌≡◌, ◌≢◌, ℕ, true, false, nat_eq, cond, ◌+◌, List, [], ◌∷◌, ◌++◌, Option, Some, None, refl, sym, ap, ◌∙◌, ⊎_elim, subst, arith, append_assoc}
-use Rattle.std.specs.List.{prefix_len}
-use Rattle.std.proofs.lemmas.Bool.{cases_Bool, false≢true, eqb-true, or_cases}
-use Rattle.std.proofs.lemmas.List.Elements.{All-nil, All-cons, All-head, All-append}
-use Rattle.ed_base.specs.Lines.{newline, IsLine}
-use Rattle.ed_syntax.specs.Characters.{is_blank, is_digit}
-use Rattle.ed_syntax.specs.Commands.{Address, Base, Number, Current, Last, at_base}
-use Rattle.ed_syntax.specs.Addressing as spelled
-use Rattle.ed_syntax.specs.Addressing.{Blanks, Numeral, SpellsBase, SpellsAddress, SpellsSome}
-use Rattle.ed_syntax.specs.Tokens.{◌>>=◌, behind_blanks, number, from_base, address}
-use Rattle.ed_syntax.proofs.BlankLemmas.{IsBlank, front_blanks, behind_blanks-other, behind_blanks-append, Blanks-line}
-use Rattle.ed_syntax.proofs.NumberLemmas.{IsDigit, NoDigit, Some-same, number-sound, number-complete, Numeral-line}
+use Rattle.std.proofs.Common.{◌≡◌, ◌≢◌, ℕ, ◌+◌, ◌-◌, ◌<◌, ◌&&◌, ◌||◌, ℤ, true, nat_eq, nat_le, List, [], ◌∷◌, length, Option, Some, None, refl, sym, ap, ◌∙◌, ⊎_elim, subst, arith}
+use Rattle.std.specs.Prelude.{IsTrue, IsFalse}
+use Rattle.std.proofs.lemmas.Bool.{eqb-true, leb-true, le-leb, and_parts, and_from, or_parts, or_cases, false≢true}
+use Rattle.ed_base.specs.Buffer.{letter_of}
+use Rattle.ed_syntax.specs.Characters.{dollar_sign, apostrophe, plus_sign, hyphen, full_stop, slash, question_mark, backslash, letter_a, is_digit, is_sign, begins_address, begins}
+use Rattle.ed_syntax.specs.Commands.{Base, Number, Current, Last, Marked, Forward, Backward, Address}
+use Rattle.ed_syntax.specs.Addressing.{SpellsBase, SpellsOffsets, SpellsAddress}
+use Rattle.ed_syntax.specs.Tokens.{Parsed, ◌>>=◌, number, letter, pattern_at, offsets, base, with_offsets, address}
+use Rattle.ed_syntax.proofs.StepLemmas.{Some-same, none_some, bind-some, chosen, either}
+use Rattle.ed_syntax.proofs.NumberLemmas.{number-sound, number-complete, number-first}
+use Rattle.ed_syntax.proofs.QuotingLemmas.{pattern_at-sound, pattern_at-complete}
+use Rattle.ed_syntax.proofs.OffsetLemmas.{offsets-sound, offsets-complete}
 
--- what a step gave, and the step behind it
-pub bind-some : {A B : Type 0} (o : Option A) (f : A → Option B) (y : B) → (o >>= f) ≡ Some y → (x : A) × (o ≡ Some x) × (f x ≡ Some y)
-bind-some None f y is = cc
-bind-some (Some x) f y is = (x, refl, is)
+-- a letter's byte
+letter_of-sound : (b l : ℕ) → letter_of b ≡ Some l → (l < 26) × (b ≡ letter_a + l)
+letter_of-sound b =
+    either (λ (read : Option ℕ). (l : ℕ) → read ≡ Some l → (l < 26) × (b ≡ letter_a + l)) (nat_le 97 b && nat_le b 122) (Some (b - 97)) None
+    (λ yes l is.
+    let parts = and_parts (nat_le 97 b) (nat_le b 122) yes in
+    let same = Some-same (b - 97) l is in
+    (omega (arith, leb-true 97 b parts.0, leb-true b 122 parts.1, same), omega (arith, leb-true 97 b parts.0, leb-true b 122 parts.1, same)))
+    (λ no l is. absurd (none_some is))
 
--- a byte that neither goes before an address nor begins one
-pub record Stops (b : ℕ) : Type 0 where
-  pub blank : is_blank b ≡ false
-  pub digit : is_digit b ≡ false
-  pub current : nat_eq b 46 ≡ false
-  pub last : nat_eq b 36 ≡ false
+letter_of-complete : (l : ℕ) → l < 26 → letter_of (letter_a + l) ≡ Some l
+letter_of-complete l short =
+    let within = and_from (nat_le 97 (97 + l)) (nat_le (97 + l) 122) (le-leb 97 (97 + l) (omega arith)) (le-leb (97 + l) 122 (omega (arith, short))) in
+    let same : 97 + l - 97 ≡ l = omega arith in
+    ap (λ t. chosen t (Some (97 + l - 97)) None) within ∙ ap Some same
 
--- bytes of an address, or none
-pub data SpellsMaybe : List ℕ → Option Address → Type 0 where
-  nothing : SpellsMaybe [] None
-  given : (bytes : List ℕ) (a : Address) → SpellsAddress bytes a → SpellsMaybe bytes (Some a)
+-- a letter at the head of a text
+pub record ReadsLetter (text : List ℕ) (r : ℕ × List ℕ) : Type 0 where
+  pub small : r.0 < 26
+  pub split : text ≡ (letter_a + r.0) ∷ r.1
 
-address-number : (b : ℕ) (bytes : List ℕ) → is_digit b ≡ true → address (b ∷ bytes) ≡ (number (b ∷ bytes) >>= λ r. from_base (Number r.0) r.1)
-address-number b bytes digit = rw (digit, address) refl
+pub letter-sound : (text : List ℕ) (r : ℕ × List ℕ) → letter text ≡ Some r → ReadsLetter text r
+letter-sound [] r is = absurd (none_some is)
+letter-sound (b ∷ bs) r is =
+    let l = bind-some (letter_of b) (λ l. Some (l, bs)) r is in
+    let found = letter_of-sound b l.0 l.1 in
+    subst (ReadsLetter (b ∷ bs)) (Some-same (l.0, bs) r l.2) (record { small = found.0; split = ap (λ b. b ∷ bs) found.1 })
 
-address-current : (b : ℕ) (bytes : List ℕ) → is_digit b ≡ false → nat_eq b 46 ≡ true → address (b ∷ bytes) ≡ from_base Current bytes
-address-current b bytes digit dot = rw (digit, dot, address) refl
+pub letter-complete : (l : ℕ) (rest : List ℕ) → l < 26 → letter ((letter_a + l) ∷ rest) ≡ Some (l, rest)
+letter-complete l rest short = ap (λ (o : Option ℕ). o >>= λ l. Some (l, rest)) (letter_of-complete l short)
 
-address-last : (b : ℕ) (bytes : List ℕ) → is_digit b ≡ false → nat_eq b 46 ≡ false → nat_eq b 36 ≡ true → address (b ∷ bytes) ≡ from_base Last bytes
-address-last b bytes digit dot dollar = rw (digit, dot, dollar, address) refl
+-- what is read of a base: none, one that is spelled, or the current line before an offset
+pub data ReadsBase (text : List ℕ) : (rest : List ℕ) → Option Base → Type 0 where
+  nothing : IsFalse (begins begins_address text) → ReadsBase text text None
+  given : (rest : List ℕ) (base : Base) → SpellsBase text rest base → ReadsBase text rest (Some base)
+  signed : IsTrue (begins is_sign text) → ReadsBase text text (Some Current)
 
-address-none : (b : ℕ) (bytes : List ℕ) → is_digit b ≡ false → nat_eq b 46 ≡ false → nat_eq b 36 ≡ false → address (b ∷ bytes) ≡ Some (None, b ∷ bytes)
-address-none b bytes digit dot dollar = rw (digit, dot, dollar, address) refl
+-- a base that is read is so
+abbrev BaseRead : List ℕ → Parsed (Option Base) → Type 0
+BaseRead text read = (r : Option Base × List ℕ) → read ≡ Some r → ReadsBase text r.1 r.0
 
--- what was read in front of bytes, and how it is spelled
-abbrev pub Reads : List ℕ → Option Address × List ℕ → Type 0
-Reads bytes r = (part : List ℕ) × SpellsMaybe part r.0 × (bytes ≡ part ++ r.1)
+-- one that is read so
+known : (text rest : List ℕ) (base : Option Base) → ReadsBase text rest base → BaseRead text (Some (base, rest))
+known text rest base spells r is = subst (λ (r : Option Base × List ℕ). ReadsBase text r.1 r.0) (Some-same (base, rest) r is) spells
 
--- one byte that is a base of its own
-Reads-one : (b code : ℕ) (base : Base) (bytes : List ℕ) → SpellsBase (code ∷ []) base → nat_eq b code ≡ true → Reads (b ∷ bytes) (Some (at_base base), bytes)
-Reads-one b code base bytes is same = (code ∷ [], given (code ∷ []) (at_base base) (spelled.based (code ∷ []) base is), ap (λ b. b ∷ bytes) (eqb-true b code same))
+-- one with a part
+with_part : {A : Type 0} (text : List ℕ) (part : Parsed A) (of : A → Base) → ((found : A) (rest : List ℕ) → part ≡ Some (found, rest) → SpellsBase text rest (of found)) →
+    BaseRead text (part >>= λ r. Some (Some (of r.0), r.1))
+with_part text part of spells r is =
+    let found = bind-some part (λ r. Some (Some (of r.0), r.1)) r is in
+    known text found.0.1 (Some (of found.0.0)) (given found.0.1 (of found.0.0) (spells found.0.0 found.0.1 found.1)) r found.2
+
+-- one at this byte
+at_byte : (b code : ℕ) (bs : List ℕ) (read : Parsed (Option Base)) → nat_eq b code ≡ true → BaseRead (code ∷ bs) read → BaseRead (b ∷ bs) read
+at_byte b code bs read same is = subst (λ b. BaseRead (b ∷ bs) read) (sym (eqb-true b code same)) is
+
+marked-read : (bs : List ℕ) → BaseRead (apostrophe ∷ bs) (letter bs >>= λ r. Some (Some (Marked r.0), r.1))
+marked-read bs = with_part (apostrophe ∷ bs) (letter bs) Marked (λ l rest is.
+    let found = letter-sound bs (l, rest) is in
+    subst (λ bs. SpellsBase (apostrophe ∷ bs) rest (Marked l)) (sym found.split) (SpellsBase.marked l rest found.small))
+
+-- a base that is read is spelled so
+base-sound : (text : List ℕ) → BaseRead text (base text)
+base-sound [] = known [] [] None (nothing refl)
+base-sound (b ∷ bs) =
+    let P = BaseRead (b ∷ bs) in
+    either P (is_digit b) _ _
+    (λ digit. with_part (b ∷ bs) (number (b ∷ bs)) Number (λ n rest is. SpellsBase.number (b ∷ bs) rest n (number-sound (b ∷ bs) (n, rest) is)))
+    (λ no_digit. either P (nat_eq b full_stop) _ _
+    (λ stop. at_byte b full_stop bs _ stop (known (full_stop ∷ bs) bs (Some Current) (given bs Current (SpellsBase.current bs))))
+    (λ no_stop. either P (nat_eq b dollar_sign) _ _
+    (λ dollar. at_byte b dollar_sign bs _ dollar (known (dollar_sign ∷ bs) bs (Some Last) (given bs Last (SpellsBase.last bs))))
+    (λ no_dollar. either P (nat_eq b apostrophe) _ _
+    (λ mark. at_byte b apostrophe bs _ mark (marked-read bs))
+    (λ no_mark. either P (nat_eq b slash) _ _
+    (λ forward. at_byte b slash bs _ forward (with_part (slash ∷ bs) (pattern_at slash bs) Forward (λ p rest is. SpellsBase.forward bs rest p (pattern_at-sound slash bs (p, rest) is))))
+    (λ no_forward. either P (nat_eq b question_mark) _ _
+    (λ backward. at_byte b question_mark bs _ backward (with_part (question_mark ∷ bs) (pattern_at question_mark bs) Backward (λ p rest is. SpellsBase.backward bs rest p (pattern_at-sound question_mark bs (p, rest) is))))
+    (λ no_backward. either P (is_sign b) _ _
+    (λ sign. known (b ∷ bs) (b ∷ bs) (Some Current) (signed sign))
+    (λ no_sign. known (b ∷ bs) (b ∷ bs) None (nothing (rw (no_digit, no_stop, no_dollar, no_mark, no_forward, no_backward, no_sign, begins_address) refl)))))))))
+
+-- where no address begins, none is read
+base-none : (text : List ℕ) → IsFalse (begins begins_address text) → base text ≡ Some (None, text)
+base-none [] none = refl
+base-none (b ∷ bs) none =
+    let signs = or_parts (is_digit b || nat_eq b full_stop || nat_eq b dollar_sign || nat_eq b apostrophe || nat_eq b slash || nat_eq b question_mark) (is_sign b) none in
+    let backwards = or_parts (is_digit b || nat_eq b full_stop || nat_eq b dollar_sign || nat_eq b apostrophe || nat_eq b slash) (nat_eq b question_mark) signs.0 in
+    let forwards = or_parts (is_digit b || nat_eq b full_stop || nat_eq b dollar_sign || nat_eq b apostrophe) (nat_eq b slash) backwards.0 in
+    let marks = or_parts (is_digit b || nat_eq b full_stop || nat_eq b dollar_sign) (nat_eq b apostrophe) forwards.0 in
+    let dollars = or_parts (is_digit b || nat_eq b full_stop) (nat_eq b dollar_sign) marks.0 in
+    let stops = or_parts (is_digit b) (nat_eq b full_stop) dollars.0 in
+    rw (stops.0, stops.1, dollars.1, marks.1, forwards.1, backwards.1, signs.1, base) refl
+
+-- before an offset the current line is read
+base-signed : (text : List ℕ) → IsTrue (begins is_sign text) → base text ≡ Some (Some Current, text)
+base-signed [] sign = absurd (false≢true sign)
+base-signed (b ∷ bs) sign =
+    ⊎_elim
+    (λ plus. ap (λ b. base (b ∷ bs)) (eqb-true b plus_sign plus) ∙ ap (λ b. Some (Some Current, b ∷ bs)) (sym (eqb-true b plus_sign plus)))
+    (λ minus. ap (λ b. base (b ∷ bs)) (eqb-true b hyphen minus) ∙ ap (λ b. Some (Some Current, b ∷ bs)) (sym (eqb-true b hyphen minus)))
+    (or_cases (nat_eq b plus_sign) (nat_eq b hyphen) sign)
+
+base-digit : (text : List ℕ) → IsTrue (begins is_digit text) → base text ≡ (number text >>= λ r. Some (Some (Number r.0), r.1))
+base-digit [] digit = absurd (false≢true digit)
+base-digit (b ∷ bs) digit = rw (digit, base) refl
+
+base-current : (rest : List ℕ) → base (full_stop ∷ rest) ≡ Some (Some Current, rest)
+base-current rest = refl
+
+base-last : (rest : List ℕ) → base (dollar_sign ∷ rest) ≡ Some (Some Last, rest)
+base-last rest = refl
+
+base-marked : (text : List ℕ) → base (apostrophe ∷ text) ≡ (letter text >>= λ r. Some (Some (Marked r.0), r.1))
+base-marked text = refl
+
+base-forward : (text : List ℕ) → base (slash ∷ text) ≡ (pattern_at slash text >>= λ r. Some (Some (Forward r.0), r.1))
+base-forward text = refl
+
+base-backward : (text : List ℕ) → base (question_mark ∷ text) ≡ (pattern_at question_mark text >>= λ r. Some (Some (Backward r.0), r.1))
+base-backward text = refl
+
+-- what is read of a part makes a base
+part-complete : {A : Type 0} (of : A → Base) (text rest : List ℕ) (part : Parsed A) (found : A) → base text ≡ (part >>= λ r. Some (Some (of r.0), r.1)) → part ≡ Some (found, rest) →
+    base text ≡ Some (Some (of found), rest)
+part-complete {A} of text rest part found is read = is ∙ ap (λ (o : Parsed A). o >>= λ r. Some (Some (of r.0), r.1)) read
+
+slash_plain : slash ≢ backslash
+slash_plain same = cc
+
+question_mark_plain : question_mark ≢ backslash
+question_mark_plain same = cc
+
+-- a base that is spelled so is read
+base-complete : {text rest : List ℕ} {found : Base} → SpellsBase text rest found → base text ≡ Some (Some found, rest)
+base-complete (SpellsBase.number text rest n is) = part-complete Number text rest (number text) n (base-digit text (number-first is)) (number-complete is)
+base-complete (SpellsBase.current rest) = base-current rest
+base-complete (SpellsBase.last rest) = base-last rest
+base-complete (SpellsBase.marked l rest small) =
+    part-complete Marked (apostrophe ∷ (letter_a + l) ∷ rest) rest (letter ((letter_a + l) ∷ rest)) l (base-marked ((letter_a + l) ∷ rest)) (letter-complete l rest small)
+base-complete (SpellsBase.forward text rest pattern is) =
+    part-complete Forward (slash ∷ text) rest (pattern_at slash text) pattern (base-forward text) (pattern_at-complete slash is slash_plain)
+base-complete (SpellsBase.backward text rest pattern is) =
+    part-complete Backward (question_mark ∷ text) rest (pattern_at question_mark text) pattern (base-backward text) (pattern_at-complete question_mark is question_mark_plain)
 
 -- an address that is read is spelled so
-pub address-sound : (bytes : List ℕ) (r : Option Address × List ℕ) → address bytes ≡ Some r → Reads bytes r
-address-sound [] r is = subst (Reads []) (Some-same (None, []) r is) ([], nothing, refl)
-address-sound (b ∷ bytes) r is =
-    ⊎_elim
-    (λ digit.
-    let n = bind-some (number (b ∷ bytes)) (λ n. from_base (Number n.0) n.1) r (sym (address-number b bytes digit) ∙ is) in
-    let digits = number-sound (b ∷ bytes) n.0 n.1 in
-    subst (Reads (b ∷ bytes)) (Some-same (Some (at_base (Number n.0.0)), n.0.1) r n.2)
-    (digits.0, given digits.0 (at_base (Number n.0.0)) (spelled.based digits.0 (Number n.0.0) (spelled.number digits.0 n.0.0 digits.1)), digits.2))
-    (λ other. ⊎_elim
-    (λ dot. subst (Reads (b ∷ bytes)) (Some-same (Some (at_base Current), bytes) r (sym (address-current b bytes other dot) ∙ is)) (Reads-one b 46 Current bytes spelled.current dot))
-    (λ no_dot. ⊎_elim
-    (λ dollar. subst (Reads (b ∷ bytes)) (Some-same (Some (at_base Last), bytes) r (sym (address-last b bytes other no_dot dollar) ∙ is)) (Reads-one b 36 Last bytes spelled.last dollar))
-    (λ no_dollar. subst (Reads (b ∷ bytes)) (Some-same (None, b ∷ bytes) r (sym (address-none b bytes other no_dot no_dollar) ∙ is)) ([], nothing, refl))
-    (cases_Bool (nat_eq b 36)))
-    (cases_Bool (nat_eq b 46)))
-    (cases_Bool (is_digit b))
+abbrev AddressRead : List ℕ → Parsed (Option Address) → Type 0
+AddressRead text read = (r : Option Address × List ℕ) → read ≡ Some r → SpellsAddress text r.1 r.0
 
--- a number that is spelled so is read as an address
-number-base : (bytes rest : List ℕ) (n : ℕ) → Numeral bytes n → NoDigit rest → address (bytes ++ rest) ≡ Some (Some (at_base (Number n)), rest)
-number-base [] rest n numeral none = absurd (omega (arith, numeral.some))
-number-base (b ∷ bytes) rest n numeral none =
-    address-number b (bytes ++ rest) (All-head IsDigit b bytes numeral.digits)
-    ∙ ap (λ o. o >>= λ r. from_base (Number r.0) r.1) (number-complete (b ∷ bytes) rest n numeral none)
+-- offsets behind a base
+offset-sound : (text more : List ℕ) (base : Base) → ((rest : List ℕ) (offset : ℤ) → SpellsOffsets more rest offset → SpellsAddress text rest (Some (record { base = base; offset = offset }))) →
+    AddressRead text (with_offsets (Some base) more)
+offset-sound text more base spells r is =
+    let sum = bind-some (offsets (length more) more) (λ r. Some (Some (record { base = base; offset = r.0 }), r.1)) r is in
+    subst (λ (r : Option Address × List ℕ). SpellsAddress text r.1 r.0) (Some-same (Some (record { base = base; offset = sum.0.0 }), sum.0.1) r sum.2)
+    (spells sum.0.1 sum.0.0 (offsets-sound (length more) more (omega arith) sum.0 sum.1))
 
-base-complete : {bytes : List ℕ} {base : Base} → SpellsBase bytes base → (rest : List ℕ) → NoDigit rest → address (bytes ++ rest) ≡ Some (Some (at_base base), rest)
-base-complete (spelled.number bytes n numeral) rest none = number-base bytes rest n numeral none
-base-complete spelled.current rest none = refl
-base-complete spelled.last rest none = refl
+with_offsets-sound : {text more : List ℕ} {found : Option Base} → ReadsBase text more found → AddressRead text (with_offsets found more)
+with_offsets-sound {text} (nothing none) = λ r is. subst (λ (r : Option Address × List ℕ). SpellsAddress text r.1 r.0) (Some-same (None, text) r is) (SpellsAddress.none text none)
+with_offsets-sound {text} (given more base is) = offset-sound text more base (λ rest offset. SpellsAddress.based text more rest base offset is)
+with_offsets-sound {text} (signed sign) = offset-sound text text Current (λ rest offset. SpellsAddress.relative text rest offset sign)
+
+pub address-sound : (text : List ℕ) (r : Option Address × List ℕ) → address text ≡ Some r → SpellsAddress text r.1 r.0
+address-sound text r is =
+    let found = bind-some (base text) (λ r. with_offsets r.0 r.1) r is in
+    with_offsets-sound (base-sound text found.0 found.1) r found.2
+
+offset-complete : (base : Base) {text rest : List ℕ} {offset : ℤ} → SpellsOffsets text rest offset → with_offsets (Some base) text ≡ Some (Some (record { base = base; offset = offset }), rest)
+offset-complete base {text} is = ap (λ (o : Parsed ℤ). o >>= λ r. Some (Some (record { base = base; offset = r.0 }), r.1)) (offsets-complete is (length text) (omega arith))
 
 -- an address that is spelled so is read
-pub address-complete : {bytes : List ℕ} {a : Address} → SpellsAddress bytes a → (rest : List ℕ) → NoDigit rest → address (bytes ++ rest) ≡ Some (Some a, rest)
-address-complete (spelled.based bytes base is) rest none = base-complete is rest none
-
--- another byte in front is no digit
-other-digit : (b : ℕ) (bytes : List ℕ) → is_digit b ≡ false → NoDigit (b ∷ bytes)
-other-digit b bytes is = ap (λ t. cond t (1 + prefix_len is_digit bytes) 0) is
-
--- a blank is no digit
-pub blank-digit : (b : ℕ) → is_blank b ≡ true → is_digit b ≡ false
-blank-digit b is = ⊎_elim (λ space. ap is_digit (eqb-true b 32 space)) (λ tab. ap is_digit (eqb-true b 9 tab)) (or_cases (nat_eq b 32) (nat_eq b 9) is)
-
-digit-blank : (b : ℕ) → is_digit b ≡ true → is_blank b ≡ false
-digit-blank b is = ⊎_elim (λ blank. absurd (false≢true (sym (blank-digit b blank) ∙ is))) (λ other. other) (cases_Bool (is_blank b))
-
-numeral-first : (bytes rest : List ℕ) (n : ℕ) → Numeral bytes n → behind_blanks (bytes ++ rest) ≡ bytes ++ rest
-numeral-first [] rest n numeral = absurd (omega (arith, numeral.some))
-numeral-first (b ∷ bytes) rest n numeral = behind_blanks-other b (bytes ++ rest) (digit-blank b (All-head IsDigit b bytes numeral.digits))
-
-base-first : {bytes : List ℕ} {base : Base} → SpellsBase bytes base → (rest : List ℕ) → behind_blanks (bytes ++ rest) ≡ bytes ++ rest
-base-first (spelled.number bytes n numeral) rest = numeral-first bytes rest n numeral
-base-first spelled.current rest = refl
-base-first spelled.last rest = refl
-
--- no address begins with a blank
-pub address-first : {bytes : List ℕ} {a : Address} → SpellsAddress bytes a → (rest : List ℕ) → behind_blanks (bytes ++ rest) ≡ bytes ++ rest
-address-first (spelled.based bytes base is) rest = base-first is rest
-
-one-line : (b : ℕ) → b ≢ newline → IsLine (b ∷ [])
-one-line b other = All-cons (λ b. b ≢ newline) b [] other (All-nil (λ b. b ≢ newline))
-
-base-line : {bytes : List ℕ} {base : Base} → SpellsBase bytes base → IsLine bytes
-base-line (spelled.number bytes n numeral) = Numeral-line bytes n numeral
-base-line spelled.current = one-line 46 (λ same. cc)
-base-line spelled.last = one-line 36 (λ same. cc)
-
--- an address stands on one line
-pub address-line : {bytes : List ℕ} {a : Address} → SpellsAddress bytes a → IsLine bytes
-address-line (spelled.based bytes base is) = base-line is
-
--- an address or none, with the blanks around
-some-spelled : {bytes : List ℕ} {a : Option Address} → SpellsMaybe bytes a → (before after : List ℕ) → Blanks before → Blanks after → SpellsSome (before ++ (bytes ++ after)) a
-some-spelled nothing before after are_before are_after = spelled.nothing (before ++ after) (All-append IsBlank before after are_before are_after)
-some-spelled (given bytes a is) before after are_before are_after = spelled.address before bytes after a are_before is are_after
-
--- what is read behind blanks is spelled so, with the blanks behind it
-pub some-sound : (bytes : List ℕ) (r : Option Address × List ℕ) → address (behind_blanks bytes) ≡ Some r → (part : List ℕ) × SpellsSome part r.0 × (bytes ≡ part ++ behind_blanks r.1)
-some-sound bytes r is =
-    let before = front_blanks bytes in
-    let middle = address-sound (behind_blanks bytes) r is in
-    let after = front_blanks r.1 in
-    let left = behind_blanks r.1 in (
-      before.0 ++ (middle.0 ++ after.0),
-      some-spelled middle.1 before.0 after.0 before.1 after.1,
-      before.2 ∙ ap (λ bs. before.0 ++ bs) (middle.2 ∙ ap (λ bs. middle.0 ++ bs) after.2 ∙ sym (append_assoc middle.0 after.0 left)) ∙ sym (append_assoc before.0 (middle.0 ++ after.0) left),
-    )
-
-blanks-digit : (blanks rest : List ℕ) → Blanks blanks → NoDigit rest → NoDigit (blanks ++ rest)
-blanks-digit [] rest are none = none
-blanks-digit (b ∷ blanks) rest are none = other-digit b (blanks ++ rest) (blank-digit b (All-head IsBlank b blanks are))
-
--- what is spelled so is read, before a byte that stops it
-pub some-complete : {part : List ℕ} {a : Option Address} → SpellsSome part a → (b : ℕ) (rest : List ℕ) → Stops b →
-    (middle : List ℕ) × (address (behind_blanks (part ++ b ∷ rest)) ≡ Some (a, middle)) × (behind_blanks middle ≡ b ∷ rest)
-some-complete (spelled.nothing blanks are) b rest stops =
-    let left = behind_blanks-append blanks (b ∷ rest) are ∙ behind_blanks-other b rest stops.blank in
-    (b ∷ rest, ap address left ∙ address-none b rest stops.digit stops.current stops.last, behind_blanks-other b rest stops.blank)
-some-complete (spelled.address before bytes after a are_before is are_after) b rest stops =
-    let middle = after ++ b ∷ rest in (
-      middle,
-      ap (λ bs. address (behind_blanks bs)) (append_assoc before (bytes ++ after) (b ∷ rest) ∙ ap (λ bs. before ++ bs) (append_assoc bytes after (b ∷ rest)))
-          ∙ ap address (behind_blanks-append before (bytes ++ middle) are_before ∙ address-first is middle)
-          ∙ address-complete is middle (blanks-digit after (b ∷ rest) are_after (other-digit b rest stops.digit)),
-      behind_blanks-append after (b ∷ rest) are_after ∙ behind_blanks-other b rest stops.blank,
-    )
-
--- it stands on one line
-pub some-line : {part : List ℕ} {a : Option Address} → SpellsSome part a → IsLine part
-some-line (spelled.nothing blanks are) = Blanks-line blanks are
-some-line (spelled.address before bytes after a are_before is are_after) =
-    All-append (λ b. b ≢ newline) before (bytes ++ after) (Blanks-line before are_before) (All-append (λ b. b ≢ newline) bytes after (address-line is) (Blanks-line after are_after))
+pub address-complete : {text rest : List ℕ} {a : Option Address} → SpellsAddress text rest a → address text ≡ Some (a, rest)
+address-complete (SpellsAddress.none rest none) = ap (λ (o : Parsed (Option Base)). o >>= λ r. with_offsets r.0 r.1) (base-none rest none)
+address-complete (SpellsAddress.based text more rest base offset is later) =
+    ap (λ (o : Parsed (Option Base)). o >>= λ r. with_offsets r.0 r.1) (base-complete is) ∙ offset-complete base later
+address-complete (SpellsAddress.relative text rest offset sign later) =
+    ap (λ (o : Parsed (Option Base)). o >>= λ r. with_offsets r.0 r.1) (base-signed text sign) ∙ offset-complete Current later

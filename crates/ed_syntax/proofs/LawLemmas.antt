@@ -1,13 +1,13 @@
 -- Scripts: what is read is spelled so, and what is spelled so is read.
 use Rattle.std.proofs.Common.{◌≡◌, ℕ, zero, suc, ◌+◌, ◌-◌, ◌≤◌, List, [], ◌∷◌, ◌++◌, length, Option, Some, None, refl, sym, ap, ◌∙◌, subst, arith}
 use Rattle.std.proofs.lemmas.List.{append_cancel_right}
-use Rattle.std.proofs.lemmas.List.Elements.{All-tail}
-use Rattle.ed_base.specs.Lines.{IsLine, AreLines, lines_of, bytes_of}
+use Rattle.ed_base.specs.Lines.{AreLines, lines_of, bytes_of}
 use Rattle.ed_base.proofs.LineLemmas.{HoldsLines-lines, HoldsLines-lines_of}
 use Rattle.ed_syntax.specs.Commands.{Command, Script}
 use Rattle.ed_syntax.specs.Spellings as spelled
 use Rattle.ed_syntax.specs.Spellings.{Spells, SpellsCommands, SpellsWhatIsRead, ReadsWhatIsSpelled}
 use Rattle.ed_syntax.specs.Reading.{command_at, script, script_of, followed}
+use Rattle.ed_syntax.proofs.StepLemmas.{none_some}
 use Rattle.ed_syntax.proofs.TextLemmas.{no_lines}
 use Rattle.ed_syntax.proofs.CommandLemmas.{CommandRead, command-sound, command-complete}
 use Rattle.ed_syntax.proofs.ScriptLemmas.{from_command, command_at-later}
@@ -20,9 +20,6 @@ SpellsLines number lines s = SpellsCommands number (bytes_of lines) s.commands s
 abbrev read_first : List (List ℕ) → Option (Command × List (List ℕ))
 read_first [] = None
 read_first (line ∷ later) = command_at line later
-
-none_some : {A : Type 0} {x : A} → None ≡ Some x → ⊥
-none_some same = cc
 
 -- where no command can be read, no front of the lines spells one
 no_front : (line : List ℕ) (later : List (List ℕ)) → AreLines (line ∷ later) → command_at line later ≡ None →
@@ -38,7 +35,7 @@ next_spelled : (n number : ℕ) (line : List ℕ) (later : List (List ℕ)) → 
 next_spelled n number line later are enough behind None is =
     spelled.stuck number (bytes_of (line ∷ later)) (λ empty. let none : line ∷ later ≡ [] = no_lines (line ∷ later) (sym empty) in cc) (no_front line later are is)
 next_spelled n number line later are enough behind (Some r) is =
-    let read = command-sound line later r (All-tail IsLine line later are) is in
+    let read = command-sound line later r are is in
     let short = command_at-later line later r is in
     let next = number + (suc (length later) - length r.1) in
     let same : next ≡ number + length (lines_of read.bytes) = omega (arith, read.counted) in
@@ -68,7 +65,7 @@ stuck_read : (n number : ℕ) (line : List ℕ) (later : List (List ℕ)) → Ar
     (o : Option (Command × List (List ℕ))) → command_at line later ≡ o → from_command n number later o ≡ record { commands = []; fault = Some number }
 stuck_read n number line later are refused None is = refl
 stuck_read n number line later are refused (Some r) is =
-    let read = command-sound line later r (All-tail IsLine line later are) is in
+    let read = command-sound line later r are is in
     absurd (refused read.bytes (bytes_of r.1) r.0 read.split read.spells)
 
 -- a script that is spelled so is read

@@ -1,45 +1,75 @@
 -- Which bytes spell an address (XCU ed, "Addresses in ed").
-use Rattle.std.specs.Prelude.{ℕ, ◌<◌, ◌≤◌, ◌≡◌, List, [], ◌∷◌, ◌++◌, length, All, Option, Some, None, IsTrue}
-use Rattle.ed_syntax.specs.Characters.{dollar_sign, comma_byte, full_stop, is_blank, is_digit, value_of}
-use Rattle.ed_syntax.specs.Commands.{Base, Number, Current, Last, Address, Addresses, Without, One, Comma, at_base}
+-- Each names a text, what stands behind the part at its head, and what that part means. A text ends with its line.
+use Rattle.std.specs.Prelude.{ℕ, ◌+◌, ◌<◌, ◌≤◌, ◌≡◌, ℤ, pos, ◌+ℤ◌, neg_ℤ, List, ◌∷◌, ◌++◌, length, All, Option, Some, None, IsTrue, IsFalse}
+use Rattle.ed_syntax.specs.Characters.{dollar_sign, apostrophe, plus_sign, comma_byte, hyphen, full_stop, slash, semicolon_byte, question_mark, letter_a, is_blank, is_digit, is_sign, is_separator, begins_address, begins, behind_blanks, value_of}
+use Rattle.ed_syntax.specs.Commands.{Base, Number, Current, Last, Marked, Forward, Backward, Address, Addresses, Without, One, Comma, Semicolon, at_base}
+use Rattle.ed_syntax.specs.Quoting.{SpellsPattern}
 
 -- spaces and tabs
 abbrev pub Blanks : List ℕ → Type 0
 Blanks bytes = All (λ b. IsTrue (is_blank b)) bytes
 
--- one to nine digits spell their number
-pub record Numeral (bytes : List ℕ) (n : ℕ) : Type 0 where
-  pub digits : All (λ b. IsTrue (is_digit b)) bytes
-  pub some : 0 < length bytes
-  pub few : length bytes ≤ 9
-  pub value : value_of bytes ≡ n
+-- one to nine digits, up to a byte that is none
+pub data SpellsNumber : (text rest : List ℕ) → ℕ → Type 0 where
+  digits : (bytes rest : List ℕ) → All (λ b. IsTrue (is_digit b)) bytes → 0 < length bytes → length bytes ≤ 9 → IsFalse (begins is_digit rest) →
+      SpellsNumber (bytes ++ rest) rest (value_of bytes)
 
--- the base of an address: a number, `.` or `$`
-pub data SpellsBase : List ℕ → Base → Type 0 where
-  number : (bytes : List ℕ) (n : ℕ) → Numeral bytes n → SpellsBase bytes (Number n)
-  current : SpellsBase (full_stop ∷ []) Current
-  last : SpellsBase (dollar_sign ∷ []) Last
+-- the base of an address: a number, `.`, `$`, `'x`, `/RE/` or `?RE?`
+pub data SpellsBase : (text rest : List ℕ) → Base → Type 0 where
+  number : (text rest : List ℕ) (n : ℕ) → SpellsNumber text rest n → SpellsBase text rest (Number n)
+  current : (rest : List ℕ) → SpellsBase (full_stop ∷ rest) rest Current
+  last : (rest : List ℕ) → SpellsBase (dollar_sign ∷ rest) rest Last
+  marked : (letter : ℕ) (rest : List ℕ) → letter < 26 → SpellsBase (apostrophe ∷ (letter_a + letter) ∷ rest) rest (Marked letter)
+  forward : (text rest : List ℕ) (pattern : Option (List ℕ)) → SpellsPattern slash text rest pattern → SpellsBase (slash ∷ text) rest (Forward pattern)
+  backward : (text rest : List ℕ) (pattern : Option (List ℕ)) → SpellsPattern question_mark text rest pattern →
+      SpellsBase (question_mark ∷ text) rest (Backward pattern)
 
--- an address
-pub data SpellsAddress : List ℕ → Address → Type 0 where
-  based : (bytes : List ℕ) (base : Base) → SpellsBase bytes base → SpellsAddress bytes (at_base base)
+-- how many lines an offset goes behind its sign: a number that follows directly, or 1
+pub data SpellsDistance : (text rest : List ℕ) → ℕ → Type 0 where
+  one : (rest : List ℕ) → IsFalse (begins is_digit rest) → SpellsDistance rest rest 1
+  number : (text rest : List ℕ) (n : ℕ) → SpellsNumber text rest n → SpellsDistance text rest n
 
--- an address or nothing, with blanks around it
-pub data SpellsSome : List ℕ → Option Address → Type 0 where
-  nothing : (blanks : List ℕ) → Blanks blanks → SpellsSome blanks None
-  address : (before bytes after : List ℕ) (a : Address) → Blanks before → SpellsAddress bytes a → Blanks after →
-      SpellsSome (before ++ (bytes ++ after)) (Some a)
+-- the sum of any number of offsets with blanks before and between them
+pub data SpellsOffsets : (text rest : List ℕ) → ℤ → Type 0 where
+  none : (rest : List ℕ) → IsFalse (begins is_sign (behind_blanks rest)) → SpellsOffsets rest rest (pos 0)
+  plus : (text number more rest : List ℕ) (n : ℕ) (sum : ℤ) → behind_blanks text ≡ plus_sign ∷ number → SpellsDistance number more n →
+      SpellsOffsets more rest sum → SpellsOffsets text rest (pos n +ℤ sum)
+  minus : (text number more rest : List ℕ) (n : ℕ) (sum : ℤ) → behind_blanks text ≡ hyphen ∷ number → SpellsDistance number more n →
+      SpellsOffsets more rest sum → SpellsOffsets text rest (neg_ℤ (pos n) +ℤ sum)
 
--- what a pair with `,` between means, each part given or not: `,` is `1,$`; `,b` is `1,b`; `a,` is `a,a`
-pub data Pair : Option Address → Option Address → Addresses → Type 0 where
-  all : Pair None None (Comma (at_base (Number 1)) (at_base Last))
-  to : (b : Address) → Pair None (Some b) (Comma (at_base (Number 1)) b)
-  twice : (a : Address) → Pair (Some a) None (Comma a a)
-  both : (a b : Address) → Pair (Some a) (Some b) (Comma a b)
+-- an address, or none; one that begins with an offset is relative to the current line
+pub data SpellsAddress : (text rest : List ℕ) → Option Address → Type 0 where
+  none : (rest : List ℕ) → IsFalse (begins begins_address rest) → SpellsAddress rest rest None
+  based : (text more rest : List ℕ) (base : Base) (offset : ℤ) → SpellsBase text more base → SpellsOffsets more rest offset →
+      SpellsAddress text rest (Some (record { base = base; offset = offset }))
+  relative : (text rest : List ℕ) (offset : ℤ) → IsTrue (begins is_sign text) → SpellsOffsets text rest offset →
+      SpellsAddress text rest (Some (record { base = Current; offset = offset }))
+
+-- no pair: one address, or none
+abbrev pub alone : Option Address → Addresses
+alone None = Without
+alone (Some a) = One a
+
+-- `,` is `1,$`; `,b` is `1,b`; `a,` is `a,a`
+abbrev pub comma : Option Address → Option Address → Addresses
+comma None None = Comma (at_base (Number 1)) (at_base Last)
+comma None (Some b) = Comma (at_base (Number 1)) b
+comma (Some a) None = Comma a a
+comma (Some a) (Some b) = Comma a b
+
+-- `;` is `.;$`; `;b` is `.;b`; `a;` is `a;a`, where the second has the first one's value (our choice)
+abbrev pub semicolon : Option Address → Option Address → Addresses
+semicolon None None = Semicolon (at_base Current) (Some (at_base Last))
+semicolon None (Some b) = Semicolon (at_base Current) (Some b)
+semicolon (Some a) b = Semicolon a b
 
 -- the addresses before a command, with the blanks around them
-pub data SpellsAddresses : List ℕ → Addresses → Type 0 where
-  without : (bytes : List ℕ) → SpellsSome bytes None → SpellsAddresses bytes Without
-  one : (bytes : List ℕ) (a : Address) → SpellsSome bytes (Some a) → SpellsAddresses bytes (One a)
-  pair : (bytes others : List ℕ) (a b : Option Address) (both : Addresses) → SpellsSome bytes a → SpellsSome others b →
-      Pair a b both → SpellsAddresses (bytes ++ comma_byte ∷ others) both
+pub data SpellsAddresses : (text rest : List ℕ) → Addresses → Type 0 where
+  single : (text rest : List ℕ) (a : Option Address) → SpellsAddress (behind_blanks text) rest a →
+      IsFalse (begins is_separator (behind_blanks rest)) → SpellsAddresses text (behind_blanks rest) (alone a)
+  comma_pair : (text more others rest : List ℕ) (a b : Option Address) → SpellsAddress (behind_blanks text) more a →
+      behind_blanks more ≡ comma_byte ∷ others → SpellsAddress (behind_blanks others) rest b →
+      SpellsAddresses text (behind_blanks rest) (comma a b)
+  semicolon_pair : (text more others rest : List ℕ) (a b : Option Address) → SpellsAddress (behind_blanks text) more a →
+      behind_blanks more ≡ semicolon_byte ∷ others → SpellsAddress (behind_blanks others) rest b →
+      SpellsAddresses text (behind_blanks rest) (semicolon a b)

@@ -1,18 +1,46 @@
 -- The bytes that have a meaning in scripts, blanks, digits, and the numbers that digits spell (XBD 6.1, "Portable Character Set"; XCU ed).
-use Rattle.std.specs.Prelude.{ℕ, ◌+◌, ◌-◌, ◌*◌, Bool, ◌&&◌, ◌||◌, List, nat_eq, nat_le}
+use Rattle.std.specs.Prelude.{ℕ, ◌+◌, ◌-◌, ◌*◌, Bool, true, false, ◌&&◌, ◌||◌, List, [], ◌∷◌, nat_eq, nat_le}
 use Rattle.std.specs.List.{fold}
 
 -- `$`
 abbrev pub dollar_sign : ℕ
 dollar_sign = 36
 
+-- `'`
+abbrev pub apostrophe : ℕ
+apostrophe = 39
+
+-- `+`
+abbrev pub plus_sign : ℕ
+plus_sign = 43
+
 -- `,`
 abbrev pub comma_byte : ℕ
 comma_byte = 44
 
+-- `-`
+abbrev pub hyphen : ℕ
+hyphen = 45
+
 -- `.`
 abbrev pub full_stop : ℕ
 full_stop = 46
+
+-- `/`
+abbrev pub slash : ℕ
+slash = 47
+
+-- `;`
+abbrev pub semicolon_byte : ℕ
+semicolon_byte = 59
+
+-- `=`
+abbrev pub equals_sign : ℕ
+equals_sign = 61
+
+-- `?`
+abbrev pub question_mark : ℕ
+question_mark = 63
 
 -- `H`
 abbrev pub capital_h : ℕ
@@ -26,9 +54,21 @@ capital_p = 80
 abbrev pub capital_q : ℕ
 capital_q = 81
 
+-- `[`
+abbrev pub left_square_bracket : ℕ
+left_square_bracket = 91
+
+-- `\`
+abbrev pub backslash : ℕ
+backslash = 92
+
 -- `a`
 abbrev pub letter_a : ℕ
 letter_a = 97
+
+-- `c`
+abbrev pub letter_c : ℕ
+letter_c = 99
 
 -- `d`
 abbrev pub letter_d : ℕ
@@ -38,9 +78,37 @@ letter_d = 100
 abbrev pub letter_h : ℕ
 letter_h = 104
 
+-- `i`
+abbrev pub letter_i : ℕ
+letter_i = 105
+
+-- `j`
+abbrev pub letter_j : ℕ
+letter_j = 106
+
+-- `k`
+abbrev pub letter_k : ℕ
+letter_k = 107
+
+-- `l`
+abbrev pub letter_l : ℕ
+letter_l = 108
+
+-- `m`
+abbrev pub letter_m : ℕ
+letter_m = 109
+
+-- `n`
+abbrev pub letter_n : ℕ
+letter_n = 110
+
 -- `p`
 abbrev pub letter_p : ℕ
 letter_p = 112
+
+-- `t`
+abbrev pub letter_t : ℕ
+letter_t = 116
 
 -- a blank is a space or a tab
 abbrev pub is_blank : ℕ → Bool
@@ -49,6 +117,29 @@ is_blank b = nat_eq b 32 || nat_eq b 9
 -- a decimal digit
 abbrev pub is_digit : ℕ → Bool
 is_digit b = nat_le 48 b && nat_le b 57
+
+-- the sign of an offset
+abbrev pub is_sign : ℕ → Bool
+is_sign b = nat_eq b plus_sign || nat_eq b hyphen
+
+-- the sign between the addresses of a pair
+abbrev pub is_separator : ℕ → Bool
+is_separator b = nat_eq b comma_byte || nat_eq b semicolon_byte
+
+-- the first byte of an address
+abbrev pub begins_address : ℕ → Bool
+begins_address b =
+    is_digit b || nat_eq b full_stop || nat_eq b dollar_sign || nat_eq b apostrophe || nat_eq b slash || nat_eq b question_mark || is_sign b
+
+-- the text's first byte passes the test
+abbrev pub begins : (ℕ → Bool) → List ℕ → Bool
+begins test [] = false
+begins test (b ∷ bytes) = test b
+
+-- the bytes behind the blanks in front
+abbrev pub behind_blanks : List ℕ → List ℕ
+behind_blanks [] = []
+behind_blanks (b ∷ bytes) = elim (is_blank b) [ true ↦ behind_blanks bytes | false ↦ b ∷ bytes ]
 
 -- the number that digits spell
 abbrev pub value_of : List ℕ → ℕ

@@ -1,11 +1,15 @@
 -- The commands of a script (XCU ed, "Addresses in ed", "Commands in ed").
 use Rattle.std.specs.Prelude.{ℕ, ℤ, pos, Bool, List, Option}
 
--- where an address begins: a line's number, the current line or the last line
+-- Where an address begins: a line's number, the current line, the last line, a line with a mark, or the next line forward or
+-- backward that a pattern matches. Letters count from 0, which is `a`; a pattern is its text, and none is the remembered one.
 pub data Base : Type 0 where
   Number : (number : ℕ) → Base
   Current : Base
   Last : Base
+  Marked : (letter : ℕ) → Base
+  Forward : (pattern : Option (List ℕ)) → Base
+  Backward : (pattern : Option (List ℕ)) → Base
 
 -- an address: its base and the sum of its offsets
 pub record Address : Type 0 where
@@ -16,20 +20,32 @@ pub record Address : Type 0 where
 abbrev pub at_base : Base → Address
 at_base base = record { base = base; offset = pos 0 }
 
--- the addresses before a command, omitted parts filled in
+-- The addresses before a command, omitted parts filled in. A second one that is omitted behind `;` has the first one's value.
 pub data Addresses : Type 0 where
   Without : Addresses
   One : (only : Address) → Addresses
   Comma : (first second : Address) → Addresses
+  Semicolon : (first : Address) → (second : Option Address) → Addresses
 
--- how a line is written: as it is
+-- how a line is written: as it is, behind its number, or so that each byte can be told
 pub data Form : Type 0 where
   Plain : Form
+  Numbered : Form
+  Unambiguous : Form
 
--- A command's letter with its parameters: `a` with its text, `d`, `p` by the form that it writes in, `h`, `H`, `P`, `Q`.
+-- A command's letter with its parameters: `a`, `c` and `i` with their text, `d`, `j`, `k` with the letter that marks, `m` and `t`
+-- with their target, `=`, the null command, `l`, `n` and `p` by the form that they write in, `h`, `H`, `P`, `Q`.
 pub data Verb : Type 0 where
   Append : (text : List (List ℕ)) → Verb
+  Change : (text : List (List ℕ)) → Verb
   Delete : Verb
+  Insert : (text : List (List ℕ)) → Verb
+  Join : Verb
+  Mark : (letter : ℕ) → Verb
+  Move : (target : Address) → Verb
+  Copy : (target : Address) → Verb
+  LineNumber : Verb
+  Null : Verb
   Write : (form : Form) → Verb
   Help : Verb
   HelpMode : Verb

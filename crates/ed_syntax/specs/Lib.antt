@@ -1,6 +1,7 @@
 -- what a reader has to believe, in the order of reading
 pub mod Commands
 pub mod Characters
+pub mod Quoting
 pub mod Addressing
 pub mod Spellings
 pub mod States

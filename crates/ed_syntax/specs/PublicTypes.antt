@@ -18,20 +18,31 @@ abbrev pub base_value : Base → ed.Base
 base_value (base.Number n) = ed.Number n
 base_value base.Current = ed.Current
 base_value base.Last = ed.Last
+base_value (base.Marked letter) = ed.Marked letter
+base_value (base.Forward pattern) = ed.Forward pattern
+base_value (base.Backward pattern) = ed.Backward pattern
 
 -- an address
 abbrev pub address_value : Address → ed.Address
 address_value a = record { base = base_value a.base; offset = a.offset }
+
+-- an address, where one is given
+abbrev pub optional_address : Option Address → Option ed.Address
+optional_address None = None
+optional_address (Some a) = Some (address_value a)
 
 -- the addresses before a command
 abbrev pub addresses_value : Addresses → ed.Addresses
 addresses_value addresses.Without = ed.Without
 addresses_value (addresses.One a) = ed.One (address_value a)
 addresses_value (addresses.Comma a b) = ed.Comma (address_value a) (address_value b)
+addresses_value (addresses.Semicolon a b) = ed.Semicolon (address_value a) (optional_address b)
 
 -- how a line is written
 abbrev pub form_value : Form → ed.Form
 form_value form.Plain = ed.Plain
+form_value form.Numbered = ed.Numbered
+form_value form.Unambiguous = ed.Unambiguous
 
 -- a suffix, where there is one
 abbrev pub suffix_value : Option Form → Option ed.Form
@@ -41,7 +52,15 @@ suffix_value (Some f) = Some (form_value f)
 -- a command's letter with its parameters
 abbrev pub verb_value : Verb → ed.Verb
 verb_value (verb.Append text) = ed.Append text
+verb_value (verb.Change text) = ed.Change text
 verb_value verb.Delete = ed.Delete
+verb_value (verb.Insert text) = ed.Insert text
+verb_value verb.Join = ed.Join
+verb_value (verb.Move target) = ed.Move (address_value target)
+verb_value (verb.Copy target) = ed.Copy (address_value target)
+verb_value (verb.Mark letter) = ed.Mark letter
+verb_value verb.LineNumber = ed.LineNumber
+verb_value verb.Null = ed.Null
 verb_value (verb.Write f) = ed.Write (form_value f)
 verb_value verb.Help = ed.Help
 verb_value verb.HelpMode = ed.HelpMode

@@ -1,9 +1,13 @@
 //! The commands of a script.
+ghost use Rattle.std.specs.Prelude.{◌≡◌, IfOk};
+ghost use Rattle.ed_syntax.specs.PublicTypes.{address_value, base_value};
 
-use ed_base::Text;
+use crate::Pattern;
+use ed_base::{Letter, Text};
+use std::alloc::AllocError;
 
 /// Where an address begins.
-#[derive(Clone, Copy, Debug, PartialEq, Eq)]
+#[derive(Debug, PartialEq, Eq, Drop)]
 pub enum Base {
     /// A line's number, from 0 to 999999999.
     Number(u32),
@@ -11,22 +15,30 @@ pub enum Base {
     Current,
     /// `$`, the last line.
     Last,
+    /// `'x`, the line with this mark.
+    Marked(Letter),
+    /// `/RE/`, the next line that matches; `None` is the remembered pattern.
+    Forward(Option<Pattern>),
+    /// `?RE?`, the line before that matches; `None` is the remembered pattern.
+    Backward(Option<Pattern>),
 }
 
 /// An address: its base and the sum of its offsets, in lines.
-#[derive(Clone, Copy, Debug, PartialEq, Eq)]
+#[derive(Debug, PartialEq, Eq, Drop)]
 pub struct Address {
     pub base: Base,
     pub offset: i128,
 }
 
 /// The addresses before a command, omitted parts filled in.
-#[derive(Clone, Copy, Debug, PartialEq, Eq)]
+#[derive(Debug, PartialEq, Eq, Drop)]
 pub enum Addresses {
     Without,
     One(Address),
     /// Two with a `,` between them.
     Comma(Address, Address),
+    /// Two with a `;` between them; a second one that is omitted has the first one's value.
+    Semicolon(Address, Option<Address>),
 }
 
 /// How a line is written.
@@ -34,6 +46,10 @@ pub enum Addresses {
 pub enum Form {
     /// By `p`: the line as it is.
     Plain,
+    /// By `n`: the line's number, a tab, the line.
+    Numbered,
+    /// By `l`: each byte so that it can be told, in rows of at most 71 bytes, and a `$` at the end.
+    Unambiguous,
 }
 
 /// A command's letter with its parameters.
@@ -41,13 +57,29 @@ pub enum Form {
 pub enum Verb {
     /// `a`: the lines of the text go behind the addressed line.
     Append(Text),
+    /// `c`: the lines of the text come in place of the addressed lines.
+    Change(Text),
     /// `d`
     Delete,
-    /// `p`, by its form.
+    /// `i`: the lines of the text go before the addressed line.
+    Insert(Text),
+    /// `j`: the addressed lines become one.
+    Join,
+    /// `m`: the addressed lines go behind the target.
+    Move(Address),
+    /// `t`: copies of the addressed lines go behind the target.
+    Copy(Address),
+    /// `k`: the letter marks the addressed line.
+    Mark(Letter),
+    /// `=`: writes the addressed line's number.
+    LineNumber,
+    /// No letter: writes the addressed line.
+    Null,
+    /// `l`, `n` and `p`, by their form.
     Write(Form),
-    /// `h`: the text of the fault before it, of which there is none in a run.
+    /// `h`: nothing, since a run has no earlier fault.
     Help,
-    /// `H`: turns help mode on or off, in which reports have their fault's text.
+    /// `H`: turns help mode on or off, in which a fault's text is written behind its `?`.
     HelpMode,
     /// `P`: turns prompting on or off.
     PromptMode,
@@ -72,4 +104,41 @@ pub struct Script {
     pub commands: Vec<Command>,
     /// The line on which the first command begins that can't be read, counted from 1.
     pub fault: Option<usize>,
+}
+
+impl Base {
+    /// An equal base.
+    pub fn try_copy(&self) -> Result<Base, AllocError>
+        ensures value { IfOk result (λ copy. base_value copy ≡ base_value self.now) }
+    {
+        match self {
+            Base::Number(number) => Ok(Base::Number(*number)),
+            Base::Current => Ok(Base::Current),
+            Base::Last => Ok(Base::Last),
+            Base::Marked(letter) => Ok(Base::Marked(*letter)),
+            Base::Forward(pattern) => Ok(Base::Forward(copy_of(pattern)?)),
+            Base::Backward(pattern) => Ok(Base::Backward(copy_of(pattern)?)),
+        }
+    }
+}
+
+impl Address {
+    /// An equal address.
+    pub fn try_copy(&self) -> Result<Address, AllocError>
+        ensures value { IfOk result (λ copy. address_value copy ≡ address_value self.now) }
+    {
+        Ok(Address {
+            base: self.base.try_copy()?,
+            offset: self.offset,
+        })
+    }
+}
+
+fn copy_of(pattern: &Option<Pattern>) -> Result<Option<Pattern>, AllocError>
+    ensures value { IfOk result (λ copy. copy ≡ pattern.now) }
+{
+    match pattern {
+        Some(pattern) => Ok(Some(pattern.try_copy()?)),
+        None => Ok(None),
+    }
 }

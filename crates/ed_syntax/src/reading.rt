@@ -1,15 +1,25 @@
 //! Reads a script: its commands up to the first that can't be read.
 ghost use Rattle.std.specs.Prelude.{◌≡◌, ◌+◌, ◌≤◌, length, Option, Some, None, option_map, IfOk, MatchOption};
 ghost use Rattle.ed_syntax.specs.Verbs.{may_have};
-ghost use Rattle.ed_syntax.specs.Reading.{verb_at, is_over, heading, with_text, command_at, script_of};
-ghost use Rattle.ed_syntax.specs.PublicTypes.{addresses_value, verb_value, script_value};
-ghost use Rattle.ed_syntax.specs.ReadParts.{optional_verb, heading_value, command_behind};
+ghost use Rattle.ed_syntax.specs.Reading.{beside_letter, plain_verbs, target, verb_at, form_of, suffix_at, is_over, heading, heading_behind, with_text, command_at, script_of};
+ghost use Rattle.ed_syntax.specs.PublicTypes.{address_value, addresses_value, suffix_value, verb_value, script_value};
+ghost use Rattle.ed_syntax.specs.ReadParts.{optional_verb, optional_own_line, command_behind};
 
+use crate::addresses::{address, addresses};
+use crate::quoting::Parsed;
 use crate::script_lines::ScriptLines;
-use crate::tokens::{addresses, behind_blanks};
-use crate::{Addresses, Command, Form, Script, Verb};
+use crate::tokens::{behind_blanks, letter};
+use crate::{Address, Addresses, Command, Form, Script, Taking, Verb};
 use ed_base::Text;
 use std::alloc::{AllocError, Global};
+
+/// What stands on a command's own line.
+#[derive(Drop)]
+pub struct OwnLine {
+    addresses: Addresses,
+    verb: Verb,
+    suffix: Option<Form>,
+}
 
 /// Reads a script. A command that can't be read ends it: what stands behind isn't looked at.
 pub fn read_script(alloc: Global, bytes: &[u8]) -> Result<Script, AllocError>
@@ -45,14 +55,19 @@ fn read_command(
     ensures number { later.new.number + length later.new.lines ≡ later.old.number + length later.old.lines }
     ensures later { length later.new.lines ≤ length later.old.lines }
 {
-    match heading(alloc, line) {
+    match heading(alloc, line)? {
         None => Ok(None),
-        Some((addresses, verb)) => {
+        Some(heading) => {
+            let OwnLine {
+                addresses,
+                verb,
+                suffix,
+            } = heading;
             let verb = with_text(alloc, verb, later)?;
             Ok(Some(Command {
                 addresses,
                 verb,
-                suffix: None,
+                suffix,
                 listed: false,
             }))
         }
@@ -67,40 +82,88 @@ fn with_text(alloc: Global, verb: Verb, later: &mut ScriptLines<'_>) -> Result<V
 {
     match verb {
         Verb::Append(_) => Ok(Verb::Append(later.read_text(alloc)?)),
-        Verb::Delete
-        | Verb::Write(_)
-        | Verb::Help
-        | Verb::HelpMode
-        | Verb::PromptMode
-        | Verb::QuitAnyway => Ok(verb),
+        Verb::Change(_) => Ok(Verb::Change(later.read_text(alloc)?)),
+        Verb::Insert(_) => Ok(Verb::Insert(later.read_text(alloc)?)),
+        without_text => Ok(without_text),
     }
 }
 
 // What stands on a command's own line; its text is still empty.
-fn heading(alloc: Global, line: &[u8]) -> Option<(Addresses, Verb)>
-    ensures value { heading_value result ≡ heading line.now }
+fn heading(alloc: Global, line: &[u8]) -> Result<Option<OwnLine>, AllocError>
+    ensures value { IfOk result (λ h. optional_own_line h ≡ heading line.now) }
 {
-    let (given, rest) = addresses(line)?;
-    match rest {
-        [letter, rest @ ..] => {
-            let verb = verb_at(alloc, *letter)?;
-            if may_have(given, &verb) && is_over(rest) {
-                Some((given, verb))
-            } else {
-                None
-            }
-        }
-        [] => None,
+    match addresses(alloc, line)? {
+        Some((given, rest)) => heading_behind(alloc, given, rest),
+        None => Ok(None),
     }
 }
 
-fn verb_at(alloc: Global, letter: u8) -> Option<Verb>
-    ensures value { optional_verb result ≡ verb_at letter }
+// What stands behind the addresses.
+fn heading_behind(
+    alloc: Global,
+    addresses: Addresses,
+    bytes: &[u8],
+) -> Result<Option<OwnLine>, AllocError>
+    ensures value { IfOk result (λ h. optional_own_line h ≡ heading_behind (addresses_value addresses) bytes.now) }
+{
+    let Some((verb, rest)) = verb_at(alloc, bytes)? else {
+        return Ok(None);
+    };
+    if !may_have(&addresses, &verb) {
+        return Ok(None);
+    }
+    match suffix_at(&verb, rest) {
+        Some(suffix) => Ok(Some(OwnLine {
+            addresses,
+            verb,
+            suffix,
+        })),
+        None => Ok(None),
+    }
+}
+
+// A command's letter with its parameters; its text is still empty. Nothing is the null command.
+fn verb_at(alloc: Global, bytes: &[u8]) -> Parsed<'_, Verb>
+    ensures value { IfOk result (λ read. MatchOption read (verb_at bytes.now ≡ None)
+        (λ (verb, rest). verb_at bytes.now ≡ Some (verb_value verb, rest.now))) }
+{
+    let [byte, rest @ ..] = bytes else {
+        return Ok(Some((Verb::Null, bytes)));
+    };
+    match *byte {
+        b'k' => match letter(rest) {
+            Some((letter, rest)) => Ok(Some((Verb::Mark(letter), rest))),
+            None => Ok(None),
+        },
+        b'm' => match target(alloc, rest)? {
+            Some((target, rest)) => Ok(Some((Verb::Move(target), rest))),
+            None => Ok(None),
+        },
+        b't' => match target(alloc, rest)? {
+            Some((target, rest)) => Ok(Some((Verb::Copy(target), rest))),
+            None => Ok(None),
+        },
+        letter => match plain_verb(alloc, letter) {
+            Some(verb) => Ok(Some((verb, rest))),
+            None => Ok(None),
+        },
+    }
+}
+
+// A command whose letter has no parameters on its line.
+fn plain_verb(alloc: Global, letter: u8) -> Option<Verb>
+    ensures value { optional_verb result ≡ beside_letter letter plain_verbs }
 {
     match letter {
         b'a' => Some(Verb::Append(Text::new(alloc))),
+        b'c' => Some(Verb::Change(Text::new(alloc))),
         b'd' => Some(Verb::Delete),
+        b'i' => Some(Verb::Insert(Text::new(alloc))),
+        b'j' => Some(Verb::Join),
+        b'l' => Some(Verb::Write(Form::Unambiguous)),
+        b'n' => Some(Verb::Write(Form::Numbered)),
         b'p' => Some(Verb::Write(Form::Plain)),
+        b'=' => Some(Verb::LineNumber),
         b'h' => Some(Verb::Help),
         b'H' => Some(Verb::HelpMode),
         b'P' => Some(Verb::PromptMode),
@@ -109,15 +172,50 @@ fn verb_at(alloc: Global, letter: u8) -> Option<Verb>
     }
 }
 
-// Whether addresses may stand before a command.
-fn may_have(given: Addresses, verb: &Verb) -> bool
-    ensures value { result ≡ may_have (addresses_value given) (verb_value verb.now) }
+// The target of a command, with blanks before it.
+fn target(alloc: Global, bytes: &[u8]) -> Parsed<'_, Address>
+    ensures value { IfOk result (λ read. MatchOption read (target bytes.now ≡ None)
+        (λ (a, rest). target bytes.now ≡ Some (address_value a, rest.now))) }
 {
-    match (given, verb) {
-        (Addresses::Without, _) => true,
-        (_, Verb::Help | Verb::HelpMode | Verb::PromptMode | Verb::QuitAnyway) => false,
-        (_, Verb::Append(_) | Verb::Delete | Verb::Write(_)) => true,
+    match address(alloc, behind_blanks(bytes))? {
+        Some((found, rest)) => match found {
+            Some(address) => Ok(Some((address, rest))),
+            None => Ok(None),
+        },
+        None => Ok(None),
     }
+}
+
+// The end of a command's own line: a suffix, if the command takes one, and blanks.
+fn suffix_at(verb: &Verb, bytes: &[u8]) -> Option<Option<Form>>
+    ensures value { option_map suffix_value result ≡ suffix_at (verb_value verb.now) bytes.now }
+{
+    match bytes {
+        [letter @ (b'l' | b'n' | b'p'), rest @ ..] if verb.takes_suffix() && is_over(rest) => {
+            Some(form_of(*letter))
+        }
+        _ if is_over(bytes) => Some(None),
+        _ => None,
+    }
+}
+
+// The form of a letter.
+fn form_of(letter: u8) -> Option<Form>
+    ensures value { suffix_value result ≡ form_of letter }
+{
+    match letter {
+        b'l' => Some(Form::Unambiguous),
+        b'n' => Some(Form::Numbered),
+        b'p' => Some(Form::Plain),
+        _ => None,
+    }
+}
+
+// Whether addresses may stand before a command.
+fn may_have(given: &Addresses, verb: &Verb) -> bool
+    ensures value { result ≡ may_have (addresses_value given.now) (verb_value verb.now) }
+{
+    matches!(given, Addresses::Without) || verb.taking() != Taking::NoAddress
 }
 
 // Nothing but blanks is left of the line.
@@ -125,87 +223,4 @@ fn is_over(bytes: &[u8]) -> bool
     ensures value { result ≡ is_over bytes.now }
 {
     behind_blanks(bytes).is_empty()
-}
-
-#[cfg(test)]
-mod tests {
-    use super::*;
-    use crate::{Address, Base};
-    use ed_base::Bytes;
-    use std::test::Fail;
-
-    fn command(addresses: Addresses, verb: Verb) -> Command {
-        Command {
-            addresses,
-            verb,
-            suffix: None,
-            listed: false,
-        }
-    }
-
-    fn at(base: Base) -> Address {
-        Address { base, offset: 0 }
-    }
-
-    #[test]
-    fn commands_are_read_with_their_addresses_and_text(rt: HostRuntime) -> Result<(), Fail> {
-        let script = read_script(rt.alloc(), b" 2 d\t\n,p\n1,$a\nx\n\n.\nQ".as_slice())?;
-        let mut text = Text::new(rt.alloc());
-        text.push(Bytes::from_slice(rt.alloc(), b"x".as_slice())?)?;
-        text.push(Bytes::new(rt.alloc()))?;
-        let whole = Addresses::Comma(at(Base::Number(1)), at(Base::Last));
-        let expected = vec![in rt.alloc();
-            command(Addresses::One(at(Base::Number(2))), Verb::Delete),
-            command(whole, Verb::Write(Form::Plain)),
-            command(whole, Verb::Append(text)),
-            command(Addresses::Without, Verb::QuitAnyway),
-        ]?;
-        assert_eq!(rt; script.commands, expected);
-        assert_eq!(rt; script.fault, None);
-        Ok(())
-    }
-
-    #[test]
-    fn a_text_holds_any_byte_but_newline(rt: HostRuntime) -> Result<(), Fail> {
-        let mut bytes = Vec::from_slice(rt.alloc(), b"a\n".as_slice())?;
-        for byte in 0..=255 {
-            bytes.push(byte)?;
-        }
-        assert_eq!(rt; bytes.len(), 258);
-        let script = read_script(rt.alloc(), bytes.as_slice())?;
-        assert_eq!(rt; script.commands.len(), 1);
-        let Verb::Append(text) = &script.commands[0].verb else {
-            return Err(Fail::from("no text"));
-        };
-        assert_eq!(rt; text.len(), 2);
-        assert_eq!(rt; text.as_slice()[0].as_slice(), &bytes[2..12]);
-        assert_eq!(rt; text.as_slice()[1].as_slice(), &bytes[13..]);
-        Ok(())
-    }
-
-    #[derive(Drop)]
-    struct Row {
-        script: &'static [u8],
-        commands: usize,
-        fault: Option<usize>,
-    }
-
-    #[rattlefmt::skip]
-    #[test]
-    fn a_script_is_read_up_to_its_first_fault(rt: HostRuntime) -> Result<(), Fail> {
-        let rows = [
-            Row { script: b"", commands: 0, fault: None },
-            Row { script: b"p", commands: 1, fault: None },
-            Row { script: b"999999999p\n", commands: 1, fault: None },
-            Row { script: b"9999999999p\n", commands: 0, fault: Some(1) },
-            Row { script: b"a\nx\n.\nz\np\n", commands: 1, fault: Some(4) },
-            Row { script: b"p\n\xff", commands: 1, fault: Some(2) },
-        ];
-        for row in rows {
-            let script = read_script(rt.alloc(), row.script)?;
-            assert_eq!(rt; script.commands.len(), row.commands, "at {:?}", row.script);
-            assert_eq!(rt; script.fault, row.fault, "at {:?}", row.script);
-        }
-        Ok(())
-    }
 }

@@ -49,9 +49,7 @@ fn spanned(verb: &Verb, values: &[usize]) -> Result<Span, Fault>
         Verb::Append(_) => Ok(Span { first: last, last }),
         Verb::Delete | Verb::Write(_) if first == 0 || last < first => Err(Fault::Address),
         Verb::Delete | Verb::Write(_) => Ok(Span { first, last }),
-        Verb::Help | Verb::HelpMode | Verb::PromptMode | Verb::QuitAnyway => {
-            Ok(Span { first: 0, last: 0 })
-        }
+        Verb::QuitAnyway => Ok(Span { first: 0, last: 0 }),
     }
 }
 

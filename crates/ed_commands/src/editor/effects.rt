@@ -36,9 +36,7 @@ impl<S: LineStore> Editor<S> {
                 Ok(Bytes::new(self.alloc))
             }
             Verb::Write(form) => self.write(*form, span),
-            Verb::Help | Verb::HelpMode | Verb::PromptMode | Verb::QuitAnyway => {
-                Ok(Bytes::new(self.alloc))
-            }
+            Verb::QuitAnyway => Ok(Bytes::new(self.alloc)),
         }
     }
 

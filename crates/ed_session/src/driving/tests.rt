@@ -101,7 +101,7 @@ fn session_of(
 fn run(alloc: Global, case: Case) -> Result<(Result<usize, Fault>, MemSink), AllocError> {
     let mut files = MemFiles::new(alloc);
     if let Some(bytes) = case.file {
-        files.add(b"F", bytes)?;
+        files.add(b"F", Bytes::from_slice(alloc, bytes)?)?;
     }
     files.refuse(case.refused_call);
     let mut sink = MemSink::new(alloc, case.room, case.piece)?;
@@ -200,7 +200,7 @@ fn each_refused_write_and_each_full_room_ends_the_run(rt: HostRuntime) -> Result
 #[test]
 fn a_writer_takes_the_output_till_it_is_full(rt: HostRuntime) -> Result<(), Fail> {
     let mut files = MemFiles::new(rt.alloc());
-    files.add(b"F", b"a\nb\nc\n")?;
+    files.add(b"F", Bytes::from_slice(rt.alloc(), b"a\nb\nc\n")?)?;
     let mut room = [0u8; 3];
     let mut sink = Out::new(room.as_mut_slice());
     let mut session = session_of(

@@ -1,0 +1,86 @@
+//! Patterns between delimiters.
+ghost use Rattle.std.specs.Prelude.{◌≡◌, ◌++◌, length, MatchOption, Some, None, IfOk, OnOk};
+ghost use Rattle.ed_syntax.specs.Tokens.{unescaped, quoted, pattern_of, pattern_at};
+
+use crate::Pattern;
+use bre_parse::behind_bracket;
+use bre_parse::fault::BreFault;
+use ed_base::Bytes;
+use std::alloc::{AllocError, Global};
+
+/// What was read from the front of a line, and the bytes behind it. `None` where it can't be read.
+pub type Parsed<'a, T> = Result<Option<(T, &'a [u8])>, AllocError>;
+
+/// The pattern behind a delimiter, up to the next one or to the line's end. Nothing is the remembered pattern, `None`.
+pub fn pattern_at(alloc: Global, delimiter: u8, bytes: &[u8]) -> Parsed<'_, Option<Pattern>>
+    ensures value { IfOk result (λ read. MatchOption read (pattern_at delimiter bytes.now ≡ None)
+        (λ (p, rest). pattern_at delimiter bytes.now ≡ Some (p, rest.now))) }
+{
+    match quoted(alloc, delimiter, bytes)? {
+        Some((text, rest)) => match pattern_of(alloc, text)? {
+            Some(pattern) => Ok(Some((pattern, rest))),
+            None => Ok(None),
+        },
+        None => Ok(None),
+    }
+}
+
+// The pattern of a text; an empty one is the remembered pattern.
+fn pattern_of(alloc: Global, text: Bytes) -> Result<Option<Option<Pattern>>, AllocError>
+    ensures value { IfOk result (λ read. read ≡ pattern_of text) }
+{
+    if text.is_empty() {
+        return Ok(Some(None));
+    }
+    match Pattern::read(alloc, text) {
+        Ok(pattern) => Ok(Some(Some(pattern))),
+        Err(BreFault::Memory) => Err(AllocError),
+        Err(_) => Ok(None),
+    }
+}
+
+// The bytes up to the delimiter or the line's end, as the pattern has them.
+fn quoted(alloc: Global, delimiter: u8, bytes: &[u8]) -> Parsed<'_, Bytes>
+    ensures value { IfOk result (λ read. MatchOption read (quoted (length bytes.now) delimiter bytes.now ≡ None)
+        (λ (text, rest). quoted (length bytes.now) delimiter bytes.now ≡ Some (text, rest.now))) }
+{
+    let mut text = Bytes::new(alloc);
+    let mut left = bytes;
+    'bytes: while let [byte, rest @ ..] = left {
+        if *byte == delimiter {
+            return Ok(Some((text, rest)));
+        }
+        left = match *byte {
+            b'\\' => match rest {
+                [escaped, rest @ ..] => {
+                    push_unescaped(&mut text, delimiter, *escaped)?;
+                    rest
+                }
+                [] => return Ok(None),
+            },
+            b'[' => match behind_bracket(alloc, rest)? {
+                Some(behind) => {
+                    text.extend_from_slice(&left[..left.len() - behind.len()])?;
+                    behind
+                }
+                None => return Ok(None),
+            },
+            ordinary => {
+                text.push(ordinary)?;
+                rest
+            }
+        };
+    }
+    Ok(Some((text, left)))
+}
+
+// What a backslash and a byte are in a pattern: a delimiter that is nothing special there loses its backslash.
+fn push_unescaped(text: &mut Bytes, delimiter: u8, byte: u8) -> Result<(), AllocError>
+    ensures appended { OnOk result (text.new ≡ text.old ++ unescaped delimiter byte) }
+{
+    let is_special = matches!(delimiter, b'$' | b'*' | b'.' | b'[' | b']' | b'^');
+    if byte != delimiter || is_special {
+        text.push(b'\\')?;
+    }
+    text.push(byte)
+}
