@@ -20,7 +20,8 @@ use Rattle.ed_session.specs.Insides.{is_live, phase_of, quits_anyway, turned, En
 use Rattle.ed_session.specs.Sessions.{SessionValue, Between, Prompted, Waiting, lost_by, is_waiting, is_started, rest}
 use Rattle.ed_session.specs.Steps.{IsOwnEnd, SameRest}
 use Rattle.ed_session.specs.Advances.{Advances}
-use Rattle.ed_session.proofs.Cases.{step_one, going}
+use Rattle.ed_session.proofs.Cases.{step_one, steps_prompted, going}
+use Rattle.ed_session.proofs.Replies.{asks_nothing}
 
 pub prompted_live : (p : Stage) → phase_of p ≡ Prompted → is_live p ≡ true
 prompted_live (stage.Fresh path) e = refl
@@ -29,6 +30,14 @@ prompted_live stage.Prompted e = refl
 prompted_live stage.Waiting e = refl
 prompted_live (stage.Over result) e = cc
 prompted_live (stage.Lost f) e = cc
+
+pub between_live : (p : Stage) → phase_of p ≡ Between → is_live p ≡ true
+between_live (stage.Fresh path) e = refl
+between_live stage.Between e = refl
+between_live stage.Prompted e = refl
+between_live stage.Waiting e = refl
+between_live (stage.Over result) e = cc
+between_live (stage.Lost f) e = cc
 
 pub waiting_stage : (p : Stage) → phase_of p ≡ Waiting → p ≡ stage.Waiting
 waiting_stage (stage.Fresh path) e = cc
@@ -59,6 +68,22 @@ asks_again s t [] more c request asks e is = absurd asks
 asks_again s t (d ∷ rest) more c request asks e is =
     let same : d ≡ c = cc in
     ap (λ p. p.0) (held (sym asks.1.1 ∙ ap (λ x. command s x None) same ∙ is))
+
+-- no command asks for a file so far
+pub asks_no_first : (s : State) (commands : List Command) → AsksFirst s commands → ⊥
+asks_no_first s [] asks = asks
+asks_no_first s (c ∷ commands) asks = asks_nothing s s c None asks.1.0 asks.1.1
+
+-- a session goes on behind a prompt
+pub advances_prompted : (old new : SessionValue) → old.phase ≡ Between → old.pending ≡ [] → old.present.prompting ≡ true → new.phase ≡ Prompted
+    → new.pending ≡ old.present.prompt → new.present ≡ old.present → new.commands ≡ old.commands → new.fault ≡ old.fault → new.told ≡ false → Advances old new
+advances_prompted old new between handed prompting prompted written present commands fault told = record {
+  same = λ _ answers. rw (between, handed, prompted, written, present, commands, fault, steps_prompted old.commands old.fault old.present answers, prompting) refl;
+  broke = λ h. absurd (h (ap lost_by prompted));
+  idle = ap is_waiting prompted;
+  started = ap is_started prompted;
+  untold = told;
+}
 
 -- the stage behind a fault is over, and its fault the run's own
 pub keeps_ended : (f : Fault) (help : Bool) (at : Stage) (written : List ℕ) (s : State) (commands : List Command) (pending : List ℕ) → EndsBy f help at written

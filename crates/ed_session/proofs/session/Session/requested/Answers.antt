@@ -1,6 +1,6 @@
 use Rattle.std.proofs.Common.{sym, ap, ◌∙◌}
 use Rattle.ed_syntax.specs.PublicTypes.{command_value}
-use Rattle.ed_session.proofs.Ended.{waiting_live, waiting_keeps, asks_some, asks_again, left_below, left_next}
+use Rattle.ed_session.proofs.Ended.{waiting_live, waiting_keeps, asks_no_first, asks_some, asks_again, left_below, left_next}
 use Rattle.ed_session.proofs.session.Session.requested.Goals as goal
 
 pub invariant_of-self : goal.invariant_of-self
@@ -20,3 +20,9 @@ invariant_of-self g c =
       keeps = rw (sym same) c.self.invariant.keeps;
       ended = c.self.invariant.ended;
     }
+
+pub returns-in-Ok-Wants-clause-value : goal.returns-in-Ok-Wants-clause-value
+returns-in-Ok-Wants-clause-value g c =
+    let i = c.self.inside in
+    let waits = ap (λ v. v.phase) c.self.view_is ∙ c.requires.waiting in
+    absurd (asks_no_first _ _ (waiting_keeps i.stage _ _ _ waits c.self.invariant.keeps).0)
