@@ -1,10 +1,9 @@
 -- Lines that have just the letters whose places are given: a letter marks one of them at most.
-use Rattle.std.proofs.Common.{◌≡◌, ℕ, zero, suc, ◌+◌, ◌<◌, ◌≤◌, List, [], ◌∷◌, Bool, true, false, length, map, replicate, get_or, nat_eq, Option, Some, None, All, refl, ap, ◌∙◌, sym, arith, eqb-true, ⊎_elim}
-use Rattle.std.specs.List.{range_with_len}
+use Rattle.std.proofs.Common.{◌≡◌, ℕ, zero, suc, ◌+◌, ◌<◌, ◌≤◌, List, [], ◌∷◌, true, false, replicate, get_or, Option, Some, None, refl, ap, ◌∙◌, sym, arith, eqb-true, ⊎_elim}
 use Rattle.std.proofs.lemmas.Bool.{cases_lt}
 use Rattle.std.proofs.lemmas.List.{get_or_past}
 use Rattle.std.proofs.lemmas.List.FromFn.{length-map-range_with_len, get_or-map-range_with_len}
-use Rattle.ed_base.specs.Buffer.{Line, plain_line, no_letters, has_letter, AtMostOnce, KnowLetters}
+use Rattle.ed_base.specs.Buffer.{Line, plain_line, has_letter, AtMostOnce, KnowLetters}
 use Rattle.line_store.specs.Marks.{is_at, letters_at, lettered}
 
 -- a place is the one where it is

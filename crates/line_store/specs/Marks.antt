@@ -1,7 +1,7 @@
 -- Where each letter's line is, and the letters of each line told from that.
-use Rattle.std.specs.Prelude.{ℕ, zero, suc, ◌≡◌, ◌+◌, ◌-◌, ◌<◌, List, [], ◌∷◌, Bool, true, false, if◌then◌else◌, map, nat_eq, nat_lt, Option, Some, None, slice_index_or}
+use Rattle.std.specs.Prelude.{ℕ, suc, ◌≡◌, ◌+◌, ◌-◌, ◌<◌, List, [], ◌∷◌, Bool, true, false, if◌then◌else◌, map, nat_eq, nat_lt, Option, Some, None, slice_index_or}
 use Rattle.std.specs.List.{range_with_len}
-use Rattle.ed_base.specs.Buffer.{Line, has_letter, marked_place}
+use Rattle.ed_base.specs.Buffer.{Line, marked_place}
 
 -- each letter from `a` to `z`
 abbrev pub all_letters : List ℕ

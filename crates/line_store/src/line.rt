@@ -41,12 +41,14 @@ pub struct Line {
 }
 
 impl Model for Line {
-    ghost use Rattle.std.specs.Prelude.{false};
+    ghost use Rattle.std.specs.Prelude.{◌≡◌, false, length};
     ghost use Rattle.ed_base.specs.Buffer.{Line};
 
     ghost Value = { Line };
 
     ghost view = { λ l. record { bytes = l.bytes; letters = l.letters; flag = false } };
+
+    ghost invariant = { λ l. length l.letters ≡ 26 };
 }
 
 impl Line {

@@ -16,7 +16,7 @@ pub struct PlainStore {
 }
 
 impl Model for PlainStore {
-    ghost use Rattle.std.specs.Prelude.{◌-◌, ◌≡◌, length, vec_capacity, vec_len};
+    ghost use Rattle.std.specs.Prelude.{◌-◌, length, vec_capacity, vec_len};
     ghost use Rattle.line_store.specs.Marks.{AllBelow};
     ghost use Rattle.line_store.specs.Plain.{PlainValue};
 
@@ -24,7 +24,7 @@ impl Model for PlainStore {
 
     ghost view = { λ s. record { texts = s.items.items; marks = s.marks; room = vec_capacity s.items - vec_len s.items } };
 
-    ghost invariant = { λ s. AllBelow (vec_len s.items) s.marks × (length s.marks ≡ 26) };
+    ghost invariant = { λ s. AllBelow (length s.items.items) s.marks };
 }
 
 impl LineStore for PlainStore {
@@ -87,5 +87,9 @@ impl LineStore for PlainStore {
 
     fn marked(&self, letter: Letter) -> Option<usize> {
         self.marks.place_of(letter)
+    }
+
+    fn restore(&mut self, marks: Marks) {
+        self.marks = marks;
     }
 }

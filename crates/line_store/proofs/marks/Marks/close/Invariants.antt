@@ -9,6 +9,7 @@ invariant-loop-letter l =
     let before = l.fn.self in
     record {
       count : length now ≡ 26;
+      long : length l.letters ≡ 26;
       done : (k : ℕ) → k < l.letter → get_or now k None ≡ closed l.at (get_or before k None);
       left : (k : ℕ) → l.letter ≤ k → get_or now k None ≡ get_or before k None;
       told : (k : ℕ) → k < l.letter → get_or l.letters k false ≡ is_at l.at (get_or before k None);
