@@ -1,5 +1,5 @@
 -- Worked rows of letters whose lines move.
-use Rattle.std.specs.Prelude.{◌≡◌, refl, ℕ, true, false, List, [], ◌∷◌, map, Some, None, codes}
+use Rattle.std.specs.Prelude.{◌≡◌, refl, true, false, List, [], ◌∷◌, map, Some, None, codes}
 use Rattle.ed_base.specs.Buffer.{Line, plain_line, marked_at}
 use Rattle.line_store.specs.Marks.{opened, closed, marks_of, lettered}
 

@@ -1,5 +1,6 @@
 -- Lines have just the letters whose places are read off them, whatever happens to their letters afterwards.
-use Rattle.std.proofs.Common.{◌≡◌, ℕ, zero, suc, ◌<◌, List, [], ◌∷◌, Bool, true, false, length, map, get_or, set, nat_lt, Option, Some, None, position, refl, ap, ◌∙◌, sym, arith, ⊎_elim}
+use Rattle.std.proofs.Common.{◌≤◌, ◌+◌, ◌≡◌, ℕ, zero, suc, ◌<◌, List, [], ◌∷◌, Bool, true, false, length, map, get_or, set, nat_lt, Option, Some, None, position, refl, ap, ◌∙◌, sym, arith, ⊎_elim, insert, remove}
+use Rattle.std.proofs.lemmas.List.Edits.{get_or-insert_below, get_or-insert_at, get_or-insert_above, get_or-remove_below, get_or-remove_above}
 use Rattle.std.specs.List.{position_or_len}
 use Rattle.std.proofs.lemmas.Bool.{cases_lt, cases_eq, cases_Bool, cond-true, lt-ltb, false_from_ne_true}
 use Rattle.std.proofs.lemmas.List.{same_lists, get_or_default, get_or_past}
@@ -82,3 +83,25 @@ lettered-marked marks place i letter lines =
 pub lettered-lettered : (marks others : List (Option ℕ)) (place : ℕ) (lines : List Line) → lettered marks place (lettered others place lines) ≡ lettered marks place lines
 lettered-lettered marks others place [] = refl
 lettered-lettered marks others place (line ∷ lines) = ap (λ t. record line { letters = letters_at place marks } ∷ t) (lettered-lettered marks others (suc place) lines)
+
+-- a line shares no letter with those among which it stands, if a letter marks one line at most
+place-cases : (o : Option ℕ) → ((k : ℕ) → o ≡ Some k → ⊥) → o ≡ None
+place-cases None h = refl
+place-cases (Some k) h = absurd (h k refl)
+
+pub shares-inserted : (lines : List Line) (at : ℕ) (line : Line) → at ≤ length lines → AtMostOnce (insert lines at line) → SharesNoLetter line lines
+shares-inserted lines at line h once letter has = place-cases (marked_place letter lines) (λ k e.
+    let found = position-Some (has_letter letter) lines k (plain_line []) e in
+    let own : has_letter letter (get_or (insert lines at line) at (plain_line [])) ≡ true = ap (has_letter letter) (get_or-insert_at lines at line (plain_line []) h) ∙ has in
+    ⊎_elim
+    (λ l. let same : k ≡ at = once letter k at (ap (has_letter letter) (get_or-insert_below lines at line (plain_line []) k l h) ∙ found.1) own in absurd (omega arith))
+    (λ l. let same : k + 1 ≡ at = once letter (k + 1) at (ap (has_letter letter) (get_or-insert_above lines at line (plain_line []) k l h) ∙ found.1) own in absurd (omega arith))
+    (cases_lt k at))
+
+pub shares-removed : (lines : List Line) (at : ℕ) → at < length lines → AtMostOnce lines → SharesNoLetter (get_or lines at (plain_line [])) (remove lines at)
+shares-removed lines at h once letter has = place-cases (marked_place letter (remove lines at)) (λ k e.
+    let found = position-Some (has_letter letter) (remove lines at) k (plain_line []) e in
+    ⊎_elim
+    (λ l. let same : k ≡ at = once letter k at (ap (has_letter letter) (sym (get_or-remove_below lines at (plain_line []) k l h)) ∙ found.1) has in absurd (omega arith))
+    (λ l. let same : k + 1 ≡ at = once letter (k + 1) at (ap (has_letter letter) (sym (get_or-remove_above lines at (plain_line []) k l h)) ∙ found.1) has in absurd (omega arith))
+    (cases_lt k at))

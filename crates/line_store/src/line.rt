@@ -1,7 +1,7 @@
 //! One line of the buffer.
 ghost use Rattle.std.specs.Prelude.{◌≡◌, length, IfOk};
 ghost use Rattle.ed_base.specs.Lines.{IsLine};
-ghost use Rattle.ed_base.specs.Buffer.{plain_line};
+ghost use Rattle.ed_base.specs.Buffer.{plain_line, no_letters};
 
 use crate::marks::LETTERS;
 use std::alloc::{AllocError, Global};
@@ -71,5 +71,13 @@ impl Line {
         ensures line { IsLine result.now }
     {
         self.bytes.as_slice()
+    }
+
+    /// The line without the letters that mark it.
+    pub fn unmarked(mut self) -> Line
+        ensures value { result ≡ record self { letters = no_letters } }
+    {
+        self.letters = [false; LETTERS];
+        self
     }
 }

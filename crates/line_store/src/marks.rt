@@ -1,6 +1,6 @@
 //! Where the lines are that letters mark.
 ghost use Rattle.std.specs.Prelude.{◌≡◌, ◌-◌, ◌<◌, ◌^◌, Some, None, length, replicate, slice_index_or, slice_set, IfSome};
-ghost use Rattle.line_store.specs.Marks.{AllBelow, letters_at, marks_of, opened, closed, with_line, without_line};
+ghost use Rattle.line_store.specs.Marks.{AllBelow, lettered, letters_at, marks_of, opened, closed, with_line, without_line};
 
 use crate::LineStore;
 use ed_base::Letter;
@@ -63,6 +63,10 @@ impl Marks {
     /// The places of the letters in a store.
     pub fn of<S: LineStore>(store: &S) -> Self
         ensures value { result ≡ marks_of (S.lines store.now) }
+
+        // The lines have just the letters whose places these are.
+        ensures own { lettered result 0 (S.lines store.now) ≡ S.lines store.now }
+        ensures places { AllBelow (length (S.lines store.now)) result }
     {
         let mut marks = Marks::none();
         for place in 0..26 {

@@ -88,8 +88,4 @@ impl LineStore for PlainStore {
     fn marked(&self, letter: Letter) -> Option<usize> {
         self.marks.place_of(letter)
     }
-
-    fn restore(&mut self, marks: Marks) {
-        self.marks = marks;
-    }
 }

@@ -1,9 +1,8 @@
 //! A list of lines, however it is kept.
 ghost use Rattle.std.specs.Prelude.{◌≡◌, ◌+◌, ◌<◌, ◌≤◌, ℕ, List, [], length, insert, remove, slice_index_or, IfOk, IfErr, OnOk, OnErr, IsOk};
 ghost use Rattle.ed_base.specs.Buffer.{Line, plain_line, marked_at, marked_place, AtMostOnce, KnowLetters, SharesNoLetter};
-ghost use Rattle.line_store.specs.Marks.{AllBelow, lettered};
 
-use crate::{Line, Marks};
+use crate::Line;
 use ed_base::Letter;
 use std::alloc::{AllocError, Global};
 
@@ -66,12 +65,6 @@ pub trait LineStore: Drop {
     /// The place of the line that a letter marks.
     fn marked(&self, letter: Letter) -> Option<usize>
         ensures value { result ≡ marked_place letter (lines self.now) };
-
-    /// Gives the lines just the letters whose places are told, and takes all others from them.
-    fn restore(&mut self, marks: Marks)
-        requires places { AllBelow (length (lines self.old)) marks }
-        ensures restored { lines self.new ≡ lettered marks 0 (lines self.old) }
-        ensures keeps_room { spare self.old ≤ spare self.new };
 
     /// A letter marks one line at most.
     ghost once: { (store : Self) → AtMostOnce (lines store) };

@@ -63,8 +63,11 @@ fn a_letter_goes_with_its_line(rt: HostRuntime) -> Result<(), Fail> {
     assert!(rt; store.put(2, marked).is_ok());
     assert_eq!(rt; (store.marked(a), store.marked(z)), (Some(2), Some(1)));
     assert_eq!(rt; store.text(2), b"y".as_slice());
-    store.restore(before);
-    assert_eq!(rt; (store.marked(a), store.marked(z)), (Some(1), Some(2)));
+    assert_eq!(rt; before.place_of(a), Some(1));
+    let bare = store.take(2).unmarked();
+    assert_eq!(rt; bare.bytes(), b"y".as_slice());
+    assert!(rt; store.put(0, bare).is_ok());
+    assert_eq!(rt; (store.marked(a), store.marked(z)), (None, Some(2)));
     Ok(())
 }
 
