@@ -1,5 +1,5 @@
 -- A command is the naming of its lines, its effect, and its suffix; and what undo keeps brings the buffer back.
-use Rattle.std.proofs.Common.{◌≡◌, ◌≢◌, ℕ, ◌+◌, ◌-◌, ◌≤◌, min, Bool, true, false, List, [], ◌∷◌, ◌++◌, take, drop, length, map, refl, sym, ap, ◌∙◌, arith}
+use Rattle.std.proofs.Common.{◌≡◌, ◌≢◌, ℕ, ◌+◌, ◌-◌, ◌≤◌, min, Bool, true, false, List, [], ◌∷◌, ◌++◌, take, drop, length, map, refl, sym, ap, subst, ◌∙◌, arith}
 use Rattle.std.specs.Prelude.{Option, Some, None, Result, Ok, Err, IsOkAnd, MatchResult}
 use Rattle.std.proofs.lemmas.List.{take_at, drop_at, take-take, take-append-drop, length-take-le, length-drop, length-map, append-nil, append_assoc, length-append}
 use Rattle.ed_base.specs.Buffer.{Line, plain_line, marked_at}
@@ -81,13 +81,25 @@ done s mid new c x given output h k =
     ∙ with-suffix s new (effect_of c.verb x mid given) c.suffix output k
     ∙ joined (suffix_written c.suffix new) new output
 
--- the same, as the result of writing the suffix tells it
-pub told : (s mid new : State) (c : ed.Command) (x : ranges.Span) (given : Option Answer) (output : List ℕ) (result : Result (List ℕ) Fault) →
+-- the valuing of addresses keeps the lines, so that what undo keeps is told from the current line before it
+kept-before : (s mid : State) (current : ℕ) → mid.lines ≡ s.lines → current ≡ s.current → kept_at current mid ≡ kept s
+kept-before s mid current h k = rw (h, k) refl
+
+-- and where what undo keeps is told so, as the result of writing the suffix tells it
+answered : (s mid new : State) (c : ed.Command) (x : ranges.Span) (given : Option Answer) (output : List ℕ) (result : Result (List ℕ) Fault) →
     lines_of_command c s ≡ Ok (mid, x) → IsOkAnd (effect_of c.verb x mid given) (Leaves (kept s) new output) →
     MatchResult result (λ all. suffixed output c.suffix new ≡ Ok all) (λ fault. fault ≢ Memory → suffixed output c.suffix new ≡ Err fault) →
     Steps Done (command s c given) result new
-told s mid new c x given output (Ok all) h k w = done s mid new c x given output h k ∙ ap (λ r. r >> λ all. both new (Done all)) w
-told s mid new c x given output (Err fault) h k w = λ other. done s mid new c x given output h k ∙ ap (λ r. r >> λ all. both new (Done all)) (w other)
+answered s mid new c x given output (Ok all) h k w = done s mid new c x given output h k ∙ ap (λ r. r >> λ all. both new (Done all)) w
+answered s mid new c x given output (Err fault) h k w = λ other. done s mid new c x given output h k ∙ ap (λ r. r >> λ all. both new (Done all)) (w other)
+
+pub told : (s mid new : State) (c : ed.Command) (x : ranges.Span) (current : ℕ) (given : Option Answer) (output : List ℕ) (result : Result (List ℕ) Fault) →
+    mid.lines ≡ s.lines → current ≡ s.current →
+    lines_of_command c s ≡ Ok (mid, x) → IsOkAnd (effect_of c.verb x mid given) (Leaves (kept_at current mid) new output) →
+    MatchResult result (λ all. suffixed output c.suffix new ≡ Ok all) (λ fault. fault ≢ Memory → suffixed output c.suffix new ≡ Err fault) →
+    Steps Done (command s c given) result new
+told s mid new c x current given output result same was h k w =
+    answered s mid new c x given output result h (subst (λ before. IsOkAnd (effect_of c.verb x mid given) (Leaves before new output)) (kept-before s mid current same was) k) w
 
 -- some lines entered
 pub entered-some : (a : ℕ) (text : List (List ℕ)) (s : State) → text ≢ [] → entered a text s ≡ altered (inserted a (map plain_line text) s.lines) (a + length text) s

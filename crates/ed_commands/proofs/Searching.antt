@@ -11,7 +11,8 @@ use Rattle.ed_base.specs.Buffer.{Line, plain_line}
 use Rattle.ed_base.specs.declared.fault.Fault.{Fault}
 use Rattle.ed_base.specs.declared.fault.Fault.TheVariants as fault
 use Rattle.ed_syntax.specs.States.{State, last}
-use Rattle.ed_syntax.specs.Values.{count_from, upwards, lines_forward, lines_backward, matches, matches_line, searched}
+use Rattle.ed_syntax.specs.Values.{count_from, upwards, lines_forward, lines_backward, matches, matches_line, searched, sought}
+use Rattle.ed_commands.specs.Editors.{Valued, with_pattern}
 
 matched-by : (text line : List ℕ) (tree : Tree) → pattern text ≡ Ok tree → matches text line ≡ is_some (match_from tree line 0)
 matched-by text line tree h = rw (h, matches) refl
@@ -81,3 +82,19 @@ pub found-second : (text : List ℕ) (s : State) (xs ys : List ℕ) (found : Opt
 found-second text s xs ys found h k =
     let p = matches_line text s.lines in
     ap (λ o. ok_or o fault.NoMatch) (find-append p xs ys ∙ ap (λ o. option_or o (find p ys)) h ∙ k)
+
+-- a search in the state that remembers what is looked for tells what it tells in the state before
+pub as-sought : (order : State → List ℕ) (s now : State) (own : Option (List ℕ)) (text : List ℕ) (result : Result ℕ Fault) →
+    order (with_pattern (sought own s) s) ≡ order s → now ≡ with_pattern (sought own s) s → now.pattern ≡ Some text →
+    searched (Some text) (order now) now ≡ result → searched (sought own s) (order s) s ≡ result
+as-sought order s now own text result stays is some r =
+    ap (λ o. searched o (order s) s) (sym (ap (λ t. t.pattern) is) ∙ some)
+    ∙ ap (λ o. searched (Some text) o s) (sym stays)
+    ∙ sym (ap (λ t. searched (Some text) (order t) t) is)
+    ∙ r
+
+-- what came of a search that has looked at all lines
+pub looked : (expected result : Result ℕ Fault) (found : Option ℕ) (after new : State) → expected ≡ ok_or found fault.NoMatch → result ≡ ok_or found fault.NoMatch → new ≡ after →
+    Valued expected after result new
+looked expected result None after new e r n = rw r (λ other. (e, n))
+looked expected result (Some line) after new e r n = rw r (e, n)

@@ -45,10 +45,11 @@ impl<S: LineStore> Editor<S> {
             (with_pattern (remembered (base_value base.now) self.old.state) self.old.state) result self.new.state }
         ensures unchanged { SameButPattern self.old self.new }
     {
+        let last = self.store.len();
         match base {
             Base::Number(line) => Ok(*line as usize),
             Base::Current => Ok(self.current),
-            Base::Last => Ok(self.store.len()),
+            Base::Last => Ok(last),
             Base::Marked(letter) => match self.store.marked(*letter) {
                 Some(place) => Ok(place + 1),
                 None => Err(Fault::Mark),
