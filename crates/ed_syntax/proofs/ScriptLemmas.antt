@@ -22,6 +22,9 @@ text-later (line ∷ lines) =
 pub with_text-later : (verb : Verb) (later : List (List ℕ)) → length (with_text verb later).1 ≤ length later
 with_text-later (ed.Append entered) later = text-later later
 with_text-later ed.Delete later = omega arith
+with_text-later (ed.Mark letter) later = omega arith
+with_text-later ed.LineNumber later = omega arith
+with_text-later ed.Null later = omega arith
 with_text-later (ed.Write form) later = omega arith
 with_text-later ed.QuitAnyway later = omega arith
 

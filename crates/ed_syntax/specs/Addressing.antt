@@ -29,17 +29,17 @@ pub data SpellsDistance : (text rest : List ℕ) → ℕ → Type 0 where
   one : (rest : List ℕ) → IsFalse (begins is_digit rest) → SpellsDistance rest rest 1
   number : (text rest : List ℕ) (n : ℕ) → SpellsNumber text rest n → SpellsDistance text rest n
 
--- the sum of any number of offsets with blanks before, between and behind them
+-- the sum of any number of offsets with blanks before and between them
 pub data SpellsOffsets : (text rest : List ℕ) → ℤ → Type 0 where
-  none : (text : List ℕ) → IsFalse (begins is_sign (behind_blanks text)) → SpellsOffsets text (behind_blanks text) (pos 0)
+  none : (rest : List ℕ) → IsFalse (begins is_sign (behind_blanks rest)) → SpellsOffsets rest rest (pos 0)
   plus : (text number more rest : List ℕ) (n : ℕ) (sum : ℤ) → behind_blanks text ≡ plus_sign ∷ number → SpellsDistance number more n →
       SpellsOffsets more rest sum → SpellsOffsets text rest (pos n +ℤ sum)
   minus : (text number more rest : List ℕ) (n : ℕ) (sum : ℤ) → behind_blanks text ≡ hyphen ∷ number → SpellsDistance number more n →
       SpellsOffsets more rest sum → SpellsOffsets text rest (neg_ℤ (pos n) +ℤ sum)
 
--- an address with the blanks behind it, or none; one that begins with an offset is relative to the current line
+-- an address, or none; one that begins with an offset is relative to the current line
 pub data SpellsAddress : (text rest : List ℕ) → Option Address → Type 0 where
-  none : (text : List ℕ) → IsFalse (begins begins_address text) → SpellsAddress text text None
+  none : (rest : List ℕ) → IsFalse (begins begins_address rest) → SpellsAddress rest rest None
   based : (text more rest : List ℕ) (base : Base) (offset : ℤ) → SpellsBase text more base → SpellsOffsets more rest offset →
       SpellsAddress text rest (Some (record { base = base; offset = offset }))
   relative : (text rest : List ℕ) (offset : ℤ) → IsTrue (begins is_sign text) → SpellsOffsets text rest offset →
@@ -57,7 +57,7 @@ comma None (Some b) = Comma (at_base (Number 1)) b
 comma (Some a) None = Comma a a
 comma (Some a) (Some b) = Comma a b
 
--- `;` is `.;$`; `;b` is `.;b`; `a;` is `a;a`, where the second has the first one's value
+-- `;` is `.;$`; `;b` is `.;b`; `a;` is `a;a`, where the second has the first one's value (our choice)
 abbrev pub semicolon : Option Address → Option Address → Addresses
 semicolon None None = Semicolon (at_base Current) (Some (at_base Last))
 semicolon None (Some b) = Semicolon (at_base Current) (Some b)
@@ -65,9 +65,11 @@ semicolon (Some a) b = Semicolon a b
 
 -- the addresses before a command, with the blanks around them
 pub data SpellsAddresses : (text rest : List ℕ) → Addresses → Type 0 where
-  single : (text rest : List ℕ) (a : Option Address) → SpellsAddress (behind_blanks text) rest a → IsFalse (begins is_separator rest) →
-      SpellsAddresses text rest (alone a)
-  comma_pair : (text more rest : List ℕ) (a b : Option Address) → SpellsAddress (behind_blanks text) (comma_byte ∷ more) a →
-      SpellsAddress (behind_blanks more) rest b → SpellsAddresses text rest (comma a b)
-  semicolon_pair : (text more rest : List ℕ) (a b : Option Address) → SpellsAddress (behind_blanks text) (semicolon_byte ∷ more) a →
-      SpellsAddress (behind_blanks more) rest b → SpellsAddresses text rest (semicolon a b)
+  single : (text rest : List ℕ) (a : Option Address) → SpellsAddress (behind_blanks text) rest a →
+      IsFalse (begins is_separator (behind_blanks rest)) → SpellsAddresses text (behind_blanks rest) (alone a)
+  comma_pair : (text more others rest : List ℕ) (a b : Option Address) → SpellsAddress (behind_blanks text) more a →
+      behind_blanks more ≡ comma_byte ∷ others → SpellsAddress (behind_blanks others) rest b →
+      SpellsAddresses text (behind_blanks rest) (comma a b)
+  semicolon_pair : (text more others rest : List ℕ) (a b : Option Address) → SpellsAddress (behind_blanks text) more a →
+      behind_blanks more ≡ semicolon_byte ∷ others → SpellsAddress (behind_blanks others) rest b →
+      SpellsAddresses text (behind_blanks rest) (semicolon a b)

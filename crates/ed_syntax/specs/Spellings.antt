@@ -14,21 +14,22 @@ pub data SpellsText : List ℕ → List ℕ → List (List ℕ) → Type 0 where
   line : (line bytes rest : List ℕ) (lines : List (List ℕ)) → IsLine line → line ≢ full_stop ∷ [] → SpellsText bytes rest lines →
       SpellsText (line ++ newline ∷ bytes) rest (line ∷ lines)
 
--- What stands behind the addresses on a command's own line, but for blanks at its end: a letter with its parameters, or nothing;
--- then the whole lines behind it that belong to it, and what follows them.
-pub data SpellsVerb : (own text rest : List ℕ) → Verb → Type 0 where
-  append : (text rest : List ℕ) (entered : List (List ℕ)) → SpellsText text rest entered → SpellsVerb (letter_a ∷ []) text rest (ed.Append entered)
-  delete : (rest : List ℕ) → SpellsVerb (letter_d ∷ []) [] rest ed.Delete
-  mark : (letter : ℕ) (rest : List ℕ) → letter < 26 → SpellsVerb (letter_k ∷ (letter_a + letter) ∷ []) [] rest (ed.Mark letter)
-  line_number : (rest : List ℕ) → SpellsVerb (equals_sign ∷ []) [] rest ed.LineNumber
-  null : (rest : List ℕ) → SpellsVerb [] [] rest ed.Null
-  write : (rest : List ℕ) → SpellsVerb (letter_p ∷ []) [] rest (ed.Write ed.Plain)
-  quit_anyway : (rest : List ℕ) → SpellsVerb (capital_q ∷ []) [] rest ed.QuitAnyway
+-- What stands behind the addresses on a command's own line, a letter with its parameters or nothing, and what stands behind that;
+-- then the whole lines behind the command's own that belong to it, and what follows them.
+pub data SpellsVerb : (own more text rest : List ℕ) → Verb → Type 0 where
+  append : (more text rest : List ℕ) (entered : List (List ℕ)) → SpellsText text rest entered →
+      SpellsVerb (letter_a ∷ more) more text rest (ed.Append entered)
+  delete : (more rest : List ℕ) → SpellsVerb (letter_d ∷ more) more [] rest ed.Delete
+  mark : (letter : ℕ) (more rest : List ℕ) → letter < 26 → SpellsVerb (letter_k ∷ (letter_a + letter) ∷ more) more [] rest (ed.Mark letter)
+  line_number : (more rest : List ℕ) → SpellsVerb (equals_sign ∷ more) more [] rest ed.LineNumber
+  null : (rest : List ℕ) → SpellsVerb [] [] [] rest ed.Null
+  write : (more rest : List ℕ) → SpellsVerb (letter_p ∷ more) more [] rest (ed.Write ed.Plain)
+  quit_anyway : (more rest : List ℕ) → SpellsVerb (capital_q ∷ more) more [] rest ed.QuitAnyway
 
 -- Whole lines that spell a command, and the lines that follow: a line with addresses, a letter and blanks, and a text.
 pub data Spells : List ℕ → List ℕ → Command → Type 0 where
-  command : (line own blanks text rest : List ℕ) (given : Addresses) (verb : Verb) → IsLine line → SpellsAddresses line (own ++ blanks) given →
-      SpellsVerb own text rest verb → IsTrue (may_have given verb) → Blanks blanks →
+  command : (line own blanks text rest : List ℕ) (given : Addresses) (verb : Verb) → IsLine line → SpellsAddresses line own given →
+      SpellsVerb own blanks text rest verb → IsTrue (may_have given verb) → Blanks blanks →
       Spells (line ++ newline ∷ text) rest (record { addresses = given; verb = verb; suffix = None; listed = false })
 
 -- Whole lines, the first of which has this number: commands to the end, or to a rest no front of which spells a command.

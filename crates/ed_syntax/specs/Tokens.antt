@@ -72,16 +72,18 @@ distance bs = elim (begins is_digit bs) [ true ↦ number bs | false ↦ Some (1
 abbrev pub summed : ℤ → Parsed ℤ → Parsed ℤ
 summed offset read = read >>= λ r. Some (offset +ℤ r.0, r.1)
 
--- the sum of the offsets behind these bytes without blanks in front; at most so many, which no text reaches
+-- the sum of the offsets in front, with blanks before and between them; at most so many, which no text reaches
 abbrev pub offsets : (most : ℕ) → List ℕ → Parsed ℤ
-offsets most [] = Some (pos 0, [])
-offsets zero (b ∷ bs) = Some (pos 0, b ∷ bs)
-offsets (suc most) (b ∷ bs) =
-    elim (nat_eq b plus_sign) [
-      | true ↦ distance bs >>= λ n. summed (pos n.0) (offsets most (behind_blanks n.1))
-      | false ↦ elim (nat_eq b hyphen) [
-        | true ↦ distance bs >>= λ n. summed (neg_ℤ (pos n.0)) (offsets most (behind_blanks n.1))
-        | false ↦ Some (pos 0, b ∷ bs)
+offsets zero bs = Some (pos 0, bs)
+offsets (suc most) bs =
+    elim (behind_blanks bs) [
+      | [] ↦ Some (pos 0, bs)
+      | b ∷ more ↦ elim (nat_eq b plus_sign) [
+        | true ↦ distance more >>= λ n. summed (pos n.0) (offsets most n.1)
+        | false ↦ elim (nat_eq b hyphen) [
+          | true ↦ distance more >>= λ n. summed (neg_ℤ (pos n.0)) (offsets most n.1)
+          | false ↦ Some (pos 0, bs)
+        ]
       ]
     ]
 
@@ -109,29 +111,27 @@ base (b ∷ bs) =
       ]
     ]
 
--- the offsets behind a base, and the blanks behind them
+-- the offsets behind a base
 abbrev pub with_offsets : Option Base → List ℕ → Parsed (Option Address)
 with_offsets None bs = Some (None, bs)
-with_offsets (Some base) bs =
-    let left = behind_blanks bs in
-    offsets (length left) left >>= λ r. Some (Some (record { base = base; offset = r.0 }), r.1)
+with_offsets (Some base) bs = offsets (length bs) bs >>= λ r. Some (Some (record { base = base; offset = r.0 }), r.1)
 
 -- an address in front, or none
 abbrev pub address : List ℕ → Parsed (Option Address)
 address bs = base bs >>= λ r. with_offsets r.0 r.1
 
--- what stands behind the first address: a `,` or a `;` with the second, or nothing
+-- what stands behind the first address, blanks before it aside: a `,` or a `;` with the second, or nothing
 abbrev pub pair : Option Address → List ℕ → Parsed Addresses
 pair a [] = Some (alone a, [])
 pair a (b ∷ bs) =
     elim (nat_eq b comma_byte) [
-      | true ↦ address (behind_blanks bs) >>= λ r. Some (comma a r.0, r.1)
+      | true ↦ address (behind_blanks bs) >>= λ r. Some (comma a r.0, behind_blanks r.1)
       | false ↦ elim (nat_eq b semicolon_byte) [
-        | true ↦ address (behind_blanks bs) >>= λ r. Some (semicolon a r.0, r.1)
+        | true ↦ address (behind_blanks bs) >>= λ r. Some (semicolon a r.0, behind_blanks r.1)
         | false ↦ Some (alone a, b ∷ bs)
       ]
     ]
 
 -- the addresses before a command, with the blanks around them
 abbrev pub addresses : List ℕ → Parsed Addresses
-addresses bs = address (behind_blanks bs) >>= λ a. pair a.0 a.1
+addresses bs = address (behind_blanks bs) >>= λ a. pair a.0 (behind_blanks a.1)

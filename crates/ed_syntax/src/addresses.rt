@@ -18,23 +18,23 @@ pub fn addresses(alloc: Global, bytes: &[u8]) -> Parsed<'_, Addresses>
         (λ (a, rest). addresses bytes.now ≡ Some (addresses_value a, rest.now))) }
 {
     match address(alloc, behind_blanks(bytes))? {
-        Some((first, rest)) => pair(alloc, first, rest),
+        Some((first, rest)) => pair(alloc, first, behind_blanks(rest)),
         None => Ok(None),
     }
 }
 
-// A `,` or a `;` with the second address behind the first, or nothing.
+// A `,` or a `;` with the second address and the blanks behind it, or nothing.
 fn pair(alloc: Global, first: Option<Address>, bytes: &[u8]) -> Parsed<'_, Addresses>
     ensures value { IfOk result (λ read. MatchOption read (pair (optional_address first) bytes.now ≡ None)
         (λ (a, rest). pair (optional_address first) bytes.now ≡ Some (addresses_value a, rest.now))) }
 {
     match bytes {
         [b',', rest @ ..] => match address(alloc, behind_blanks(rest))? {
-            Some((second, rest)) => Ok(Some((comma(first, second)?, rest))),
+            Some((second, rest)) => Ok(Some((comma(first, second)?, behind_blanks(rest)))),
             None => Ok(None),
         },
         [b';', rest @ ..] => match address(alloc, behind_blanks(rest))? {
-            Some((second, rest)) => Ok(Some((semicolon(first, second), rest))),
+            Some((second, rest)) => Ok(Some((semicolon(first, second), behind_blanks(rest)))),
             None => Ok(None),
         },
         _ => Ok(Some((alone(first), bytes))),
@@ -61,9 +61,7 @@ fn semicolon(first: Option<Address>, second: Option<Address>) -> Addresses
     ensures value { addresses_value result ≡ semicolon (optional_address first) (optional_address second) }
 {
     match (first, second) {
-        (None, None) => {
-            Addresses::Semicolon(at_base(Base::Current), Some(at_base(Base::Last)))
-        }
+        (None, None) => { Addresses::Semicolon(at_base(Base::Current), Some(at_base(Base::Last))) }
         (None, Some(second)) => Addresses::Semicolon(at_base(Base::Current), Some(second)),
         (Some(first), second) => Addresses::Semicolon(first, second),
     }
@@ -78,7 +76,7 @@ fn alone(first: Option<Address>) -> Addresses
     }
 }
 
-// An address in front, or none, with the blanks behind it.
+// An address in front, or none.
 fn address(alloc: Global, bytes: &[u8]) -> Parsed<'_, Option<Address>>
     ensures value { IfOk result (λ read. MatchOption read (address bytes.now ≡ None)
         (λ (a, rest). address bytes.now ≡ Some (optional_address a, rest.now))) }

@@ -5,21 +5,21 @@ ghost use Rattle.ed_syntax.specs.Tokens.{distance, offsets};
 
 use crate::tokens::{behind_blanks, number};
 
-/// The sum of the offsets in front, with blanks between and behind them, and the bytes behind. Without an offset the sum is 0.
+/// The sum of the offsets in front, with blanks before and between them, and the bytes behind. Without an offset the sum is 0.
 pub fn offsets(bytes: &[u8]) -> Option<(i128, &[u8])>
-    ensures value { let read = offsets (length (behind_blanks bytes.now)) (behind_blanks bytes.now) in
+    ensures value { let read = offsets (length bytes.now) bytes.now in
         MatchOption result (read ≡ None) (λ (sum, rest). read ≡ Some (sum, rest.now)) }
 {
     let mut sum: i128 = 0;
-    let mut left = behind_blanks(bytes);
-    'offsets: while let [sign @ (b'+' | b'-'), rest @ ..] = left {
+    let mut left = bytes;
+    'offsets: while let [sign @ (b'+' | b'-'), rest @ ..] = behind_blanks(left) {
         let (lines, rest) = distance(rest)?;
         if *sign == b'+' {
             sum += i128::from(lines);
         } else {
             sum -= i128::from(lines);
         }
-        left = behind_blanks(rest);
+        left = rest;
     }
     Some((sum, left))
 }

@@ -5,8 +5,8 @@ ghost use Rattle.ed_syntax.specs.Reading.{verb_at, is_over, heading, heading_beh
 ghost use Rattle.ed_syntax.specs.PublicTypes.{addresses_value, verb_value, script_value};
 ghost use Rattle.ed_syntax.specs.ReadParts.{heading_value, command_behind};
 
-use crate::script_lines::ScriptLines;
 use crate::addresses::addresses;
+use crate::script_lines::ScriptLines;
 use crate::tokens::{behind_blanks, letter};
 use crate::{Addresses, Command, Form, Script, Taking, Verb};
 use ed_base::Text;
@@ -133,87 +133,4 @@ fn is_over(bytes: &[u8]) -> bool
     ensures value { result ≡ is_over bytes.now }
 {
     behind_blanks(bytes).is_empty()
-}
-
-#[cfg(test)]
-mod tests {
-    use super::*;
-    use crate::{Address, Base};
-    use ed_base::Bytes;
-    use std::test::Fail;
-
-    fn command(addresses: Addresses, verb: Verb) -> Command {
-        Command {
-            addresses,
-            verb,
-            suffix: None,
-            listed: false,
-        }
-    }
-
-    fn at(base: Base) -> Address {
-        Address { base, offset: 0 }
-    }
-
-    #[test]
-    fn commands_are_read_with_their_addresses_and_text(rt: HostRuntime) -> Result<(), Fail> {
-        let script = read_script(rt.alloc(), b" 2 d\t\n,p\n1,$a\nx\n\n.\nQ".as_slice())?;
-        let mut text = Text::new(rt.alloc());
-        text.push(Bytes::from_slice(rt.alloc(), b"x".as_slice())?)?;
-        text.push(Bytes::new(rt.alloc()))?;
-        let whole = Addresses::Comma(at(Base::Number(1)), at(Base::Last));
-        let expected = vec![in rt.alloc();
-            command(Addresses::One(at(Base::Number(2))), Verb::Delete),
-            command(whole, Verb::Write(Form::Plain)),
-            command(whole, Verb::Append(text)),
-            command(Addresses::Without, Verb::QuitAnyway),
-        ]?;
-        assert_eq!(rt; script.commands, expected);
-        assert_eq!(rt; script.fault, None);
-        Ok(())
-    }
-
-    #[test]
-    fn a_text_holds_any_byte_but_newline(rt: HostRuntime) -> Result<(), Fail> {
-        let mut bytes = Vec::from_slice(rt.alloc(), b"a\n".as_slice())?;
-        for byte in 0..=255 {
-            bytes.push(byte)?;
-        }
-        assert_eq!(rt; bytes.len(), 258);
-        let script = read_script(rt.alloc(), bytes.as_slice())?;
-        assert_eq!(rt; script.commands.len(), 1);
-        let Verb::Append(text) = &script.commands[0].verb else {
-            return Err(Fail::from("no text"));
-        };
-        assert_eq!(rt; text.len(), 2);
-        assert_eq!(rt; text.as_slice()[0].as_slice(), &bytes[2..12]);
-        assert_eq!(rt; text.as_slice()[1].as_slice(), &bytes[13..]);
-        Ok(())
-    }
-
-    #[derive(Drop)]
-    struct Row {
-        script: &'static [u8],
-        commands: usize,
-        fault: Option<usize>,
-    }
-
-    #[rattlefmt::skip]
-    #[test]
-    fn a_script_is_read_up_to_its_first_fault(rt: HostRuntime) -> Result<(), Fail> {
-        let rows = [
-            Row { script: b"", commands: 0, fault: None },
-            Row { script: b"p", commands: 1, fault: None },
-            Row { script: b"999999999p\n", commands: 1, fault: None },
-            Row { script: b"9999999999p\n", commands: 0, fault: Some(1) },
-            Row { script: b"a\nx\n.\nz\np\n", commands: 1, fault: Some(4) },
-            Row { script: b"p\n\xff", commands: 1, fault: Some(2) },
-        ];
-        for row in rows {
-            let script = read_script(rt.alloc(), row.script)?;
-            assert_eq!(rt; script.commands.len(), row.commands, "at {:?}", row.script);
-            assert_eq!(rt; script.fault, row.fault, "at {:?}", row.script);
-        }
-        Ok(())
-    }
 }

@@ -1,10 +1,13 @@
 -- The blanks that were passed don't matter.
-use Rattle.std.proofs.Common.{◌≡◌, length}
-use Rattle.ed_syntax.specs.Tokens.{behind_blanks}
+use Rattle.std.proofs.Common.{◌≡◌, ◌≤◌, length}
+use Rattle.ed_syntax.specs.Characters.{behind_blanks}
 use Rattle.ed_syntax.proofs.tokens.behind_blanks.Given as goal
 
 abbrev pub invariant-blanks : goal.invariant-blanks
-invariant-blanks l = behind_blanks l.left ≡ behind_blanks l.bytes
+invariant-blanks l = record {
+  value : behind_blanks l.left ≡ behind_blanks l.bytes;
+  shorter : length l.left ≤ length l.bytes;
+}
 
 abbrev pub decreases-blanks : goal.decreases-blanks
 decreases-blanks l = length l.left

@@ -1,0 +1,11 @@
+-- The pattern that is left, behind the bytes so far, is all of it.
+use Rattle.std.proofs.Common.{length}
+use Rattle.ed_syntax.specs.Tokens.{quoted}
+use Rattle.ed_syntax.proofs.QuotedSteps.{QuotedLeft}
+use Rattle.ed_syntax.proofs.quoting.quoted.Given as goal
+
+abbrev pub invariant-bytes : goal.invariant-bytes
+invariant-bytes l = QuotedLeft l.delimiter l.left l.text (quoted (length l.bytes) l.delimiter l.bytes)
+
+abbrev pub decreases-bytes : goal.decreases-bytes
+decreases-bytes l = length l.left
