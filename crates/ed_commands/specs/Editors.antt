@@ -1,5 +1,5 @@
 -- An editor as a value: what it holds, and the fault that it has failed by.
-use Rattle.std.specs.Prelude.{ℕ, ◌≡◌, ◌≢◌, ◌+◌, ◌≤◌, List, ◌++◌, take, drop, Option, Some, None, Result, Ok, Err, MatchResult}
+use Rattle.std.specs.Prelude.{ℕ, ◌≡◌, ◌≢◌, ◌+◌, ◌≤◌, List, [], ◌∷◌, ◌++◌, take, drop, Option, Some, None, Result, Ok, Err, MatchResult}
 use Rattle.ed_base.specs.Buffer.{Line}
 use Rattle.ed_base.specs.declared.fault.Fault.{Fault}
 use Rattle.ed_base.specs.declared.fault.Fault.TheVariants.{Memory}
@@ -18,6 +18,8 @@ use Rattle.ed_commands.specs.declared.editor.Reply.{Reply}
 use Rattle.ed_commands.specs.declared.editor.Reply.TheVariants as reply
 use Rattle.ed_commands.specs.declared.editor.change.Change.{Change}
 use Rattle.ed_commands.specs.declared.editor.addressing.Span.{Span}
+use Rattle.ed_commands.specs.declared.editor.addressing.Values.{Values}
+use Rattle.ed_commands.specs.declared.editor.addressing.Values.TheVariants as these
 
 -- what an editor is
 pub record EditorValue : Type 0 where
@@ -71,6 +73,12 @@ abbrev pub past_of : Option Change → List Line → Past
 past_of None lines = Nothing
 past_of (Some c) lines = Was (before_change c lines)
 
+-- the values of addresses as a list
+abbrev pub list_of_values : Values → List ℕ
+list_of_values these.Without = []
+list_of_values (these.One only) = only ∷ []
+list_of_values (these.Two first second) = first ∷ second ∷ []
+
 -- the lines of a public span
 abbrev pub span_value : Span → ranges.Span
 span_value x = record { first = x.first; last = x.last }
@@ -80,13 +88,13 @@ abbrev pub value_of_span : Result Span Fault → Result ranges.Span Fault
 value_of_span (Ok x) = Ok (span_value x)
 value_of_span (Err fault) = Err fault
 
--- the lines that addresses name to a command that takes so many, and the state once they were valued
-abbrev pub lines_named : Taking → ed.Addresses → State → Result (State × ranges.Span) Fault
-lines_named takes addresses s = values addresses s >> λ v. spanned takes v.1 >> λ x. Ok (v.0, x)
+-- the values of the addresses that are given before a command, or of those that stand for none, and the state once they were valued
+abbrev pub values_of_command : ed.Command → State → Result (State × List ℕ) Fault
+values_of_command c s = values (given_or c.addresses (default c.verb)) s
 
 -- the lines that a command is applied to, and the state once its addresses were valued
 abbrev pub lines_of_command : ed.Command → State → Result (State × ranges.Span) Fault
-lines_of_command c s = lines_named (taking c.verb) (given_or c.addresses (default c.verb)) s
+lines_of_command c s = values_of_command c s >> λ v. spanned (taking c.verb) v.1 >> λ x. Ok (v.0, x)
 
 -- a span where a command that takes so many addresses may be applied, in a buffer of so many lines
 abbrev pub Fits : Taking → Span → ℕ → Type 0

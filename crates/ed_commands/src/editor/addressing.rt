@@ -1,16 +1,24 @@
 //! The values of addresses, and the lines that a command is applied to (XCU ed, "Addresses in ed").
-ghost use Rattle.std.specs.Prelude.{◌≡◌, ◌≤◌, pos, ◌+ℤ◌, IfOk};
+ghost use Rattle.std.specs.Prelude.{◌≡◌, ◌≤◌, ℕ, pos, ◌+ℤ◌, IfOk};
 ghost use Rattle.ed_syntax.specs.PublicTypes.{address_value, addresses_value, base_value, command_value, verb_value};
 ghost use Rattle.ed_syntax.specs.States.{last};
-ghost use Rattle.ed_syntax.specs.Values.{value, valued, base_number, remembered, within};
+ghost use Rattle.ed_syntax.specs.Values.{value, valued, values, base_number, remembered, within};
 ghost use Rattle.ed_syntax.specs.Verbs.{taking};
-ghost use Rattle.ed_syntax.specs.Ranges.{spanned};
-ghost use Rattle.ed_commands.specs.Editors.{Steps, Valued, SameButPattern, Fits, lines_named, lines_of_command, span_value, value_of_span, with_pattern};
+ghost use Rattle.ed_syntax.specs.Ranges.{last_of_two, spanned};
+ghost use Rattle.ed_commands.specs.Editors.{Steps, Valued, SameButPattern, Fits, lines_of_command, list_of_values, span_value, value_of_span, values_of_command, with_pattern};
 
 use crate::editor::Editor;
 use ed_base::Fault;
 use ed_syntax::{Address, Addresses, Base, Command, Taking};
 use line_store::LineStore;
+
+/// The values of the addresses before a command, in order.
+#[derive(Clone, Copy, Debug, PartialEq, Eq)]
+pub enum Values {
+    Without,
+    One(usize),
+    Two(usize, usize),
+}
 
 /// The lines from first to last, counted from 1.
 #[derive(Clone, Copy, Debug, PartialEq, Eq)]
@@ -19,14 +27,15 @@ pub struct Span {
     pub last: usize,
 }
 
-// The lines that these values name, where one stands for both.
-fn spanned(taking: Taking, values: &[usize]) -> Result<Span, Fault>
-    ensures exact { spanned taking values.now ≡ value_of_span result }
+// The lines that these values name to a command that takes so many.
+fn spanned(taking: Taking, values: Values) -> Result<Span, Fault>
+    ensures exact { spanned taking (list_of_values values) ≡ value_of_span result }
+    ensures fits { (last : ℕ) → last_of_two (list_of_values values) ≤ last → IfOk result (λ span. Fits taking span last) }
 {
     let (first, last) = match values {
-        [] => (0, 0),
-        [only] => (*only, *only),
-        [first, last, ..] => (*first, *last),
+        Values::Without => (0, 0),
+        Values::One(only) => (only, only),
+        Values::Two(first, last) => (first, last),
     };
     match taking {
         Taking::NoAddress => Ok(Span { first: 0, last: 0 }),
@@ -84,35 +93,45 @@ impl<S: LineStore> Editor<S> {
         self.offset_line(base, address.offset)
     }
 
-    // The lines that these addresses name to a command that takes so many. Behind a `;` the first one's value is the current line.
-    fn named(&mut self, taking: Taking, addresses: &Addresses) -> Result<Span, Fault>
-        ensures exact { Steps span_value (lines_named taking (addresses_value addresses.now) self.old.state) result self.new.state }
-        ensures fits { IfOk result (λ span. Fits taking span (last self.new.state)) }
+    // The values of the addresses before a command, first to last. Behind a `;` the first one's is the current line.
+    fn values(&mut self, addresses: &Addresses) -> Result<Values, Fault>
+        ensures exact { Steps list_of_values (values (addresses_value addresses.now) self.old.state) result self.new.state }
+        ensures within { IfOk result (λ values. last_of_two (list_of_values values) ≤ last self.new.state) }
         ensures lines { self.new.state.lines ≡ self.old.state.lines }
         ensures failed { self.new.failed ≡ self.old.failed }
     {
         match addresses {
-            Addresses::Without => spanned(taking, &[]),
-            Addresses::One(only) => {
-                let line = self.value_of(only)?;
-                spanned(taking, &[line])
-            }
+            Addresses::Without => Ok(Values::Without),
+            Addresses::One(only) => Ok(Values::One(self.value_of(only)?)),
             Addresses::Comma(first, second) => {
                 let first = self.value_of(first)?;
                 let second = self.value_of(second)?;
-                spanned(taking, &[first, second])
+                Ok(Values::Two(first, second))
             }
             Addresses::Semicolon(first, None) => {
                 let line = self.value_of(first)?;
                 self.current = line;
-                spanned(taking, &[line, line])
+                Ok(Values::Two(line, line))
             }
             Addresses::Semicolon(first, Some(second)) => {
                 let first = self.value_of(first)?;
                 self.current = first;
                 let second = self.value_of(second)?;
-                spanned(taking, &[first, second])
+                Ok(Values::Two(first, second))
             }
+        }
+    }
+
+    // The values of the addresses that are given before a command, or of those that stand for none.
+    fn given_values(&mut self, command: &Command) -> Result<Values, Fault>
+        ensures exact { Steps list_of_values (values_of_command (command_value command.now) self.old.state) result self.new.state }
+        ensures within { IfOk result (λ values. last_of_two (list_of_values values) ≤ last self.new.state) }
+        ensures lines { self.new.state.lines ≡ self.old.state.lines }
+        ensures failed { self.new.failed ≡ self.old.failed }
+    {
+        match &command.addresses {
+            Addresses::Without => self.values(&command.verb.default_addresses()),
+            given => self.values(given),
         }
     }
 
@@ -123,9 +142,7 @@ impl<S: LineStore> Editor<S> {
         ensures lines { self.new.state.lines ≡ self.old.state.lines }
         ensures failed { self.new.failed ≡ self.old.failed }
     {
-        match &command.addresses {
-            Addresses::Without => self.named(command.verb.taking(), &command.verb.default_addresses()),
-            given => self.named(command.verb.taking(), given),
-        }
+        let values = self.given_values(command)?;
+        spanned(command.verb.taking(), values)
     }
 }
