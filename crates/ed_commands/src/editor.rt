@@ -155,3 +155,5 @@ impl<S: LineStore> Editor<S> {
     }
 }
 
+#[cfg(test)]
+mod tests;

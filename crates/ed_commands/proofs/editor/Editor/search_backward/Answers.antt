@@ -28,9 +28,11 @@ returns-in-Some-2-clause-exact g c =
     ap (λ v. v.state) c.in_ok-remember.ensures.others ∙ ap (λ p. with_pattern p before) c.in_ok-remember.ensures.remembered in
     let at : c.saturating_sub-before.result ≡ e.current - 1 = c.saturating_sub-before.ensures in
     let found : find (matches_line text lines) (reverse (count_from (0 + 1) (e.current - 1 - 0))) ≡ Some c.in-Some-2.line =
-    ap (λ n. find (matches_line text lines) (reverse (count_from (0 + 1) (n - 0)))) (sym at) ∙ sym c.in_ok-line.ensures.value ∙ c.in-Some-2.is in
-    (as-sought lines_backward before now own text _ refl (is ∙ left) c.in-Some.is
-    (ap (λ o. searched (Some text) o now) (backward now c.self.invariant) ∙ found-first text now _ _ c.in-Some-2.line found), left)
+    ap (λ n. find (matches_line text lines) (reverse (count_from (0 + 1) (n - 0)))) (sym at) ∙ sym c.in_ok-line.ensures.value ∙ c.in-Some-2.is in (
+      as-sought lines_backward before now own text _ refl (is ∙ left) c.in-Some.is
+          (ap (λ o. searched (Some text) o now) (backward now c.self.invariant) ∙ found-first text now _ _ c.in-Some-2.line found),
+      left,
+    )
 
 pub returns-clause-exact : goal.returns-clause-exact
 returns-clause-exact g c =

@@ -27,9 +27,11 @@ returns-in-Some-2-clause-exact g c =
     let left : c.remember.new.self.state ≡ with_pattern (sought own before) before =
     ap (λ v. v.state) c.in_ok-remember.ensures.others ∙ ap (λ p. with_pattern p before) c.in_ok-remember.ensures.remembered in
     let found : find (matches_line text lines) (count_from (e.current + 1) (last now - e.current)) ≡ Some c.in-Some-2.line =
-    ap (λ n. find (matches_line text lines) (count_from (e.current + 1) (n - e.current))) (sym c.len-last.ensures.value) ∙ sym c.in_ok-line.ensures.value ∙ c.in-Some-2.is in
-    (as-sought lines_forward before now own text _ refl (is ∙ left) c.in-Some.is
-    (ap (λ o. searched (Some text) o now) (forward now c.self.invariant) ∙ found-first text now _ _ c.in-Some-2.line found), left)
+    ap (λ n. find (matches_line text lines) (count_from (e.current + 1) (n - e.current))) (sym c.len-last.ensures.value) ∙ sym c.in_ok-line.ensures.value ∙ c.in-Some-2.is in (
+      as-sought lines_forward before now own text _ refl (is ∙ left) c.in-Some.is
+          (ap (λ o. searched (Some text) o now) (forward now c.self.invariant) ∙ found-first text now _ _ c.in-Some-2.line found),
+      left,
+    )
 
 pub returns-clause-exact : goal.returns-clause-exact
 returns-clause-exact g c =
