@@ -1,16 +1,19 @@
 -- Commands: what is read is spelled so, and what is spelled so is read.
-use Rattle.std.proofs.Common.{◌≡◌, ℕ, ◌+◌, true, false, List, [], ◌∷◌, ◌++◌, length, Option, Some, None, refl, sym, ap, ◌∙◌, subst, arith, append_assoc}
+use Rattle.std.proofs.Common.{◌≡◌, ℕ, ◌+◌, true, false, List, [], ◌∷◌, ◌++◌, length, Option, Some, refl, sym, ap, ◌∙◌, subst, arith, append_assoc}
 use Rattle.ed_base.specs.Lines.{newline, IsLine, AreLines, lines_of, bytes_of}
 use Rattle.ed_base.proofs.LineLemmas.{lines_of-whole}
 use Rattle.std.proofs.lemmas.List.Elements.{All-cons, All-head, All-tail}
 use Rattle.ed_syntax.specs.Commands as ed
-use Rattle.ed_syntax.specs.Commands.{Addresses, Verb, Command}
-use Rattle.ed_syntax.specs.Verbs.{taking, takes_any, may_have}
-use Rattle.ed_syntax.specs.Spellings.{SpellsVerb, Spells}
+use Rattle.ed_syntax.specs.Characters.{equals_sign, capital_h, capital_p, capital_q, letter_a, letter_c, letter_d, letter_h, letter_i, letter_j, letter_m, letter_t}
+use Rattle.ed_syntax.specs.Commands.{Addresses, Form, Verb, Command}
+use Rattle.ed_syntax.specs.Verbs.{taking, takes_any, may_have, takes_suffix}
+use Rattle.ed_syntax.specs.Spellings.{SpellsText, SpellsVerb, Spells}
 use Rattle.ed_syntax.specs.Tokens.{◌>>=◌}
-use Rattle.ed_syntax.specs.Reading.{Heading, with_text, finished, heading, command_at}
+use Rattle.ed_syntax.specs.Reading.{Heading, text, with_text, finished, heading, command_at}
 use Rattle.ed_syntax.proofs.StepLemmas.{Some-same, bind-some}
-use Rattle.ed_syntax.proofs.HeadingLemmas.{SpellsLetter, SpellsHeading, heading-sound, heading-complete}
+use Rattle.ed_syntax.proofs.VerbLemmas.{PlainVerb, SpellsLetter}
+use Rattle.ed_syntax.proofs.SuffixLemmas.{suffix-same}
+use Rattle.ed_syntax.proofs.HeadingLemmas.{SpellsHeading, heading-sound, heading-complete}
 use Rattle.ed_syntax.proofs.TextLemmas.{first_line, LeftLines, text-sound, text-complete}
 
 -- the lines of a verb's text, read from lines: its bytes, and as many lines as they are
@@ -25,17 +28,35 @@ pub record ReadsVerb (own more : List ℕ) (lines : List (List ℕ)) (r : Verb �
 verb_alone : (own more : List ℕ) (verb : Verb) (lines : List (List ℕ)) → AreLines lines → SpellsVerb own more [] (bytes_of lines) verb → ReadsVerb own more lines (verb, lines)
 verb_alone own more verb lines are is = record { bytes = []; split = refl; spells = is; counted = omega arith; are = are }
 
+-- a verb with a text
+verb_entered : (own more : List ℕ) (of : List (List ℕ) → Verb) (lines : List (List ℕ)) → AreLines lines →
+    ((bytes rest : List ℕ) (entered : List (List ℕ)) → SpellsText bytes rest entered → SpellsVerb own more bytes rest (of entered)) →
+    ReadsVerb own more lines (of (text lines).0, (text lines).1)
+verb_entered own more of lines are spells =
+    let read = text-sound lines are in
+    record { bytes = read.bytes; split = read.split; spells = spells read.bytes (bytes_of (text lines).1) (text lines).0 read.spells; counted = read.counted; are = read.are }
+
+-- a letter without parameters that is read with its text is spelled so
+plain-sound : {b : ℕ} {verb : Verb} → PlainVerb b verb → (more : List ℕ) (lines : List (List ℕ)) → AreLines lines → ReadsVerb (b ∷ more) more lines (with_text verb lines)
+plain-sound {b} PlainVerb.append more lines are = verb_entered (b ∷ more) more ed.Append lines are (SpellsVerb.append more)
+plain-sound {b} PlainVerb.change more lines are = verb_entered (b ∷ more) more ed.Change lines are (SpellsVerb.change more)
+plain-sound {b} PlainVerb.insert more lines are = verb_entered (b ∷ more) more ed.Insert lines are (SpellsVerb.insert more)
+plain-sound {b} PlainVerb.delete more lines are = verb_alone (b ∷ more) more ed.Delete lines are (SpellsVerb.delete more (bytes_of lines))
+plain-sound {b} PlainVerb.join more lines are = verb_alone (b ∷ more) more ed.Join lines are (SpellsVerb.join more (bytes_of lines))
+plain-sound {b} PlainVerb.line_number more lines are = verb_alone (b ∷ more) more ed.LineNumber lines are (SpellsVerb.line_number more (bytes_of lines))
+plain-sound (PlainVerb.write b form is) more lines are = verb_alone (b ∷ more) more (ed.Write form) lines are (SpellsVerb.write b more (bytes_of lines) form is)
+plain-sound {b} PlainVerb.help more lines are = verb_alone (b ∷ more) more ed.Help lines are (SpellsVerb.help more (bytes_of lines))
+plain-sound {b} PlainVerb.help_mode more lines are = verb_alone (b ∷ more) more ed.HelpMode lines are (SpellsVerb.help_mode more (bytes_of lines))
+plain-sound {b} PlainVerb.prompt_mode more lines are = verb_alone (b ∷ more) more ed.PromptMode lines are (SpellsVerb.prompt_mode more (bytes_of lines))
+plain-sound {b} PlainVerb.quit_anyway more lines are = verb_alone (b ∷ more) more ed.QuitAnyway lines are (SpellsVerb.quit_anyway more (bytes_of lines))
+
 -- a verb that is read with its text is spelled so
 verb-sound : {own more : List ℕ} {verb : Verb} → SpellsLetter own more verb → (lines : List (List ℕ)) → AreLines lines → ReadsVerb own more lines (with_text verb lines)
-verb-sound (SpellsLetter.append more) lines are =
-    let read = text-sound lines are in
-    record { bytes = read.bytes; split = read.split; spells = SpellsVerb.append more read.bytes _ _ read.spells; counted = read.counted; are = read.are }
-verb-sound {own} (SpellsLetter.delete more) lines are = verb_alone own more ed.Delete lines are (SpellsVerb.delete more (bytes_of lines))
-verb-sound {own} (SpellsLetter.mark letter more small) lines are = verb_alone own more (ed.Mark letter) lines are (SpellsVerb.mark letter more (bytes_of lines) small)
-verb-sound {own} (SpellsLetter.line_number more) lines are = verb_alone own more ed.LineNumber lines are (SpellsVerb.line_number more (bytes_of lines))
 verb-sound SpellsLetter.null lines are = verb_alone [] [] ed.Null lines are (SpellsVerb.null (bytes_of lines))
-verb-sound {own} (SpellsLetter.write more) lines are = verb_alone own more (ed.Write ed.Plain) lines are (SpellsVerb.write more (bytes_of lines))
-verb-sound {own} (SpellsLetter.quit_anyway more) lines are = verb_alone own more ed.QuitAnyway lines are (SpellsVerb.quit_anyway more (bytes_of lines))
+verb-sound (SpellsLetter.plain b more verb is) lines are = plain-sound is more lines are
+verb-sound {own} (SpellsLetter.mark letter more small) lines are = verb_alone own more (ed.Mark letter) lines are (SpellsVerb.mark letter more (bytes_of lines) small)
+verb-sound (SpellsLetter.move own more target is) lines are = verb_alone (letter_m ∷ own) more (ed.Move target) lines are (SpellsVerb.move own more (bytes_of lines) target is)
+verb-sound (SpellsLetter.copy own more target is) lines are = verb_alone (letter_t ∷ own) more (ed.Copy target) lines are (SpellsVerb.copy own more (bytes_of lines) target is)
 
 -- a verb that is spelled so: the verb of its letter, and what its text makes of it
 pub record VerbRead (own more : List ℕ) (verb : Verb) (lines : List (List ℕ)) (rest : List ℕ) : Type 0 where
@@ -49,25 +70,51 @@ alone_read : (own more : List ℕ) (verb : Verb) (lines : List (List ℕ)) (rest
     VerbRead own more verb lines rest
 alone_read own more verb lines rest are same is read = record { entered = verb; letter_is = is; left = record { lines = lines; split = same; are = are }; read = read }
 
-verb-complete : {own more bytes rest : List ℕ} {verb : Verb} → SpellsVerb own more bytes rest verb → (lines : List (List ℕ)) → AreLines lines → bytes ++ rest ≡ bytes_of lines → VerbRead own more verb lines rest
-verb-complete (SpellsVerb.append more bytes rest text is) lines are same =
+-- the same of one without parameters
+plain_read : (b : ℕ) (more : List ℕ) (verb : Verb) (lines : List (List ℕ)) (rest : List ℕ) → AreLines lines → rest ≡ bytes_of lines → PlainVerb b verb → with_text verb lines ≡ (verb, lines) →
+    VerbRead (b ∷ more) more verb lines rest
+plain_read b more verb lines rest are same is read = alone_read (b ∷ more) more verb lines rest are same (SpellsLetter.plain b more verb is) read
+
+-- the verb of a letter that a text follows
+entered_read : (b : ℕ) (more : List ℕ) (of : List (List ℕ) → Verb) (bytes rest : List ℕ) (entered lines : List (List ℕ)) → SpellsText bytes rest entered → AreLines lines → bytes ++ rest ≡ bytes_of lines →
+    PlainVerb b (of []) → with_text (of []) lines ≡ (of (text lines).0, (text lines).1) → VerbRead (b ∷ more) more (of entered) lines rest
+entered_read b more of bytes rest entered lines is are same plain with_text_is =
     let read = text-complete is lines are same in
-    record { entered = ed.Append []; letter_is = SpellsLetter.append more; left = read.0; read = ap (λ r. (ed.Append r.0, r.1)) read.1 }
-verb-complete {own} (SpellsVerb.delete more rest) lines are same = alone_read own more ed.Delete lines rest are same (SpellsLetter.delete more) refl
+    record { entered = of []; letter_is = SpellsLetter.plain b more (of []) plain; left = read.0; read = with_text_is ∙ ap (λ r. (of r.0, r.1)) read.1 }
+
+verb-complete : {own more bytes rest : List ℕ} {verb : Verb} → SpellsVerb own more bytes rest verb → (lines : List (List ℕ)) → AreLines lines → bytes ++ rest ≡ bytes_of lines → VerbRead own more verb lines rest
+verb-complete (SpellsVerb.append more bytes rest entered is) lines are same = entered_read letter_a more ed.Append bytes rest entered lines is are same PlainVerb.append refl
+verb-complete (SpellsVerb.change more bytes rest entered is) lines are same = entered_read letter_c more ed.Change bytes rest entered lines is are same PlainVerb.change refl
+verb-complete (SpellsVerb.insert more bytes rest entered is) lines are same = entered_read letter_i more ed.Insert bytes rest entered lines is are same PlainVerb.insert refl
+verb-complete (SpellsVerb.delete more rest) lines are same = plain_read letter_d more ed.Delete lines rest are same PlainVerb.delete refl
 verb-complete {own} (SpellsVerb.mark letter more rest small) lines are same = alone_read own more (ed.Mark letter) lines rest are same (SpellsLetter.mark letter more small) refl
-verb-complete {own} (SpellsVerb.line_number more rest) lines are same = alone_read own more ed.LineNumber lines rest are same (SpellsLetter.line_number more) refl
+verb-complete (SpellsVerb.join more rest) lines are same = plain_read letter_j more ed.Join lines rest are same PlainVerb.join refl
+verb-complete (SpellsVerb.move own more rest target is) lines are same = alone_read (letter_m ∷ own) more (ed.Move target) lines rest are same (SpellsLetter.move own more target is) refl
+verb-complete (SpellsVerb.copy own more rest target is) lines are same = alone_read (letter_t ∷ own) more (ed.Copy target) lines rest are same (SpellsLetter.copy own more target is) refl
+verb-complete (SpellsVerb.line_number more rest) lines are same = plain_read equals_sign more ed.LineNumber lines rest are same PlainVerb.line_number refl
 verb-complete (SpellsVerb.null rest) lines are same = alone_read [] [] ed.Null lines rest are same SpellsLetter.null refl
-verb-complete {own} (SpellsVerb.write more rest) lines are same = alone_read own more (ed.Write ed.Plain) lines rest are same (SpellsLetter.write more) refl
-verb-complete {own} (SpellsVerb.quit_anyway more rest) lines are same = alone_read own more ed.QuitAnyway lines rest are same (SpellsLetter.quit_anyway more) refl
+verb-complete (SpellsVerb.write letter more rest form is) lines are same = plain_read letter more (ed.Write form) lines rest are same (PlainVerb.write letter form is) refl
+verb-complete (SpellsVerb.help more rest) lines are same = plain_read letter_h more ed.Help lines rest are same PlainVerb.help refl
+verb-complete (SpellsVerb.help_mode more rest) lines are same = plain_read capital_h more ed.HelpMode lines rest are same PlainVerb.help_mode refl
+verb-complete (SpellsVerb.prompt_mode more rest) lines are same = plain_read capital_p more ed.PromptMode lines rest are same PlainVerb.prompt_mode refl
+verb-complete (SpellsVerb.quit_anyway more rest) lines are same = plain_read capital_q more ed.QuitAnyway lines rest are same PlainVerb.quit_anyway refl
 
 -- a text changes nothing about which addresses may stand before its command
 taking-text : (verb : Verb) (later : List (List ℕ)) → taking (with_text verb later).0 ≡ taking verb
 taking-text (ed.Append entered) later = refl
+taking-text (ed.Change entered) later = refl
 taking-text ed.Delete later = refl
+taking-text (ed.Insert entered) later = refl
+taking-text ed.Join later = refl
 taking-text (ed.Mark letter) later = refl
+taking-text (ed.Move target) later = refl
+taking-text (ed.Copy target) later = refl
 taking-text ed.LineNumber later = refl
 taking-text ed.Null later = refl
 taking-text (ed.Write form) later = refl
+taking-text ed.Help later = refl
+taking-text ed.HelpMode later = refl
+taking-text ed.PromptMode later = refl
 taking-text ed.QuitAnyway later = refl
 
 may_have-text : (given : Addresses) (verb : Verb) (later : List (List ℕ)) → may_have given (with_text verb later).0 ≡ may_have given verb
@@ -75,6 +122,24 @@ may_have-text ed.Without verb later = refl
 may_have-text (ed.One a) verb later = ap takes_any (taking-text verb later)
 may_have-text (ed.Comma a b) verb later = ap takes_any (taking-text verb later)
 may_have-text (ed.Semicolon a b) verb later = ap takes_any (taking-text verb later)
+
+-- nor about whether a suffix may follow
+takes_suffix-text : (verb : Verb) (later : List (List ℕ)) → takes_suffix (with_text verb later).0 ≡ takes_suffix verb
+takes_suffix-text (ed.Append entered) later = refl
+takes_suffix-text (ed.Change entered) later = refl
+takes_suffix-text ed.Delete later = refl
+takes_suffix-text (ed.Insert entered) later = refl
+takes_suffix-text ed.Join later = refl
+takes_suffix-text (ed.Mark letter) later = refl
+takes_suffix-text (ed.Move target) later = refl
+takes_suffix-text (ed.Copy target) later = refl
+takes_suffix-text ed.LineNumber later = refl
+takes_suffix-text ed.Null later = refl
+takes_suffix-text (ed.Write form) later = refl
+takes_suffix-text ed.Help later = refl
+takes_suffix-text ed.HelpMode later = refl
+takes_suffix-text ed.PromptMode later = refl
+takes_suffix-text ed.QuitAnyway later = refl
 
 -- a command that was read from lines: its bytes, and as many lines as they are
 pub record ReadsCommand (lines : List (List ℕ)) (r : Command × List (List ℕ)) : Type 0 where
@@ -86,13 +151,15 @@ pub record ReadsCommand (lines : List (List ℕ)) (r : Command × List (List ℕ
 
 finished-sound : (line : List ℕ) (later : List (List ℕ)) (h : Heading) → IsLine line → AreLines later → SpellsHeading line h → ReadsCommand (line ∷ later) (finished h later)
 finished-sound line later h is_line are is =
-    let text = verb-sound is.verb later are in
-    let left = bytes_of (with_text h.1 later).1 in
+    let text = verb-sound is.letter later are in
+    let verb = (with_text h.verb later).0 in
+    let left = bytes_of (with_text h.verb later).1 in
     record {
       bytes = line ++ newline ∷ text.bytes;
       split = ap (λ bs. line ++ newline ∷ bs) text.split ∙ sym (append_assoc line (newline ∷ text.bytes) left);
-      spells = Spells.command line is.own is.blanks text.bytes left h.0 (with_text h.1 later).0 is_line is.addresses text.spells (may_have-text h.0 h.1 later ∙ is.allowed) is.over;
-      counted = ap (λ ls. length ls + length (with_text h.1 later).1) (lines_of-whole line text.bytes is_line) ∙ omega (arith, text.counted);
+      spells = Spells.command line is.own is.more text.bytes left h.addresses verb h.suffix is_line is.given text.spells (may_have-text h.addresses h.verb later ∙ is.allowed)
+          (suffix-same is.end verb (takes_suffix-text h.verb later));
+      counted = ap (λ ls. length ls + length (with_text h.verb later).1) (lines_of-whole line text.bytes is_line) ∙ omega (arith, text.counted);
       are = text.are;
     }
 
@@ -112,21 +179,23 @@ pub record CommandRead (lines : List (List ℕ)) (rest : List ℕ) (c : Command)
   pub left : LeftLines rest
   pub read : command_at line later ≡ Some (c, left.lines)
 
-abbrev command_with : Addresses → Verb × List (List ℕ) → Command × List (List ℕ)
-command_with given r = (record { addresses = given; verb = r.0; suffix = None; listed = false }, r.1)
+abbrev command_with : Addresses → Option Form → Verb × List (List ℕ) → Command × List (List ℕ)
+command_with given suffix r = (record { addresses = given; verb = r.0; suffix = suffix; listed = false }, r.1)
 
 -- a command that is spelled so is read
 pub command-complete : {bytes rest : List ℕ} {c : Command} → Spells bytes rest c → (lines : List (List ℕ)) → AreLines lines → bytes ++ rest ≡ bytes_of lines → CommandRead lines rest c
-command-complete (Spells.command line own blanks text rest given verb is_line addresses is allowed over) lines are same =
+command-complete (Spells.command line own more text rest given verb suffix is_line addresses is allowed end) lines are same =
     let first = first_line line (text ++ rest) lines is_line are (sym (append_assoc line (newline ∷ text) rest) ∙ same) in
     let behind = verb-complete is first.later first.are first.behind in
     let fits : may_have given behind.entered ≡ true = sym (may_have-text given behind.entered first.later) ∙ ap (λ r. may_have given r.0) behind.read ∙ allowed in
-    let spells : SpellsHeading line (given, behind.entered) = record { own = own; blanks = blanks; addresses = addresses; verb = behind.letter_is; allowed = fits; over = over } in
+    let takes : takes_suffix behind.entered ≡ takes_suffix verb = sym (takes_suffix-text behind.entered first.later) ∙ ap (λ r. takes_suffix r.0) behind.read in
+    let h : Heading = record { addresses = given; verb = behind.entered; suffix = suffix } in
+    let spells : SpellsHeading line h = record { own = own; more = more; given = addresses; letter = behind.letter_is; allowed = fits; end = suffix-same end behind.entered takes } in
     record {
       line = line;
       later = first.later;
       split = first.split;
       are = All-cons IsLine line first.later is_line first.are;
       left = behind.left;
-      read = ap (λ (o : Option Heading). o >>= λ h. Some (finished h first.later)) (heading-complete line (given, behind.entered) spells) ∙ ap (λ r. Some (command_with given r)) behind.read;
+      read = ap (λ (o : Option Heading). o >>= λ h. Some (finished h first.later)) (heading-complete line h spells) ∙ ap (λ r. Some (command_with given suffix r)) behind.read;
     }

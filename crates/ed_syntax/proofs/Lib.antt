@@ -10,6 +10,8 @@ pub mod BracketLemmas
 pub mod QuotingLemmas
 pub mod AddressLemmas
 pub mod AddressesLemmas
+pub mod VerbLemmas
+pub mod SuffixLemmas
 pub mod HeadingLemmas
 pub mod CommandLemmas
 pub mod LawLemmas

@@ -1,5 +1,5 @@
 -- Worked runs, computed from the bytes of script and file; the outputs are those that the standard says.
-use Rattle.std.specs.Prelude.{◌≡◌, refl, ℕ, Bool, true, false, List, [], ◌∷◌, ◌++◌, Option, Some, None, Ok, Err, codes}
+use Rattle.std.specs.Prelude.{◌≡◌, refl, ℕ, Bool, true, false, List, [], ◌∷◌, ◌++◌, Option, Some, None, Ok, Err, codes, replicate}
 use Rattle.std.specs.Fmt.{digits}
 use Rattle.bre_parse.specs.Tree as tree
 use Rattle.ed_base.specs.declared.fault.Fault.{Fault}
@@ -338,3 +338,151 @@ last_of_two_for_the_null_command = refl
 line_number_is_the_last_by_default : edited letters (codes "1p\n=\n.=\n0=\nQ\n") ≡ ends (codes "a\n3\n1\n0\n") 3
 unfolding digits
 line_number_is_the_last_by_default = refl
+
+-- moved and copied lines
+
+abbrev five : List ℕ
+five = codes "1\n2\n3\n4\n5\n"
+
+target_at_the_last_of_the_lines : edited five (codes "2,4m4\n") ≡ fails (codes "?\n") fault.Destination
+target_at_the_last_of_the_lines = refl
+
+target_among_the_lines : edited five (codes "2,4m3\n") ≡ fails (codes "?\n") fault.Destination
+target_among_the_lines = refl
+
+moved_to_where_they_are : edited five (codes "2,4m1\n.=\n,p\nQ\n") ≡ ends (codes "4\n1\n2\n3\n4\n5\n") 5
+unfolding digits
+moved_to_where_they_are = refl
+
+moved_forward : edited five (codes "1,2m4\n.p\n,p\nQ\n") ≡ ends (codes "2\n3\n4\n1\n2\n5\n") 5
+moved_forward = refl
+
+moved_to_the_front : edited five (codes "4,5m0\n.p\n,p\nQ\n") ≡ ends (codes "5\n4\n5\n1\n2\n3\n") 5
+moved_to_the_front = refl
+
+one_line_has_no_place_to_go : edited (codes "x\n") (codes "1m$\n") ≡ fails (codes "?\n") fault.Destination
+one_line_has_no_place_to_go = refl
+
+copied_and_joined : edited letters (codes "1,2t$\n1,3j\n,p\nQ\n") ≡ ends (codes "abc\na\nb\n") 3
+copied_and_joined = refl
+
+mark_moves : edited letters (codes "1ka\n1m$\n'a=\nQ\n") ≡ ends (codes "3\n") 3
+unfolding digits
+mark_moves = refl
+
+copy_has_no_mark : edited letters (codes "1ka\n1t$\n1d\n'a=\n") ≡ fails (codes "?\n") fault.Mark
+copy_has_no_mark = refl
+
+joined_line_has_no_mark : edited letters (codes "1ka\n1,2j\n'a=\n") ≡ fails (codes "?\n") fault.Mark
+joined_line_has_no_mark = refl
+
+one_line_is_not_joined : edited (codes "a\nb\n") (codes "1,1j\n2j\n,p\nq\n") ≡ fails (codes "a\nb\n?\n") fault.Syntax
+one_line_is_not_joined = refl
+
+last_line_joins_none : edited letters (codes "j\n") ≡ fails (codes "?\n") fault.Address
+last_line_joins_none = refl
+
+joined_with_the_next : edited letters (codes "1p\nj\n.p\nQ\n") ≡ ends (codes "a\nab\n") 2
+joined_with_the_next = refl
+
+copied_within : edited letters (codes "1,3t1\n,p\nQ\n") ≡ ends (codes "a\na\nb\nc\nb\nc\n") 6
+copied_within = refl
+
+-- text before and in place of lines
+
+text_before_the_first_line_of_none : edited [] (codes "0i\nx\n.\n,p\nQ\n") ≡ ends (codes "x\n") 1
+text_before_the_first_line_of_none = refl
+
+nothing_to_change : edited [] (codes "0c\nx\n.\n") ≡ fails (codes "?\n") fault.Address
+nothing_to_change = refl
+
+changed_without_text : edited (codes "a\nb\n") (codes "1c\n.\n.=\nQ\n") ≡ ends (codes "1\n") 1
+unfolding digits
+changed_without_text = refl
+
+zero_is_the_first_line : edited letters (codes "0,2c\nx\ny\nz\n.\n.p\n,p\nQ\n") ≡ ends (codes "z\nx\ny\nz\nc\n") 4
+zero_is_the_first_line = refl
+
+zero_is_the_first_line_without_text : edited letters (codes "0i\n.\n.=\nQ\n") ≡ ends (codes "1\n") 3
+unfolding digits
+zero_is_the_first_line_without_text = refl
+
+text_before : edited letters (codes "2i\nx\ny\n.\n.p\n,p\nQ\n") ≡ ends (codes "y\na\nx\ny\nb\nc\n") 5
+text_before = refl
+
+-- how lines are written
+
+suffix_behind_deletion : edited letters (codes "1dp\nQ\n") ≡ ends (codes "b\n") 2
+suffix_behind_deletion = refl
+
+suffix_at_line_zero : edited (codes "x\n") (codes "1dp\n") ≡ fails (codes "?\n") fault.Address
+suffix_at_line_zero = refl
+
+suffix_behind_a_form : edited letters (codes "2lp\nQ\n") ≡ ends (codes "b$\nb\n") 3
+suffix_behind_a_form = refl
+
+suffix_directly_behind : edited letters (codes "1m3p\n1m3 p\n") ≡ fails (codes "a\n?\n") fault.Syntax
+suffix_directly_behind = refl
+
+suffix_of_line_numbers : edited [] (codes "=p\n") ≡ fails (codes "?\n") fault.Address
+suffix_of_line_numbers = refl
+
+numbered : edited letters (codes "2,3n\nQ\n") ≡ ends (codes "2\tb\n3\tc\n") 3
+unfolding digits
+numbered = refl
+
+every_kind_of_byte : edited (97 ∷ 9 ∷ 92 ∷ 36 ∷ 195 ∷ 10 ∷ []) (codes "l\nQ\n") ≡ ends (codes "a\\t\\\\\\$\\303$\n") 1
+every_kind_of_byte = refl
+
+abbrev many : ℕ → List ℕ
+many n = replicate n 97
+
+rows_of_seventy_one : edited (many 80 ++ 10 ∷ []) (codes "l\nQ\n") ≡ ends (many 71 ++ 92 ∷ 10 ∷ (many 9 ++ codes "$\n")) 1
+rows_of_seventy_one = refl
+
+one_whole_row : edited (many 71 ++ 10 ∷ []) (codes "l\nQ\n") ≡ ends (many 71 ++ codes "$\n") 1
+one_whole_row = refl
+
+no_unit_is_split : edited (many 70 ++ 9 ∷ 10 ∷ []) (codes "l\nQ\n") ≡ ends (many 70 ++ 92 ∷ 10 ∷ codes "\\t$\n") 1
+no_unit_is_split = refl
+
+no_suffix_behind_quit : edited letters (codes "Qp\n") ≡ fails (codes "?\n") fault.Syntax
+no_suffix_behind_quit = refl
+
+no_target : edited letters (codes "1m\n") ≡ fails (codes "?\n") fault.Syntax
+no_target = refl
+
+-- help mode and prompting
+
+help_and_prompt : run (script_of (codes "1n\nH\nx\n")) (options true (Some (codes "> "))) (answer.Bytes (codes "a\nb\n") ∷ [])
+    ≡ fails (codes "> 1\ta\n> > ?\ninvalid command\n") fault.Syntax
+unfolding digits
+help_and_prompt = refl
+
+prompting_turned_on : run (script_of (codes "P\n")) (options true None) (answer.Bytes letters ∷ []) ≡ ends (codes "*") 3
+prompting_turned_on = refl
+
+prompting_turned_off : run (script_of (codes "P\n1p\nP\n1p\n")) (options true (Some (codes "> "))) (answer.Bytes letters ∷ []) ≡ ends (codes "> a\n> a\n> ") 3
+prompting_turned_off = refl
+
+empty_prompt : run (script_of (codes "1p\nP\nP\n")) (options true (Some [])) (answer.Bytes letters ∷ []) ≡ ends (codes "a\n") 3
+empty_prompt = refl
+
+suffix_before_help_mode : edited [] (codes "Hp\n") ≡ fails (codes "?\n") fault.Address
+suffix_before_help_mode = refl
+
+suffix_behind_help_mode : edited letters (codes "Hn\nx\n") ≡ fails (codes "3\tc\n?\ninvalid command\n") fault.Syntax
+unfolding digits
+suffix_behind_help_mode = refl
+
+help_turned_on : edited letters (codes "H\nz\n") ≡ fails (codes "?\ninvalid command\n") fault.Syntax
+help_turned_on = refl
+
+help_turned_off : edited letters (codes "H\nH\n9p\n") ≡ fails (codes "?\n") fault.Address
+help_turned_off = refl
+
+no_fault_to_tell : edited letters (codes "h\n1p\nQ\n") ≡ ends (codes "a\n") 3
+no_fault_to_tell = refl
+
+no_address_before_help : edited letters (codes "H\n1h\n") ≡ fails (codes "?\ninvalid command\n") fault.Syntax
+no_address_before_help = refl

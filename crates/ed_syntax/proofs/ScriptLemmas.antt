@@ -21,11 +21,19 @@ text-later (line ∷ lines) =
 -- the same of a command's verb
 pub with_text-later : (verb : Verb) (later : List (List ℕ)) → length (with_text verb later).1 ≤ length later
 with_text-later (ed.Append entered) later = text-later later
+with_text-later (ed.Change entered) later = text-later later
 with_text-later ed.Delete later = omega arith
+with_text-later (ed.Insert entered) later = text-later later
+with_text-later ed.Join later = omega arith
 with_text-later (ed.Mark letter) later = omega arith
+with_text-later (ed.Move target) later = omega arith
+with_text-later (ed.Copy target) later = omega arith
 with_text-later ed.LineNumber later = omega arith
 with_text-later ed.Null later = omega arith
 with_text-later (ed.Write form) later = omega arith
+with_text-later ed.Help later = omega arith
+with_text-later ed.HelpMode later = omega arith
+with_text-later ed.PromptMode later = omega arith
 with_text-later ed.QuitAnyway later = omega arith
 
 -- the same of a command
@@ -34,7 +42,7 @@ command_behind-later None later r is = cc
 command_behind-later (Some h) later r is =
     let same : finished h later ≡ r = cc in
     let P : Command × List (List ℕ) → Type 0 = λ r. length r.1 ≤ length later in
-    subst P same (with_text-later h.1 later)
+    subst P same (with_text-later h.verb later)
 
 pub command_at-later : (line : List ℕ) (later : List (List ℕ)) (r : Command × List (List ℕ)) → command_at line later ≡ Some r → length r.1 ≤ length later
 command_at-later line later r is = command_behind-later (heading line) later r is

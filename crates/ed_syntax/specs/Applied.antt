@@ -5,10 +5,10 @@ use Rattle.ed_base.specs.declared.fault.Fault.TheVariants as fault
 use Rattle.ed_syntax.specs.declared.request.Answer.{Answer}
 use Rattle.ed_syntax.specs.declared.request.Request.{Request}
 use Rattle.ed_syntax.specs.Commands as ed
-use Rattle.ed_syntax.specs.Commands.{Form, Verb, Command}
-use Rattle.ed_syntax.specs.Verbs.{taking, default, given_or}
-use Rattle.ed_syntax.specs.States.{State, Kept, Was, kept}
-use Rattle.ed_syntax.specs.Values.{◌>>◌, values}
+use Rattle.ed_syntax.specs.Commands.{Address, Form, Verb, Command}
+use Rattle.ed_syntax.specs.Verbs.{taking, default, given_or, target_of}
+use Rattle.ed_syntax.specs.States.{State, Kept, Was, kept, last}
+use Rattle.ed_syntax.specs.Values.{◌>>◌, value, valued, values}
 use Rattle.ed_syntax.specs.Ranges.{Span, spanned}
 use Rattle.ed_syntax.specs.Forms.{lines_written}
 use Rattle.ed_syntax.specs.Effects as effect
@@ -19,15 +19,28 @@ pub data Effect : Type 0 where
   Makes : Outcome → Effect
   Asks : Request → Effect
 
--- what a command does at the lines of a span; an answer that isn't asked for isn't looked at
-abbrev pub effect_of : Verb → Span → State → Option Answer → Result Effect Fault
-effect_of (ed.Append text) x s given = Ok (Makes (effect.append text x s))
-effect_of ed.Delete x s given = Ok (Makes (effect.delete x s))
-effect_of (ed.Mark letter) x s given = Ok (Makes (effect.mark letter x s))
-effect_of ed.LineNumber x s given = Ok (Makes (effect.line_number x s))
-effect_of ed.Null x s given = Ok (Makes (effect.write ed.Plain x s))
-effect_of (ed.Write form) x s given = Ok (Makes (effect.write form x s))
-effect_of ed.QuitAnyway x s given = Ok (Makes (only s []))
+-- what a command does at the lines of a span, and at its target; an answer that isn't asked for isn't looked at
+abbrev pub effect_of : Verb → Span → (target : ℕ) → State → Option Answer → Result Effect Fault
+effect_of (ed.Append text) x target s given = Ok (Makes (effect.append text x s))
+effect_of (ed.Change text) x target s given = Ok (Makes (effect.change text x s))
+effect_of ed.Delete x target s given = Ok (Makes (effect.delete x s))
+effect_of (ed.Insert text) x target s given = Ok (Makes (effect.insert text x s))
+effect_of ed.Join x target s given = Ok (Makes (effect.join x s))
+effect_of (ed.Mark letter) x target s given = Ok (Makes (effect.mark letter x s))
+effect_of (ed.Move to) x target s given = effect.move x target s >> λ o. Ok (Makes o)
+effect_of (ed.Copy to) x target s given = Ok (Makes (effect.copy x target s))
+effect_of ed.LineNumber x target s given = Ok (Makes (effect.line_number x s))
+effect_of ed.Null x target s given = Ok (Makes (effect.write ed.Plain x s))
+effect_of (ed.Write form) x target s given = Ok (Makes (effect.write form x s))
+effect_of ed.Help x target s given = Ok (Makes (only s []))
+effect_of ed.HelpMode x target s given = Ok (Makes (only s []))
+effect_of ed.PromptMode x target s given = Ok (Makes (only s []))
+effect_of ed.QuitAnyway x target s given = Ok (Makes (only s []))
+
+-- the value of a target, where there is one
+abbrev pub targeted : Option Address → State → Result (State × ℕ) Fault
+targeted None s = Ok (s, 0)
+targeted (Some a) s = value a s >> λ n. Ok (valued a s, n)
 
 -- what a suffix writes: the new current line, which isn't 0
 abbrev pub suffix_written : Option Form → State → Result (List ℕ) Fault
@@ -52,5 +65,6 @@ replied s suffix (Makes o) = suffix_written suffix o.state >> λ more. Ok (settl
 abbrev pub command : State → Command → Option Answer → Result (State × Reply) Fault
 command s c given =
     values (given_or c.addresses (default c.verb)) s >> λ v.
-    spanned (taking c.verb) v.1 >> λ x.
-    effect_of c.verb x v.0 given >> replied s c.suffix
+    targeted (target_of c.verb) v.0 >> λ t.
+    spanned (taking c.verb) (last s) v.1 >> λ x.
+    effect_of c.verb x t.1 t.0 given >> replied s c.suffix

@@ -42,6 +42,14 @@ equals_sign = 61
 abbrev pub question_mark : ℕ
 question_mark = 63
 
+-- `H`
+abbrev pub capital_h : ℕ
+capital_h = 72
+
+-- `P`
+abbrev pub capital_p : ℕ
+capital_p = 80
+
 -- `Q`
 abbrev pub capital_q : ℕ
 capital_q = 81
@@ -58,17 +66,49 @@ backslash = 92
 abbrev pub letter_a : ℕ
 letter_a = 97
 
+-- `c`
+abbrev pub letter_c : ℕ
+letter_c = 99
+
 -- `d`
 abbrev pub letter_d : ℕ
 letter_d = 100
+
+-- `h`
+abbrev pub letter_h : ℕ
+letter_h = 104
+
+-- `i`
+abbrev pub letter_i : ℕ
+letter_i = 105
+
+-- `j`
+abbrev pub letter_j : ℕ
+letter_j = 106
 
 -- `k`
 abbrev pub letter_k : ℕ
 letter_k = 107
 
+-- `l`
+abbrev pub letter_l : ℕ
+letter_l = 108
+
+-- `m`
+abbrev pub letter_m : ℕ
+letter_m = 109
+
+-- `n`
+abbrev pub letter_n : ℕ
+letter_n = 110
+
 -- `p`
 abbrev pub letter_p : ℕ
 letter_p = 112
+
+-- `t`
+abbrev pub letter_t : ℕ
+letter_t = 116
 
 -- a blank is a space or a tab
 abbrev pub is_blank : ℕ → Bool

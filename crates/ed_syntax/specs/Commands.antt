@@ -27,19 +27,29 @@ pub data Addresses : Type 0 where
   Comma : (first second : Address) → Addresses
   Semicolon : (first : Address) → (second : Option Address) → Addresses
 
--- how a line is written: as it is
+-- how a line is written: as it is, behind its number, or so that each byte can be told
 pub data Form : Type 0 where
   Plain : Form
+  Numbered : Form
+  Unambiguous : Form
 
--- A command's letter with its parameters: `a` with its text, `d`, `k` with the letter that marks, `=`, the null command, `p` by
--- the form that it writes in, `Q`.
+-- A command's letter with its parameters: `a`, `c` and `i` with their text, `d`, `j`, `k` with the letter that marks, `m` and `t`
+-- with their target, `=`, the null command, `l`, `n` and `p` by the form that they write in, `h`, `H`, `P`, `Q`.
 pub data Verb : Type 0 where
   Append : (text : List (List ℕ)) → Verb
+  Change : (text : List (List ℕ)) → Verb
   Delete : Verb
+  Insert : (text : List (List ℕ)) → Verb
+  Join : Verb
   Mark : (letter : ℕ) → Verb
+  Move : (target : Address) → Verb
+  Copy : (target : Address) → Verb
   LineNumber : Verb
   Null : Verb
   Write : (form : Form) → Verb
+  Help : Verb
+  HelpMode : Verb
+  PromptMode : Verb
   QuitAnyway : Verb
 
 -- a command; `listed` where it stands in the list of a global command

@@ -1,9 +1,12 @@
 -- What each command does to the buffer (XCU ed, "Commands in ed").
-use Rattle.std.specs.Prelude.{ℕ, ◌+◌, ◌-◌, Bool, true, false, List, [], ◌∷◌, ◌++◌, map, length, min, decimal}
-use Rattle.ed_base.specs.Buffer.{Line, plain_line, marked_at}
+use Rattle.std.specs.Prelude.{ℕ, ◌+◌, ◌-◌, Bool, true, false, ◌&&◌, List, [], ◌∷◌, ◌++◌, map, length, min, decimal, nat_le, nat_lt, Result, Ok, Err}
+use Rattle.std.specs.List.{concat}
+use Rattle.ed_base.specs.Buffer.{Line, plain_line, texts, marked_at}
 use Rattle.ed_base.specs.Lines.{newline}
+use Rattle.ed_base.specs.declared.fault.Fault.{Fault}
+use Rattle.ed_base.specs.declared.fault.Fault.TheVariants as fault
 use Rattle.ed_syntax.specs.Commands.{Form}
-use Rattle.ed_syntax.specs.States.{State, replaced, inserted}
+use Rattle.ed_syntax.specs.States.{State, last, between, replaced, inserted}
 use Rattle.ed_syntax.specs.Forms.{lines_written}
 use Rattle.ed_syntax.specs.Ranges.{Span}
 
@@ -34,9 +37,46 @@ entered a (text ∷ more) s = altered (inserted a (map plain_line (text ∷ more
 abbrev pub append : List (List ℕ) → Span → State → Outcome
 append text x s = entered x.first text s
 
+-- `i`: the text before the addressed line; without any, that line is current where it is there
+abbrev pub insert : List (List ℕ) → Span → State → Outcome
+insert [] x s = only (at_line (min x.first (last s)) s) []
+insert (text ∷ more) x s = entered (x.first - 1) (text ∷ more) s
+
 -- `d`: the line behind those deleted is current, or the new last line if there is none
 abbrev pub delete : Span → State → Outcome
 delete x s = let left = replaced x.first x.last [] s.lines in altered left (min x.first (length left)) s
+
+-- `c`: the text in place of the lines, its last line current; without any they are deleted
+abbrev pub change : List (List ℕ) → Span → State → Outcome
+change [] x s = delete x s
+change (text ∷ more) x s =
+    altered (replaced x.first x.last (map plain_line (text ∷ more)) s.lines) (x.first - 1 + length (text ∷ more)) s
+
+-- `j`: one line of their bytes in place of the lines; of one line nothing
+abbrev pub join : Span → State → Outcome
+join x s =
+    elim (nat_lt x.first x.last) [
+      | true ↦ altered (replaced x.first x.last (plain_line (concat (texts (between x.first x.last s.lines))) ∷ []) s.lines) x.first s
+      | false ↦ only s []
+    ]
+
+-- the line behind which lines from a to b are put once they were taken out
+abbrev pub place_left : Span → (target : ℕ) → ℕ
+place_left x target = elim (nat_le target x.last) [ true ↦ target | false ↦ target - (x.last + 1 - x.first) ]
+
+-- `m`: the lines behind the target line, with their marks; the last one is current
+abbrev pub move : Span → (target : ℕ) → State → Result Outcome Fault
+move x target s =
+    let moved = between x.first x.last s.lines in
+    let place = place_left x target in
+    elim (nat_le x.first target && nat_le target x.last) [
+      | true ↦ Err fault.Destination
+      | false ↦ Ok (altered (inserted place moved (replaced x.first x.last [] s.lines)) (place + length moved) s)
+    ]
+
+-- `t`: copies of the lines behind the target line, without marks; the last one is current
+abbrev pub copy : Span → (target : ℕ) → State → Outcome
+copy x target s = entered target (texts (between x.first x.last s.lines)) s
 
 -- `k`: the letter marks the addressed line, and no other
 abbrev pub mark : (letter : ℕ) → Span → State → Outcome
@@ -46,6 +86,6 @@ mark letter x s = only (record s { lines = marked_at (x.last - 1) letter s.lines
 abbrev pub line_number : Span → State → Outcome
 line_number x s = only s (decimal x.last ++ newline ∷ [])
 
--- `p`, and the null command: the last line written is current
+-- `l`, `n` and `p`, and the null command: the last line written is current
 abbrev pub write : Form → Span → State → Outcome
 write form x s = only (at_line x.last s) (lines_written form x.first x.last s.lines)

@@ -41,6 +41,8 @@ addresses_value (addresses.Semicolon a b) = ed.Semicolon (address_value a) (opti
 -- how a line is written
 abbrev pub form_value : Form → ed.Form
 form_value form.Plain = ed.Plain
+form_value form.Numbered = ed.Numbered
+form_value form.Unambiguous = ed.Unambiguous
 
 -- a suffix, where there is one
 abbrev pub suffix_value : Option Form → Option ed.Form
@@ -50,11 +52,19 @@ suffix_value (Some f) = Some (form_value f)
 -- a command's letter with its parameters
 abbrev pub verb_value : Verb → ed.Verb
 verb_value (verb.Append text) = ed.Append text
+verb_value (verb.Change text) = ed.Change text
 verb_value verb.Delete = ed.Delete
+verb_value (verb.Insert text) = ed.Insert text
+verb_value verb.Join = ed.Join
+verb_value (verb.Move target) = ed.Move (address_value target)
+verb_value (verb.Copy target) = ed.Copy (address_value target)
 verb_value (verb.Mark letter) = ed.Mark letter
 verb_value verb.LineNumber = ed.LineNumber
 verb_value verb.Null = ed.Null
 verb_value (verb.Write f) = ed.Write (form_value f)
+verb_value verb.Help = ed.Help
+verb_value verb.HelpMode = ed.HelpMode
+verb_value verb.PromptMode = ed.PromptMode
 verb_value verb.QuitAnyway = ed.QuitAnyway
 
 -- a command

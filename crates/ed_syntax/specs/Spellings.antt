@@ -1,11 +1,11 @@
 -- Which bytes spell a command, and which a script (XCU ed, "Commands in ed").
 use Rattle.std.specs.Prelude.{ℕ, ◌+◌, ◌<◌, ◌≡◌, ◌≢◌, false, List, [], ◌∷◌, ◌++◌, length, Option, Some, None, IsTrue}
 use Rattle.ed_base.specs.Lines.{newline, IsLine, lines_of, bytes_of}
-use Rattle.ed_syntax.specs.Characters.{full_stop, equals_sign, capital_q, letter_a, letter_d, letter_k, letter_p}
+use Rattle.ed_syntax.specs.Characters.{full_stop, equals_sign, capital_h, capital_p, capital_q, letter_a, letter_c, letter_d, letter_h, letter_i, letter_j, letter_k, letter_l, letter_m, letter_n, letter_p, letter_t, behind_blanks}
 use Rattle.ed_syntax.specs.Commands as ed
-use Rattle.ed_syntax.specs.Commands.{Addresses, Verb, Command, Script}
-use Rattle.ed_syntax.specs.Verbs.{may_have}
-use Rattle.ed_syntax.specs.Addressing.{Blanks, SpellsAddresses}
+use Rattle.ed_syntax.specs.Commands.{Address, Addresses, Form, Verb, Command, Script}
+use Rattle.ed_syntax.specs.Verbs.{may_have, takes_suffix}
+use Rattle.ed_syntax.specs.Addressing.{Blanks, SpellsAddress, SpellsAddresses}
 
 -- Whole lines that are a text, up to a line that is `.` or to the end of the script, and what follows.
 pub data SpellsText : List ℕ → List ℕ → List (List ℕ) → Type 0 where
@@ -14,23 +14,47 @@ pub data SpellsText : List ℕ → List ℕ → List (List ℕ) → Type 0 where
   line : (line bytes rest : List ℕ) (lines : List (List ℕ)) → IsLine line → line ≢ full_stop ∷ [] → SpellsText bytes rest lines →
       SpellsText (line ++ newline ∷ bytes) rest (line ∷ lines)
 
+-- the letter of a form
+pub data SpellsForm : ℕ → Form → Type 0 where
+  plain : SpellsForm letter_p ed.Plain
+  numbered : SpellsForm letter_n ed.Numbered
+  unambiguous : SpellsForm letter_l ed.Unambiguous
+
+-- The end of a command's own line: a suffix, if the command takes one, and blanks.
+pub data SpellsSuffix (verb : Verb) : List ℕ → Option Form → Type 0 where
+  none : (blanks : List ℕ) → Blanks blanks → SpellsSuffix verb blanks None
+  given : (letter : ℕ) (blanks : List ℕ) (form : Form) → IsTrue (takes_suffix verb) → SpellsForm letter form → Blanks blanks →
+      SpellsSuffix verb (letter ∷ blanks) (Some form)
+
 -- What stands behind the addresses on a command's own line, a letter with its parameters or nothing, and what stands behind that;
 -- then the whole lines behind the command's own that belong to it, and what follows them.
 pub data SpellsVerb : (own more text rest : List ℕ) → Verb → Type 0 where
   append : (more text rest : List ℕ) (entered : List (List ℕ)) → SpellsText text rest entered →
       SpellsVerb (letter_a ∷ more) more text rest (ed.Append entered)
+  change : (more text rest : List ℕ) (entered : List (List ℕ)) → SpellsText text rest entered →
+      SpellsVerb (letter_c ∷ more) more text rest (ed.Change entered)
+  insert : (more text rest : List ℕ) (entered : List (List ℕ)) → SpellsText text rest entered →
+      SpellsVerb (letter_i ∷ more) more text rest (ed.Insert entered)
   delete : (more rest : List ℕ) → SpellsVerb (letter_d ∷ more) more [] rest ed.Delete
   mark : (letter : ℕ) (more rest : List ℕ) → letter < 26 → SpellsVerb (letter_k ∷ (letter_a + letter) ∷ more) more [] rest (ed.Mark letter)
+  join : (more rest : List ℕ) → SpellsVerb (letter_j ∷ more) more [] rest ed.Join
+  move : (own more rest : List ℕ) (target : Address) → SpellsAddress (behind_blanks own) more (Some target) →
+      SpellsVerb (letter_m ∷ own) more [] rest (ed.Move target)
+  copy : (own more rest : List ℕ) (target : Address) → SpellsAddress (behind_blanks own) more (Some target) →
+      SpellsVerb (letter_t ∷ own) more [] rest (ed.Copy target)
   line_number : (more rest : List ℕ) → SpellsVerb (equals_sign ∷ more) more [] rest ed.LineNumber
   null : (rest : List ℕ) → SpellsVerb [] [] [] rest ed.Null
-  write : (more rest : List ℕ) → SpellsVerb (letter_p ∷ more) more [] rest (ed.Write ed.Plain)
+  write : (letter : ℕ) (more rest : List ℕ) (form : Form) → SpellsForm letter form → SpellsVerb (letter ∷ more) more [] rest (ed.Write form)
+  help : (more rest : List ℕ) → SpellsVerb (letter_h ∷ more) more [] rest ed.Help
+  help_mode : (more rest : List ℕ) → SpellsVerb (capital_h ∷ more) more [] rest ed.HelpMode
+  prompt_mode : (more rest : List ℕ) → SpellsVerb (capital_p ∷ more) more [] rest ed.PromptMode
   quit_anyway : (more rest : List ℕ) → SpellsVerb (capital_q ∷ more) more [] rest ed.QuitAnyway
 
--- Whole lines that spell a command, and the lines that follow: a line with addresses, a letter and blanks, and a text.
+-- Whole lines that spell a command, and the lines that follow: a line with addresses, a letter and a suffix, and a text.
 pub data Spells : List ℕ → List ℕ → Command → Type 0 where
-  command : (line own blanks text rest : List ℕ) (given : Addresses) (verb : Verb) → IsLine line → SpellsAddresses line own given →
-      SpellsVerb own blanks text rest verb → IsTrue (may_have given verb) → Blanks blanks →
-      Spells (line ++ newline ∷ text) rest (record { addresses = given; verb = verb; suffix = None; listed = false })
+  command : (line own more text rest : List ℕ) (given : Addresses) (verb : Verb) (suffix : Option Form) → IsLine line →
+      SpellsAddresses line own given → SpellsVerb own more text rest verb → IsTrue (may_have given verb) → SpellsSuffix verb more suffix →
+      Spells (line ++ newline ∷ text) rest (record { addresses = given; verb = verb; suffix = suffix; listed = false })
 
 -- Whole lines, the first of which has this number: commands to the end, or to a rest no front of which spells a command.
 pub data SpellsCommands : ℕ → List ℕ → List Command → Option ℕ → Type 0 where

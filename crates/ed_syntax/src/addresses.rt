@@ -76,8 +76,8 @@ fn alone(first: Option<Address>) -> Addresses
     }
 }
 
-// An address in front, or none.
-fn address(alloc: Global, bytes: &[u8]) -> Parsed<'_, Option<Address>>
+/// An address in front, or none.
+pub fn address(alloc: Global, bytes: &[u8]) -> Parsed<'_, Option<Address>>
     ensures value { IfOk result (λ read. MatchOption read (address bytes.now ≡ None)
         (λ (a, rest). address bytes.now ≡ Some (optional_address a, rest.now))) }
 {

@@ -46,6 +46,10 @@ pub enum Addresses {
 pub enum Form {
     /// By `p`: the line as it is.
     Plain,
+    /// By `n`: the line's number, a tab, the line.
+    Numbered,
+    /// By `l`: each byte so that it can be told, in rows of at most 71 bytes, and a `$` at the end.
+    Unambiguous,
 }
 
 /// A command's letter with its parameters.
@@ -53,16 +57,32 @@ pub enum Form {
 pub enum Verb {
     /// `a`: the lines of the text go behind the addressed line.
     Append(Text),
+    /// `c`: the lines of the text come in place of the addressed lines.
+    Change(Text),
     /// `d`
     Delete,
+    /// `i`: the lines of the text go before the addressed line.
+    Insert(Text),
+    /// `j`: the addressed lines become one.
+    Join,
+    /// `m`: the addressed lines go behind the target.
+    Move(Address),
+    /// `t`: copies of the addressed lines go behind the target.
+    Copy(Address),
     /// `k`: the letter marks the addressed line.
     Mark(Letter),
     /// `=`: writes the addressed line's number.
     LineNumber,
     /// No letter: writes the addressed line.
     Null,
-    /// `p`, by its form.
+    /// `l`, `n` and `p`, by their form.
     Write(Form),
+    /// `h`: nothing, since a run has no earlier fault.
+    Help,
+    /// `H`: turns help mode on or off, in which a fault's text is written behind its `?`.
+    HelpMode,
+    /// `P`: turns prompting on or off.
+    PromptMode,
     /// `Q`: the end of the run, whether or not changes were written.
     QuitAnyway,
 }

@@ -1,16 +1,25 @@
 //! Reads a script: its commands up to the first that can't be read.
 ghost use Rattle.std.specs.Prelude.{◌≡◌, ◌+◌, ◌≤◌, length, Option, Some, None, option_map, IfOk, MatchOption};
 ghost use Rattle.ed_syntax.specs.Verbs.{may_have};
-ghost use Rattle.ed_syntax.specs.Reading.{verb_at, is_over, heading, heading_behind, with_text, command_at, script_of};
-ghost use Rattle.ed_syntax.specs.PublicTypes.{addresses_value, verb_value, script_value};
-ghost use Rattle.ed_syntax.specs.ReadParts.{heading_value, command_behind};
+ghost use Rattle.ed_syntax.specs.Reading.{beside_letter, plain_verbs, target, verb_at, form_of, suffix_at, is_over, heading, heading_behind, with_text, command_at, script_of};
+ghost use Rattle.ed_syntax.specs.PublicTypes.{address_value, addresses_value, suffix_value, verb_value, script_value};
+ghost use Rattle.ed_syntax.specs.ReadParts.{optional_verb, optional_own_line, command_behind};
 
-use crate::addresses::addresses;
+use crate::addresses::{address, addresses};
+use crate::quoting::Parsed;
 use crate::script_lines::ScriptLines;
 use crate::tokens::{behind_blanks, letter};
-use crate::{Addresses, Command, Form, Script, Taking, Verb};
+use crate::{Address, Addresses, Command, Form, Script, Taking, Verb};
 use ed_base::Text;
 use std::alloc::{AllocError, Global};
+
+/// What stands on a command's own line.
+#[derive(Drop)]
+pub struct OwnLine {
+    addresses: Addresses,
+    verb: Verb,
+    suffix: Option<Form>,
+}
 
 /// Reads a script. A command that can't be read ends it: what stands behind isn't looked at.
 pub fn read_script(alloc: Global, bytes: &[u8]) -> Result<Script, AllocError>
@@ -48,12 +57,17 @@ fn read_command(
 {
     match heading(alloc, line)? {
         None => Ok(None),
-        Some((addresses, verb)) => {
+        Some(heading) => {
+            let OwnLine {
+                addresses,
+                verb,
+                suffix,
+            } = heading;
             let verb = with_text(alloc, verb, later)?;
             Ok(Some(Command {
                 addresses,
                 verb,
-                suffix: None,
+                suffix,
                 listed: false,
             }))
         }
@@ -68,55 +82,131 @@ fn with_text(alloc: Global, verb: Verb, later: &mut ScriptLines<'_>) -> Result<V
 {
     match verb {
         Verb::Append(_) => Ok(Verb::Append(later.read_text(alloc)?)),
-        Verb::Delete
-        | Verb::Mark(_)
-        | Verb::LineNumber
-        | Verb::Null
-        | Verb::Write(_)
-        | Verb::QuitAnyway => Ok(verb),
+        Verb::Change(_) => Ok(Verb::Change(later.read_text(alloc)?)),
+        Verb::Insert(_) => Ok(Verb::Insert(later.read_text(alloc)?)),
+        without_text => Ok(without_text),
     }
 }
 
 // What stands on a command's own line; its text is still empty.
-fn heading(alloc: Global, line: &[u8]) -> Result<Option<(Addresses, Verb)>, AllocError>
-    ensures value { IfOk result (λ h. heading_value h ≡ heading line.now) }
+fn heading(alloc: Global, line: &[u8]) -> Result<Option<OwnLine>, AllocError>
+    ensures value { IfOk result (λ h. optional_own_line h ≡ heading line.now) }
 {
     match addresses(alloc, line)? {
-        Some((given, rest)) => Ok(heading_behind(alloc, given, rest)),
+        Some((given, rest)) => heading_behind(alloc, given, rest),
         None => Ok(None),
     }
 }
 
 // What stands behind the addresses.
-fn heading_behind(alloc: Global, given: Addresses, bytes: &[u8]) -> Option<(Addresses, Verb)>
-    ensures value { heading_value result ≡ heading_behind (addresses_value given) bytes.now }
+fn heading_behind(
+    alloc: Global,
+    addresses: Addresses,
+    bytes: &[u8],
+) -> Result<Option<OwnLine>, AllocError>
+    ensures value { IfOk result (λ h. optional_own_line h ≡ heading_behind (addresses_value addresses) bytes.now) }
 {
-    let (verb, rest) = verb_at(alloc, bytes)?;
-    if may_have(&given, &verb) && is_over(rest) {
-        Some((given, verb))
-    } else {
-        None
+    let Some((verb, rest)) = verb_at(alloc, bytes)? else {
+        return Ok(None);
+    };
+    if !may_have(&addresses, &verb) {
+        return Ok(None);
+    }
+    match suffix_at(&verb, rest) {
+        Some(suffix) => Ok(Some(OwnLine {
+            addresses,
+            verb,
+            suffix,
+        })),
+        None => Ok(None),
     }
 }
 
 // A command's letter with its parameters; its text is still empty. Nothing is the null command.
-fn verb_at(alloc: Global, bytes: &[u8]) -> Option<(Verb, &[u8])>
-    ensures value { MatchOption result (verb_at bytes.now ≡ None)
-        (λ (verb, rest). verb_at bytes.now ≡ Some (verb_value verb, rest.now)) }
+fn verb_at(alloc: Global, bytes: &[u8]) -> Parsed<'_, Verb>
+    ensures value { IfOk result (λ read. MatchOption read (verb_at bytes.now ≡ None)
+        (λ (verb, rest). verb_at bytes.now ≡ Some (verb_value verb, rest.now))) }
 {
     let [byte, rest @ ..] = bytes else {
-        return Some((Verb::Null, bytes));
+        return Ok(Some((Verb::Null, bytes)));
     };
     match *byte {
-        b'a' => Some((Verb::Append(Text::new(alloc)), rest)),
-        b'd' => Some((Verb::Delete, rest)),
         b'k' => match letter(rest) {
-            Some((letter, rest)) => Some((Verb::Mark(letter), rest)),
-            None => None,
+            Some((letter, rest)) => Ok(Some((Verb::Mark(letter), rest))),
+            None => Ok(None),
         },
-        b'p' => Some((Verb::Write(Form::Plain), rest)),
-        b'=' => Some((Verb::LineNumber, rest)),
-        b'Q' => Some((Verb::QuitAnyway, rest)),
+        b'm' => match target(alloc, rest)? {
+            Some((target, rest)) => Ok(Some((Verb::Move(target), rest))),
+            None => Ok(None),
+        },
+        b't' => match target(alloc, rest)? {
+            Some((target, rest)) => Ok(Some((Verb::Copy(target), rest))),
+            None => Ok(None),
+        },
+        letter => match plain_verb(alloc, letter) {
+            Some(verb) => Ok(Some((verb, rest))),
+            None => Ok(None),
+        },
+    }
+}
+
+// A command whose letter has no parameters on its line.
+fn plain_verb(alloc: Global, letter: u8) -> Option<Verb>
+    ensures value { optional_verb result ≡ beside_letter letter plain_verbs }
+{
+    match letter {
+        b'a' => Some(Verb::Append(Text::new(alloc))),
+        b'c' => Some(Verb::Change(Text::new(alloc))),
+        b'd' => Some(Verb::Delete),
+        b'i' => Some(Verb::Insert(Text::new(alloc))),
+        b'j' => Some(Verb::Join),
+        b'l' => Some(Verb::Write(Form::Unambiguous)),
+        b'n' => Some(Verb::Write(Form::Numbered)),
+        b'p' => Some(Verb::Write(Form::Plain)),
+        b'=' => Some(Verb::LineNumber),
+        b'h' => Some(Verb::Help),
+        b'H' => Some(Verb::HelpMode),
+        b'P' => Some(Verb::PromptMode),
+        b'Q' => Some(Verb::QuitAnyway),
+        _ => None,
+    }
+}
+
+// The target of a command, with blanks before it.
+fn target(alloc: Global, bytes: &[u8]) -> Parsed<'_, Address>
+    ensures value { IfOk result (λ read. MatchOption read (target bytes.now ≡ None)
+        (λ (a, rest). target bytes.now ≡ Some (address_value a, rest.now))) }
+{
+    match address(alloc, behind_blanks(bytes))? {
+        Some((found, rest)) => match found {
+            Some(address) => Ok(Some((address, rest))),
+            None => Ok(None),
+        },
+        None => Ok(None),
+    }
+}
+
+// The end of a command's own line: a suffix, if the command takes one, and blanks.
+fn suffix_at(verb: &Verb, bytes: &[u8]) -> Option<Option<Form>>
+    ensures value { option_map suffix_value result ≡ suffix_at (verb_value verb.now) bytes.now }
+{
+    match bytes {
+        [letter @ (b'l' | b'n' | b'p'), rest @ ..] if verb.takes_suffix() && is_over(rest) => {
+            Some(form_of(*letter))
+        }
+        _ if is_over(bytes) => Some(None),
+        _ => None,
+    }
+}
+
+// The form of a letter.
+fn form_of(letter: u8) -> Option<Form>
+    ensures value { suffix_value result ≡ form_of letter }
+{
+    match letter {
+        b'l' => Some(Form::Unambiguous),
+        b'n' => Some(Form::Numbered),
+        b'p' => Some(Form::Plain),
         _ => None,
     }
 }

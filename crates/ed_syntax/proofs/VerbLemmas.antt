@@ -1,0 +1,158 @@
+-- A command's letter with its parameters: what is read is spelled so, and what is spelled so is read.
+use Rattle.std.proofs.Common.{◌≡◌, ℕ, ◌+◌, ◌<◌, true, nat_eq, List, [], ◌∷◌, Option, Some, refl, sym, ap, ◌∙◌, subst}
+use Rattle.std.proofs.lemmas.Bool.{eqb-true}
+use Rattle.ed_syntax.specs.Characters.{equals_sign, capital_h, capital_p, capital_q, letter_a, letter_c, letter_d, letter_h, letter_i, letter_j, letter_k, letter_m, letter_t, behind_blanks}
+use Rattle.ed_syntax.specs.Commands as ed
+use Rattle.ed_syntax.specs.Commands.{Address, Form, Verb}
+use Rattle.ed_syntax.specs.Addressing.{SpellsAddress}
+use Rattle.ed_syntax.specs.Spellings.{SpellsForm}
+use Rattle.ed_syntax.specs.Tokens.{Parsed, ◌>>=◌, letter, address}
+use Rattle.ed_syntax.specs.Reading.{beside_letter, plain_verbs, target, verb_at}
+use Rattle.ed_syntax.proofs.StepLemmas.{Some-same, none_some, bind-some, either}
+use Rattle.ed_syntax.proofs.AddressLemmas.{letter-sound, letter-complete, address-sound, address-complete}
+
+-- a letter that has no parameters on its line, and its verb before a text is read
+pub data PlainVerb : ℕ → Verb → Type 0 where
+  append : PlainVerb letter_a (ed.Append [])
+  change : PlainVerb letter_c (ed.Change [])
+  insert : PlainVerb letter_i (ed.Insert [])
+  delete : PlainVerb letter_d ed.Delete
+  join : PlainVerb letter_j ed.Join
+  line_number : PlainVerb equals_sign ed.LineNumber
+  write : (letter : ℕ) (form : Form) → SpellsForm letter form → PlainVerb letter (ed.Write form)
+  help : PlainVerb letter_h ed.Help
+  help_mode : PlainVerb capital_h ed.HelpMode
+  prompt_mode : PlainVerb capital_p ed.PromptMode
+  quit_anyway : PlainVerb capital_q ed.QuitAnyway
+
+-- a command's letter with its parameters, what stands behind it on the line, and its verb before a text is read
+pub data SpellsLetter : (own more : List ℕ) → Verb → Type 0 where
+  null : SpellsLetter [] [] ed.Null
+  plain : (b : ℕ) (more : List ℕ) (verb : Verb) → PlainVerb b verb → SpellsLetter (b ∷ more) more verb
+  mark : (letter : ℕ) (more : List ℕ) → letter < 26 → SpellsLetter (letter_k ∷ (letter_a + letter) ∷ more) more (ed.Mark letter)
+  move : (own more : List ℕ) (target : Address) → SpellsAddress (behind_blanks own) more (Some target) → SpellsLetter (letter_m ∷ own) more (ed.Move target)
+  copy : (own more : List ℕ) (target : Address) → SpellsAddress (behind_blanks own) more (Some target) → SpellsLetter (letter_t ∷ own) more (ed.Copy target)
+
+-- entries each of which is such a letter with its verb
+data ArePlain : List (ℕ × Verb) → Type 0 where
+  none : ArePlain []
+  first : (code : ℕ) (verb : Verb) (entries : List (ℕ × Verb)) → PlainVerb code verb → ArePlain entries → ArePlain ((code, verb) ∷ entries)
+
+plain_verbs-plain : ArePlain plain_verbs
+plain_verbs-plain =
+    first _ _ _ append
+    (first _ _ _ change
+    (first _ _ _ delete
+    (first _ _ _ insert
+    (first _ _ _ join
+    (first _ _ _ (write _ _ SpellsForm.unambiguous)
+    (first _ _ _ (write _ _ SpellsForm.numbered)
+    (first _ _ _ (write _ _ SpellsForm.plain)
+    (first _ _ _ line_number
+    (first _ _ _ help
+    (first _ _ _ help_mode
+    (first _ _ _ prompt_mode
+    (first _ _ _ quit_anyway none))))))))))))
+
+-- a verb that is found beside a letter is that letter's
+beside-sound : {entries : List (ℕ × Verb)} → ArePlain entries → (b : ℕ) (verb : Verb) → beside_letter b entries ≡ Some verb → PlainVerb b verb
+beside-sound none b = λ verb is. absurd (none_some is)
+beside-sound (first code verb entries beside are) b =
+    either (λ (read : Option Verb). (other : Verb) → read ≡ Some other → PlainVerb b other) (nat_eq b code) (Some verb) (beside_letter b entries)
+    (λ here other is. subst (λ b. PlainVerb b other) (sym (eqb-true b code here)) (subst (PlainVerb code) (Some-same verb other is) beside))
+    (λ later. beside-sound are b)
+
+-- a target that is read is spelled so
+target-sound : (text : List ℕ) (r : Address × List ℕ) → target text ≡ Some r → SpellsAddress (behind_blanks text) r.1 (Some r.0)
+target-sound text r is =
+    let found = bind-some (address (behind_blanks text)) (λ r. r.0 >>= λ a. Some (a, r.1)) r is in
+    let given = bind-some found.0.0 (λ a. Some (a, found.0.1)) r found.2 in
+    subst (λ (r : Address × List ℕ). SpellsAddress (behind_blanks text) r.1 (Some r.0)) (Some-same (given.0, found.0.1) r given.2)
+    (subst (SpellsAddress (behind_blanks text) found.0.1) given.1 (address-sound (behind_blanks text) found.0 found.1))
+
+-- a target that is spelled so is read
+target-complete : (text more : List ℕ) (a : Address) → SpellsAddress (behind_blanks text) more (Some a) → target text ≡ Some (a, more)
+target-complete text more a is = ap (λ (o : Parsed (Option Address)). o >>= λ r. r.0 >>= λ a. Some (a, r.1)) (address-complete is)
+
+-- what is read of these bytes is a letter with its parameters
+abbrev VerbRead : List ℕ → Parsed Verb → Type 0
+VerbRead own read = (r : Verb × List ℕ) → read ≡ Some r → SpellsLetter own r.1 r.0
+
+-- one that is spelled so
+known : (own more : List ℕ) (verb : Verb) → SpellsLetter own more verb → VerbRead own (Some (verb, more))
+known own more verb spells r is = subst (λ (r : Verb × List ℕ). SpellsLetter own r.1 r.0) (Some-same (verb, more) r is) spells
+
+-- one with a parameter
+with_parameter : {A : Type 0} (own : List ℕ) (part : Parsed A) (of : A → Verb) → ((found : A) (more : List ℕ) → part ≡ Some (found, more) → SpellsLetter own more (of found)) →
+    VerbRead own (part >>= λ r. Some (of r.0, r.1))
+with_parameter own part of spells r is =
+    let found = bind-some part (λ r. Some (of r.0, r.1)) r is in
+    known own found.0.1 (of found.0.0) (spells found.0.0 found.0.1 found.1) r found.2
+
+-- one at this byte
+at_byte : (b code : ℕ) (bs : List ℕ) (read : Parsed Verb) → nat_eq b code ≡ true → VerbRead (code ∷ bs) read → VerbRead (b ∷ bs) read
+at_byte b code bs read same is = subst (λ b. VerbRead (b ∷ bs) read) (sym (eqb-true b code same)) is
+
+mark-read : (bs : List ℕ) → VerbRead (letter_k ∷ bs) (letter bs >>= λ r. Some (ed.Mark r.0, r.1))
+mark-read bs = with_parameter (letter_k ∷ bs) (letter bs) ed.Mark (λ l more is.
+    let found = letter-sound bs (l, more) is in
+    subst (λ bs. SpellsLetter (letter_k ∷ bs) more (ed.Mark l)) (sym found.split) (mark l more found.small))
+
+move-read : (bs : List ℕ) → VerbRead (letter_m ∷ bs) (target bs >>= λ r. Some (ed.Move r.0, r.1))
+move-read bs = with_parameter (letter_m ∷ bs) (target bs) ed.Move (λ a more is. move bs more a (target-sound bs (a, more) is))
+
+copy-read : (bs : List ℕ) → VerbRead (letter_t ∷ bs) (target bs >>= λ r. Some (ed.Copy r.0, r.1))
+copy-read bs = with_parameter (letter_t ∷ bs) (target bs) ed.Copy (λ a more is. copy bs more a (target-sound bs (a, more) is))
+
+plain-read : (b : ℕ) (bs : List ℕ) → VerbRead (b ∷ bs) (beside_letter b plain_verbs >>= λ verb. Some (verb, bs))
+plain-read b bs r is =
+    let verb = bind-some (beside_letter b plain_verbs) (λ verb. Some (verb, bs)) r is in
+    known (b ∷ bs) bs verb.0 (plain b bs verb.0 (beside-sound plain_verbs-plain b verb.0 verb.1)) r verb.2
+
+-- what is read as a verb is its letter with its parameters
+pub verb_at-sound : (own : List ℕ) (r : Verb × List ℕ) → verb_at own ≡ Some r → SpellsLetter own r.1 r.0
+verb_at-sound [] = known [] [] ed.Null null
+verb_at-sound (b ∷ bs) =
+    let P = VerbRead (b ∷ bs) in
+    either P (nat_eq b letter_k) _ _ (λ marks. at_byte b letter_k bs _ marks (mark-read bs))
+    (λ no_k. either P (nat_eq b letter_m) _ _ (λ moves. at_byte b letter_m bs _ moves (move-read bs))
+    (λ no_m. either P (nat_eq b letter_t) _ _ (λ copies. at_byte b letter_t bs _ copies (copy-read bs))
+    (λ no_t. plain-read b bs)))
+
+verb_at-mark : (bs : List ℕ) → verb_at (letter_k ∷ bs) ≡ (letter bs >>= λ r. Some (ed.Mark r.0, r.1))
+verb_at-mark bs = refl
+
+verb_at-move : (bs : List ℕ) → verb_at (letter_m ∷ bs) ≡ (target bs >>= λ r. Some (ed.Move r.0, r.1))
+verb_at-move bs = refl
+
+verb_at-copy : (bs : List ℕ) → verb_at (letter_t ∷ bs) ≡ (target bs >>= λ r. Some (ed.Copy r.0, r.1))
+verb_at-copy bs = refl
+
+-- a letter of a form is read
+verb_at-write : {b : ℕ} {form : Form} → SpellsForm b form → (more : List ℕ) → verb_at (b ∷ more) ≡ Some (ed.Write form, more)
+verb_at-write SpellsForm.plain more = refl
+verb_at-write SpellsForm.numbered more = refl
+verb_at-write SpellsForm.unambiguous more = refl
+
+-- a letter without parameters is read
+verb_at-plain : {b : ℕ} {verb : Verb} → PlainVerb b verb → (more : List ℕ) → verb_at (b ∷ more) ≡ Some (verb, more)
+verb_at-plain append more = refl
+verb_at-plain change more = refl
+verb_at-plain insert more = refl
+verb_at-plain delete more = refl
+verb_at-plain join more = refl
+verb_at-plain line_number more = refl
+verb_at-plain (write b form is) more = verb_at-write is more
+verb_at-plain help more = refl
+verb_at-plain help_mode more = refl
+verb_at-plain prompt_mode more = refl
+verb_at-plain quit_anyway more = refl
+
+-- a letter with its parameters is read as its verb
+pub verb_at-complete : {own more : List ℕ} {verb : Verb} → SpellsLetter own more verb → verb_at own ≡ Some (verb, more)
+verb_at-complete null = refl
+verb_at-complete (plain b more verb is) = verb_at-plain is more
+verb_at-complete (mark l more small) =
+    verb_at-mark ((letter_a + l) ∷ more) ∙ ap (λ (o : Parsed ℕ). o >>= λ r. Some (ed.Mark r.0, r.1)) (letter-complete l more small)
+verb_at-complete (move own more a is) = verb_at-move own ∙ ap (λ (o : Parsed Address). o >>= λ r. Some (ed.Move r.0, r.1)) (target-complete own more a is)
+verb_at-complete (copy own more a is) = verb_at-copy own ∙ ap (λ (o : Parsed Address). o >>= λ r. Some (ed.Copy r.0, r.1)) (target-complete own more a is)
