@@ -11,6 +11,7 @@ ghost use Rattle.ed_commands.specs.Editors.{Applied, opening_value, failure_of};
 mod addressing;
 mod change;
 mod effects;
+mod forms;
 mod lines;
 
 use change::Change;
