@@ -11,6 +11,7 @@ ghost use Rattle.ed_commands.specs.Editors.{Steps, Applied, opening_value, failu
 mod addressing;
 mod change;
 mod effects;
+mod forms;
 mod lines;
 mod searching;
 
