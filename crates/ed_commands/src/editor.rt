@@ -122,8 +122,8 @@ impl<S: LineStore> Editor<S> {
         ensures failed { self.new.failed ≡ self.old.failed }
     {
         let before = self.current;
-        let span = self.span(command)?;
-        let output = self.effect(&command.verb, span, before)?;
+        let named = self.addressed(command)?;
+        let output = self.effect(&command.verb, named, before)?;
         self.write_suffix(command.suffix, output)
     }
 

@@ -2,7 +2,7 @@
 //! "Commands in ed").
 use crate::editor::{Editor, Reply};
 use ed_base::{Bytes, Fault};
-use ed_syntax::{Address, Addresses, Base, Command, Form, Pattern, Verb, read_script};
+use ed_syntax::{Address, Base, Pattern, read_script};
 use line_store::{LineStore, PlainStore};
 use std::alloc::Global;
 use std::process::Abort;
@@ -51,7 +51,7 @@ const COMMANDS: [Row; 12] = [
     Row { file: b"a\nb\nc\n", script: b"p\n,p\n$-1p\n", output: b"c\na\nb\nc\nb\n", fault: None, lines: 3, current: 2, changed: false },
     Row { file: b"a\nb\nc", script: b"2d\n.p\n", output: b"c\n", fault: None, lines: 2, current: 2, changed: true },
     Row { file: b"a\nb\nc\n", script: b"2,$d\np\n", output: b"a\n", fault: None, lines: 1, current: 1, changed: true },
-    Row { file: b"a\nb\n", script: b"1d\nQ\n", output: b"", fault: None, lines: 1, current: 1, changed: true },
+    Row { file: b"a\nb\n", script: b"1dp\ndp\n", output: b"b\n", fault: Some(Fault::Address), lines: 0, current: 0, changed: true },
     Row { file: b"a\nb\n", script: b"0a\n\0\xff\n\n.\np\n,p\n", output: b"\n\0\xff\n\na\nb\n", fault: None, lines: 4, current: 4, changed: true },
     Row { file: b"a\nb\nc\n", script: b"1,2a\nx\n.\n,p\n", output: b"a\nb\nx\nc\n", fault: None, lines: 4, current: 4, changed: true },
     Row { file: b"a\nb\n", script: b"1a\n.\np\n", output: b"a\n", fault: None, lines: 2, current: 1, changed: false },
@@ -60,6 +60,24 @@ const COMMANDS: [Row; 12] = [
     Row { file: b"a\nb\nc\n", script: b"2p\n4p\n1p\n", output: b"b\n", fault: Some(Fault::Address), lines: 3, current: 2, changed: false },
     Row { file: b"a\nb\nc\n", script: b"1;2=\n.=\n=\n0=\n", output: b"2\n1\n3\n0\n", fault: None, lines: 3, current: 1, changed: false },
     Row { file: b"a\nb\nc\n", script: b"1p\n\n\n2\n", output: b"a\nb\nc\nb\n", fault: None, lines: 3, current: 2, changed: false },
+];
+
+#[rattlefmt::skip]
+const LINE_COMMANDS: [Row; 13] = [
+    Row { file: b"1\n2\n3\n4\n5\n", script: b"2,4m4\n", output: b"", fault: Some(Fault::Destination), lines: 5, current: 5, changed: false },
+    Row { file: b"1\n2\n3\n4\n5\n", script: b"2,4m3\n", output: b"", fault: Some(Fault::Destination), lines: 5, current: 5, changed: false },
+    Row { file: b"1\n2\n3\n4\n5\n", script: b"2,4m1\n.=\n,p\n", output: b"4\n1\n2\n3\n4\n5\n", fault: None, lines: 5, current: 5, changed: true },
+    Row { file: b"1\n2\n3\n4\n5\n", script: b"1,2m4p\n4,5m0\n,p\n", output: b"2\n2\n5\n3\n4\n1\n", fault: None, lines: 5, current: 5, changed: true },
+    Row { file: b"a\n", script: b"1m$\n", output: b"", fault: Some(Fault::Destination), lines: 1, current: 1, changed: false },
+    Row { file: b"a\nb\nc\n", script: b"1,2t$\n,p\n1,3j\n.=\n,n\n", output: b"a\nb\nc\na\nb\n1\n1\tabc\n2\ta\n3\tb\n", fault: None, lines: 3, current: 3, changed: true },
+    Row { file: b"a\nb\nc\n", script: b"1ka\n1m$\n'a=\n1t0\n'a=\n", output: b"3\n4\n", fault: None, lines: 4, current: 1, changed: true },
+    Row { file: b"", script: b"0i\nx\n.\n=\n", output: b"1\n", fault: None, lines: 1, current: 1, changed: true },
+    Row { file: b"", script: b"0c\nx\n.\n", output: b"", fault: Some(Fault::Address), lines: 0, current: 0, changed: false },
+    Row { file: b"a\nb\n", script: b"1c\n.\n.=\n", output: b"1\n", fault: None, lines: 1, current: 1, changed: true },
+    Row { file: b"a\nb\nc\n", script: b"0,2c\nx\ny\nz\n.\np\n2i\nw\n.\n,n\n", output: b"z\n1\tx\n2\tw\n3\ty\n4\tz\n5\tc\n", fault: None, lines: 5, current: 5, changed: true },
+    // A target is valued before the order of the lines is looked at.
+    Row { file: b"a\nb\nc\n", script: b"3,1m/z/\n", output: b"", fault: Some(Fault::NoMatch), lines: 3, current: 3, changed: false },
+    Row { file: b"a\t$\n", script: b"l\nh\nH\nP\n1j\n", output: b"a\\t\\$$\n", fault: None, lines: 1, current: 1, changed: false },
 ];
 
 #[rattlefmt::skip]
@@ -104,6 +122,9 @@ fn commands_leave_and_write_what_the_standard_says(rt: HostRuntime) -> Result<()
     for (row, number) in COMMANDS.iter().zip(1..) {
         check(&rt, rt.alloc(), row, number)?;
     }
+    for (row, number) in LINE_COMMANDS.iter().zip(101..) {
+        check(&rt, rt.alloc(), row, number)?;
+    }
     Ok(())
 }
 
@@ -120,28 +141,6 @@ fn searches_find_the_lines_that_the_standard_says(rt: HostRuntime) -> Result<(),
     for (row, number) in SEARCHES.iter().zip(1..) {
         check(&rt, rt.alloc(), row, number)?;
     }
-    Ok(())
-}
-
-#[test]
-fn a_suffix_writes_the_new_current_line(rt: HostRuntime) -> Result<(), Fail> {
-    let mut editor = Editor::new(rt.alloc(), PlainStore::empty(rt.alloc())?);
-    editor.load(b"a\nb\n", Bytes::from_slice(rt.alloc(), b"F")?)?;
-    let command = Command {
-        addresses: Addresses::One(Address {
-            base: Base::Number(1),
-            offset: 0,
-        }),
-        verb: Verb::Delete,
-        suffix: Some(Form::Plain),
-        listed: false,
-    };
-    match editor.apply(&command, None)? {
-        Reply::Done(output) => assert_eq!(rt; output.as_slice(), b"b\n".as_slice()),
-        Reply::Wants(_) => return Err(Fail::new("no command asks for a file")),
-    }
-    // No line is left, and so none is current.
-    assert_eq!(rt; editor.apply(&command, None), Err(Fault::Address));
     Ok(())
 }
 
