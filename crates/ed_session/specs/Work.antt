@@ -18,7 +18,7 @@ abbrev pub pending_work : List ℕ → ℕ
 pending_work [] = 0
 pending_work (byte ∷ bytes) = 1
 
--- At least how many steps may still come. A step does silent commands by itself, so commands are counted and not what they
+-- At most so many steps still come. A step does silent commands by itself, so commands are counted and not what they
 -- do. Between two commands a prompt may come, and behind it a command's output.
 abbrev pub work : SessionValue → ℕ
 work v = phase_work v.phase + 4 * length v.commands + pending_work v.pending

@@ -1,8 +1,7 @@
-use Rattle.std.proofs.Common.{◌≡◌, ℕ, ◌+◌, ◌<◌, ℤ, pos, neg_ℤ, ◌+ℤ◌, ◌-ℤ◌, FitsSigned, List, ◌∷◌, length, get_or, sym, ap, ◌∙◌, arith, rules}
+use Rattle.std.proofs.Common.{◌≡◌, ◌<◌, pos, neg_ℤ, ◌+ℤ◌, ◌-ℤ◌, FitsSigned, ◌∷◌, length, get_or, sym, ap, ◌∙◌, arith, rules}
 use Rattle.std.proofs.lemmas.Int.{ints}
 use mir.Val.{to_z, of_z}
 use mir.Syntax.{w128}
-use Rattle.ed_syntax.specs.Characters.{behind_blanks}
 use Rattle.ed_syntax.specs.Tokens.{offsets}
 use Rattle.ed_syntax.proofs.Fronts.{behind_first, first_and_others, no_first}
 use Rattle.ed_syntax.proofs.OffsetSteps.{none_summed, plus_first, minus_first, none_left}
