@@ -1,20 +1,24 @@
 -- A command is the naming of its lines, its effect, and its suffix; and what undo keeps brings the buffer back.
-use Rattle.std.proofs.Common.{◌≡◌, ◌≢◌, ℕ, ◌+◌, ◌-◌, ◌≤◌, min, Bool, true, false, List, [], ◌∷◌, ◌++◌, take, drop, length, map, refl, sym, ap, ◌∙◌, arith}
-use Rattle.std.specs.Prelude.{Option, Some, None, Result, Ok, Err, MatchResult}
+use Rattle.std.proofs.Common.{◌≡◌, ◌≢◌, ℕ, ◌+◌, ◌-◌, ◌≤◌, min, Bool, true, false, List, [], ◌∷◌, ◌++◌, take, drop, length, map, refl, sym, ap, subst, ◌∙◌, arith}
+use Rattle.std.specs.Prelude.{Option, Some, None, Result, Ok, Err, IsOkAnd, MatchResult}
 use Rattle.std.proofs.lemmas.List.{take_at, drop_at, take-take, take-append-drop, length-take-le, length-drop, length-map, append-nil, append_assoc, length-append}
-use Rattle.ed_base.specs.Buffer.{Line, plain_line}
+use Rattle.ed_base.specs.Buffer.{Line, plain_line, marked_at}
 use Rattle.ed_base.specs.declared.fault.Fault.{Fault}
 use Rattle.ed_base.specs.declared.fault.Fault.TheVariants.{Memory}
 use Rattle.ed_syntax.specs.declared.request.Answer.{Answer}
 use Rattle.ed_syntax.specs.Commands as ed
-use Rattle.ed_syntax.specs.States.{State, Kept, Was, kept, between, replaced, inserted}
-use Rattle.ed_syntax.specs.Verbs.{Taking, taking, default, given_or}
-use Rattle.ed_syntax.specs.Values.{◌>>◌, values}
+use Rattle.ed_syntax.specs.States.{State, Kept, Was, kept, last, between, replaced, inserted}
+use Rattle.line_store.specs.Marks.{lettered}
+use Rattle.ed_syntax.specs.declared.verbs.Taking.{Taking}
+use Rattle.ed_syntax.specs.Verbs.{taking, target_of}
+use Rattle.ed_syntax.specs.Values.{◌>>◌}
 use Rattle.ed_syntax.specs.Ranges as ranges
 use Rattle.ed_syntax.specs.Ranges.{spanned}
 use Rattle.ed_syntax.specs.Effects.{altered, entered, append, delete}
-use Rattle.ed_syntax.specs.Applied.{Effect, Makes, Asks, Done, Wants, effect_of, replied, settled, suffix_written, command}
-use Rattle.ed_commands.specs.Editors.{lines_of_command, without_suffix, suffixed}
+use Rattle.ed_syntax.specs.Applied.{Effect, Makes, Asks, Reply, Done, Wants, effect_of, replied, settled, suffix_written, targeted, command}
+use Rattle.ed_commands.specs.declared.editor.change.Change.{Change}
+use Rattle.ed_commands.specs.Editors.{Steps, Leaves, kept_at, lines_of_command, past_of, suffixed, values_of_command}
+use Rattle.ed_commands.proofs.Letters.{past-marked}
 
 -- a value beside a state
 abbrev both : {A : Type 0} → State → A → Result (State × A) Fault
@@ -24,21 +28,35 @@ both s x = Ok (s, x)
 abbrev appended_to : List ℕ → List ℕ → Result (List ℕ) Fault
 appended_to output more = Ok (output ++ more)
 
--- two steps, the state of the first carried beside the value of the second
-carried : {B C : Type 0} (r : Result B Fault) (s : State) (f : B → State → Result C Fault) → (r >> λ x. f x s) ≡ (r >> both s >> λ v. f v.1 v.0)
-carried (Ok x) s f = refl
-carried (Err e) s f = refl
+-- lines and a target beside a state
+abbrev named : State → ranges.Span → ℕ → Result (State × (ranges.Span × ℕ)) Fault
+named s x target = Ok (s, (x, target))
 
-stepped : {C : Type 0} (r : Result (State × List ℕ) Fault) (takes : Taking) (f : ranges.Span → State → Result C Fault) →
-    (r >> λ v. spanned takes v.1 >> λ x. f x v.0) ≡ (r >> (λ v. spanned takes v.1 >> both v.0) >> λ v. f v.1 v.0)
-stepped (Ok v) takes f = carried (spanned takes v.1) v.0 f
-stepped (Err e) takes f = refl
+-- what comes behind the naming of lines, with the state and the target carried beside them
+with-span : {C : Type 0} (r : Result ranges.Span Fault) (t : State × ℕ) (f : ranges.Span → ℕ → State → Result C Fault) →
+    (r >> λ x. f x t.1 t.0) ≡ (r >> (λ x. named t.0 x t.1) >> λ v. f v.1.0 v.1.1 v.0)
+with-span (Ok x) t f = refl
+with-span (Err e) t f = refl
+
+with-target : {C : Type 0} (q : Result (State × ℕ) Fault) (r : Result ranges.Span Fault) (f : ranges.Span → ℕ → State → Result C Fault) →
+    (q >> λ t. r >> λ x. f x t.1 t.0) ≡ (q >> (λ t. r >> λ x. named t.0 x t.1) >> λ v. f v.1.0 v.1.1 v.0)
+with-target (Ok t) r f = with-span r t f
+with-target (Err e) r f = refl
+
+stepped : {C : Type 0} (r : Result (State × List ℕ) Fault) (target : Option ed.Address) (takes : Taking) (lines : ℕ) (f : ranges.Span → ℕ → State → Result C Fault) →
+    (r >> λ v. targeted target v.0 >> λ t. spanned takes lines v.1 >> λ x. f x t.1 t.0)
+    ≡ (r >> (λ v. targeted target v.0 >> λ t. spanned takes lines v.1 >> λ x. named t.0 x t.1) >> λ v. f v.1.0 v.1.1 v.0)
+stepped (Ok v) target takes lines f = with-target (targeted target v.0) (spanned takes lines v.1) f
+stepped (Err e) target takes lines f = refl
+
+-- what a command does once its lines and its target are named
+abbrev behind : State → ed.Command → Option Answer → State × (ranges.Span × ℕ) → Result (State × Reply) Fault
+behind s c given v = effect_of c.verb v.1.0 v.1.1 v.0 given >> replied s c.suffix
 
 -- a command applied to the lines that it names
-pub by-lines : (s : State) (c : ed.Command) (given : Option Answer) →
-    command s c given ≡ (lines_of_command c s >> λ v. effect_of c.verb v.1 v.0 given >> replied s c.suffix)
+pub by-lines : (s : State) (c : ed.Command) (given : Option Answer) → command s c given ≡ (lines_of_command c s >> behind s c given)
 by-lines s c given =
-    stepped (values (given_or c.addresses (default c.verb)) s) (taking c.verb) (λ x t. effect_of c.verb x t given >> replied s c.suffix)
+    stepped (values_of_command c s) (target_of c.verb) (taking c.verb) (last s) (λ x target t. effect_of c.verb x target t given >> replied s c.suffix)
 
 -- a change of the flags alone leaves what a suffix writes
 suffix-settled : (before : Kept) (alters : Bool) (s : State) (output : List ℕ) (suffix : Option ed.Form) →
@@ -47,24 +65,15 @@ suffix-settled before true s output None = refl
 suffix-settled before true s output (Some form) = refl
 suffix-settled before false s output suffix = refl
 
--- what an `Ok` holds
-held : {A : Type 0} {x y : A} → ◌≡◌ {A = Result A Fault} (Ok x) (Ok y) → x ≡ y
-held h = cc
-
--- the suffix behind what the command without it replies
-pub with-suffix : (s new : State) (effect : Result Effect Fault) (suffix : Option ed.Form) (output : List ℕ) →
-    (effect >> replied s None) ≡ Ok (new, Done output) →
+-- the suffix behind an effect that leaves this
+with-suffix : (s new : State) (effect : Result Effect Fault) (suffix : Option ed.Form) (output : List ℕ) →
+    IsOkAnd effect (Leaves (kept s) new output) →
     (effect >> replied s suffix) ≡ (suffix_written suffix new >> λ more. Ok (new, Done (output ++ more)))
-with-suffix s new (Err e) suffix output h = absurd cc
-with-suffix s new (Ok (Asks r)) suffix output h =
-    let reply : Wants r ≡ Done output = ap (λ p. p.1) (held h) in
-    absurd cc
+with-suffix s new (Err e) suffix output h = absurd h
+with-suffix s new (Ok (Asks r)) suffix output h = absurd h
 with-suffix s new (Ok (Makes o)) suffix output h =
-    let state : settled (kept s) o ≡ new = ap (λ p. p.0) (held h) in
-    let reply : Done (o.output ++ []) ≡ Done output = ap (λ p. p.1) (held h) in
-    let text : o.output ++ [] ≡ output = cc in
     let same : suffix_written suffix (settled (kept s) o) ≡ suffix_written suffix o.state = suffix-settled (kept s) o.alters o.state o.output suffix in
-    rw (← state, ← text, append-nil, same) refl
+    rw (h.0, h.1, same) refl
 
 -- output joined inside a step or behind it
 joined : (suffix : Result (List ℕ) Fault) (new : State) (output : List ℕ) →
@@ -74,25 +83,44 @@ joined (Err e) new output = refl
 
 -- a command whose lines can't be named
 pub refused : (s : State) (c : ed.Command) (given : Option Answer) (fault : Fault) → lines_of_command c s ≡ Err fault → command s c given ≡ Err fault
-refused s c given fault h =
-    by-lines s c given ∙ ap (λ r. r >> λ v. effect_of c.verb v.1 v.0 given >> replied s c.suffix) h
+refused s c given fault h = by-lines s c given ∙ ap (λ r. r >> behind s c given) h
+
+-- a command that meets a fault at its lines
+pub failed : (s mid : State) (c : ed.Command) (x : ranges.Span) (target : ℕ) (given : Option Answer) (fault : Fault) →
+    lines_of_command c s ≡ Ok (mid, (x, target)) → effect_of c.verb x target mid given ≡ Err fault → command s c given ≡ Err fault
+failed s mid c x target given fault h k =
+    by-lines s c given ∙ ap (λ r. r >> behind s c given) h ∙ ap (λ r. r >> replied s c.suffix) k
 
 -- a command whose effect is told, with its suffix
-pub done : (s new : State) (c : ed.Command) (x : ranges.Span) (given : Option Answer) (output : List ℕ) →
-    lines_of_command c s ≡ Ok (s, x) → without_suffix c.verb x s given ≡ Ok (new, Done output) →
+done : (s mid new : State) (c : ed.Command) (x : ranges.Span) (target : ℕ) (given : Option Answer) (output : List ℕ) →
+    lines_of_command c s ≡ Ok (mid, (x, target)) → IsOkAnd (effect_of c.verb x target mid given) (Leaves (kept s) new output) →
     command s c given ≡ (suffixed output c.suffix new >> λ all. both new (Done all))
-done s new c x given output h k =
-    by-lines s c given ∙ ap (λ r. r >> λ v. effect_of c.verb v.1 v.0 given >> replied s c.suffix) h
-    ∙ with-suffix s new (effect_of c.verb x s given) c.suffix output k
+done s mid new c x target given output h k =
+    by-lines s c given ∙ ap (λ r. r >> behind s c given) h
+    ∙ with-suffix s new (effect_of c.verb x target mid given) c.suffix output k
     ∙ joined (suffix_written c.suffix new) new output
 
+-- the valuing of addresses keeps the lines, so that what undo keeps is told from the current line before it
+kept-before : (s mid : State) (current : ℕ) → mid.lines ≡ s.lines → current ≡ s.current → kept_at current mid ≡ kept s
+kept-before s mid current h k = rw (h, k) refl
+
 -- the same, as the result of writing the suffix tells it
-pub told : (s new : State) (c : ed.Command) (x : ranges.Span) (given : Option Answer) (output : List ℕ) (result : Result (List ℕ) Fault) →
-    lines_of_command c s ≡ Ok (s, x) → without_suffix c.verb x s given ≡ Ok (new, Done output) →
+answered : (s mid new : State) (c : ed.Command) (x : ranges.Span) (target : ℕ) (given : Option Answer) (output : List ℕ) (result : Result (List ℕ) Fault) →
+    lines_of_command c s ≡ Ok (mid, (x, target)) → IsOkAnd (effect_of c.verb x target mid given) (Leaves (kept s) new output) →
     MatchResult result (λ all. suffixed output c.suffix new ≡ Ok all) (λ fault. fault ≢ Memory → suffixed output c.suffix new ≡ Err fault) →
-    MatchResult result (λ all. command s c given ≡ Ok (new, Done all)) (λ fault. fault ≢ Memory → command s c given ≡ Err fault)
-told s new c x given output (Ok all) h k w = done s new c x given output h k ∙ ap (λ r. r >> λ all. both new (Done all)) w
-told s new c x given output (Err fault) h k w = λ other. done s new c x given output h k ∙ ap (λ r. r >> λ all. both new (Done all)) (w other)
+    Steps Done (command s c given) result new
+answered s mid new c x target given output (Ok all) h k w = done s mid new c x target given output h k ∙ ap (λ r. r >> λ all. both new (Done all)) w
+answered s mid new c x target given output (Err fault) h k w = λ other. done s mid new c x target given output h k ∙ ap (λ r. r >> λ all. both new (Done all)) (w other)
+
+-- and where what undo keeps is told from the current line before the addresses were valued
+pub told : (s mid new : State) (c : ed.Command) (x : ranges.Span) (target current : ℕ) (given : Option Answer) (output : List ℕ) (result : Result (List ℕ) Fault) →
+    mid.lines ≡ s.lines → current ≡ s.current →
+    lines_of_command c s ≡ Ok (mid, (x, target)) → IsOkAnd (effect_of c.verb x target mid given) (Leaves (kept_at current mid) new output) →
+    MatchResult result (λ all. suffixed output c.suffix new ≡ Ok all) (λ fault. fault ≢ Memory → suffixed output c.suffix new ≡ Err fault) →
+    Steps Done (command s c given) result new
+told s mid new c x target current given output result same was h k w =
+    answered s mid new c x target given output result h
+    (subst (λ before. IsOkAnd (effect_of c.verb x target mid given) (Leaves before new output)) (kept-before s mid current same was) k) w
 
 -- some lines entered
 pub entered-some : (a : ℕ) (text : List (List ℕ)) (s : State) → text ≢ [] → entered a text s ≡ altered (inserted a (map plain_line text) s.lines) (a + length text) s
@@ -115,26 +143,41 @@ split xs a b h k =
     ∙ take-append-drop b xs
 
 -- lines deleted, with what undo keeps
-pub deleted : (s : State) (a b n : ℕ) (lines removed : List Line) → 1 ≤ a → a ≤ b → b ≤ length s.lines →
-    lines ≡ replaced a b [] s.lines → removed ≡ between a b s.lines → n ≡ min a (length lines) →
-    record s { lines = lines; current = n; changed = true; past = Was (record { lines = take (a - 1) lines ++ (removed ++ drop (a - 1 + 0) lines); current = s.current }) }
-    ≡ settled (kept s) (delete (ranges.span a b) s)
-deleted s a b n lines removed h k l left out at =
+pub deleted : (s : State) (a b before n : ℕ) (lines removed : List Line) (marks : List (Option ℕ)) → 1 ≤ a → a ≤ b → b ≤ length s.lines →
+    lines ≡ replaced a b [] s.lines → removed ≡ between a b s.lines → lettered marks 0 s.lines ≡ s.lines → n ≡ min a (length lines) →
+    record s {
+      lines = lines;
+      current = n;
+      changed = true;
+      past = Was (record { lines = lettered marks 0 (take (a - 1) lines ++ (removed ++ drop (a - 1 + 0) lines)); current = before });
+    }
+    ≡ settled (kept_at before s) (delete (ranges.span a b) s)
+deleted s a b before n lines removed marks h k l left out own at =
     let back : take (a - 1) lines ++ (removed ++ drop (a - 1 + 0) lines) ≡ s.lines =
     rw (left, out) (taken-back (take (a - 1) s.lines) [] (between a b s.lines) (drop b s.lines) (a - 1) 0 (length-take-le (a - 1) s.lines (omega arith)) refl
     ∙ split s.lines a b h k) in
-    rw (back, at, left) refl
+    rw (back, own, at, left) refl
 
 pub length-inserted : {X : Type 0} (a : ℕ) (new xs : List X) → a ≤ length xs → length (inserted a new xs) ≡ length new + length xs
 length-inserted a new xs h = omega (arith, length-append (take a xs) (new ++ drop a xs), length-append new (drop a xs), length-take-le a xs h, length-drop a xs)
 
 -- lines entered, with what undo keeps
-pub appended : (s : State) (a n count : ℕ) (text : List (List ℕ)) (lines removed : List Line) → a ≤ length s.lines → text ≢ [] →
-    lines ≡ inserted a (map plain_line text) s.lines → removed ≡ [] → count ≡ length text → n ≡ a + length text →
-    record s { lines = lines; current = n; changed = true; past = Was (record { lines = take a lines ++ (removed ++ drop (a + count) lines); current = s.current }) }
-    ≡ settled (kept s) (append text (ranges.span a a) s)
-appended s a n count text lines removed h some put none counted at =
+pub appended : (s : State) (a before n count : ℕ) (text : List (List ℕ)) (lines removed : List Line) (marks : List (Option ℕ)) → a ≤ length s.lines → text ≢ [] →
+    lines ≡ inserted a (map plain_line text) s.lines → removed ≡ [] → lettered marks 0 s.lines ≡ s.lines → count ≡ length text → n ≡ a + length text →
+    record s {
+      lines = lines;
+      current = n;
+      changed = true;
+      past = Was (record { lines = lettered marks 0 (take a lines ++ (removed ++ drop (a + count) lines)); current = before });
+    }
+    ≡ settled (kept_at before s) (append text (ranges.span a a) s)
+appended s a before n count text lines removed marks h some put none own counted at =
     let back : take a lines ++ (removed ++ drop (a + count) lines) ≡ s.lines =
     rw (put, none) (taken-back (take a s.lines) (map plain_line text) [] (drop a s.lines) a count (length-take-le a s.lines h) (length-map text plain_line ∙ sym counted)
     ∙ take-append-drop a s.lines) in
-    rw (back, at, put, entered-some a text s some) refl
+    rw (back, own, at, put, entered-some a text s some) refl
+
+-- a line marked, with what undo keeps
+pub marked : (s : State) (c : Option Change) (place letter : ℕ) (lines : List Line) → s.past ≡ past_of c s.lines → lines ≡ marked_at place letter s.lines →
+    record s { lines = lines; past = past_of c lines } ≡ record s { lines = marked_at place letter s.lines }
+marked s c place letter lines past put = rw (put, past-marked c place letter s.lines, ← past) refl

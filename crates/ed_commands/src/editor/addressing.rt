@@ -1,16 +1,25 @@
-//! The lines that a command is applied to.
-ghost use Rattle.std.specs.Prelude.{◌≡◌, ◌≤◌, IfOk};
-ghost use Rattle.ed_syntax.specs.PublicTypes.{address_value, addresses_value, verb_value, command_value};
+//! The values of addresses, and the lines that a command is applied to (XCU ed, "Addresses in ed").
+ghost use Rattle.std.specs.Prelude.{◌≡◌, ◌≤◌, pos, ◌+ℤ◌, IfOk};
+ghost use Rattle.ed_syntax.specs.PublicTypes.{address_value, addresses_value, base_value, command_value, verb_value};
 ghost use Rattle.ed_syntax.specs.States.{last};
-ghost use Rattle.ed_syntax.specs.Verbs.{default, given_or, taking};
-ghost use Rattle.ed_syntax.specs.Values.{value};
-ghost use Rattle.ed_syntax.specs.Ranges.{spanned};
-ghost use Rattle.ed_commands.specs.Editors.{Fits, beside, lines_of_command, value_of_span};
+ghost use Rattle.ed_syntax.specs.Values.{value, valued, values, base_number, remembered, within};
+ghost use Rattle.ed_syntax.specs.Verbs.{taking, target_of};
+ghost use Rattle.ed_syntax.specs.Applied.{targeted};
+ghost use Rattle.ed_syntax.specs.Ranges.{last_of_two, spanned};
+ghost use Rattle.ed_commands.specs.Editors.{Steps, Valued, SameButPattern, Fits, lines_of_command, list_of_values, value_of_addressed, value_of_span, values_of_command, with_pattern};
 
 use crate::editor::Editor;
 use ed_base::Fault;
-use ed_syntax::{Address, Addresses, Base, Command, Verb};
+use ed_syntax::{Address, Addresses, Base, Command, Taking, Verb};
 use line_store::LineStore;
+
+/// The values of the addresses before a command, in order.
+#[derive(Clone, Copy, Debug, PartialEq, Eq)]
+pub enum Values {
+    Without,
+    One(usize),
+    Two(usize, usize),
+}
 
 /// The lines from first to last, counted from 1.
 #[derive(Clone, Copy, Debug, PartialEq, Eq)]
@@ -19,53 +28,72 @@ pub struct Span {
     pub last: usize,
 }
 
-const HERE: Address = Address {
-    base: Base::Current,
-    offset: 0,
-};
-
-// The addresses given before a command, or those that stand for none.
-fn addresses_of(command: &Command) -> Addresses
-    ensures value { addresses_value result
-        ≡ given_or (addresses_value command.now.addresses) (default (verb_value command.now.verb)) }
-{
-    match (command.addresses, &command.verb) {
-        (Addresses::Without, Verb::Append(_)) => Addresses::One(HERE),
-        (Addresses::Without, Verb::Delete | Verb::Write(_)) => Addresses::Comma(HERE, HERE),
-        (addresses, _) => addresses,
-    }
+/// What the addresses of a command name: its lines, and its target, which is 0 where it has none.
+#[derive(Clone, Copy, Debug, PartialEq, Eq)]
+pub struct Addressed {
+    pub span: Span,
+    pub target: usize,
 }
 
-// The lines that these values name, where one stands for both.
-fn spanned(verb: &Verb, values: &[usize]) -> Result<Span, Fault>
-    ensures exact { spanned (taking (verb_value verb.now)) values.now ≡ value_of_span result }
+// The lines that these values name to a command that takes so many, in a buffer of so many lines.
+fn spanned(taking: Taking, lines: usize, values: Values) -> Result<Span, Fault>
+    requires within { last_of_two (list_of_values values) ≤ lines }
+    ensures exact { spanned taking lines (list_of_values values) ≡ value_of_span result }
+    ensures fits { IfOk result (λ span. Fits taking span lines) }
 {
     let (first, last) = match values {
-        [] => (0, 0),
-        [only] => (*only, *only),
-        [first, last, ..] => (*first, *last),
+        Values::Without => (0, 0),
+        Values::One(only) => (only, only),
+        Values::Two(first, last) => (first, last),
     };
-    match verb {
-        Verb::Append(_) => Ok(Span { first: last, last }),
-        Verb::Delete | Verb::Write(_) if first == 0 || last < first => Err(Fault::Address),
-        Verb::Delete | Verb::Write(_) => Ok(Span { first, last }),
-        Verb::QuitAnyway => Ok(Span { first: 0, last: 0 }),
+    // Where a command takes line 0 for line 1.
+    let from_one = last.max(1);
+    match taking {
+        Taking::NoAddress => Ok(Span { first: 0, last: 0 }),
+        Taking::Place => Ok(Span { first: last, last }),
+        Taking::FirstPlace => Ok(Span {
+            first: from_one,
+            last: from_one,
+        }),
+        Taking::OneLine if last == 0 => Err(Fault::Address),
+        Taking::OneLine => Ok(Span { first: last, last }),
+        Taking::Lines if last < first || lines < from_one => Err(Fault::Address),
+        Taking::Lines => Ok(Span {
+            first: first.max(1),
+            last: from_one,
+        }),
+        Taking::Range if first == 0 || last < first => Err(Fault::Address),
+        Taking::Range => Ok(Span { first, last }),
     }
 }
 
 impl<S: LineStore> Editor<S> {
-    // The line that an address names.
-    fn value(&self, address: Address) -> Result<usize, Fault>
-        ensures exact { value (address_value address) self.now.state ≡ beside self.now.state result }
-        ensures within { IfOk result (λ line. line ≤ last self.now.state) }
+    // The line that a base stands for. It may lie behind the last one.
+    fn base_line(&mut self, base: &Base) -> Result<usize, Fault>
+        ensures exact { Valued (base_number (base_value base.now) self.old.state)
+            (with_pattern (remembered (base_value base.now) self.old.state) self.old.state) result self.new.state }
+        ensures unchanged { SameButPattern self.old self.new }
     {
-        let base = match address.base {
-            Base::Number(line) => i128::from(line),
-            Base::Current => self.current as i128,
-            Base::Last => self.store.len() as i128,
-        };
+        let last = self.store.len();
+        match base {
+            Base::Number(line) => Ok(*line as usize),
+            Base::Current => Ok(self.current),
+            Base::Last => Ok(last),
+            Base::Marked(letter) => match self.store.marked(*letter) {
+                Some(place) => Ok(place + 1),
+                None => Err(Fault::Mark),
+            },
+            Base::Forward(pattern) => self.search_forward(pattern),
+            Base::Backward(pattern) => self.search_backward(pattern),
+        }
+    }
+
+    // The line so far behind another.
+    fn offset_line(&self, base: usize, offset: i128) -> Result<usize, Fault>
+        ensures exact { result ≡ within self.now.state (pos base +ℤ offset) }
+    {
         // A sum too great for its type is too great for any buffer, and so is one that is too small.
-        let line = base.saturating_add(address.offset);
+        let line = (base as i128).saturating_add(offset);
         let last = self.store.len() as i128;
         if line < 0 || last < line {
             return Err(Fault::Address);
@@ -73,23 +101,84 @@ impl<S: LineStore> Editor<S> {
         Ok(line as usize)
     }
 
-    /// The lines that a command is applied to.
-    pub fn span(&self, command: &Command) -> Result<Span, Fault>
-        ensures exact { lines_of_command (command_value command.now) self.now.state
-            ≡ beside self.now.state (value_of_span result) }
-        ensures fits { IfOk result (λ span. Fits (taking (verb_value command.now.verb)) span (last self.now.state)) }
+    /// The line that an address names, counted from 1. A search remembers its pattern, whether or not it finds a line;
+    /// nothing else changes, and the editor doesn't fail by a fault of the address.
+    pub fn value_of(&mut self, address: &Address) -> Result<usize, Fault>
+        ensures exact { Valued (value (address_value address.now) self.old.state)
+            (valued (address_value address.now) self.old.state) result self.new.state }
+        ensures unchanged { SameButPattern self.old self.new }
+        ensures within { IfOk result (λ line. line ≤ last self.new.state) }
     {
-        match addresses_of(command) {
-            Addresses::Without => spanned(&command.verb, &[]),
-            Addresses::One(only) => {
-                let line = self.value(only)?;
-                spanned(&command.verb, &[line])
-            }
+        let base = self.base_line(&address.base)?;
+        self.offset_line(base, address.offset)
+    }
+
+    // The values of the addresses before a command, first to last. Behind a `;` the first one's is the current line.
+    fn values(&mut self, addresses: &Addresses) -> Result<Values, Fault>
+        ensures exact { Steps list_of_values (values (addresses_value addresses.now) self.old.state) result self.new.state }
+        ensures within { IfOk result (λ values. last_of_two (list_of_values values) ≤ last self.new.state) }
+        ensures lines { self.new.state.lines ≡ self.old.state.lines }
+        ensures failed { self.new.failed ≡ self.old.failed }
+    {
+        match addresses {
+            Addresses::Without => Ok(Values::Without),
+            Addresses::One(only) => Ok(Values::One(self.value_of(only)?)),
             Addresses::Comma(first, second) => {
-                let first = self.value(first)?;
-                let second = self.value(second)?;
-                spanned(&command.verb, &[first, second])
+                let first = self.value_of(first)?;
+                let second = self.value_of(second)?;
+                Ok(Values::Two(first, second))
+            }
+            Addresses::Semicolon(first, None) => {
+                let line = self.value_of(first)?;
+                self.current = line;
+                Ok(Values::Two(line, line))
+            }
+            Addresses::Semicolon(first, Some(second)) => {
+                let first = self.value_of(first)?;
+                self.current = first;
+                let second = self.value_of(second)?;
+                Ok(Values::Two(first, second))
             }
         }
+    }
+
+    // The values of the addresses that are given before a command, or of those that stand for none.
+    fn given_values(&mut self, command: &Command) -> Result<Values, Fault>
+        ensures exact { Steps list_of_values (values_of_command (command_value command.now) self.old.state) result self.new.state }
+        ensures within { IfOk result (λ values. last_of_two (list_of_values values) ≤ last self.new.state) }
+        ensures lines { self.new.state.lines ≡ self.old.state.lines }
+        ensures failed { self.new.failed ≡ self.old.failed }
+    {
+        match &command.addresses {
+            Addresses::Without => self.values(&command.verb.default_addresses()),
+            given => self.values(given),
+        }
+    }
+
+    // The value of a command's target, or 0 where it has none.
+    fn target(&mut self, verb: &Verb) -> Result<usize, Fault>
+        ensures exact { Steps (λ line. line) (targeted (target_of (verb_value verb.now)) self.old.state) result self.new.state }
+        ensures within { IfOk result (λ line. line ≤ last self.new.state) }
+        ensures lines { self.new.state.lines ≡ self.old.state.lines }
+        ensures failed { self.new.failed ≡ self.old.failed }
+    {
+        match verb.target() {
+            Some(target) => self.value_of(target),
+            None => Ok(0),
+        }
+    }
+
+    /// What a command is applied to. All its addresses are valued before their order is looked at.
+    pub fn addressed(&mut self, command: &Command) -> Result<Addressed, Fault>
+        ensures exact { Steps value_of_addressed (lines_of_command (command_value command.now) self.old.state) result self.new.state }
+        ensures fits { IfOk result (λ addressed. Fits (taking (verb_value command.now.verb)) addressed.span (last self.new.state)) }
+        ensures target { IfOk result (λ addressed. addressed.target ≤ last self.new.state) }
+        ensures lines { self.new.state.lines ≡ self.old.state.lines }
+        ensures failed { self.new.failed ≡ self.old.failed }
+    {
+        let values = self.given_values(command)?;
+        let target = self.target(&command.verb)?;
+        let span = spanned(command.verb.taking(), self.store.len(), values)?;
+        Ok(Addressed { span, target })
     }
 }
