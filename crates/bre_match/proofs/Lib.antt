@@ -7,3 +7,4 @@ pub mod Turning
 pub mod Within
 pub mod Ends
 pub mod Starts
+pub mod PartKinds

@@ -5,3 +5,4 @@ pub mod Laws
 pub mod Runs
 pub mod Order
 pub mod Turns
+pub mod Starts

@@ -1,2 +1,4 @@
 pub mod Commanding
+pub mod Letters
 pub mod Ranges
+pub mod Searching

@@ -3,15 +3,17 @@ use Rattle.std.specs.Prelude.{ℕ, ◌≡◌, ◌≢◌, ◌+◌, ◌≤◌, Lis
 use Rattle.ed_base.specs.Buffer.{Line}
 use Rattle.ed_base.specs.declared.fault.Fault.{Fault}
 use Rattle.ed_base.specs.declared.fault.Fault.TheVariants.{Memory}
+use Rattle.line_store.specs.Marks.{lettered}
 use Rattle.ed_syntax.specs.States.{State, Kept, Past, Nothing, Was, opening}
 use Rattle.ed_syntax.specs.Commands as ed
-use Rattle.ed_syntax.specs.Verbs.{Taking, NoAddress, Place, Range, taking, default, given_or}
+use Rattle.ed_syntax.specs.declared.verbs.Taking.{Taking}
+use Rattle.ed_syntax.specs.declared.verbs.Taking.TheVariants as takes
+use Rattle.ed_syntax.specs.Verbs.{taking, default, given_or}
 use Rattle.ed_syntax.specs.Values.{◌>>◌, values}
 use Rattle.ed_syntax.specs.Ranges as ranges
 use Rattle.ed_syntax.specs.Ranges.{spanned}
 use Rattle.ed_syntax.specs.Applied as applied
-use Rattle.ed_syntax.specs.Applied.{effect_of, replied, suffix_written}
-use Rattle.ed_syntax.specs.declared.request.Answer.{Answer}
+use Rattle.ed_syntax.specs.Applied.{Effect, Makes, Asks, settled, suffix_written}
 use Rattle.ed_commands.specs.declared.editor.Reply.{Reply}
 use Rattle.ed_commands.specs.declared.editor.Reply.TheVariants as reply
 use Rattle.ed_commands.specs.declared.editor.change.Change.{Change}
@@ -25,14 +27,31 @@ pub record EditorValue : Type 0 where
 abbrev pub opening_value : EditorValue
 opening_value = record { state = opening; failed = None }
 
+-- a step gave what was expected and left the state that was expected; or the expected fault; or it had no memory
+abbrev pub Steps : {A B : Type 0} → (A → B) → Result (State × B) Fault → Result A Fault → State → Type 0
+Steps value expected result new = MatchResult result (λ x. expected ≡ Ok (new, value x)) (λ fault. fault ≢ Memory → expected ≡ Err fault)
+
 -- what a public reply stands for
 abbrev pub reply_value : Reply → applied.Reply
 reply_value (reply.Done output) = applied.Done output
 reply_value (reply.Wants request) = applied.Wants request
 
--- a call gave what was expected and left the state that was expected; or the expected fault; or it had no memory
+-- what came of a command
 abbrev pub Applied : Result (State × applied.Reply) Fault → Result Reply Fault → State → Type 0
-Applied expected result new = MatchResult result (λ r. expected ≡ Ok (new, reply_value r)) (λ fault. fault ≢ Memory → expected ≡ Err fault)
+Applied expected result new = Steps reply_value expected result new
+
+-- a line was told that was expected, or the expected fault, and in both cases this state was left; or there was no memory
+abbrev pub Valued : Result ℕ Fault → State → Result ℕ Fault → State → Type 0
+Valued expected after result new =
+    MatchResult result (λ line. (expected ≡ Ok line) × (new ≡ after)) (λ fault. fault ≢ Memory → (expected ≡ Err fault) × (new ≡ after))
+
+-- the state where this pattern is remembered
+abbrev pub with_pattern : Option (List ℕ) → State → State
+with_pattern pattern s = record s { pattern = pattern }
+
+-- an editor that differs from another by the remembered pattern at most
+abbrev pub SameButPattern : EditorValue → EditorValue → Type 0
+SameButPattern old new = new ≡ record { state = record old.state { pattern = new.state.pattern }; failed = old.failed }
 
 -- the first fault stays
 abbrev pub failure_of : {R : Type 0} → Option Fault → Result R Fault → Option Fault
@@ -40,10 +59,10 @@ failure_of (Some fault) result = Some fault
 failure_of None (Ok r) = None
 failure_of None (Err fault) = Some fault
 
--- the buffer before a change, told from the lines behind it
+-- the buffer before a change, told from the lines behind it, whose letters may be other ones
 abbrev pub before_change : Change → List Line → Kept
 before_change c lines = record {
-  lines = take c.at lines ++ (c.removed.items ++ drop (c.at + c.entered) lines);
+  lines = lettered c.marks 0 (take c.at lines ++ (c.removed.items ++ drop (c.at + c.entered) lines));
   current = c.current;
 }
 
@@ -61,25 +80,29 @@ abbrev pub value_of_span : Result Span Fault → Result ranges.Span Fault
 value_of_span (Ok x) = Ok (span_value x)
 value_of_span (Err fault) = Err fault
 
--- the lines that a command is applied to, beside the state
-abbrev pub lines_of_command : ed.Command → State → Result (State × ranges.Span) Fault
-lines_of_command c s =
-    values (given_or c.addresses (default c.verb)) s >> λ v. spanned (taking c.verb) v.1 >> λ x. Ok (v.0, x)
+-- the lines that addresses name to a command that takes so many, and the state once they were valued
+abbrev pub lines_named : Taking → ed.Addresses → State → Result (State × ranges.Span) Fault
+lines_named takes addresses s = values addresses s >> λ v. spanned takes v.1 >> λ x. Ok (v.0, x)
 
--- what came of a step that leaves the state as it is: a value beside the state, or a fault
-abbrev pub beside : {A : Type 0} → State → Result A Fault → Result (State × A) Fault
-beside s (Ok x) = Ok (s, x)
-beside s (Err fault) = Err fault
+-- the lines that a command is applied to, and the state once its addresses were valued
+abbrev pub lines_of_command : ed.Command → State → Result (State × ranges.Span) Fault
+lines_of_command c s = lines_named (taking c.verb) (given_or c.addresses (default c.verb)) s
 
 -- a span where a command that takes so many addresses may be applied, in a buffer of so many lines
 abbrev pub Fits : Taking → Span → ℕ → Type 0
-Fits NoAddress x last = Unit {0}
-Fits Place x last = x.first ≤ last
-Fits Range x last = (1 ≤ x.first) × (x.first ≤ x.last) × (x.last ≤ last)
+Fits takes.NoAddress x last = Unit {0}
+Fits takes.Place x last = x.first ≤ last
+Fits takes.OneLine x last = (1 ≤ x.first) × (x.first ≤ x.last) × (x.last ≤ last)
+Fits takes.Range x last = (1 ≤ x.first) × (x.first ≤ x.last) × (x.last ≤ last)
 
--- what a command replies whose suffix is left out
-abbrev pub without_suffix : ed.Verb → ranges.Span → State → Option Answer → Result (State × applied.Reply) Fault
-without_suffix verb x s given = effect_of verb x s given >> replied s None
+-- the buffer as undo keeps it, where this line was current
+abbrev pub kept_at : ℕ → State → Kept
+kept_at current s = record { lines = s.lines; current = current }
+
+-- what an effect leaves and writes before a suffix, where undo keeps this buffer
+abbrev pub Leaves : Kept → State → List ℕ → Effect → Type 0
+Leaves before new output (Makes o) = (new ≡ settled before o) × (output ≡ o.output)
+Leaves before new output (Asks request) = ⊥
 
 -- some output, and behind it what a suffix writes
 abbrev pub suffixed : List ℕ → Option ed.Form → State → Result (List ℕ) Fault

@@ -1,21 +1,22 @@
 //! An editor over any store: one command at a time.
-ghost use Rattle.std.specs.Prelude.{◌≡◌, ◌≢◌, [], Option, None, IfErr, IfSome, OnOk, MatchResult};
+ghost use Rattle.std.specs.Prelude.{◌≡◌, [], Option, None, IfErr, IfSome, OnOk};
 ghost use Rattle.ed_base.specs.declared.fault.Fault.TheVariants.{Memory};
 ghost use Rattle.ed_syntax.specs.PublicTypes.{command_value};
 ghost use Rattle.ed_syntax.specs.declared.request.Answer.{Answer};
 ghost use Rattle.ed_syntax.specs.Applied as applied;
 ghost use Rattle.ed_syntax.specs.Applied.{Done};
 ghost use Rattle.ed_syntax.specs.Runs.{loaded};
-ghost use Rattle.ed_commands.specs.Editors.{Applied, opening_value, failure_of};
+ghost use Rattle.ed_commands.specs.Editors.{Steps, Applied, opening_value, failure_of};
 
 mod addressing;
 mod change;
 mod effects;
 mod lines;
+mod searching;
 
 use change::Change;
 use ed_base::{Bytes, Fault};
-use ed_syntax::{Answer, Command, Request};
+use ed_syntax::{Answer, Command, Pattern, Request};
 use line_store::LineStore;
 use lines::put_file;
 use std::alloc::Global;
@@ -36,6 +37,7 @@ pub struct Editor<S: LineStore> {
     alloc: Global,
     store: S,
     current: usize,
+    pattern: Option<Pattern>,
     name: Option<Bytes>,
     changed: bool,
     change: Option<Change>,
@@ -48,7 +50,7 @@ impl<S: LineStore> Model for Editor<S> {
 
     ghost Value = { EditorValue };
 
-    ghost view = { λ e. record { state = record { lines = S.lines e.store; current = e.current; pattern = None; replacement = None; name = e.name; changed = e.changed; past = past_of e.change (S.lines e.store) }; failed = e.failed } };
+    ghost view = { λ e. record { state = record { lines = S.lines e.store; current = e.current; pattern = e.pattern; replacement = None; name = e.name; changed = e.changed; past = past_of e.change (S.lines e.store) }; failed = e.failed } };
 
     ghost invariant = { λ e. e.current ≤ length (S.lines e.store) };
 }
@@ -63,6 +65,7 @@ impl<S: LineStore> Editor<S> {
             alloc,
             store,
             current: 0,
+            pattern: None,
             name: None,
             changed: false,
             change: None,
@@ -113,12 +116,13 @@ impl<S: LineStore> Editor<S> {
 
     // The lines that a command is applied to, its effect there, and its suffix.
     fn perform(&mut self, command: &Command) -> Result<Bytes, Fault>
-        ensures exact { (given : Option Answer) → let expected = applied.command self.old.state (command_value command.now) given in
-            MatchResult result (λ output. expected ≡ Ok (self.new.state, Done output)) (λ fault. fault ≢ Memory → expected ≡ Err fault) }
+        ensures exact { (given : Option Answer) →
+            Steps Done (applied.command self.old.state (command_value command.now) given) result self.new.state }
         ensures failed { self.new.failed ≡ self.old.failed }
     {
+        let before = self.current;
         let span = self.span(command)?;
-        let output = self.effect(&command.verb, span)?;
+        let output = self.effect(&command.verb, span, before)?;
         self.write_suffix(command.suffix, output)
     }
 
@@ -151,5 +155,3 @@ impl<S: LineStore> Editor<S> {
     }
 }
 
-#[cfg(test)]
-mod tests;

@@ -1,4 +1,5 @@
-mod RunRows
+pub mod RunRows
+mod AddressRows
 mod ScriptRows
 pub mod StepLemmas
 pub mod ScriptLemmas

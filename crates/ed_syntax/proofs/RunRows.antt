@@ -11,21 +11,21 @@ use Rattle.ed_syntax.specs.Reading.{script_of}
 use Rattle.ed_syntax.specs.Progress.{Progress, Ends}
 use Rattle.ed_syntax.specs.Runs.{run}
 
-abbrev options : Bool → Option (List ℕ) → Options
+abbrev pub options : Bool → Option (List ℕ) → Options
 options silent prompt = record { silent = silent; prompt = prompt; path = Some (codes "F") }
 
 -- a silent run of a script on a file
-abbrev edited : List ℕ → List ℕ → Progress
+abbrev pub edited : List ℕ → List ℕ → Progress
 edited file script = run (script_of script) (options true None) (answer.Bytes file ∷ [])
 
 -- a run that read its file, wrote this output, and ended with so many lines or by a fault
-abbrev ends : List ℕ → ℕ → Progress
+abbrev pub ends : List ℕ → ℕ → Progress
 ends output lines = record { output = output; asked = request.Read (codes "F") ∷ []; stop = Ends (Ok (record { lines = lines })) }
 
-abbrev fails : List ℕ → Fault → Progress
+abbrev pub fails : List ℕ → Fault → Progress
 fails output f = record { output = output; asked = request.Read (codes "F") ∷ []; stop = Ends (Err f) }
 
-abbrev letters : List ℕ
+abbrev pub letters : List ℕ
 letters = codes "a\nb\nc\n"
 
 -- commands
@@ -205,8 +205,8 @@ sum_outside = refl
 signs_alone : edited letters (codes "1p\n++p\n-p\nQ\n") ≡ ends (codes "a\nc\nb\n") 3
 signs_alone = refl
 
-blanks_around : edited letters (codes " 1 + 1 - , $ - p\nQ\n") ≡ fails (codes "?\n") fault.Syntax
-blanks_around = refl
+blank_between_a_sign_and_its_number : edited letters (codes " 1 + 1 - , $ - p\nQ\n") ≡ fails (codes "?\n") fault.Syntax
+blank_between_a_sign_and_its_number = refl
 
 blanks_between : edited letters (codes " 1 +1 - , $ - p\nQ\n") ≡ ends (codes "a\nb\n") 3
 blanks_between = refl
@@ -233,17 +233,14 @@ semicolon_moves = refl
 comma_does_not_move : edited letters (codes "1,+1p\n") ≡ fails (codes "?\n") fault.Address
 comma_does_not_move = refl
 
-out_of_order : edited letters (codes "3,1p\n") ≡ fails (codes "?\n") fault.Address
-out_of_order = refl
-
 semicolon_alone : edited letters (codes "2p\n;p\nQ\n") ≡ ends (codes "b\nb\nc\n") 3
 semicolon_alone = refl
 
 semicolon_without_second : edited letters (codes "2;p\n.p\nQ\n") ≡ ends (codes "b\nb\n") 3
 semicolon_without_second = refl
 
-comma_without_second_is_valued_twice : edited (codes "x\ny\nx\n") (codes "/x/,p\nQ\n") ≡ ends (codes "x\n") 3
-comma_without_second_is_valued_twice = refl
+comma_without_second : edited (codes "x\ny\nx\n") (codes "/x/,p\nQ\n") ≡ ends (codes "x\n") 3
+comma_without_second = refl
 
 whole_of_an_empty_buffer : edited [] (codes ",=\n") ≡ fails (codes "?\n") fault.Address
 whole_of_an_empty_buffer = refl
@@ -279,7 +276,7 @@ no_capital_letter = refl
 
 -- searches
 
-abbrev repeated : List ℕ
+abbrev pub repeated : List ℕ
 repeated = codes "a\nb\na\n"
 
 remembered_pattern : edited repeated (codes "/b/\n//=\nQ\n") ≡ ends (codes "b\n2\n") 3

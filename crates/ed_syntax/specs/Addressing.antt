@@ -57,7 +57,7 @@ comma None (Some b) = Comma (at_base (Number 1)) b
 comma (Some a) None = Comma a a
 comma (Some a) (Some b) = Comma a b
 
--- `;` is `.;$`; `;b` is `.;b`; `a;` is `a;a`, where the second has the first one's value
+-- `;` is `.;$`; `;b` is `.;b`; `a;` is `a;a`, where the second has the first one's value (our choice)
 abbrev pub semicolon : Option Address → Option Address → Addresses
 semicolon None None = Semicolon (at_base Current) (Some (at_base Last))
 semicolon None (Some b) = Semicolon (at_base Current) (Some b)

@@ -6,7 +6,7 @@ use Rattle.bre_parse.specs.Spelled as bre
 use Rattle.bre_parse.specs.SpelledBrackets.{SpellsBracket}
 use Rattle.ed_syntax.specs.Characters.{backslash, left_square_bracket}
 
--- a byte that has a meaning in patterns by itself: one of `$ * . [ ] ^`
+-- a byte that may have a meaning in patterns by itself: one of `$ * . [ ] ^`
 abbrev pub is_special : ℕ → Bool
 is_special b = nat_eq b 36 || nat_eq b 42 || nat_eq b 46 || nat_eq b 91 || nat_eq b 93 || nat_eq b 94
 

@@ -11,6 +11,8 @@ mod reading;
 mod request;
 mod script_lines;
 mod spelling;
+#[cfg(test)]
+mod tests;
 mod tokens;
 mod verbs;
 

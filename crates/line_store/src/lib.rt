@@ -2,10 +2,12 @@
 #![tactic(auto)]
 
 mod line;
+mod marks;
 mod plain;
 mod store;
 
 pub use line::Line;
+pub use marks::Marks;
 pub use plain::PlainStore;
 pub use store::LineStore;
 

@@ -1,27 +1,54 @@
 //! One line of the buffer.
-ghost use Rattle.std.specs.Prelude.{◌≡◌, IfOk};
+ghost use Rattle.std.specs.Prelude.{◌≡◌, length, IfOk};
 ghost use Rattle.ed_base.specs.Lines.{IsLine};
-ghost use Rattle.ed_base.specs.Buffer.{plain_line};
+ghost use Rattle.ed_base.specs.Buffer.{plain_line, no_letters};
 
+use crate::marks::LETTERS;
 use std::alloc::{AllocError, Global};
 use std::marker::Model;
 
-/// A line: any bytes but a newline. No command marks or flags a line yet, so its letters and its flag are none.
+/// The bytes of a line: any but a newline.
+#[derive(Drop)]
+pub(crate) struct LineBytes {
+    items: Vec<u8>,
+}
+
+impl Model for LineBytes {
+    ghost use Rattle.std.specs.Prelude.{ℕ, List};
+    ghost use Rattle.ed_base.specs.Lines.{IsLine};
+
+    ghost Value = { List ℕ };
+
+    ghost view = { λ b. b.items.items };
+
+    ghost invariant = { λ b. IsLine b.items.items };
+}
+
+impl LineBytes {
+    pub(crate) fn as_slice(&self) -> &[u8]
+        ensures value { result.now ≡ self.now }
+        ensures line { IsLine result.now }
+    {
+        self.items.as_slice()
+    }
+}
+
+/// A line: any bytes but a newline, and the letters that mark it. No command flags a line yet, so its flag is none.
 #[derive(Drop)]
 pub struct Line {
-    bytes: Vec<u8>,
+    pub(crate) bytes: LineBytes,
+    pub(crate) letters: [bool; LETTERS],
 }
 
 impl Model for Line {
-    ghost use Rattle.std.specs.Prelude.{false};
-    ghost use Rattle.ed_base.specs.Lines.{IsLine};
-    ghost use Rattle.ed_base.specs.Buffer.{Line, plain_line};
+    ghost use Rattle.std.specs.Prelude.{◌≡◌, false, length};
+    ghost use Rattle.ed_base.specs.Buffer.{Line};
 
     ghost Value = { Line };
 
-    ghost view = { λ l. plain_line l.bytes.items };
+    ghost view = { λ l. record { bytes = l.bytes; letters = l.letters; flag = false } };
 
-    ghost invariant = { λ l. IsLine l.bytes.items };
+    ghost invariant = { λ l. length l.letters ≡ 26 };
 }
 
 impl Line {
@@ -31,7 +58,10 @@ impl Line {
         ensures value { IfOk result (λ line. line ≡ plain_line bytes.now) }
     {
         Ok(Line {
-            bytes: bytes.to_vec(alloc)?,
+            bytes: LineBytes {
+                items: bytes.to_vec(alloc)?,
+            },
+            letters: [false; LETTERS],
         })
     }
 
@@ -41,5 +71,13 @@ impl Line {
         ensures line { IsLine result.now }
     {
         self.bytes.as_slice()
+    }
+
+    /// The line without the letters that mark it.
+    pub fn unmarked(mut self) -> Line
+        ensures value { result ≡ record self { letters = no_letters } }
+    {
+        self.letters = [false; LETTERS];
+        self
     }
 }

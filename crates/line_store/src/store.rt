@@ -1,11 +1,12 @@
 //! A list of lines, however it is kept.
 ghost use Rattle.std.specs.Prelude.{◌≡◌, ◌+◌, ◌<◌, ◌≤◌, ℕ, List, [], length, insert, remove, slice_index_or, IfOk, IfErr, OnOk, OnErr, IsOk};
-ghost use Rattle.ed_base.specs.Buffer.{Line, plain_line};
+ghost use Rattle.ed_base.specs.Buffer.{Line, plain_line, marked_at, marked_place, AtMostOnce, KnowLetters, SharesNoLetter};
 
 use crate::Line;
+use ed_base::Letter;
 use std::alloc::{AllocError, Global};
 
-/// A list of lines. Places count from 0.
+/// A list of lines, of which a letter marks one at most. Places count from 0.
 pub trait LineStore: Drop {
     /// The lines, in order.
     ghost lines: { Self → List Line };
@@ -32,9 +33,10 @@ pub trait LineStore: Drop {
         ensures unchanged { lines self.new ≡ lines self.old }
         ensures keeps_room { spare self.old ≤ spare self.new };
 
-    /// Puts a line before place `at`.
+    /// Puts a line before place `at`, with the letters that it has.
     fn put(&mut self, at: usize, line: Line) -> Result<(), Line>
         requires place { at ≤ length (lines self.old) }
+        requires letters { SharesNoLetter line (lines self.old) }
 
         ensures inserted { OnOk result (lines self.new ≡ insert (lines self.old) at line) }
 
@@ -47,10 +49,26 @@ pub trait LineStore: Drop {
         ensures spends_one { spare self.old ≤ spare self.new + 1 }
         ensures keeps_room { OnErr result (spare self.old ≤ spare self.new) };
 
-    /// Takes a line out.
+    /// Takes a line out, with the letters that mark it.
     fn take(&mut self, i: usize) -> Line
         requires place { i < length (lines self.old) }
         ensures value { result ≡ slice_index_or (lines self.old) i (plain_line []) }
         ensures removed { lines self.new ≡ remove (lines self.old) i }
         ensures keeps_room { spare self.old ≤ spare self.new };
+
+    /// Marks a line by a letter, which from then on marks no other.
+    fn mark(&mut self, i: usize, letter: Letter)
+        requires place { i < length (lines self.old) }
+        ensures marked { lines self.new ≡ marked_at i letter (lines self.old) }
+        ensures keeps_room { spare self.old ≤ spare self.new };
+
+    /// The place of the line that a letter marks.
+    fn marked(&self, letter: Letter) -> Option<usize>
+        ensures value { result ≡ marked_place letter (lines self.now) };
+
+    /// A letter marks one line at most.
+    ghost once: { (store : Self) → AtMostOnce (lines store) };
+
+    /// Each line has its 26 letters or not.
+    ghost known: { (store : Self) → KnowLetters (lines store) };
 }

@@ -1,6 +1,7 @@
 //! What no clause says: that calls succeed.
-use crate::{Line, LineStore, PlainStore};
-use ed_base::next_line;
+use crate::{Line, LineStore, Marks, PlainStore};
+use ed_base::{Letter, next_line};
+use std::alloc::{AllocError, Global};
 use std::test::Fail;
 
 #[test]
@@ -24,6 +25,49 @@ fn lines_are_put_told_and_taken_in_their_order(rt: HostRuntime) -> Result<(), Fa
     assert_eq!(rt; store.len(), 2);
     assert_eq!(rt; store.text(0), b"".as_slice());
     assert_eq!(rt; store.text(1), b"c".as_slice());
+    Ok(())
+}
+
+// A store of these lines.
+fn store_of(alloc: Global, bytes: &[u8]) -> Result<PlainStore, AllocError> {
+    let mut store = PlainStore::empty(alloc)?;
+    let mut left = bytes;
+    while let Some((text, rest)) = next_line(left) {
+        let line = Line::new(alloc, text)?;
+        match store.put(store.len(), line) {
+            Ok(()) => {}
+            Err(_refused) => return Err(AllocError),
+        }
+        left = rest;
+    }
+    Ok(store)
+}
+
+#[test]
+fn a_letter_goes_with_its_line(rt: HostRuntime) -> Result<(), Fail> {
+    let (Some(a), Some(z)) = (Letter::new(b'a'), Letter::new(b'z')) else {
+        return Err(Fail::new("a and z are letters"));
+    };
+    let mut store = store_of(rt.alloc(), b"x\ny\nz\n")?;
+    assert_eq!(rt; store.marked(a), None);
+    store.mark(0, a);
+    store.mark(1, a);
+    store.mark(2, z);
+    assert_eq!(rt; (store.marked(a), store.marked(z)), (Some(1), Some(2)));
+    let before = Marks::of(&store);
+    let first = store.take(0);
+    assert_eq!(rt; (store.marked(a), store.marked(z)), (Some(0), Some(1)));
+    let marked = store.take(0);
+    assert_eq!(rt; (store.marked(a), store.marked(z)), (None, Some(0)));
+    assert!(rt; store.put(0, first).is_ok());
+    assert!(rt; store.put(2, marked).is_ok());
+    assert_eq!(rt; (store.marked(a), store.marked(z)), (Some(2), Some(1)));
+    assert_eq!(rt; store.text(2), b"y".as_slice());
+    assert_eq!(rt; before.place_of(a), Some(1));
+    let bare = store.take(2).unmarked();
+    assert_eq!(rt; bare.bytes(), b"y".as_slice());
+    assert!(rt; store.put(0, bare).is_ok());
+    assert_eq!(rt; (store.marked(a), store.marked(z)), (None, Some(2)));
     Ok(())
 }
 

@@ -1,15 +1,15 @@
-//! The lines that a command is applied to.
-ghost use Rattle.std.specs.Prelude.{◌≡◌, ◌≤◌, IfOk};
-ghost use Rattle.ed_syntax.specs.PublicTypes.{address_value, addresses_value, verb_value, command_value};
+//! The values of addresses, and the lines that a command is applied to (XCU ed, "Addresses in ed").
+ghost use Rattle.std.specs.Prelude.{◌≡◌, ◌≤◌, pos, ◌+ℤ◌, IfOk};
+ghost use Rattle.ed_syntax.specs.PublicTypes.{address_value, addresses_value, base_value, command_value, verb_value};
 ghost use Rattle.ed_syntax.specs.States.{last};
-ghost use Rattle.ed_syntax.specs.Verbs.{default, given_or, taking};
-ghost use Rattle.ed_syntax.specs.Values.{value};
+ghost use Rattle.ed_syntax.specs.Values.{value, valued, base_number, remembered, within};
+ghost use Rattle.ed_syntax.specs.Verbs.{taking};
 ghost use Rattle.ed_syntax.specs.Ranges.{spanned};
-ghost use Rattle.ed_commands.specs.Editors.{Fits, beside, lines_of_command, value_of_span};
+ghost use Rattle.ed_commands.specs.Editors.{Steps, Valued, SameButPattern, Fits, lines_named, lines_of_command, span_value, value_of_span, with_pattern};
 
 use crate::editor::Editor;
 use ed_base::Fault;
-use ed_syntax::{Address, Addresses, Base, Command, Verb};
+use ed_syntax::{Address, Addresses, Base, Command, Taking};
 use line_store::LineStore;
 
 /// The lines from first to last, counted from 1.
@@ -19,53 +19,52 @@ pub struct Span {
     pub last: usize,
 }
 
-const HERE: Address = Address {
-    base: Base::Current,
-    offset: 0,
-};
-
-// The addresses given before a command, or those that stand for none.
-fn addresses_of(command: &Command) -> Addresses
-    ensures value { addresses_value result
-        ≡ given_or (addresses_value command.now.addresses) (default (verb_value command.now.verb)) }
-{
-    match (command.addresses, &command.verb) {
-        (Addresses::Without, Verb::Append(_)) => Addresses::One(HERE),
-        (Addresses::Without, Verb::Delete | Verb::Write(_)) => Addresses::Comma(HERE, HERE),
-        (addresses, _) => addresses,
-    }
-}
-
 // The lines that these values name, where one stands for both.
-fn spanned(verb: &Verb, values: &[usize]) -> Result<Span, Fault>
-    ensures exact { spanned (taking (verb_value verb.now)) values.now ≡ value_of_span result }
+fn spanned(taking: Taking, values: &[usize]) -> Result<Span, Fault>
+    ensures exact { spanned taking values.now ≡ value_of_span result }
 {
     let (first, last) = match values {
         [] => (0, 0),
         [only] => (*only, *only),
         [first, last, ..] => (*first, *last),
     };
-    match verb {
-        Verb::Append(_) => Ok(Span { first: last, last }),
-        Verb::Delete | Verb::Write(_) if first == 0 || last < first => Err(Fault::Address),
-        Verb::Delete | Verb::Write(_) => Ok(Span { first, last }),
-        Verb::QuitAnyway => Ok(Span { first: 0, last: 0 }),
+    match taking {
+        Taking::NoAddress => Ok(Span { first: 0, last: 0 }),
+        Taking::Place => Ok(Span { first: last, last }),
+        Taking::OneLine if last == 0 => Err(Fault::Address),
+        Taking::OneLine => Ok(Span { first: last, last }),
+        Taking::Range if first == 0 || last < first => Err(Fault::Address),
+        Taking::Range => Ok(Span { first, last }),
     }
 }
 
 impl<S: LineStore> Editor<S> {
-    // The line that an address names.
-    fn value(&self, address: Address) -> Result<usize, Fault>
-        ensures exact { value (address_value address) self.now.state ≡ beside self.now.state result }
-        ensures within { IfOk result (λ line. line ≤ last self.now.state) }
+    // The line that a base stands for. It may lie behind the last one.
+    fn base_line(&mut self, base: &Base) -> Result<usize, Fault>
+        ensures exact { Valued (base_number (base_value base.now) self.old.state)
+            (with_pattern (remembered (base_value base.now) self.old.state) self.old.state) result self.new.state }
+        ensures unchanged { SameButPattern self.old self.new }
     {
-        let base = match address.base {
-            Base::Number(line) => i128::from(line),
-            Base::Current => self.current as i128,
-            Base::Last => self.store.len() as i128,
-        };
+        let last = self.store.len();
+        match base {
+            Base::Number(line) => Ok(*line as usize),
+            Base::Current => Ok(self.current),
+            Base::Last => Ok(last),
+            Base::Marked(letter) => match self.store.marked(*letter) {
+                Some(place) => Ok(place + 1),
+                None => Err(Fault::Mark),
+            },
+            Base::Forward(pattern) => self.search_forward(pattern),
+            Base::Backward(pattern) => self.search_backward(pattern),
+        }
+    }
+
+    // The line so far behind another.
+    fn offset_line(&self, base: usize, offset: i128) -> Result<usize, Fault>
+        ensures exact { result ≡ within self.now.state (pos base +ℤ offset) }
+    {
         // A sum too great for its type is too great for any buffer, and so is one that is too small.
-        let line = base.saturating_add(address.offset);
+        let line = (base as i128).saturating_add(offset);
         let last = self.store.len() as i128;
         if line < 0 || last < line {
             return Err(Fault::Address);
@@ -73,23 +72,60 @@ impl<S: LineStore> Editor<S> {
         Ok(line as usize)
     }
 
-    /// The lines that a command is applied to.
-    pub fn span(&self, command: &Command) -> Result<Span, Fault>
-        ensures exact { lines_of_command (command_value command.now) self.now.state
-            ≡ beside self.now.state (value_of_span result) }
-        ensures fits { IfOk result (λ span. Fits (taking (verb_value command.now.verb)) span (last self.now.state)) }
+    /// The line that an address names, counted from 1. A search remembers its pattern, whether or not it finds a line;
+    /// nothing else changes, and the editor doesn't fail by a fault of the address.
+    pub fn value_of(&mut self, address: &Address) -> Result<usize, Fault>
+        ensures exact { Valued (value (address_value address.now) self.old.state)
+            (valued (address_value address.now) self.old.state) result self.new.state }
+        ensures unchanged { SameButPattern self.old self.new }
+        ensures within { IfOk result (λ line. line ≤ last self.new.state) }
     {
-        match addresses_of(command) {
-            Addresses::Without => spanned(&command.verb, &[]),
+        let base = self.base_line(&address.base)?;
+        self.offset_line(base, address.offset)
+    }
+
+    // The lines that these addresses name to a command that takes so many. Behind a `;` the first one's value is the current line.
+    fn named(&mut self, taking: Taking, addresses: &Addresses) -> Result<Span, Fault>
+        ensures exact { Steps span_value (lines_named taking (addresses_value addresses.now) self.old.state) result self.new.state }
+        ensures fits { IfOk result (λ span. Fits taking span (last self.new.state)) }
+        ensures lines { self.new.state.lines ≡ self.old.state.lines }
+        ensures failed { self.new.failed ≡ self.old.failed }
+    {
+        match addresses {
+            Addresses::Without => spanned(taking, &[]),
             Addresses::One(only) => {
-                let line = self.value(only)?;
-                spanned(&command.verb, &[line])
+                let line = self.value_of(only)?;
+                spanned(taking, &[line])
             }
             Addresses::Comma(first, second) => {
-                let first = self.value(first)?;
-                let second = self.value(second)?;
-                spanned(&command.verb, &[first, second])
+                let first = self.value_of(first)?;
+                let second = self.value_of(second)?;
+                spanned(taking, &[first, second])
             }
+            Addresses::Semicolon(first, None) => {
+                let line = self.value_of(first)?;
+                self.current = line;
+                spanned(taking, &[line, line])
+            }
+            Addresses::Semicolon(first, Some(second)) => {
+                let first = self.value_of(first)?;
+                self.current = first;
+                let second = self.value_of(second)?;
+                spanned(taking, &[first, second])
+            }
+        }
+    }
+
+    /// The lines that a command is applied to.
+    pub fn span(&mut self, command: &Command) -> Result<Span, Fault>
+        ensures exact { Steps span_value (lines_of_command (command_value command.now) self.old.state) result self.new.state }
+        ensures fits { IfOk result (λ span. Fits (taking (verb_value command.now.verb)) span (last self.new.state)) }
+        ensures lines { self.new.state.lines ≡ self.old.state.lines }
+        ensures failed { self.new.failed ≡ self.old.failed }
+    {
+        match &command.addresses {
+            Addresses::Without => self.named(command.verb.taking(), &command.verb.default_addresses()),
+            given => self.named(command.verb.taking(), given),
         }
     }
 }

@@ -1,6 +1,6 @@
 //! The change of the buffer that undo takes back.
 
-use line_store::Line;
+use line_store::{Line, Marks};
 
 /// The last change of the buffer: some lines went out, and others came in at their place. It holds what it took out and
 /// no copy of what stayed, so that keeping it costs what the change cost.
@@ -14,4 +14,6 @@ pub struct Change {
     pub removed: Vec<Line>,
     /// The current line before it.
     pub current: usize,
+    /// Where the letters were before it.
+    pub marks: Marks,
 }

@@ -1,50 +1,58 @@
 //! What each command does to the buffer.
-ghost use Rattle.std.specs.Prelude.{◌≡◌, ◌≢◌, ◌≤◌, Option, IfOk, OnOk, MatchResult};
+ghost use Rattle.std.specs.Prelude.{◌≡◌, ◌≢◌, ◌≤◌, Option, IfOk, IsOkAnd, OnOk, MatchResult};
 ghost use Rattle.ed_base.specs.declared.fault.Fault.TheVariants.{Memory};
 ghost use Rattle.ed_syntax.specs.declared.request.Answer.{Answer};
 ghost use Rattle.ed_syntax.specs.PublicTypes.{form_value, suffix_value, verb_value};
-ghost use Rattle.ed_syntax.specs.States.{last, kept};
+ghost use Rattle.ed_syntax.specs.States.{last};
 ghost use Rattle.ed_syntax.specs.Verbs.{taking};
 ghost use Rattle.ed_syntax.specs.Effects as effect;
-ghost use Rattle.ed_syntax.specs.Applied.{Done, settled};
-ghost use Rattle.ed_commands.specs.Editors.{Fits, span_value, without_suffix, suffixed};
+ghost use Rattle.ed_syntax.specs.Applied.{effect_of, settled};
+ghost use Rattle.ed_commands.specs.Editors.{Fits, Leaves, kept_at, span_value, suffixed};
 
 use crate::editor::Editor;
 use crate::editor::addressing::Span;
 use crate::editor::change::Change;
 use crate::editor::lines::{put_lines, take_lines, write_lines};
-use ed_base::{Bytes, Fault, Text};
+use ed_base::{Bytes, Fault, Letter, Text, push_number};
 use ed_syntax::{Form, Verb};
-use line_store::LineStore;
+use line_store::{LineStore, Marks};
 use std::alloc::AllocError;
 
 impl<S: LineStore> Editor<S> {
-    /// Does what a command does at the lines of a span, and tells what it wrote before its suffix.
-    pub fn effect(&mut self, verb: &Verb, span: Span) -> Result<Bytes, AllocError>
+    /// Does what a command does at the lines of a span, and tells what it wrote before its suffix. The line `before` was
+    /// current before the command's addresses were valued: undo would make it so again.
+    pub fn effect(&mut self, verb: &Verb, span: Span, before: usize) -> Result<Bytes, AllocError>
         requires fits { Fits (taking (verb_value verb.now)) span (last self.old.state) }
         ensures exact { IfOk result (λ output. (given : Option Answer) →
-            without_suffix (verb_value verb.now) (span_value span) self.old.state given ≡ Ok (self.new.state, Done output)) }
+            IsOkAnd (effect_of (verb_value verb.now) (span_value span) self.old.state given)
+            (Leaves (kept_at before self.old.state) self.new.state output)) }
         ensures failed { self.new.failed ≡ self.old.failed }
     {
         match verb {
             Verb::Append(text) => {
-                self.append(text, span)?;
+                self.append(text, span, before)?;
                 Ok(Bytes::new(self.alloc))
             }
             Verb::Delete => {
-                self.delete(span)?;
+                self.delete(span, before)?;
                 Ok(Bytes::new(self.alloc))
             }
+            Verb::Mark(letter) => {
+                self.mark(*letter, span);
+                Ok(Bytes::new(self.alloc))
+            }
+            Verb::LineNumber => self.line_number(span),
+            Verb::Null => self.write(Form::Plain, span),
             Verb::Write(form) => self.write(*form, span),
             Verb::QuitAnyway => Ok(Bytes::new(self.alloc)),
         }
     }
 
     // `a`: the text goes behind the first line of the span.
-    fn append(&mut self, text: &Text, span: Span) -> Result<(), AllocError>
+    fn append(&mut self, text: &Text, span: Span, before: usize) -> Result<(), AllocError>
         requires place { span.first ≤ last self.old.state }
         ensures exact { OnOk result
-            (self.new.state ≡ settled (kept self.old.state) (effect.append text.now (span_value span) self.old.state)) }
+            (self.new.state ≡ settled (kept_at before self.old.state) (effect.append text.now (span_value span) self.old.state)) }
         ensures failed { self.new.failed ≡ self.old.failed }
     {
         if text.is_empty() {
@@ -55,7 +63,8 @@ impl<S: LineStore> Editor<S> {
             at: span.first,
             entered: text.len(),
             removed: Vec::new(self.alloc),
-            current: self.current,
+            current: before,
+            marks: Marks::of(&self.store),
         };
         let behind = self.store.len() - span.first;
         put_lines(self.alloc, text.as_slice(), span.first, &mut self.store)?;
@@ -66,27 +75,49 @@ impl<S: LineStore> Editor<S> {
     }
 
     // `d`: the lines of the span go out, into what undo keeps.
-    fn delete(&mut self, span: Span) -> Result<(), AllocError>
+    fn delete(&mut self, span: Span, before: usize) -> Result<(), AllocError>
         requires first { 1 ≤ span.first }
         requires order { span.first ≤ span.last }
         requires last { span.last ≤ last self.old.state }
         ensures exact { OnOk result
-            (self.new.state ≡ settled (kept self.old.state) (effect.delete (span_value span) self.old.state)) }
+            (self.new.state ≡ settled (kept_at before self.old.state) (effect.delete (span_value span) self.old.state)) }
         ensures failed { self.new.failed ≡ self.old.failed }
     {
+        let marks = Marks::of(&self.store);
         let removed = take_lines(self.alloc, span, &mut self.store)?;
         self.change = Some(Change {
             at: span.first - 1,
             entered: 0,
             removed,
-            current: self.current,
+            current: before,
+            marks,
         });
         self.current = span.first.min(self.store.len());
         self.changed = true;
         Ok(())
     }
 
-    // `p`: the last line written is current.
+    // `k`: the letter marks the last line of the span, and no other. The buffer isn't changed by it.
+    fn mark(&mut self, letter: Letter, span: Span)
+        requires first { 1 ≤ span.last }
+        requires last { span.last ≤ last self.old.state }
+        ensures exact { self.new.state ≡ (effect.mark letter (span_value span) self.old.state).state }
+        ensures failed { self.new.failed ≡ self.old.failed }
+    {
+        self.store.mark(span.last - 1, letter);
+    }
+
+    // `=`: the number of the last line of the span.
+    fn line_number(&self, span: Span) -> Result<Bytes, AllocError>
+        ensures value { IfOk result (λ output. output ≡ (effect.line_number (span_value span) self.now.state).output) }
+    {
+        let mut output = Bytes::new(self.alloc);
+        push_number(&mut output, span.last as u64)?;
+        output.push(b'\n')?;
+        Ok(output)
+    }
+
+    // `p`, and the null command: the last line written is current.
     fn write(&mut self, form: Form, span: Span) -> Result<Bytes, AllocError>
         requires first { 1 ≤ span.first }
         requires order { span.first ≤ span.last }

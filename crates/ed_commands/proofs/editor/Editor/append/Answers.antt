@@ -3,11 +3,11 @@ use Rattle.std.proofs.Common.{◌≡◌, ◌∙◌, ◌≤◌, ap, arith, length
 use Rattle.std.specs.Prelude.{None}
 use Rattle.std.proofs.lemmas.List.{length-map}
 use Rattle.ed_base.specs.Buffer.{plain_line}
-use Rattle.ed_syntax.specs.States.{State, kept, inserted}
+use Rattle.ed_syntax.specs.States.{State, inserted}
 use Rattle.ed_syntax.specs.Ranges as ranges
 use Rattle.ed_syntax.specs.Effects as effect
 use Rattle.ed_syntax.specs.Applied.{settled}
-use Rattle.ed_commands.specs.Editors.{past_of}
+use Rattle.ed_commands.specs.Editors.{kept_at, past_of}
 use Rattle.ed_commands.proofs.Commanding.{appended, length-inserted}
 use Rattle.ed_commands.proofs.editor.Editor.append.Goals as goal
 
@@ -18,7 +18,7 @@ returns-clause-exact g c =
     let s : State = record {
       lines = lines;
       current = e.current;
-      pattern = None;
+      pattern = e.pattern;
       replacement = None;
       name = e.name;
       changed = e.changed;
@@ -31,7 +31,7 @@ returns-clause-exact g c =
     let within : a ≤ length lines = omega (arith, c.requires.place, ap (λ t. length t.lines) is) in
     let put : after ≡ inserted a (map plain_line text) lines =
     c.in_ok-put_lines.ensures.inserted ∙ ap (λ t. inserted a (map plain_line t) lines) c.as_slice.ensures.value in
-    appended s a _ c.len.result text after c.new.result.items within
-    (λ none. cc (c.is_empty.ensures.value.1 none, c.if-is_empty.false)) put c.new.ensures.items c.len.ensures.value
+    appended s a c.args.before _ c.len.result text after c.new.result.items c.of.result within
+    (λ none. cc (c.is_empty.ensures.value.1 none, c.if-is_empty.false)) put c.new.ensures.items c.of.ensures.own c.len.ensures.value
     (omega (arith, ap length put, length-inserted a (map plain_line text) lines within, length-map text plain_line, c.len-2.ensures.value, c.len-3.ensures.value))
-    ∙ ap (λ t. settled (kept t) (effect.append text (ranges.span a a) t)) is
+    ∙ ap (λ t. settled (kept_at c.args.before t) (effect.append text (ranges.span a a) t)) is

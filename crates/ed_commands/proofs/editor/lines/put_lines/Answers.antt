@@ -1,9 +1,13 @@
--- A line put behind those before it.
+-- A line put behind those before it; a new one has no letters.
 use Rattle.std.proofs.Common.{◌≡◌, ◌+◌, ◌-◌, ◌∙◌, ap, arith, length}
 use Rattle.ed_base.specs.Buffer.{plain_line}
 use Rattle.std.proofs.lemmas.List.Edits.{length-insert}
+use Rattle.line_store.proofs.Own.{plain_shares_none}
 use Rattle.ed_commands.proofs.Ranges.{put-turn}
 use Rattle.ed_commands.proofs.editor.lines.put_lines.Goals as goal
+
+pub put-requires-clause-letters : goal.put-requires-clause-letters
+put-requires-clause-letters g c = rw (c.in_ok-line.ensures.value) (plain_shares_none c.as_slice.result.now (g.S.LineStore.lines c.loop-text.store))
 
 pub loop-text-preserved : goal.loop-text-preserved
 loop-text-preserved g c =

@@ -1,0 +1,4 @@
+pub mod Places
+pub mod Lettered
+pub mod Own
+mod MarkRows

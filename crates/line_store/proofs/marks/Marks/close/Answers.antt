@@ -1,0 +1,15 @@
+-- Each letter is where it is to be, and is told where the line had it.
+use Rattle.std.proofs.Common.{arith, get_or, None, false}
+use Rattle.std.proofs.lemmas.List.FromFn.{fill_by_all}
+use Rattle.line_store.specs.Marks.{is_at, closed}
+use Rattle.line_store.proofs.marks.Marks.close.Goals as goal
+
+pub returns-clause-letters : goal.returns-clause-letters
+returns-clause-letters c =
+    let i = c.loop-letter.invariant in
+    fill_by_all (λ k. is_at c.args.at (get_or c.args.self.now k None)) c.loop-letter.letters 26 false i.long (λ k b. i.told k (omega arith))
+
+pub returns-clause-value : goal.returns-clause-value
+returns-clause-value c =
+    let i = c.loop-letter.invariant in
+    fill_by_all (λ k. closed c.args.at (get_or c.args.self.now k None)) c.loop-letter.self-inside.places 26 None i.count (λ k b. i.done k (omega arith))

@@ -1,0 +1,13 @@
+-- Each letter is where it is to be.
+use Rattle.std.proofs.Common.{arith, get_or, None, false}
+use Rattle.std.proofs.lemmas.List.FromFn.{fill_by_all}
+use Rattle.line_store.specs.Marks.{opened}
+use Rattle.line_store.proofs.marks.Marks.open.Goals as goal
+
+pub returns : goal.returns
+returns c =
+    let i = c.loop-letter.invariant in
+    record {
+      value = fill_by_all (λ k. opened c.args.at (get_or c.args.letters.now k false) (get_or c.args.self.now k None)) c.loop-letter.self-inside.places 26 None i.count
+          (λ k b. i.done k (omega arith));
+    }

@@ -1,0 +1,5 @@
+-- what a reader believes
+pub mod Marks
+-- what serves clauses inside the crate
+pub mod Plain
+pub mod Lettered

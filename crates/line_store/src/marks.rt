@@ -1,0 +1,121 @@
+//! Where the lines are that letters mark.
+ghost use Rattle.std.specs.Prelude.{◌≡◌, ◌-◌, ◌<◌, ◌^◌, Some, None, length, replicate, slice_index_or, slice_set, IfSome};
+ghost use Rattle.line_store.specs.Marks.{AllBelow, lettered, letters_at, marks_of, opened, closed, with_line, without_line};
+
+use crate::LineStore;
+use ed_base::Letter;
+use std::marker::Model;
+
+/// How many letters there are.
+pub(crate) const LETTERS: usize = 26;
+
+/// For each letter the place of the line that it marks, counted from 0.
+#[derive(Drop)]
+pub struct Marks {
+    places: [Option<usize>; LETTERS],
+}
+
+impl Model for Marks {
+    ghost use Rattle.std.specs.Prelude.{ℕ, ◌≡◌, List, Option, length};
+
+    ghost Value = { List (Option ℕ) };
+
+    ghost view = { λ m. m.places };
+
+    ghost invariant = { λ m. length m.places ≡ 26 };
+}
+
+// Where a letter is behind a line that has come in with it or without it.
+fn place_opened(at: usize, comes: bool, place: Option<usize>) -> Option<usize>
+    requires bound { IfSome place (λ other. other < 2 ^ 64 - 1) }
+    ensures value { result ≡ opened at comes place }
+{
+    if comes {
+        return Some(at);
+    }
+    match place {
+        Some(other) if at <= other => Some(other + 1),
+        _ => place,
+    }
+}
+
+// Where a letter is behind a line that has gone out.
+fn place_closed(at: usize, place: Option<usize>) -> Option<usize>
+    ensures value { result ≡ closed at place }
+{
+    match place {
+        Some(other) if other == at => None,
+        Some(other) if at < other => Some(other - 1),
+        _ => place,
+    }
+}
+
+impl Marks {
+    /// No letter marks a line.
+    pub(crate) fn none() -> Self
+        ensures value { result ≡ replicate 26 None }
+    {
+        Marks {
+            places: [None; LETTERS],
+        }
+    }
+
+    /// The places of the letters in a store.
+    pub fn of<S: LineStore>(store: &S) -> Self
+        ensures value { result ≡ marks_of (S.lines store.now) }
+
+        // The lines have just the letters whose places these are.
+        ensures own { lettered result 0 (S.lines store.now) ≡ S.lines store.now }
+        ensures places { AllBelow (length (S.lines store.now)) result }
+    {
+        let mut marks = Marks::none();
+        for place in 0..26 {
+            if let Some(letter) = Letter::new(b'a' + place) {
+                if let Some(line) = store.marked(letter) {
+                    marks.set(letter, line);
+                }
+            }
+        }
+        marks
+    }
+
+    /// The place of a letter's line.
+    pub fn place_of(&self, letter: Letter) -> Option<usize>
+        ensures value { result ≡ slice_index_or self.now letter None }
+        ensures letter { letter < 26 }
+    {
+        self.places[letter.place()]
+    }
+
+    /// The letter marks the line at this place, and no other.
+    pub(crate) fn set(&mut self, letter: Letter, place: usize)
+        ensures value { self.new ≡ slice_set self.old letter (Some place) }
+        ensures letter { letter < 26 }
+        ensures count { length self.old ≡ 26 }
+    {
+        self.places[letter.place()] = Some(place);
+    }
+
+    /// A line has come in at this place, which these letters mark.
+    pub(crate) fn open(&mut self, at: usize, letters: &[bool; LETTERS])
+        requires bound { AllBelow (2 ^ 64 - 1) self.old }
+        ensures value { self.new ≡ with_line at letters.now self.old }
+    {
+        for letter in 0..LETTERS {
+            self.places[letter] = place_opened(at, letters[letter], self.places[letter]);
+        }
+    }
+
+    /// The line at this place has gone out, with the letters that are told.
+    pub(crate) fn close(&mut self, at: usize) -> [bool; LETTERS]
+        ensures letters { result ≡ letters_at at self.old }
+        ensures value { self.new ≡ without_line at self.old }
+    {
+        let mut letters = [false; LETTERS];
+        for letter in 0..LETTERS {
+            letters[letter] = self.places[letter] == Some(at);
+            self.places[letter] = place_closed(at, self.places[letter]);
+        }
+        letters
+    }
+}
