@@ -9,9 +9,12 @@ ghost use Rattle.ed_syntax.specs.Runs.{loaded};
 ghost use Rattle.ed_commands.specs.Editors.{Steps, Applied, opening_value, failure_of};
 
 mod addressing;
+mod blocks;
 mod change;
 mod effects;
+mod entering;
 mod lines;
+mod rearranging;
 mod searching;
 
 use change::Change;
@@ -154,4 +157,3 @@ impl<S: LineStore> Editor<S> {
         self.failed
     }
 }
-
