@@ -1,24 +1,18 @@
--- A command is the naming of its lines, its effect, and its suffix; and what undo keeps brings the buffer back.
-use Rattle.std.proofs.Common.{◌≡◌, ◌≢◌, ℕ, ◌+◌, ◌-◌, ◌≤◌, min, Bool, true, false, List, [], ◌∷◌, ◌++◌, take, drop, length, map, refl, sym, ap, subst, ◌∙◌, arith}
+-- A command is the naming of its lines, its effect, and its suffix.
+use Rattle.std.proofs.Common.{◌≡◌, ◌≢◌, ℕ, ◌+◌, ◌-◌, Bool, true, false, List, ◌++◌, refl, ap, subst, ◌∙◌}
 use Rattle.std.specs.Prelude.{Option, Some, None, Result, Ok, Err, IsOkAnd, MatchResult}
-use Rattle.std.proofs.lemmas.List.{take_at, drop_at, take-take, take-append-drop, length-take-le, length-drop, length-map, append-nil, append_assoc, length-append}
-use Rattle.ed_base.specs.Buffer.{Line, plain_line, marked_at}
 use Rattle.ed_base.specs.declared.fault.Fault.{Fault}
 use Rattle.ed_base.specs.declared.fault.Fault.TheVariants.{Memory}
 use Rattle.ed_syntax.specs.declared.request.Answer.{Answer}
 use Rattle.ed_syntax.specs.Commands as ed
-use Rattle.ed_syntax.specs.States.{State, Kept, Was, kept, last, between, replaced, inserted}
-use Rattle.line_store.specs.Marks.{lettered}
+use Rattle.ed_syntax.specs.States.{State, Kept, kept}
 use Rattle.ed_syntax.specs.declared.verbs.Taking.{Taking}
 use Rattle.ed_syntax.specs.Verbs.{taking, target_of}
 use Rattle.ed_syntax.specs.Values.{◌>>◌}
 use Rattle.ed_syntax.specs.Ranges as ranges
 use Rattle.ed_syntax.specs.Ranges.{spanned}
-use Rattle.ed_syntax.specs.Effects.{altered, entered, append, delete}
 use Rattle.ed_syntax.specs.Applied.{Effect, Makes, Asks, Reply, Done, Wants, effect_of, replied, settled, suffix_written, targeted, command}
-use Rattle.ed_commands.specs.declared.editor.change.Change.{Change}
-use Rattle.ed_commands.specs.Editors.{Steps, Leaves, kept_at, lines_of_command, past_of, suffixed, values_of_command}
-use Rattle.ed_commands.proofs.Letters.{past-marked}
+use Rattle.ed_commands.specs.Editors.{Steps, Leaves, kept_at, lines_of_command, suffixed, values_of_command}
 
 -- a value beside a state
 abbrev both : {A : Type 0} → State → A → Result (State × A) Fault
@@ -121,63 +115,3 @@ pub told : (s mid new : State) (c : ed.Command) (x : ranges.Span) (target curren
 told s mid new c x target current given output result same was h k w =
     answered s mid new c x target given output result h
     (subst (λ before. IsOkAnd (effect_of c.verb x target mid given) (Leaves before new output)) (kept-before s mid current same was) k) w
-
--- some lines entered
-pub entered-some : (a : ℕ) (text : List (List ℕ)) (s : State) → text ≢ [] → entered a text s ≡ altered (inserted a (map plain_line text) s.lines) (a + length text) s
-entered-some a [] s h = absurd (h refl)
-entered-some a (line ∷ more) s h = refl
-
--- what stood between the front and the back, put there again
-pub taken-back : {X : Type 0} (front new old back : List X) (a n : ℕ) → length front ≡ a → length new ≡ n →
-    take a (front ++ (new ++ back)) ++ (old ++ drop (a + n) (front ++ (new ++ back))) ≡ front ++ (old ++ back)
-taken-back front new old back a n h k =
-    ap (λ t. t ++ (old ++ drop (a + n) (front ++ (new ++ back)))) (take_at front (new ++ back) a h)
-    ∙ ap (λ t. front ++ (old ++ t)) (ap (drop (a + n)) (sym (append_assoc front new back)) ∙ drop_at (front ++ new) back (a + n) (length-append front new ∙ omega arith))
-
--- the lines from a to b stand between those before and those behind
-split : (xs : List Line) (a b : ℕ) → 1 ≤ a → a ≤ b → take (a - 1) xs ++ (between a b xs ++ drop b xs) ≡ xs
-split xs a b h k =
-    sym (append_assoc (take (a - 1) xs) (between a b xs) (drop b xs))
-    ∙ ap (λ t. (t ++ between a b xs) ++ drop b xs) (sym (take-take (a - 1) b xs (omega arith)))
-    ∙ ap (λ t. t ++ drop b xs) (take-append-drop (a - 1) (take b xs))
-    ∙ take-append-drop b xs
-
--- lines deleted, with what undo keeps
-pub deleted : (s : State) (a b before n : ℕ) (lines removed : List Line) (marks : List (Option ℕ)) → 1 ≤ a → a ≤ b → b ≤ length s.lines →
-    lines ≡ replaced a b [] s.lines → removed ≡ between a b s.lines → lettered marks 0 s.lines ≡ s.lines → n ≡ min a (length lines) →
-    record s {
-      lines = lines;
-      current = n;
-      changed = true;
-      past = Was (record { lines = lettered marks 0 (take (a - 1) lines ++ (removed ++ drop (a - 1 + 0) lines)); current = before });
-    }
-    ≡ settled (kept_at before s) (delete (ranges.span a b) s)
-deleted s a b before n lines removed marks h k l left out own at =
-    let back : take (a - 1) lines ++ (removed ++ drop (a - 1 + 0) lines) ≡ s.lines =
-    rw (left, out) (taken-back (take (a - 1) s.lines) [] (between a b s.lines) (drop b s.lines) (a - 1) 0 (length-take-le (a - 1) s.lines (omega arith)) refl
-    ∙ split s.lines a b h k) in
-    rw (back, own, at, left) refl
-
-pub length-inserted : {X : Type 0} (a : ℕ) (new xs : List X) → a ≤ length xs → length (inserted a new xs) ≡ length new + length xs
-length-inserted a new xs h = omega (arith, length-append (take a xs) (new ++ drop a xs), length-append new (drop a xs), length-take-le a xs h, length-drop a xs)
-
--- lines entered, with what undo keeps
-pub appended : (s : State) (a before n count : ℕ) (text : List (List ℕ)) (lines removed : List Line) (marks : List (Option ℕ)) → a ≤ length s.lines → text ≢ [] →
-    lines ≡ inserted a (map plain_line text) s.lines → removed ≡ [] → lettered marks 0 s.lines ≡ s.lines → count ≡ length text → n ≡ a + length text →
-    record s {
-      lines = lines;
-      current = n;
-      changed = true;
-      past = Was (record { lines = lettered marks 0 (take a lines ++ (removed ++ drop (a + count) lines)); current = before });
-    }
-    ≡ settled (kept_at before s) (append text (ranges.span a a) s)
-appended s a before n count text lines removed marks h some put none own counted at =
-    let back : take a lines ++ (removed ++ drop (a + count) lines) ≡ s.lines =
-    rw (put, none) (taken-back (take a s.lines) (map plain_line text) [] (drop a s.lines) a count (length-take-le a s.lines h) (length-map text plain_line ∙ sym counted)
-    ∙ take-append-drop a s.lines) in
-    rw (back, own, at, put, entered-some a text s some) refl
-
--- a line marked, with what undo keeps
-pub marked : (s : State) (c : Option Change) (place letter : ℕ) (lines : List Line) → s.past ≡ past_of c s.lines → lines ≡ marked_at place letter s.lines →
-    record s { lines = lines; past = past_of c lines } ≡ record s { lines = marked_at place letter s.lines }
-marked s c place letter lines past put = rw (put, past-marked c place letter s.lines, ← past) refl

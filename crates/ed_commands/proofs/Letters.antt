@@ -1,12 +1,14 @@
 -- What undo would bring back has the letters that were told then, whatever letters the lines have now.
-use Rattle.std.proofs.Common.{◌≡◌, ℕ, suc, ◌+◌, List, [], ◌∷◌, ◌++◌, Bool, true, false, take, drop, length, map, get_or, set, Option, Some, None, refl, sym, ap, ◌∙◌}
+use Rattle.std.proofs.Common.{◌≡◌, ℕ, suc, ◌+◌, ◌-◌, List, [], ◌∷◌, ◌++◌, Bool, true, false, take, drop, map, get_or, Option, Some, None, refl, sym, ap, ◌∙◌}
 use Rattle.std.proofs.lemmas.List.{map-append, take-map, drop-map}
 use Rattle.std.proofs.Math.Seq.{map-set_same}
 use Rattle.ed_base.specs.Buffer.{Line, plain_line, with_letter, marked_at}
 use Rattle.line_store.specs.Marks.{letters_at, lettered}
 use Rattle.ed_syntax.specs.States.{Was}
 use Rattle.ed_commands.specs.declared.editor.change.Change.{Change}
-use Rattle.ed_commands.specs.Editors.{past_of}
+use Rattle.ed_commands.specs.declared.editor.change.Kind.{Kind}
+use Rattle.ed_commands.specs.declared.editor.change.Kind.TheVariants as kind
+use Rattle.ed_commands.specs.Editors.{block, exchanged, carried, lines_before, past_of}
 
 -- a line without its letters
 abbrev pub bare : Line → Line
@@ -28,27 +30,37 @@ bare-marked_at place letter lines =
     map-set_same bare others place (with_letter letter true (get_or others place (plain_line []))) (plain_line []) refl
     ∙ bare-with_letter letter false lines
 
--- lines that stay before and behind others
-abbrev around : ℕ → ℕ → List Line → List Line → List Line
-around a b between lines = take a lines ++ (between ++ drop b lines)
+bare-exchanged : (a b : ℕ) (new lines : List Line) → map bare (exchanged a b new lines) ≡ exchanged a b (map bare new) (map bare lines)
+bare-exchanged a b new lines =
+    map-append bare (take a lines) (new ++ drop b lines)
+    ∙ ap (λ t. map bare (take a lines) ++ t) (map-append bare new (drop b lines))
+    ∙ ap (λ t. t ++ (map bare new ++ map bare (drop b lines))) (sym (take-map bare a lines))
+    ∙ ap (λ t. take a (map bare lines) ++ (map bare new ++ t)) (sym (drop-map bare b lines))
 
-bare-around : (a b : ℕ) (between lines : List Line) → map bare (around a b between lines) ≡ around a b (map bare between) (map bare lines)
-bare-around a b between lines =
-    map-append bare (take a lines) (between ++ drop b lines)
-    ∙ ap (λ t. map bare (take a lines) ++ t) (map-append bare between (drop b lines))
-    ∙ ap (λ t. t ++ (map bare between ++ map bare (drop b lines))) (sym (take-map bare a lines))
-    ∙ ap (λ t. take a (map bare lines) ++ (map bare between ++ t)) (sym (drop-map bare b lines))
+bare-carried : (a b place : ℕ) (lines : List Line) → map bare (carried a b place lines) ≡ carried a b place (map bare lines)
+bare-carried a b place lines =
+    bare-exchanged place place (block a b lines) (exchanged a b [] lines)
+    ∙ ap (λ t. exchanged place place t (map bare (exchanged a b [] lines))) (sym (drop-map bare a (take b lines)) ∙ ap (drop a) (sym (take-map bare b lines)))
+    ∙ ap (exchanged place place (block a b (map bare lines))) (bare-exchanged a b [] lines)
 
-lettered-around : (marks : List (Option ℕ)) (a b : ℕ) (between xs ys : List Line) → map bare xs ≡ map bare ys →
-    lettered marks 0 (around a b between xs) ≡ lettered marks 0 (around a b between ys)
-lettered-around marks a b between xs ys h =
-    sym (lettered-bare marks 0 (around a b between xs))
-    ∙ ap (λ t. lettered marks 0 t) (bare-around a b between xs ∙ ap (λ t. around a b (map bare between) t) h ∙ sym (bare-around a b between ys))
-    ∙ lettered-bare marks 0 (around a b between ys)
+-- the same lines but for their letters were the same before a change
+bare-before : (k : Kind) (xs ys : List Line) → map bare xs ≡ map bare ys → map bare (lines_before k xs) ≡ map bare (lines_before k ys)
+bare-before (kind.Replaced from entered removed) xs ys h =
+    bare-exchanged from (from + entered) removed.items xs
+    ∙ ap (exchanged from (from + entered) (map bare removed.items)) h
+    ∙ sym (bare-exchanged from (from + entered) removed.items ys)
+bare-before (kind.Moved from to place) xs ys h =
+    bare-carried place (place + (to - from)) from xs
+    ∙ ap (carried place (place + (to - from)) from) h
+    ∙ sym (bare-carried place (place + (to - from)) from ys)
+
+lettered-same : (marks : List (Option ℕ)) (xs ys : List Line) → map bare xs ≡ map bare ys → lettered marks 0 xs ≡ lettered marks 0 ys
+lettered-same marks xs ys h = sym (lettered-bare marks 0 xs) ∙ ap (lettered marks 0) h ∙ lettered-bare marks 0 ys
 
 -- a letter that marks another line changes nothing of what undo would bring back
 pub past-marked : (c : Option Change) (place letter : ℕ) (lines : List Line) → past_of c (marked_at place letter lines) ≡ past_of c lines
 past-marked None place letter lines = refl
 past-marked (Some c) place letter lines =
     ap (λ t. Was (record { lines = t; current = c.current }))
-    (lettered-around c.marks c.at (c.at + c.entered) c.removed.items (marked_at place letter lines) lines (bare-marked_at place letter lines))
+    (lettered-same c.marks (lines_before c.kind (marked_at place letter lines)) (lines_before c.kind lines)
+    (bare-before c.kind (marked_at place letter lines) lines (bare-marked_at place letter lines)))

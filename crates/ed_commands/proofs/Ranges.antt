@@ -1,7 +1,7 @@
 -- Lists into which elements are put, and out of which a range is taken, place by place.
-use Rattle.std.proofs.Common.{◌≡◌, ℕ, suc, ◌+◌, ◌-◌, ◌<◌, ◌≤◌, List, [], ◌∷◌, ◌++◌, take, drop, length, map, get_or, reverse, refl, sym, ap, ◌∙◌, arith, append_assoc}
+use Rattle.std.proofs.Common.{◌≡◌, ℕ, suc, ◌+◌, ◌-◌, ◌<◌, ◌≤◌, List, [], ◌∷◌, ◌++◌, take, drop, length, get_or, reverse, refl, sym, ap, ◌∙◌, arith, append_assoc}
 use Rattle.std.specs.Prelude.{remove, insert}
-use Rattle.std.proofs.lemmas.List.{map_more, drop_more, length-take-le, length-map, reverse-append, take-append-le, drop_at, take-take, get_or_append_left, get_or-take}
+use Rattle.std.proofs.lemmas.List.{drop_more, length-take-le, reverse-append, take-append-le, drop_at, take-take, get_or_append_left, get_or-take}
 use Rattle.std.proofs.lemmas.List.Edits.{insert-append_right}
 
 -- an element put behind the second of three parts
@@ -10,14 +10,6 @@ insert-between xs ys zs n x h =
     insert-append_right xs (ys ++ zs) (length xs) n x refl (omega arith)
     ∙ ap (λ t. xs ++ t) (insert-append_right ys zs (length ys) (n - length xs) x refl (omega arith))
     ∙ rw (let e : n - length xs - length ys ≡ 0 = omega arith in e) (ap (λ t. xs ++ t) (sym (append_assoc ys (x ∷ []) zs)))
-
--- one more of the elements that a function makes of a list, behind those that are put
-pub put-more : {X Y : Type 0} (f : Y → X) (before : List X) (at i place : ℕ) (ys : List Y) (d : Y) → at ≤ length before → i < length ys → place ≡ at + i →
-    insert (take at before ++ (map f (take i ys) ++ drop at before)) place (f (get_or ys i d)) ≡ take at before ++ (map f (take (i + 1) ys) ++ drop at before)
-put-more f before at i place ys d h k e =
-    insert-between (take at before) (map f (take i ys)) (drop at before) place (f (get_or ys i d))
-    (omega (arith, length-take-le at before h, length-map (take i ys) f, length-take-le i ys (omega arith)))
-    ∙ ap (λ t. take at before ++ (t ++ drop at before)) (sym (map_more f ys i d k))
 
 -- the last element of the first part taken out
 pub remove-last : {X : Type 0} (xs ys : List X) (i j : ℕ) → j ≡ i + 1 → j ≤ length xs → remove (take j xs ++ ys) i ≡ take i xs ++ ys
@@ -40,12 +32,3 @@ taken-more taken part x i j d e h r k =
     ∙ ap (λ t. x ∷ t) (r ∙ ap (λ n. drop n part) e)
     ∙ ap (λ t. t ∷ drop (i + 1) part) k
     ∙ sym (drop_more part i d h)
-
--- a turn of a loop that puts what a function makes of a list, first to last
-pub put-turn : {X Y : Type 0} (f : Y → X) (before now after : List X) (at i place : ℕ) (ys : List Y) (d : Y) (x : X) →
-    now ≡ take at before ++ (map f (take i ys) ++ drop at before) → after ≡ insert now place x → x ≡ f (get_or ys i d) →
-    at ≤ length before → i < length ys → place ≡ at + i →
-    after ≡ take at before ++ (map f (take (i + 1) ys) ++ drop at before)
-put-turn f before now after at i place ys d x n a e h k p =
-    a ∙ ap (λ t. insert t place x) n ∙ ap (λ t. insert (take at before ++ (map f (take i ys) ++ drop at before)) place t) e
-    ∙ put-more f before at i place ys d h k p

@@ -1,10 +1,10 @@
 -- An editor as a value: what it holds, and the fault that it has failed by.
-use Rattle.std.specs.Prelude.{ℕ, ◌≡◌, ◌≢◌, ◌+◌, ◌≤◌, List, [], ◌∷◌, ◌++◌, take, drop, Option, Some, None, Result, Ok, Err, MatchResult}
-use Rattle.ed_base.specs.Buffer.{Line}
+use Rattle.std.specs.Prelude.{ℕ, ◌≡◌, ◌≢◌, ◌+◌, ◌-◌, ◌≤◌, true, false, ◌&&◌, List, [], ◌∷◌, ◌++◌, map, take, drop, nat_le, Option, Some, None, Result, Ok, Err, MatchResult}
+use Rattle.ed_base.specs.Buffer.{Line, plain_line, texts}
 use Rattle.ed_base.specs.declared.fault.Fault.{Fault}
-use Rattle.ed_base.specs.declared.fault.Fault.TheVariants.{Memory}
+use Rattle.ed_base.specs.declared.fault.Fault.TheVariants.{Destination, Memory}
 use Rattle.line_store.specs.Marks.{lettered}
-use Rattle.ed_syntax.specs.States.{State, Kept, Past, Nothing, Was, last, opening}
+use Rattle.ed_syntax.specs.States.{State, Kept, Past, Nothing, Was, last, inserted, opening}
 use Rattle.ed_syntax.specs.Commands as ed
 use Rattle.ed_syntax.specs.declared.verbs.Taking.{Taking}
 use Rattle.ed_syntax.specs.declared.verbs.Taking.TheVariants as takes
@@ -12,11 +12,14 @@ use Rattle.ed_syntax.specs.Verbs.{taking, default, given_or, target_of}
 use Rattle.ed_syntax.specs.Values.{◌>>◌, values}
 use Rattle.ed_syntax.specs.Ranges as ranges
 use Rattle.ed_syntax.specs.Ranges.{spanned}
+use Rattle.ed_syntax.specs.Effects.{place_left}
 use Rattle.ed_syntax.specs.Applied as applied
 use Rattle.ed_syntax.specs.Applied.{Effect, Makes, Asks, settled, suffix_written, targeted}
 use Rattle.ed_commands.specs.declared.editor.Reply.{Reply}
 use Rattle.ed_commands.specs.declared.editor.Reply.TheVariants as reply
 use Rattle.ed_commands.specs.declared.editor.change.Change.{Change}
+use Rattle.ed_commands.specs.declared.editor.change.Kind.{Kind}
+use Rattle.ed_commands.specs.declared.editor.change.Kind.TheVariants as kind
 use Rattle.ed_commands.specs.declared.editor.addressing.Addressed.{Addressed}
 use Rattle.ed_commands.specs.declared.editor.addressing.Span.{Span}
 use Rattle.ed_commands.specs.declared.editor.addressing.Values.{Values}
@@ -62,12 +65,26 @@ failure_of (Some fault) result = Some fault
 failure_of None (Ok r) = None
 failure_of None (Err fault) = Some fault
 
+-- the lines behind line a up to line b
+abbrev pub block : (a b : ℕ) → List Line → List Line
+block a b lines = drop a (take b lines)
+
+-- other lines in place of those behind line a up to line b
+abbrev pub exchanged : (a b : ℕ) → List Line → List Line → List Line
+exchanged a b new lines = take a lines ++ (new ++ drop b lines)
+
+-- the lines behind line a up to line b behind this line of the others
+abbrev pub carried : (a b place : ℕ) → List Line → List Line
+carried a b place lines = inserted place (block a b lines) (exchanged a b [] lines)
+
+-- The lines before a change, told from those behind it. What was moved is carried back.
+abbrev pub lines_before : Kind → List Line → List Line
+lines_before (kind.Replaced from entered removed) lines = exchanged from (from + entered) removed.items lines
+lines_before (kind.Moved from to place) lines = carried place (place + (to - from)) from lines
+
 -- the buffer before a change, told from the lines behind it, whose letters may be other ones
 abbrev pub before_change : Change → List Line → Kept
-before_change c lines = record {
-  lines = lettered c.marks 0 (take c.at lines ++ (c.removed.items ++ drop (c.at + c.entered) lines));
-  current = c.current;
-}
+before_change c lines = record { lines = lettered c.marks 0 (lines_before c.kind lines); current = c.current }
 
 -- what undo would bring back, told from the last change
 abbrev pub past_of : Option Change → List Line → Past
@@ -112,6 +129,14 @@ Fits takes.FirstPlace x last = (1 ≤ x.first) × (x.first ≤ last + 1)
 Fits takes.OneLine x last = (1 ≤ x.first) × (x.first ≤ x.last) × (x.last ≤ last)
 Fits takes.Lines x last = (1 ≤ x.first) × (x.first ≤ x.last) × (x.last ≤ last)
 Fits takes.Range x last = (1 ≤ x.first) × (x.first ≤ x.last) × (x.last ≤ last)
+
+-- lines that no letter marks
+abbrev pub AreNew : List Line → Type 0
+AreNew lines = map plain_line (texts lines) ≡ lines
+
+-- the line of the others behind which the lines of a span go, where the target isn't one of them
+abbrev pub place_beside : ranges.Span → (target : ℕ) → Result ℕ Fault
+place_beside x target = elim (nat_le x.first target && nat_le target x.last) [ true ↦ Err Destination | false ↦ Ok (place_left x target) ]
 
 -- the buffer as undo keeps it, where this line was current
 abbrev pub kept_at : ℕ → State → Kept

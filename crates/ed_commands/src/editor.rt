@@ -9,10 +9,13 @@ ghost use Rattle.ed_syntax.specs.Runs.{loaded};
 ghost use Rattle.ed_commands.specs.Editors.{Steps, Applied, opening_value, failure_of};
 
 mod addressing;
+mod blocks;
 mod change;
 mod effects;
+mod entering;
 mod forms;
 mod lines;
+mod rearranging;
 mod searching;
 
 use change::Change;

@@ -4,6 +4,7 @@ ghost use Rattle.ed_base.specs.Lines.{IsLine};
 ghost use Rattle.ed_base.specs.Buffer.{plain_line, no_letters};
 
 use crate::marks::LETTERS;
+use ed_base::Bytes;
 use std::alloc::{AllocError, Global};
 use std::marker::Model;
 
@@ -57,12 +58,20 @@ impl Line {
         requires line { IsLine bytes.now }
         ensures value { IfOk result (λ line. line ≡ plain_line bytes.now) }
     {
-        Ok(Line {
+        Ok(Line::from_bytes(Bytes::from_slice(alloc, bytes)?))
+    }
+
+    /// The line of these bytes, without letters or flag. It takes no memory.
+    pub fn from_bytes(bytes: Bytes) -> Line
+        requires line { IsLine bytes }
+        ensures value { result ≡ plain_line bytes }
+    {
+        Line {
             bytes: LineBytes {
-                items: bytes.to_vec(alloc)?,
+                items: bytes.into_vec(),
             },
             letters: [false; LETTERS],
-        })
+        }
     }
 
     /// Its bytes, without the newline.

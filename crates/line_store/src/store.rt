@@ -1,5 +1,6 @@
 //! A list of lines, however it is kept.
 ghost use Rattle.std.specs.Prelude.{◌≡◌, ◌+◌, ◌<◌, ◌≤◌, ℕ, List, [], length, insert, remove, slice_index_or, IfOk, IfErr, OnOk, OnErr, IsOk};
+ghost use Rattle.ed_base.specs.Lines.{IsLine};
 ghost use Rattle.ed_base.specs.Buffer.{Line, plain_line, marked_at, marked_place, AtMostOnce, KnowLetters, SharesNoLetter};
 
 use crate::Line;
@@ -25,7 +26,8 @@ pub trait LineStore: Drop {
     /// The bytes of a line.
     fn text(&self, i: usize) -> &[u8]
         requires place { i < length (lines self.now) }
-        ensures value { result.now ≡ (slice_index_or (lines self.now) i (plain_line [])).bytes };
+        ensures value { result.now ≡ (slice_index_or (lines self.now) i (plain_line [])).bytes }
+        ensures line { IsLine result.now };
 
     /// Makes room for `n` more lines.
     fn reserve(&mut self, n: usize) -> Result<(), AllocError>

@@ -11,11 +11,11 @@ ghost use Rattle.ed_commands.specs.Editors.{Fits, Leaves, kept_at, span_value, s
 
 use crate::editor::Editor;
 use crate::editor::addressing::{Addressed, Span};
-use crate::editor::change::Change;
-use crate::editor::lines::{put_lines, take_lines, write_lines};
+use crate::editor::blocks::new_lines;
+use crate::editor::lines::write_lines;
 use ed_base::{Bytes, Fault, Letter, Text, push_number};
 use ed_syntax::{Form, Verb};
-use line_store::{LineStore, Marks};
+use line_store::LineStore;
 use std::alloc::AllocError;
 
 impl<S: LineStore> Editor<S> {
@@ -54,27 +54,12 @@ impl<S: LineStore> Editor<S> {
             (self.new.state ≡ settled (kept_at before self.old.state) (effect.append text.now (span_value span) self.old.state)) }
         ensures failed { self.new.failed ≡ self.old.failed }
     {
-        if text.is_empty() {
-            self.current = span.first;
-            return Ok(());
-        }
-        let change = Change {
-            at: span.first,
-            entered: text.len(),
-            removed: Vec::new(self.alloc),
-            current: before,
-            marks: Marks::of(&self.store),
-        };
-        let behind = self.store.len() - span.first;
-        put_lines(self.alloc, text.as_slice(), span.first, &mut self.store)?;
-        self.current = self.store.len() - behind;
-        self.changed = true;
-        self.change = Some(change);
-        Ok(())
+        let lines = new_lines(self.alloc, text.as_slice())?;
+        self.enter(span.first, lines, before)
     }
 
-    // `d`: the lines of the span go out, into what undo keeps.
-    fn delete(&mut self, span: Span, before: usize) -> Result<(), AllocError>
+    /// `d`: the lines of the span go out, into what undo keeps.
+    pub fn delete(&mut self, span: Span, before: usize) -> Result<(), AllocError>
         requires first { 1 ≤ span.first }
         requires order { span.first ≤ span.last }
         requires last { span.last ≤ last self.old.state }
@@ -82,17 +67,8 @@ impl<S: LineStore> Editor<S> {
             (self.new.state ≡ settled (kept_at before self.old.state) (effect.delete (span_value span) self.old.state)) }
         ensures failed { self.new.failed ≡ self.old.failed }
     {
-        let marks = Marks::of(&self.store);
-        let removed = take_lines(self.alloc, span, &mut self.store)?;
-        self.change = Some(Change {
-            at: span.first - 1,
-            entered: 0,
-            removed,
-            current: before,
-            marks,
-        });
+        self.replace(span.first - 1, span.last, Vec::new(self.alloc), before)?;
         self.current = span.first.min(self.store.len());
-        self.changed = true;
         Ok(())
     }
 

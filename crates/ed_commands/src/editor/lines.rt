@@ -48,31 +48,6 @@ fn plain_size<S: LineStore>(span: Span, store: &S) -> usize
     size
 }
 
-/// Puts lines behind line `at`, the first one first.
-pub fn put_lines<S: LineStore>(
-    alloc: Global,
-    texts: &[Bytes],
-    at: usize,
-    store: &mut S,
-) -> Result<(), AllocError>
-    requires place { at ≤ length (S.lines store.old) }
-    requires lines { AreLines texts.now }
-    ensures inserted { OnOk result (S.lines store.new ≡ inserted at (map plain_line texts.now) (S.lines store.old)) }
-    ensures no_fewer { length (S.lines store.old) ≤ length (S.lines store.new) }
-{
-    // Places are counted from the end, where no sum can be too great.
-    let behind = store.len() - at;
-    store.reserve(texts.len())?;
-    for text in texts {
-        let line = Line::new(alloc, text.as_slice())?;
-        match store.put(store.len() - behind, line) {
-            Ok(()) => {}
-            Err(_refused) => return Err(AllocError),
-        }
-    }
-    Ok(())
-}
-
 /// Puts the lines of a file's bytes behind all others.
 pub fn put_file<S: LineStore>(alloc: Global, bytes: &[u8], store: &mut S) -> Result<(), AllocError>
     ensures appended { OnOk result (S.lines store.new ≡ S.lines store.old ++ map plain_line (lines_of bytes.now)) }
@@ -89,26 +64,4 @@ pub fn put_file<S: LineStore>(alloc: Global, bytes: &[u8], store: &mut S) -> Res
         left = rest;
     }
     Ok(())
-}
-
-/// Takes the lines of a span out, the last one first, so that at the end of a store nothing has to move. Where there is no
-/// room to hand them back, the store is as before.
-pub fn take_lines<S: LineStore>(
-    alloc: Global,
-    span: Span,
-    store: &mut S,
-) -> Result<Vec<Line>, AllocError>
-    requires first { 1 ≤ span.first }
-    requires order { span.first ≤ span.last }
-    requires last { span.last ≤ length (S.lines store.old) }
-    ensures taken { IfOk result (λ taken. taken.items ≡ between span.first span.last (S.lines store.old)) }
-    ensures left { OnOk result (S.lines store.new ≡ replaced span.first span.last [] (S.lines store.old)) }
-    ensures unchanged { OnErr result (S.lines store.new ≡ S.lines store.old) }
-{
-    let mut taken = Vec::with_capacity(alloc, span.last - (span.first - 1))?;
-    for i in (span.first - 1..span.last).rev() {
-        taken.push_reserved(store.take(i));
-    }
-    taken.reverse();
-    Ok(taken)
 }

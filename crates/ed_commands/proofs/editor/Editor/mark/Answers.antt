@@ -5,7 +5,7 @@ use Rattle.ed_syntax.specs.States.{State}
 use Rattle.ed_syntax.specs.Ranges as ranges
 use Rattle.ed_syntax.specs.Effects as effect
 use Rattle.ed_commands.specs.Editors.{past_of}
-use Rattle.ed_commands.proofs.Commanding.{marked}
+use Rattle.ed_commands.proofs.Changes.{marked}
 use Rattle.ed_commands.proofs.editor.Editor.mark.Goals as goal
 
 pub returns-clause-exact : goal.returns-clause-exact

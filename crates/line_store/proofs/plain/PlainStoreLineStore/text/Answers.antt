@@ -15,4 +15,5 @@ returns c =
     record {
       value = c.as_slice.ensures.value ∙ sym (ap (λ l. l.bytes) (plain-at e.marks e.items.items c.args.i c.index.result.now place c.index.ensures))
           ∙ ap (λ v. (get_or (lines_of v) c.args.i (plain_line [])).bytes) c.self.view_is;
+      line = c.as_slice.ensures.line;
     }

@@ -3,13 +3,13 @@ use Rattle.std.proofs.Common.{◌-◌, ◌<◌, ◌∙◌, ap, arith, [], take, 
 use Rattle.ed_base.specs.Buffer.{plain_line}
 use Rattle.std.proofs.lemmas.List.{length-take-le}
 use Rattle.ed_commands.proofs.Ranges.{remove-last, last-of_front, taken-more}
-use Rattle.ed_commands.proofs.editor.lines.take_lines.Goals as goal
+use Rattle.ed_commands.proofs.editor.blocks.take_lines.Goals as goal
 
 pub loop-i-preserved : goal.loop-i-preserved
 loop-i-preserved g c =
     let before = g.S.LineStore.lines c.args.store.now in
     let i = c.loop-i.i - 1 in
-    let b = c.args.span.last in
+    let b = c.args.to in
     let behind = drop b before in
     let some : 0 < c.loop-i.i = omega arith in
     record {
@@ -22,4 +22,5 @@ loop-i-preserved g c =
           ∙ last-of_front before behind i c.loop-i.i b (plain_line []) (omega arith) (omega arith) (omega arith));
       count = omega arith;
       room = omega arith;
+      spare = omega arith;
     }

@@ -1,0 +1,109 @@
+-- Blocks of lists: exchanged for other elements, carried to another place, and brought back.
+use Rattle.std.proofs.Common.{◌≡◌, ℕ, ◌+◌, ◌-◌, ◌<◌, ◌≤◌, List, [], ◌∷◌, ◌++◌, take, drop, length, map, get_or, sym, ap, ◌∙◌, arith, append_assoc}
+use Rattle.std.specs.List.{concat}
+use Rattle.std.proofs.lemmas.List.{take_at, drop_at, take-take, take-append-drop, drop-append-le, length-take-le, length-drop, length-append, take_more, map-append, drop_all, length-take, append-nil}
+use Rattle.std.proofs.lemmas.List.Folds.{concat-append}
+use Rattle.ed_base.specs.Buffer.{Line, plain_line, texts}
+
+-- the elements behind place a up to place b
+abbrev pub part : {X : Type 0} → (a b : ℕ) → List X → List X
+part a b xs = drop a (take b xs)
+
+-- other elements in place of those
+abbrev pub other : {X : Type 0} → (a b : ℕ) → List X → List X → List X
+other a b new xs = take a xs ++ (new ++ drop b xs)
+
+-- those elements behind this place of the others
+abbrev pub carried : {X : Type 0} → (a b place : ℕ) → List X → List X
+carried a b place xs = other place place (part a b xs) (other a b [] xs)
+
+pub length-part : {X : Type 0} (a b : ℕ) (xs : List X) → b ≤ length xs → length (part a b xs) ≡ b - a
+length-part a b xs h = length-drop a (take b xs) ∙ ap (λ n. n - a) (length-take-le b xs h)
+
+pub length-other : {X : Type 0} (a b : ℕ) (new xs : List X) → a ≤ b → b ≤ length xs → length (other a b new xs) + (b - a) ≡ length xs + length new
+length-other a b new xs h k =
+    omega (arith, length-append (take a xs) (new ++ drop b xs), length-append new (drop b xs), length-take-le a xs (omega arith), length-drop b xs)
+
+-- one more element of a part
+pub part-more : {X : Type 0} (a i : ℕ) (xs : List X) (d : X) → a ≤ i → i < length xs → part a (i + 1) xs ≡ part a i xs ++ get_or xs i d ∷ []
+part-more a i xs d h k =
+    ap (drop a) (take_more xs i d k) ∙ drop-append-le a (take i xs) (get_or xs i d ∷ []) (omega (arith, length-take-le i xs (omega arith)))
+
+-- the elements before a place are those before an earlier one, and those between
+pub front : {X : Type 0} (a b : ℕ) (xs : List X) → a ≤ b → take a xs ++ part a b xs ≡ take b xs
+front a b xs h = ap (λ t. t ++ part a b xs) (sym (take-take a b xs h)) ∙ take-append-drop a (take b xs)
+
+-- a part stands between what is before it and what is behind it
+pub whole : {X : Type 0} (a b : ℕ) (xs : List X) → a ≤ b → take a xs ++ (part a b xs ++ drop b xs) ≡ xs
+whole a b xs h =
+    sym (append_assoc (take a xs) (part a b xs) (drop b xs))
+    ∙ ap (λ t. t ++ drop b xs) (front a b xs h)
+    ∙ take-append-drop b xs
+
+-- the elements behind a place are those up to a later one, and those behind it
+pub rear : {X : Type 0} (a b : ℕ) (xs : List X) → a ≤ b → b ≤ length xs → drop a xs ≡ part a b xs ++ drop b xs
+rear a b xs h k =
+    ap (drop a) (sym (take-append-drop b xs)) ∙ drop-append-le a (take b xs) (drop b xs) (omega (arith, length-take-le b xs k))
+
+-- elements put where a part was
+pub put-there : {X : Type 0} (a b : ℕ) (new xs : List X) → a ≤ length xs → other a a new (other a b [] xs) ≡ other a b new xs
+put-there a b new xs h =
+    ap (λ t. t ++ (new ++ drop a (take a xs ++ drop b xs))) (take_at (take a xs) (drop b xs) a (length-take-le a xs h))
+    ∙ ap (λ t. take a xs ++ (new ++ t)) (drop_at (take a xs) (drop b xs) a (length-take-le a xs h))
+
+-- what stood between the front and the back, put there again
+taken-back : {X : Type 0} (front new old back : List X) (a b : ℕ) → length front ≡ a → a + length new ≡ b →
+    other a b old (front ++ (new ++ back)) ≡ front ++ (old ++ back)
+taken-back front new old back a b h k =
+    ap (λ t. t ++ (old ++ drop b (front ++ (new ++ back)))) (take_at front (new ++ back) a h)
+    ∙ ap (λ t. front ++ (old ++ t)) (ap (drop b) (sym (append_assoc front new back)) ∙ drop_at (front ++ new) back b (length-append front new ∙ omega arith))
+
+part-there : {X : Type 0} (front new back : List X) (a b : ℕ) → length front ≡ a → a + length new ≡ b → part a b (front ++ (new ++ back)) ≡ new
+part-there front new back a b h k =
+    ap (λ t. drop a (take b t)) (sym (append_assoc front new back))
+    ∙ ap (drop a) (take_at (front ++ new) back b (length-append front new ∙ omega arith))
+    ∙ drop_at front new a h
+
+-- elements that were put in place of a part, taken out again for it
+pub put-back : {X : Type 0} (a b n : ℕ) (new xs : List X) → a ≤ b → b ≤ length xs → length new ≡ n → other a (a + n) (part a b xs) (other a b new xs) ≡ xs
+put-back a b n new xs h k e =
+    taken-back (take a xs) new (part a b xs) (drop b xs) a (a + n) (length-take-le a xs (omega arith)) (omega arith)
+    ∙ whole a b xs h
+
+-- a part that was carried, carried back
+pub carried-back : {X : Type 0} (a b place : ℕ) (xs : List X) → a ≤ b → b ≤ length xs → place + (b - a) ≤ length xs →
+    carried place (place + (b - a)) a (carried a b place xs) ≡ xs
+carried-back a b place xs h k l =
+    let left = other a b [] xs in
+    let moved = part a b xs in
+    let short : place ≤ length left = omega (arith, length-other a b [] xs h k) in
+    let at : length (take place left) ≡ place = length-take-le place left short in
+    let long : place + length moved ≡ place + (b - a) = ap (λ n. place + n) (length-part a b xs k) in
+    let others : other place (place + (b - a)) [] (carried a b place xs) ≡ left =
+    taken-back (take place left) moved [] (drop place left) place (place + (b - a)) at long ∙ take-append-drop place left in
+    let again : part place (place + (b - a)) (carried a b place xs) ≡ moved =
+    part-there (take place left) moved (drop place left) place (place + (b - a)) at long in
+    ap (λ t. other a a t (other place (place + (b - a)) [] (carried a b place xs))) again
+    ∙ ap (other a a moved) others
+    ∙ put-there a b moved xs (omega arith)
+    ∙ whole a b xs h
+
+pub part-none : {X : Type 0} (a : ℕ) (xs : List X) → part a a xs ≡ []
+part-none a xs = drop_all a (take a xs) (omega (arith, length-take a xs))
+
+-- one more line's text copied, and joined to the others
+pub copied-more : (a i : ℕ) (lines : List Line) (line : Line) → a ≤ i → i < length lines → line ≡ plain_line (get_or lines i (plain_line [])).bytes →
+    map plain_line (texts (part a i lines)) ++ line ∷ [] ≡ map plain_line (texts (part a (i + 1) lines))
+copied-more a i lines line h k e =
+    ap (λ t. map plain_line (texts (part a i lines)) ++ t ∷ []) e
+    ∙ sym (ap (λ t. map plain_line (texts t)) (part-more a i lines (plain_line []) h k)
+    ∙ ap (map plain_line) (map-append (λ l. l.bytes) (part a i lines) (get_or lines i (plain_line []) ∷ []))
+    ∙ map-append plain_line (texts (part a i lines)) ((get_or lines i (plain_line [])).bytes ∷ []))
+
+pub joined-more : (a i : ℕ) (lines : List Line) (text : List ℕ) → a ≤ i → i < length lines → text ≡ (get_or lines i (plain_line [])).bytes →
+    concat (texts (part a (i + 1) lines)) ≡ concat (texts (part a i lines)) ++ text
+joined-more a i lines text h k e =
+    ap (λ t. concat (texts t)) (part-more a i lines (plain_line []) h k)
+    ∙ ap concat (map-append (λ l. l.bytes) (part a i lines) (get_or lines i (plain_line []) ∷ []))
+    ∙ concat-append (texts (part a i lines)) ((get_or lines i (plain_line [])).bytes ∷ [])
+    ∙ ap (λ t. concat (texts (part a i lines)) ++ t) (append-nil (get_or lines i (plain_line [])).bytes ∙ sym e)

@@ -1,0 +1,13 @@
+-- As many lines are put as the loop has passed.
+use Rattle.std.proofs.Common.{◌≡◌, ◌≤◌, ◌+◌, length}
+use Rattle.ed_syntax.specs.States.{inserted}
+use Rattle.ed_commands.proofs.editor.blocks.put_lines.Given as goal
+
+abbrev pub invariant-loop-line : goal.invariant-loop-line
+invariant-loop-line g l =
+    let lines = g.S.LineStore.lines in
+    record {
+      put : lines l.store ≡ inserted l.at l.yielded (lines l.fn.store);
+      place : length (lines l.store) ≡ l.at + (length l.yielded + l.behind);
+      room : length l.fn.lines.items ≤ g.S.LineStore.spare l.store + length l.yielded;
+    }

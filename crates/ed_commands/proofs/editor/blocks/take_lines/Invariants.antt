@@ -1,0 +1,15 @@
+-- The lines from i on are taken, the last one first.
+use Rattle.std.proofs.Common.{◌≡◌, ◌+◌, ◌≤◌, ◌++◌, drop, take, reverse}
+use Rattle.std.specs.Prelude.{vec_len, vec_capacity}
+use Rattle.ed_commands.proofs.editor.blocks.take_lines.Given as goal
+
+abbrev pub invariant-loop-i : goal.invariant-loop-i
+invariant-loop-i g l =
+    let lines = g.S.LineStore.lines in
+    record {
+      left : lines l.store ≡ take l.i (lines l.fn.store) ++ drop l.fn.to (lines l.fn.store);
+      taken : reverse l.taken.items ≡ drop l.i (take l.fn.to (lines l.fn.store));
+      count : vec_len l.taken + l.i ≡ l.fn.to;
+      room : l.fn.to ≤ vec_capacity l.taken + l.fn.from;
+      spare : g.S.LineStore.spare l.fn.store ≤ g.S.LineStore.spare l.store;
+    }

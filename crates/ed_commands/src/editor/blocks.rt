@@ -1,0 +1,210 @@
+//! Blocks of lines of a store: made, exchanged, carried to another place. A block is the lines behind line `from` up to line `to`.
+ghost use Rattle.std.specs.Prelude.{◌≡◌, ◌≢◌, ◌+◌, ◌-◌, ◌^◌, ◌<◌, ◌≤◌, [], length, map, min, max, insert, remove, slice_index_or, IfOk, IfErr, OnOk, OnErr, MatchResult};
+ghost use Rattle.std.specs.List.{concat};
+ghost use Rattle.ed_base.specs.declared.fault.Fault.TheVariants.{Memory};
+ghost use Rattle.ed_base.specs.Lines.{AreLines};
+ghost use Rattle.ed_base.specs.Buffer.{plain_line, texts};
+ghost use Rattle.ed_syntax.specs.States.{inserted};
+ghost use Rattle.ed_commands.specs.Editors.{AreNew, block, exchanged, carried, place_beside, span_value};
+
+use crate::editor::addressing::Span;
+use ed_base::{Bytes, Fault};
+use line_store::{Line, LineStore};
+use std::alloc::{AllocError, Global};
+
+/// New lines of these texts.
+pub fn new_lines(alloc: Global, texts: &[Bytes]) -> Result<Vec<Line>, AllocError>
+    requires lines { AreLines texts.now }
+    ensures value { IfOk result (λ lines. lines.items ≡ map plain_line texts.now) }
+{
+    let mut lines = Vec::with_capacity(alloc, texts.len())?;
+    for text in texts {
+        let line = Line::new(alloc, text.as_slice())?;
+        lines.push_reserved(line);
+    }
+    Ok(lines)
+}
+
+/// New lines of the texts of a block.
+pub fn copy_lines<S: LineStore>(
+    alloc: Global,
+    from: usize,
+    to: usize,
+    store: &S,
+) -> Result<Vec<Line>, AllocError>
+    requires order { from ≤ to }
+    requires last { to ≤ length (S.lines store.now) }
+    ensures value { IfOk result (λ lines. lines.items ≡ map plain_line (texts (block from to (S.lines store.now)))) }
+{
+    let mut lines = Vec::with_capacity(alloc, to - from)?;
+    for i in from..to {
+        let line = Line::new(alloc, store.text(i))?;
+        lines.push_reserved(line);
+    }
+    Ok(lines)
+}
+
+/// A new line of all the bytes of a block.
+pub fn join_lines<S: LineStore>(
+    alloc: Global,
+    from: usize,
+    to: usize,
+    store: &S,
+) -> Result<Line, AllocError>
+    requires order { from ≤ to }
+    requires last { to ≤ length (S.lines store.now) }
+    ensures value { IfOk result (λ line. line ≡ plain_line (concat (texts (block from to (S.lines store.now))))) }
+{
+    let mut bytes = Bytes::new(alloc);
+    bytes.reserve(text_size(from, to, store))?;
+    for i in from..to {
+        bytes.extend_from_slice(store.text(i))?;
+    }
+    Ok(Line::from_bytes(bytes))
+}
+
+// How many bytes the lines of a block have, or the greatest `usize` where that is more.
+fn text_size<S: LineStore>(from: usize, to: usize, store: &S) -> usize
+    requires order { from ≤ to }
+    requires last { to ≤ length (S.lines store.now) }
+    ensures value { result ≡ min (length (concat (texts (block from to (S.lines store.now))))) (2 ^ 64 - 1) }
+{
+    let mut size: usize = 0;
+    for i in from..to {
+        size = size.saturating_add(store.text(i).len());
+    }
+    size
+}
+
+/// Puts new lines in place of a block, which is handed back. Where there is no room for that, the store is as before.
+pub fn exchange<S: LineStore>(
+    alloc: Global,
+    from: usize,
+    to: usize,
+    lines: Vec<Line>,
+    store: &mut S,
+) -> Result<Vec<Line>, AllocError>
+    requires order { from ≤ to }
+    requires last { to ≤ length (S.lines store.old) }
+    requires new { AreNew lines.items }
+    ensures taken { IfOk result (λ taken. taken.items ≡ block from to (S.lines store.old)) }
+    ensures put { OnOk result (S.lines store.new ≡ exchanged from to lines.items (S.lines store.old)) }
+    ensures unchanged { OnErr result (S.lines store.new ≡ S.lines store.old) }
+{
+    store.reserve(lines.len())?;
+    let taken = take_lines(alloc, from, to, store)?;
+    put_lines(lines, from, store);
+    Ok(taken)
+}
+
+// Takes a block out, its last line first, so that at the end of a store nothing has to move. Where there is no room to hand
+// it back, the store is as before.
+fn take_lines<S: LineStore>(
+    alloc: Global,
+    from: usize,
+    to: usize,
+    store: &mut S,
+) -> Result<Vec<Line>, AllocError>
+    requires order { from ≤ to }
+    requires last { to ≤ length (S.lines store.old) }
+    ensures taken { IfOk result (λ taken. taken.items ≡ block from to (S.lines store.old)) }
+    ensures left { OnOk result (S.lines store.new ≡ exchanged from to [] (S.lines store.old)) }
+    ensures unchanged { OnErr result (S.lines store.new ≡ S.lines store.old) }
+    ensures keeps_room { S.spare store.old ≤ S.spare store.new }
+{
+    let mut taken = Vec::with_capacity(alloc, to - from)?;
+    for i in (from..to).rev() {
+        taken.push_reserved(store.take(i));
+    }
+    taken.reverse();
+    Ok(taken)
+}
+
+// Puts new lines behind line `at`, the first one first. There is room for them.
+fn put_lines<S: LineStore>(lines: Vec<Line>, at: usize, store: &mut S)
+    requires place { at ≤ length (S.lines store.old) }
+    requires new { AreNew lines.items }
+    requires room { length lines.items ≤ S.spare store.old }
+    ensures put { S.lines store.new ≡ inserted at lines.items (S.lines store.old) }
+{
+    // Places are counted from the end, where no sum can be too great.
+    let behind = store.len() - at;
+    for line in lines {
+        match store.put(store.len() - behind, line) {
+            Ok(()) => {}
+            Err(_refused) => unreachable!(),
+        }
+    }
+}
+
+/// Carries the lines of a span behind line `target`, with their letters, and tells the line of the others behind which they
+/// stand then. After an `Err` the store is as before.
+pub fn carry<S: LineStore>(span: Span, target: usize, store: &mut S) -> Result<usize, Fault>
+    requires first { 1 ≤ span.first }
+    requires order { span.first ≤ span.last }
+    requires last { span.last ≤ length (S.lines store.old) }
+    requires target { target ≤ length (S.lines store.old) }
+    ensures exact { MatchResult result
+        (λ place. (place_beside (span_value span) target ≡ Ok place)
+        × (S.lines store.new ≡ carried (span.first - 1) span.last place (S.lines store.old)))
+        (λ fault. fault ≢ Memory → place_beside (span_value span) target ≡ Err fault) }
+    ensures destination { IfErr (place_beside (span_value span) target) (λ fault. result ≡ Err fault) }
+    ensures within { IfOk result (λ place. place + (span.last - (span.first - 1)) ≤ max span.last target) }
+    ensures unchanged { OnErr result (S.lines store.new ≡ S.lines store.old) }
+{
+    let from = span.first - 1;
+    let count = span.last - from;
+    if target <= from {
+        store.reserve(count)?;
+        carry_up(from, span.last, target, store);
+        return Ok(target);
+    }
+    if target <= span.last {
+        return Err(Fault::Destination);
+    }
+    store.reserve(count)?;
+    carry_down(from, span.last, target, store);
+    Ok(target - count)
+}
+
+// Carries a block behind a line in front of it, its first line first.
+fn carry_up<S: LineStore>(from: usize, to: usize, place: usize, store: &mut S)
+    requires place { place ≤ from }
+    requires order { from ≤ to }
+    requires last { to ≤ length (S.lines store.old) }
+    requires room { to - from ≤ S.spare store.old }
+    ensures carried { S.lines store.new ≡ carried from to place (S.lines store.old) }
+{
+    for i in from..to {
+        carry_line(i, place + (i - from), store);
+    }
+}
+
+// Carries a block behind a line that lies behind it, its last line first.
+fn carry_down<S: LineStore>(from: usize, to: usize, target: usize, store: &mut S)
+    requires order { from ≤ to }
+    requires target { to ≤ target }
+    requires last { target ≤ length (S.lines store.old) }
+    requires room { to - from ≤ S.spare store.old }
+    ensures carried { S.lines store.new ≡ carried from to (target - (to - from)) (S.lines store.old) }
+{
+    for i in (from..to).rev() {
+        carry_line(i, target - (to - i), store);
+    }
+}
+
+// Carries one line to another place, counted without it. There is room for one.
+fn carry_line<S: LineStore>(from: usize, to: usize, store: &mut S)
+    requires from { from < length (S.lines store.old) }
+    requires to { to < length (S.lines store.old) }
+    requires room { 0 < S.spare store.old }
+    ensures carried { S.lines store.new
+        ≡ insert (remove (S.lines store.old) from) to (slice_index_or (S.lines store.old) from (plain_line [])) }
+    ensures spends_one { S.spare store.old ≤ S.spare store.new + 1 }
+{
+    let line = store.take(from);
+    match store.put(to, line) {
+        Ok(()) => {}
+        Err(_refused) => unreachable!(),
+    }
+}

@@ -1,0 +1,80 @@
+//! Lines of the buffer that are joined, moved and copied: `j`, `m` and `t`.
+ghost use Rattle.std.specs.Prelude.{◌≡◌, ◌≢◌, ◌≤◌, IfErr, IsOkAnd, MatchResult, OnErr, OnOk};
+ghost use Rattle.ed_base.specs.declared.fault.Fault.TheVariants.{Memory};
+ghost use Rattle.ed_syntax.specs.States.{last};
+ghost use Rattle.ed_syntax.specs.Effects as effect;
+ghost use Rattle.ed_syntax.specs.Applied.{settled};
+ghost use Rattle.ed_commands.specs.Editors.{kept_at, span_value};
+
+use crate::editor::Editor;
+use crate::editor::addressing::Span;
+use crate::editor::blocks::{carry, copy_lines, join_lines};
+use crate::editor::change::{Change, Kind};
+use ed_base::Fault;
+use line_store::{LineStore, Marks};
+use std::alloc::AllocError;
+
+impl<S: LineStore> Editor<S> {
+    /// `j`: the lines of the span become one. A single line stays as it is.
+    pub fn join(&mut self, span: Span, before: usize) -> Result<(), AllocError>
+        requires first { 1 ≤ span.first }
+        requires order { span.first ≤ span.last }
+        requires last { span.last ≤ last self.old.state }
+        ensures exact { OnOk result
+            (self.new.state ≡ settled (kept_at before self.old.state) (effect.join (span_value span) self.old.state)) }
+        ensures failed { self.new.failed ≡ self.old.failed }
+    {
+        if span.first == span.last {
+            return Ok(());
+        }
+        let joined = join_lines(self.alloc, span.first - 1, span.last, &self.store)?;
+        let mut lines = Vec::with_capacity(self.alloc, 1)?;
+        lines.push_reserved(joined);
+        self.replace(span.first - 1, span.last, lines, before)
+    }
+
+    /// `m`: the lines of the span go behind the target line, with their letters. Where they don't, nothing has changed.
+    pub fn move_lines(&mut self, span: Span, target: usize, before: usize) -> Result<(), Fault>
+        requires first { 1 ≤ span.first }
+        requires order { span.first ≤ span.last }
+        requires last { span.last ≤ last self.old.state }
+        requires target { target ≤ last self.old.state }
+        ensures exact { MatchResult result
+            (λ _. IsOkAnd (effect.move (span_value span) target self.old.state)
+            (λ outcome. self.new.state ≡ settled (kept_at before self.old.state) outcome))
+            (λ fault. fault ≢ Memory → effect.move (span_value span) target self.old.state ≡ Err fault) }
+        ensures destination { IfErr (effect.move (span_value span) target self.old.state) (λ fault. result ≡ Err fault) }
+        ensures unchanged { OnErr result (self.new ≡ self.old) }
+        ensures failed { self.new.failed ≡ self.old.failed }
+    {
+        let marks = Marks::of(&self.store);
+        let place = carry(span, target, &mut self.store)?;
+        let from = span.first - 1;
+        self.current = place + (span.last - from);
+        self.changed = true;
+        self.change = Some(Change {
+            kind: Kind::Moved {
+                from,
+                to: span.last,
+                place,
+            },
+            current: before,
+            marks,
+        });
+        Ok(())
+    }
+
+    /// `t`: copies of the lines of the span go behind the target line, without letters.
+    pub fn copy(&mut self, span: Span, target: usize, before: usize) -> Result<(), AllocError>
+        requires first { 1 ≤ span.first }
+        requires order { span.first ≤ span.last }
+        requires last { span.last ≤ last self.old.state }
+        requires target { target ≤ last self.old.state }
+        ensures exact { OnOk result
+            (self.new.state ≡ settled (kept_at before self.old.state) (effect.copy (span_value span) target self.old.state)) }
+        ensures failed { self.new.failed ≡ self.old.failed }
+    {
+        let copies = copy_lines(self.alloc, span.first - 1, span.last, &self.store)?;
+        self.enter(target, copies, before)
+    }
+}
