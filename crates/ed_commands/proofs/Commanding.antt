@@ -5,7 +5,7 @@ use Rattle.ed_base.specs.declared.fault.Fault.{Fault}
 use Rattle.ed_base.specs.declared.fault.Fault.TheVariants.{Memory}
 use Rattle.ed_syntax.specs.declared.request.Answer.{Answer}
 use Rattle.ed_syntax.specs.Commands as ed
-use Rattle.ed_syntax.specs.States.{State, Kept, kept}
+use Rattle.ed_syntax.specs.States.{State, Kept, kept, last}
 use Rattle.ed_syntax.specs.declared.verbs.Taking.{Taking}
 use Rattle.ed_syntax.specs.Verbs.{taking, target_of}
 use Rattle.ed_syntax.specs.Values.{◌>>◌}
