@@ -107,6 +107,19 @@ impl Marks {
         }
     }
 
+    /// A line has come in at this place among `count` others. Behind them all it moves no letter, so that one without letters,
+    /// as each of a file that is read, costs no look at the places.
+    pub(crate) fn open_among(&mut self, at: usize, count: usize, letters: &[bool; LETTERS])
+        requires bound { AllBelow count self.old }
+        ensures value { self.new ≡ with_line at letters.now self.old }
+    {
+        // The proof reads off the places how many they are.
+        let _ = &self.places;
+        if at < count || *letters != [false; LETTERS] {
+            self.open(at, letters);
+        }
+    }
+
     /// The line at this place has gone out, with the letters that are told.
     pub(crate) fn close(&mut self, at: usize) -> [bool; LETTERS]
         ensures letters { result ≡ letters_at at self.old }
@@ -114,8 +127,11 @@ impl Marks {
     {
         let mut letters = [false; LETTERS];
         for letter in 0..LETTERS {
-            letters[letter] = self.places[letter] == Some(at);
-            self.places[letter] = place_closed(at, self.places[letter]);
+            // Most letters mark no line, and then mark none afterwards.
+            if self.places[letter].is_some() {
+                letters[letter] = self.places[letter] == Some(at);
+                self.places[letter] = place_closed(at, self.places[letter]);
+            }
         }
         letters
     }

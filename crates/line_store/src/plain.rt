@@ -61,10 +61,11 @@ impl LineStore for PlainStore {
     }
 
     fn put(&mut self, at: usize, line: Line) -> Result<(), Line> {
+        let count = self.len();
         let Line { bytes, letters } = line;
         match self.items.insert(at, bytes) {
             Ok(()) => {
-                self.marks.open(at, &letters);
+                self.marks.open_among(at, count, &letters);
                 Ok(())
             }
             Err(refused) => Err(Line {

@@ -1,9 +1,20 @@
 -- Each letter is where it is to be, and is told where the line had it.
-use Rattle.std.proofs.Common.{arith, get_or, None, false}
+use Rattle.std.proofs.Common.{refl, ap, arith, get_or, None, false}
 use Rattle.std.proofs.lemmas.List.FromFn.{fill_by_all}
 use Rattle.line_store.specs.Marks.{is_at}
 use Rattle.line_store.specs.Shifts.{closed}
+use Rattle.line_store.specs.Lettered.{none_marked}
 use Rattle.line_store.proofs.marks.Marks.close.Goals as goal
+
+pub loop-letter-init : goal.loop-letter-init
+loop-letter-init c = record {
+  count = c.self.invariant;
+  long = refl;
+  done = λ k h. absurd (omega arith);
+  left = λ k h. ap (λ m. get_or m k None) c.self.view_is;
+  rest = λ k h. none_marked 26 k;
+  told = λ k h. absurd (omega arith);
+}
 
 pub returns-clause-letters : goal.returns-clause-letters
 returns-clause-letters c =

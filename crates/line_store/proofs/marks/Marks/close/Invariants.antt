@@ -13,5 +13,6 @@ invariant-loop-letter l =
       long : length l.letters ≡ 26;
       done : (k : ℕ) → k < l.letter → get_or now k None ≡ closed l.at (get_or before k None);
       left : (k : ℕ) → l.letter ≤ k → get_or now k None ≡ get_or before k None;
+      rest : (k : ℕ) → l.letter ≤ k → get_or l.letters k false ≡ false;
       told : (k : ℕ) → k < l.letter → get_or l.letters k false ≡ is_at l.at (get_or before k None);
     }
