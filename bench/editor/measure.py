@@ -55,6 +55,29 @@ def delete_from_end(folder, n):
     return Work(folder, "delete", n, text_lines(n), (b"$d\n" if i < n else b"Q\n" for i in range(n + 1)))
 
 
+LINES = 100_000
+
+
+def search_onwards(folder, n):
+    """Each search finds its line a hundred lines further, so that a thousand go once over the file."""
+    return Work(folder, "onwards", n, text_lines(LINES), (b"/00 of a/p\n" if i < n else b"Q\n" for i in range(n + 1)))
+
+
+def search_around(folder, n):
+    """Each search goes over the whole file and comes back to its own line."""
+    return Work(folder, "around", n, text_lines(LINES), (b"/0050000 of/\n" if i < n else b"Q\n" for i in range(n + 1)))
+
+
+def print_between_marks(folder, n):
+    script = [b"90000ka\n90009kb\n"] + [b"'a,'bp\n"] * n + [b"Q\n"]
+    return Work(folder, "marks", n, text_lines(LINES), script)
+
+
+def move_a_mark(folder, n):
+    script = [b"%dka\n'a=\n" % (1 + i * 89 % LINES) for i in range(n)] + [b"Q\n"]
+    return Work(folder, "mark", n, text_lines(LINES), script)
+
+
 def measured(words, work):
     """Processor seconds and peak mebibytes of the runs of the work."""
     seconds, peak = 0.0, 0
@@ -118,6 +141,10 @@ def main():
         report("start on a file of three lines (runs)", [start(folder, n) for n in (50, 100, 200)])
         report("enter a text by a script (lines)", [enter(folder, n) for n in (50_000, 100_000, 200_000)])
         report("delete lines one by one from the end (lines)", [delete_from_end(folder, n) for n in (25_000, 50_000, 100_000)])
+        report("search onwards in 100,000 lines (searches)", [search_onwards(folder, n) for n in (250, 500, 1_000)])
+        report("search around 100,000 lines (searches)", [search_around(folder, n) for n in (10, 20, 40)])
+        report("print ten of 100,000 lines between marks (times)", [print_between_marks(folder, n) for n in (2_500, 5_000, 10_000)])
+        report("mark one of 100,000 lines and tell its number (times)", [move_a_mark(folder, n) for n in (2_500, 5_000, 10_000)])
 
 
 main()

@@ -1,7 +1,7 @@
 #!/bin/sh
 # Refuses each allocation of the program in turn, on runs that delete, enter and print lines. Each has to end by want of memory
-# (status 2), its output being a front of the run's own, followed by the report `?` where the run had begun; or, where the
-# library under it can do without, just as the run does.
+# (status 2), its output being a front of the run's own, followed by the report `?` where the run had begun, with its text where
+# the script turns help mode on; or, where the library under it can do without, just as the run does.
 # Build crates/ed_main first. It needs a C compiler. Usage: bench/editor/refused.sh, from anywhere.
 cd "$(dirname "$0")" || exit 1
 program=$(pwd)/../../crates/ed_main/out/ed_main
@@ -11,17 +11,26 @@ cc -shared -fPIC -O1 -o "$work/refuse.so" ../patterns/refuse.c -ldl || exit 1
 printf 'a\nb\nc\n' > "$work/FILE"
 cd "$work" || exit 1
 
-# The output is a front of the whole one, or that with the report behind it.
+printf '?\n' > brief
+printf '?\nout of memory\n' > full
+
+is_behind_front() { # REPORT OUTPUT: the output is a front of the whole one with this report behind it
+    size=$(($(wc -c < "$2") - $(wc -c < "$1")))
+    [ "$size" -ge 0 ] || return 1
+    head -c "$size" whole | cat - "$1" | cmp -s - "$2"
+}
+
+# The output is a front of the whole one, or that with the report of want of memory behind it.
 is_front() {
     head -c "$(wc -c < "$1")" whole | cmp -s - "$1" && return 0
-    [ "$(tail -n 1 "$1")" = '?' ] || return 1
-    sed '$d' "$1" > front
-    head -c "$(wc -c < front)" whole | cmp -s - front
+    is_behind_front brief "$1" && return 0
+    grep -q '^H$' script && is_behind_front full "$1"
 }
 
 on() { # SCRIPT: refuses the allocations of its run one after the other
     printf "$1" > script
     "$program" edit -s FILE < script > whole
+    ends=$?
     refused=0
     while :; do
         REFUSE=$((refused + 1)) LD_PRELOAD="$work/refuse.so" "$program" edit -s FILE < script > output 2> errors
@@ -29,7 +38,7 @@ on() { # SCRIPT: refuses the allocations of its run one after the other
         grep -q '^refused$' errors || break
         refused=$((refused + 1))
         if [ "$status" -eq 2 ] && is_front output; then continue; fi
-        if [ "$status" -eq 0 ] && cmp -s output whole; then continue; fi
+        if [ "$status" -eq "$ends" ] && cmp -s output whole; then continue; fi
         echo "another answer with allocation $refused refused: status $status"
         exit 1
     done
@@ -39,3 +48,4 @@ on() { # SCRIPT: refuses the allocations of its run one after the other
 on '2d\n,p\nQ\n'
 on '1,2a\nz\n.\n,p\nQ\n'
 on '1p\n2a\nx\ny\n.\n1d\n,p\n$p\nQ\n'
+on 'P\n1p\nH\nP\n9p\n'

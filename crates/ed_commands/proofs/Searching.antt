@@ -83,6 +83,10 @@ found-second text s xs ys found h k =
     let p = matches_line text s.lines in
     ap (λ o. ok_or o fault.NoMatch) (find-append p xs ys ∙ ap (λ o. option_or o (find p ys)) h ∙ k)
 
+-- the state that remembers what is looked for, and is else as before
+pub leaves : (s new : State) (own : Option (List ℕ)) → new ≡ with_pattern new.pattern s → new.pattern ≡ sought own s → new ≡ with_pattern (sought own s) s
+leaves s new own h e = h ∙ ap (λ p. with_pattern p s) e
+
 -- a search in the state that remembers what is looked for tells what it tells in the state before
 pub as-sought : (order : State → List ℕ) (s now : State) (own : Option (List ℕ)) (text : List ℕ) (result : Result ℕ Fault) →
     order (with_pattern (sought own s) s) ≡ order s → now ≡ with_pattern (sought own s) s → now.pattern ≡ Some text →

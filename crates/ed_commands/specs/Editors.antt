@@ -1,26 +1,29 @@
 -- An editor as a value: what it holds, and the fault that it has failed by.
-use Rattle.std.specs.Prelude.{ℕ, ◌≡◌, ◌≢◌, ◌+◌, ◌-◌, ◌≤◌, true, false, ◌&&◌, List, [], ◌++◌, map, take, drop, nat_le, Option, Some, None, Result, Ok, Err, MatchResult}
+use Rattle.std.specs.Prelude.{ℕ, ◌≡◌, ◌≢◌, ◌+◌, ◌-◌, ◌≤◌, true, false, ◌&&◌, List, [], ◌∷◌, ◌++◌, map, take, drop, nat_le, Option, Some, None, Result, Ok, Err, MatchResult}
 use Rattle.ed_base.specs.Buffer.{Line, plain_line, texts}
 use Rattle.ed_base.specs.declared.fault.Fault.{Fault}
 use Rattle.ed_base.specs.declared.fault.Fault.TheVariants.{Destination, Memory}
 use Rattle.line_store.specs.Marks.{lettered}
-use Rattle.ed_syntax.specs.States.{State, Kept, Past, Nothing, Was, inserted, opening}
+use Rattle.ed_syntax.specs.States.{State, Kept, Past, Nothing, Was, inserted, last, opening}
 use Rattle.ed_syntax.specs.Commands as ed
 use Rattle.ed_syntax.specs.declared.verbs.Taking.{Taking}
 use Rattle.ed_syntax.specs.declared.verbs.Taking.TheVariants as takes
-use Rattle.ed_syntax.specs.Verbs.{taking, default, given_or}
+use Rattle.ed_syntax.specs.Verbs.{taking, default, given_or, target_of}
 use Rattle.ed_syntax.specs.Values.{◌>>◌, values}
 use Rattle.ed_syntax.specs.Ranges as ranges
 use Rattle.ed_syntax.specs.Ranges.{spanned}
 use Rattle.ed_syntax.specs.Effects.{place_left}
 use Rattle.ed_syntax.specs.Applied as applied
-use Rattle.ed_syntax.specs.Applied.{Effect, Makes, Asks, settled, suffix_written}
+use Rattle.ed_syntax.specs.Applied.{Effect, Makes, Asks, settled, suffix_written, targeted}
 use Rattle.ed_commands.specs.declared.editor.Reply.{Reply}
 use Rattle.ed_commands.specs.declared.editor.Reply.TheVariants as reply
 use Rattle.ed_commands.specs.declared.editor.change.Change.{Change}
 use Rattle.ed_commands.specs.declared.editor.change.Kind.{Kind}
 use Rattle.ed_commands.specs.declared.editor.change.Kind.TheVariants as kind
+use Rattle.ed_commands.specs.declared.editor.addressing.Addressed.{Addressed}
 use Rattle.ed_commands.specs.declared.editor.addressing.Span.{Span}
+use Rattle.ed_commands.specs.declared.editor.addressing.Values.{Values}
+use Rattle.ed_commands.specs.declared.editor.addressing.Values.TheVariants as these
 
 -- what an editor is
 pub record EditorValue : Type 0 where
@@ -88,28 +91,43 @@ abbrev pub past_of : Option Change → List Line → Past
 past_of None lines = Nothing
 past_of (Some c) lines = Was (before_change c lines)
 
+-- the values of addresses as a list
+abbrev pub list_of_values : Values → List ℕ
+list_of_values these.Without = []
+list_of_values (these.One only) = only ∷ []
+list_of_values (these.Two first second) = first ∷ second ∷ []
+
 -- the lines of a public span
 abbrev pub span_value : Span → ranges.Span
 span_value x = record { first = x.first; last = x.last }
+
+-- the lines and the target of a command
+abbrev pub value_of_addressed : Addressed → ranges.Span × ℕ
+value_of_addressed a = (span_value a.span, a.target)
 
 -- what came of naming the lines of a command
 abbrev pub value_of_span : Result Span Fault → Result ranges.Span Fault
 value_of_span (Ok x) = Ok (span_value x)
 value_of_span (Err fault) = Err fault
 
--- the lines that addresses name to a command that takes so many, and the state once they were valued
-abbrev pub lines_named : Taking → ed.Addresses → State → Result (State × ranges.Span) Fault
-lines_named takes addresses s = values addresses s >> λ v. spanned takes v.1 >> λ x. Ok (v.0, x)
+-- the values of the addresses that are given before a command, or of those that stand for none, and the state once they were valued
+abbrev pub values_of_command : ed.Command → State → Result (State × List ℕ) Fault
+values_of_command c s = values (given_or c.addresses (default c.verb)) s
 
--- the lines that a command is applied to, and the state once its addresses were valued
-abbrev pub lines_of_command : ed.Command → State → Result (State × ranges.Span) Fault
-lines_of_command c s = lines_named (taking c.verb) (given_or c.addresses (default c.verb)) s
+-- the lines that a command is applied to and the value of its target, and the state once its addresses were valued
+abbrev pub lines_of_command : ed.Command → State → Result (State × (ranges.Span × ℕ)) Fault
+lines_of_command c s =
+    values_of_command c s >> λ v.
+    targeted (target_of c.verb) v.0 >> λ t.
+    spanned (taking c.verb) (last s) v.1 >> λ x. Ok (t.0, (x, t.1))
 
 -- a span where a command that takes so many addresses may be applied, in a buffer of so many lines
 abbrev pub Fits : Taking → Span → ℕ → Type 0
 Fits takes.NoAddress x last = Unit {0}
 Fits takes.Place x last = x.first ≤ last
+Fits takes.FirstPlace x last = (1 ≤ x.first) × (x.first ≤ last + 1)
 Fits takes.OneLine x last = (1 ≤ x.first) × (x.first ≤ x.last) × (x.last ≤ last)
+Fits takes.Lines x last = (1 ≤ x.first) × (x.first ≤ x.last) × (x.last ≤ last)
 Fits takes.Range x last = (1 ≤ x.first) × (x.first ≤ x.last) × (x.last ≤ last)
 
 -- lines that no letter marks

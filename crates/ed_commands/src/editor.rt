@@ -13,6 +13,7 @@ mod blocks;
 mod change;
 mod effects;
 mod entering;
+mod forms;
 mod lines;
 mod rearranging;
 mod searching;
@@ -124,8 +125,8 @@ impl<S: LineStore> Editor<S> {
         ensures failed { self.new.failed ≡ self.old.failed }
     {
         let before = self.current;
-        let span = self.span(command)?;
-        let output = self.effect(&command.verb, span, before)?;
+        let named = self.addressed(command)?;
+        let output = self.effect(&command.verb, named, before)?;
         self.write_suffix(command.suffix, output)
     }
 
@@ -157,3 +158,6 @@ impl<S: LineStore> Editor<S> {
         self.failed
     }
 }
+
+#[cfg(test)]
+mod tests;

@@ -1,1 +1,3 @@
+mod Endings
+mod FourWords
 mod Taking

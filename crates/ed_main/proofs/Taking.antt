@@ -1,5 +1,5 @@
 -- What several reads have consumed.
-use Rattle.std.proofs.Common.{◌≡◌, ◌≤◌, ◌+◌, ℕ, List, ◌++◌, length, take, Option, Some, None, ap, ◌∙◌, sym, append_assoc, arith, length-append, length-take}
+use Rattle.std.proofs.Common.{◌≤◌, ◌+◌, ℕ, List, ◌++◌, length, take, Option, Some, None, ap, ◌∙◌, sym, append_assoc, arith, length-append, length-take}
 use Rattle.std.specs.Io.KnownBytes.{Consumes}
 use Rattle.ed_main.specs.Sources.{TakesAtMost}
 

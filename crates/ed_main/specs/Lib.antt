@@ -1,1 +1,3 @@
 pub mod Sources
+pub mod Words
+pub mod Outcomes

@@ -7,6 +7,11 @@ abbrev pub failed_by : {E : Type 0} → Result ℕ E → ℕ
 failed_by (Ok n) = 0
 failed_by (Err e) = 1
 
+-- a reader as a source: the bytes that it has left, where it tells them, and how often it failed
+pub record InValue : Type 0 where
+  pub remaining : Option (List ℕ)
+  pub failures : ℕ
+
 -- these are all the bytes that the source had, and not above the limit
 pub record IsAll (old new : Option (List ℕ)) (limit : ℕ) (bytes : List ℕ) : Type 0 where
   pub fits : length bytes ≤ limit

@@ -1,4 +1,7 @@
 //! One run of the program: its words, its script, its file, and the status that it ends with.
+ghost use Rattle.std.specs.Prelude.{◌≡◌, ◌≤◌, ◌⊎◌, ℕ, List, IfOk};
+ghost use Rattle.ed_main.specs.Outcomes.{HoldOnly, EndsOrBreaks, EndsSome};
+
 use crate::reading::{In, ReadFault, read_all};
 use crate::words::{USAGE, file_of_words};
 use ed_base::{Bytes, Fault};
@@ -19,6 +22,8 @@ const USAGE_STATUS: u8 = 4;
 pub fn status_of_run<R>(rt: &R) -> u8
 where
     R: Env + Files + Input + Print + Eprint + AllocGlobal,
+    ensures status { result ≤ 4 }
+    ensures ended { (result ≡ 4) ⊎ ((path : List ℕ) × EndsSome path result) }
 {
     let words = match env::args(rt) {
         Ok(words) => words.collect::<Vec<String>>(rt.alloc()),
@@ -34,7 +39,9 @@ where
     }
 }
 
-fn usage(rt: &impl Eprint) -> u8 {
+fn usage(rt: &impl Eprint) -> u8
+    ensures status { result ≡ 4 }
+{
     let _ = rt.eprintln(USAGE);
     USAGE_STATUS
 }
@@ -43,6 +50,8 @@ fn usage(rt: &impl Eprint) -> u8 {
 fn edit<R>(rt: &R, file: &str) -> u8
 where
     R: Files + Input + Print + AllocGlobal,
+    ensures status { result ≤ 3 }
+    ensures ended { EndsSome file.now result }
 {
     let script = match read_all(rt.alloc(), &mut In::new(rt.reader()), LIMIT) {
         Ok(script) => script,
@@ -59,6 +68,8 @@ where
 fn run<R>(rt: &R, file: &str, bytes: Bytes) -> Result<u8, AllocError>
 where
     R: Files + Print + AllocGlobal,
+    ensures status { IfOk result (λ status. status ≤ 3) }
+    ensures ended { IfOk result (λ status. EndsOrBreaks bytes file.now status) }
 {
     let alloc = rt.alloc();
     let script = read_script(alloc, bytes.as_slice())?;
@@ -80,10 +91,11 @@ where
 fn files_with<R>(rt: &R, file: &str) -> Result<MemFiles, AllocError>
 where
     R: Files + AllocGlobal,
+    ensures value { IfOk result (λ files. HoldOnly file.now files) }
 {
     let mut files = MemFiles::new(rt.alloc());
     match fs::read(rt, file) {
-        Ok(bytes) => files.add(file.as_bytes(), bytes.as_slice())?,
+        Ok(bytes) => files.add(file.as_bytes(), Bytes::from_vec(bytes))?,
         Err(error) => match error.kind() {
             io::ErrorKind::NotFound => {}
             io::ErrorKind::OutOfMemory => return Err(AllocError),

@@ -7,6 +7,7 @@ ghost use Rattle.ed_main.specs.Sources.{failed_by, IsAll, HasMore, TakesAtMost};
 use ed_base::Bytes;
 use std::alloc::{AllocError, Global};
 use std::io;
+use std::marker::Model;
 use thiserror::Error;
 
 /// Why a source wasn't read.
@@ -57,10 +58,18 @@ pub struct In<R: io::Read + Drop> {
     failures: u64,
 }
 
+impl<R: io::Read + Drop> Model for In<R> {
+    ghost use Rattle.ed_main.specs.Sources.{InValue};
+
+    ghost Value = { InValue };
+
+    ghost view = { λ source. record { remaining = R.remaining source.reader; failures = source.failures } };
+}
+
 impl<R: io::Read + Drop> In<R> {
+    /// A source over this reader, which hasn't failed yet. It takes no memory.
     pub fn new(reader: R) -> Self
-        ensures reader { result.reader ≡ reader }
-        ensures count { result.failures ≡ 0 }
+        ensures value { result ≡ record { remaining = R.remaining reader; failures = 0 } }
     {
         In {
             reader,
@@ -70,7 +79,7 @@ impl<R: io::Read + Drop> In<R> {
 }
 
 impl<R: io::Read + Drop> Source for In<R> {
-    ghost remaining = { λ source. R.remaining source.reader };
+    ghost remaining = { λ source. source.remaining };
 
     ghost failures = { λ source. source.failures };
 

@@ -9,10 +9,11 @@ use Rattle.ed_syntax.specs.declared.request.Request.TheVariants as request
 use Rattle.ed_syntax.specs.Applied.{Reply, Done, Wants, command}
 use Rattle.ed_syntax.specs.Commands.{Command}
 use Rattle.ed_syntax.specs.Progress.{Present, Progress, Rest, failing, ending, count}
-use Rattle.ed_syntax.specs.Runs.{answered, asking, step, steps, at_end, start, started, with_state, loaded}
+use Rattle.ed_syntax.specs.Runs.{answered, asking, step, steps, at_end, start, started, with_state, loaded, unprompted}
 use Rattle.ed_syntax.specs.States.{State}
-use Rattle.ed_session.specs.Sessions.{SessionValue, Phase, Fresh, Between, Waiting, Over, Lost, go_on, request_of, rest, rest_at, awaited}
-use Rattle.ed_session.proofs.Cases.{step_cases, prompted_asked, prompted_stop}
+use Rattle.ed_session.specs.Sessions.{SessionValue, Phase, Fresh, Between, Prompted, Waiting, Over, Lost, go_on, request_of, rest, rest_at, awaited}
+use Rattle.ed_session.specs.Insides.{turned}
+use Rattle.ed_session.proofs.Cases.{step_cases, going, steps_prompted, prompted_asked, prompted_stop}
 
 -- a rest that asks nothing before it has an answer
 abbrev Quiet : (Present → Rest) → Type 0
@@ -44,7 +45,7 @@ step_asks : (c : Command) (m : Present) (go : Present → Rest) → Quiet go →
 step_asks c m go h =
     elim (step_cases c m go) [
       | inl e ↦ ap (λ p. p.asked) (e [])
-      | inr e ↦ ap (λ p. p.asked) (e []) ∙ asking_asks m (command m.state c None) (λ a. command m.state c (Some a)) go h
+      | inr e ↦ ap (λ p. p.asked) (e []) ∙ asking_asks m (command m.state c None) (λ a. command m.state c (Some a)) (going c.verb go) (λ t. h (turned c.verb t))
     ]
 
 -- without an answer nothing has been asked and answered
@@ -52,6 +53,10 @@ steps_ask_nothing : (cs : List Command) (bad : Option ℕ) → Quiet (steps cs b
 steps_ask_nothing [] bad m = prompted_asked m (at_end bad m) ∙ at_end_asks bad m
 steps_ask_nothing (c ∷ cs) bad m =
     prompted_asked m (step c m (λ t more. steps cs bad t more) []) ∙ step_asks c m (λ t more. steps cs bad t more) (λ t. steps_ask_nothing cs bad t)
+
+-- a prompt makes no difference to that
+unprompted_asks_nothing : (cs : List Command) (bad : Option ℕ) → Quiet (unprompted cs bad)
+unprompted_asks_nothing cs bad m = sym (ap (λ p. p.asked) (steps_prompted cs bad m []) ∙ prompted_asked m (unprompted cs bad m [])) ∙ steps_ask_nothing cs bad m
 
 asking_one : (r : Request) (a : Answer) (m : Present) (x : Result (State × Reply) Fault) (again : Answer → Result (State × Reply) Fault) (go : Present → Rest)
     → Quiet go → Takes r a go → request_of (asking m x again go []).stop ≡ Some r → (asking m x again go (a ∷ [])).asked ≡ r ∷ []
@@ -65,7 +70,7 @@ step_one_asked : (r : Request) (a : Answer) (c : Command) (m : Present) (go : Pr
 step_one_asked r a c m go n h e =
     elim (step_cases c m go) [
       | inl is ↦ let w : request_of (ending m).stop ≡ Some r = ap (λ p. request_of p.stop) (sym (is [])) ∙ e in cc
-      | inr is ↦ ap (λ p. p.asked) (is (a ∷ [])) ∙ asking_one r a m (command m.state c None) (λ b. command m.state c (Some b)) go n h (ap (λ p. request_of p.stop) (sym (is [])) ∙ e)
+      | inr is ↦ ap (λ p. p.asked) (is (a ∷ [])) ∙ asking_one r a m (command m.state c None) (λ b. command m.state c (Some b)) (going c.verb go) (λ t. n (turned c.verb t)) (λ t. h (turned c.verb t)) (ap (λ p. request_of p.stop) (sym (is [])) ∙ e)
     ]
 
 -- what a run waits for is what it has asked once that is answered
@@ -75,6 +80,11 @@ steps_ask_one r a (c ∷ cs) bad m e =
     let go = λ (t : Present) (more : List Answer). steps cs bad t more in
     prompted_asked m (step c m go (a ∷ []))
     ∙ step_one_asked r a c m go (λ t. steps_ask_nothing cs bad t) (λ t. steps_ask_one r a cs bad t) (ap request_of (sym (prompted_stop m (step c m go []))) ∙ e)
+
+unprompted_ask_one : (r : Request) (a : Answer) (cs : List Command) (bad : Option ℕ) → Takes r a (unprompted cs bad)
+unprompted_ask_one r a cs bad m e =
+    sym (ap (λ p. p.asked) (steps_prompted cs bad m (a ∷ [])) ∙ prompted_asked m (unprompted cs bad m (a ∷ [])))
+    ∙ steps_ask_one r a cs bad m (ap request_of (ap (λ p. p.stop) (steps_prompted cs bad m []) ∙ prompted_stop m (unprompted cs bad m [])) ∙ e)
 
 start_asks : (path : Option (List ℕ)) (m : Present) (go : Present → Rest) → Quiet go → (start path m go []).asked ≡ []
 start_asks None m go h = h m
@@ -94,14 +104,16 @@ start_asks_one r a (Some path) m go n h e = let s : request.Read path ≡ r = cc
 at_asks_nothing : (p : Phase) (v : SessionValue) → (rest_at p v []).asked ≡ []
 at_asks_nothing (Fresh path) v = start_asks path v.present (go_on v) (steps_ask_nothing v.commands v.fault)
 at_asks_nothing Between v = steps_ask_nothing v.commands v.fault v.present
-at_asks_nothing Waiting v = steps_ask_nothing v.commands v.fault v.present
+at_asks_nothing Prompted v = unprompted_asks_nothing v.commands v.fault v.present
+at_asks_nothing Waiting v = unprompted_asks_nothing v.commands v.fault v.present
 at_asks_nothing (Over result) v = refl
 at_asks_nothing (Lost f) v = refl
 
 at_asks_one : (p : Phase) (v : SessionValue) (r : Request) (a : Answer) → request_of (rest_at p v []).stop ≡ Some r → (rest_at p v (a ∷ [])).asked ≡ r ∷ []
 at_asks_one (Fresh path) v r a e = start_asks_one r a path v.present (go_on v) (steps_ask_nothing v.commands v.fault) (steps_ask_one r a v.commands v.fault) e
 at_asks_one Between v r a e = steps_ask_one r a v.commands v.fault v.present e
-at_asks_one Waiting v r a e = steps_ask_one r a v.commands v.fault v.present e
+at_asks_one Prompted v r a e = unprompted_ask_one r a v.commands v.fault v.present e
+at_asks_one Waiting v r a e = unprompted_ask_one r a v.commands v.fault v.present e
 at_asks_one (Over result) v r a e = cc
 at_asks_one (Lost f) v r a e = cc
 

@@ -1,5 +1,5 @@
 -- By which faults a run can end.
-use Rattle.std.proofs.Common.{◌≡◌, ℕ, List, [], ◌∷◌, true, false, Option, Some, None, Result, Ok, Err, arith, sym, refl, subst, inl, inr}
+use Rattle.std.proofs.Common.{◌≡◌, ℕ, List, [], ◌∷◌, true, false, Option, Some, None, Result, Ok, Err, arith, sym, refl, ap, ◌∙◌, subst, inl, inr}
 use Rattle.std.specs.Prelude.{◌≢◌}
 use Rattle.ed_base.specs.declared.fault.Fault.{Fault}
 use Rattle.ed_base.specs.declared.fault.Fault.TheVariants as fault
@@ -10,11 +10,12 @@ use Rattle.ed_syntax.specs.declared.request.Request.TheVariants as request
 use Rattle.ed_syntax.specs.Applied.{Reply, Done, Wants, command}
 use Rattle.ed_syntax.specs.Commands.{Command, Script}
 use Rattle.ed_syntax.specs.Progress.{Present, Progress, Rest, Stop, Waits, Ends, failing, ending}
-use Rattle.ed_syntax.specs.Runs.{asking, step, steps, at_end, start, started, with_state, loaded, run, present}
+use Rattle.ed_syntax.specs.Runs.{asking, step, steps, at_end, start, started, with_state, loaded, run, present, unprompted}
 use Rattle.ed_syntax.specs.States.{State}
-use Rattle.ed_session.specs.Sessions.{SessionValue, Phase, Fresh, Between, Waiting, Over, Lost, rest, rest_at}
+use Rattle.ed_session.specs.Sessions.{SessionValue, Phase, Fresh, Between, Prompted, Waiting, Over, Lost, rest, rest_at}
 use Rattle.ed_session.specs.Drives.{Log, requests, answers, fits, AllFit}
-use Rattle.ed_session.proofs.Cases.{step_cases, prompted_stop}
+use Rattle.ed_session.specs.Insides.{turned}
+use Rattle.ed_session.proofs.Cases.{step_cases, going, steps_prompted, prompted_stop}
 use Rattle.ed_session.proofs.Replies.{IsScriptFault, Replies, command_replies}
 
 -- a fault that ends a run is one of these
@@ -44,7 +45,7 @@ module _ (Q : Fault → Type 0) (own : (f : Fault) → IsScriptFault f → Q f) 
   step_stops c m go h given =
       elim (step_cases c m go) [
         | inl e ↦ subst (λ (p : Progress). StopsBy Q p.stop) (sym (e given)) tt
-        | inr e ↦ subst (λ (p : Progress). StopsBy Q p.stop) (sym (e given)) (asking_stops m (command m.state c None) (λ a. command m.state c (Some a)) go (command_replies m.state c None) h given)
+        | inr e ↦ subst (λ (p : Progress). StopsBy Q p.stop) (sym (e given)) (asking_stops m (command m.state c None) (λ a. command m.state c (Some a)) (going c.verb go) (command_replies m.state c None) (λ t. h (turned c.verb t)) given)
       ]
 
   steps_stop : (cs : List Command) (bad : Option ℕ) (m : Present) (given : List Answer) → StopsBy Q (steps cs bad m given).stop
@@ -84,6 +85,11 @@ started_no_file path answer.Missing m cs bad given h = steps_no_file cs bad (wit
 started_no_file path answer.Refused m cs bad given h = λ e. cc
 started_no_file path answer.Done m cs bad given h = λ e. cc
 
+-- and none is where the prompt was written
+unprompted_no_file : (cs : List Command) (bad : Option ℕ) (m : Present) (given : List Answer) → (unprompted cs bad m given).stop ≢ Ends (Err fault.File)
+unprompted_no_file cs bad m given e =
+    steps_no_file cs bad m given (ap (λ p. p.stop) (steps_prompted cs bad m given) ∙ prompted_stop m (unprompted cs bad m given) ∙ e)
+
 -- a run from its start whose answers fit
 pub start_no_file : (path : Option (List ℕ)) (m : Present) (cs : List Command) (bad : Option ℕ) (log : Log) → (start path m (steps cs bad) (answers log)).asked ≡ requests log → AllFit log
     → (start path m (steps cs bad) (answers log)).stop ≢ Ends (Err fault.File)
@@ -98,7 +104,8 @@ at_no_file : (p : Phase) (v : SessionValue) (log : Log) → (rest_at p v (answer
     → (rest_at p v (answers log)).stop ≡ Ends (Err fault.File) → (rest_at p v []).stop ≡ Ends (Err fault.File)
 at_no_file (Fresh path) v log asked fit e = absurd (start_no_file path v.present v.commands v.fault log asked fit e)
 at_no_file Between v log asked fit e = absurd (steps_no_file v.commands v.fault v.present (answers log) e)
-at_no_file Waiting v log asked fit e = absurd (steps_no_file v.commands v.fault v.present (answers log) e)
+at_no_file Prompted v log asked fit e = absurd (unprompted_no_file v.commands v.fault v.present (answers log) e)
+at_no_file Waiting v log asked fit e = absurd (unprompted_no_file v.commands v.fault v.present (answers log) e)
 at_no_file (Over result) v log asked fit e = e
 at_no_file (Lost f) v log asked fit e = e
 

@@ -1,5 +1,5 @@
 -- How a run is driven on by one turn.
-use Rattle.std.proofs.Common.{◌≡◌, ℕ, List, [], ◌∷◌, ◌++◌, Option, Some, None, Result, Err, false, sym, refl, ap, ◌∙◌, ◌⊎◌, inl, inr, append_assoc, append-nil}
+use Rattle.std.proofs.Common.{◌≡◌, ℕ, List, [], ◌∷◌, ◌++◌, Bool, Option, Some, None, Result, Err, false, sym, refl, ap, ◌∙◌, ◌⊎◌, inl, inr, append_assoc, append-nil}
 use Rattle.std.specs.Prelude.{◌≢◌, IfSome}
 use Rattle.std.specs.Io.KnownBytes.{Appends}
 use Rattle.std.proofs.lemmas.List.{map-append}
@@ -11,7 +11,7 @@ use Rattle.ed_syntax.specs.declared.request.Request.{Request}
 use Rattle.ed_syntax.specs.Progress.{Progress, Rest, Ends, stopping, behind}
 use Rattle.ed_session.specs.declared.session.Ask.{Ask}
 use Rattle.ed_session.specs.declared.session.Ask.TheVariants as ask
-use Rattle.ed_session.specs.Sessions.{SessionValue, Phase, Fresh, Between, Waiting, Over, Lost, rest, awaited, lost_by, is_waiting}
+use Rattle.ed_session.specs.Sessions.{SessionValue, Phase, Fresh, Between, Prompted, Waiting, Over, Lost, rest, awaited, lost_by, is_waiting}
 use Rattle.ed_session.specs.Sinks.{BeginsWith, AppendsFront}
 use Rattle.ed_session.specs.Steps.{SameRest, BreaksOff, Steps, StepBreaks, LostSteps, WaitsFor, Answers, memory_report}
 use Rattle.ed_session.specs.Drives as drives
@@ -40,6 +40,7 @@ regroup a b c e = simp append_assoc
 lost_at : (p : Phase) (fault : Fault) → lost_by p ≡ Some fault → p ≡ Lost fault
 lost_at (Fresh path) fault h = cc
 lost_at Between fault h = cc
+lost_at Prompted fault h = cc
 lost_at Waiting fault h = cc
 lost_at (Over result) fault h = cc
 lost_at (Lost f) fault h = let e : f ≡ fault = cc in ap (λ x. Lost x) e
@@ -60,7 +61,7 @@ module _ (left : Rest) (log : Log) (output : List ℕ) (s : SessionValue) (d : A
   asked_now whole = ap (λ p. p.asked) (at_now whole) ∙ ap (λ a. requests log ++ a) (rest_asks_nothing s) ∙ append-nil (requests log)
 
   -- the session breaks off here
-  broken_now : (t : SessionValue) (new : List ℕ) → lost_by s.phase ≡ None → t.phase ≡ Lost Memory → new ++ t.pending ≡ output ++ memory_report → Along left log new t
+  broken_now : (t : SessionValue) (new : List ℕ) → lost_by s.phase ≡ None → t.phase ≡ Lost Memory → new ++ t.pending ≡ output ++ memory_report t.present.help → Along left log new t
   broken_now t new whole lost same = record {
     intact = λ h. absurd (lost_is t.phase lost h);
     broken = λ _. record {
@@ -80,8 +81,8 @@ module _ (left : Rest) (log : Log) (output : List ℕ) (s : SessionValue) (d : A
     broken = λ lost. absurd (lost whole_after);
   }
 
-  lost_goes_on : (t : SessionValue) (bytes : List ℕ) → lost_by s.phase ≢ None → bytes ≡ s.pending → t.phase ≡ s.phase → t.pending ≡ [] → Along left log (output ++ bytes) t
-  lost_goes_on t bytes lost given same pending =
+  lost_goes_on : (t : SessionValue) (bytes : List ℕ) → lost_by s.phase ≢ None → bytes ≡ s.pending → t.phase ≡ s.phase → t.pending ≡ [] → t.present ≡ s.present → Along left log (output ++ bytes) t
+  lost_goes_on t bytes lost given same pending held =
       let b = d.broken lost in
       record {
         intact = λ h. absurd (lost (ap lost_by (sym same) ∙ h));
@@ -90,7 +91,7 @@ module _ (left : Rest) (log : Log) (output : List ℕ) (s : SessionValue) (d : A
           asked = b.asked;
           front = b.front;
           begins = b.begins;
-          whole = rw (pending, append-nil (output ++ bytes), given) b.whole;
+          whole = rw (pending, append-nil (output ++ bytes), given, held) b.whole;
         };
       }
 
@@ -111,17 +112,17 @@ module _ (left : Rest) (log : Log) (output : List ℕ) (s : SessionValue) (d : A
         | inl whole ↦ elim (cases_lost (lost_by t.phase)) [
           | inl whole_after ↦ goes_on t bytes whole whole_after (given whole whole_after).2
           | inr f ↦ let b = broke whole (some_not_none _ f.0 f.1) in
-              let e : bytes ≡ memory_report = let g = b.gives in cc in
+              let e : bytes ≡ memory_report t.present.help = let g = b.gives in cc in
               broken_now t (output ++ bytes) whole b.lost (rw (b.pending, append-nil (output ++ bytes), e) refl)
         ]
-        | inr f ↦ let l = rw f.1 at lost in lost_goes_on t bytes (some_not_none _ f.0 f.1) l.0 l.2 l.3
+        | inr f ↦ let l = rw f.1 at lost in lost_goes_on t bytes (some_not_none _ f.0 f.1) l.0 l.2 l.3 l.4
       ]
 
   -- the bytes so far are a front of what may be written
-  front_now : lost_by s.phase ≡ None → (asked : (left (answers log)).asked ≡ requests log) × (front : List ℕ) × BeginsWith (left (answers log)).output front × BeginsWith (front ++ memory_report) output
-  front_now whole = (asked_now whole, output, ((rest s []).output, ap (λ p. p.output) (at_now whole)), (memory_report, refl))
+  front_now : (help : Bool) → lost_by s.phase ≡ None → (asked : (left (answers log)).asked ≡ requests log) × (front : List ℕ) × BeginsWith (left (answers log)).output front × BeginsWith (front ++ memory_report help) output
+  front_now help whole = (asked_now whole, output, ((rest s []).output, ap (λ p. p.output) (at_now whole)), (memory_report help, refl))
 
-  front_lost : lost_by s.phase ≢ None → (asked : (left (answers log)).asked ≡ requests log) × (front : List ℕ) × BeginsWith (left (answers log)).output front × BeginsWith (front ++ memory_report) output
+  front_lost : lost_by s.phase ≢ None → (asked : (left (answers log)).asked ≡ requests log) × (front : List ℕ) × BeginsWith (left (answers log)).output front × BeginsWith (front ++ memory_report s.present.help) output
   front_lost lost = let b = d.broken lost in (b.asked, b.front, b.begins, (s.pending, sym b.whole))
 
   -- an answer was added to the log, and the run goes on or breaks off
@@ -154,7 +155,7 @@ module _ (left : Rest) (log : Log) (output : List ℕ) (s : SessionValue) (d : A
   along_no_answer t whole b = broken_now t output whole b.lost (ap (λ x. output ++ x) b.pending)
 
 -- a step that waits comes from a session that isn't lost
-pub step_waits : (s u : SessionValue) (asks : Ask) (request : Request) → (asks ≡ ask.Output memory_report → ⊥)
+pub step_waits : (s u : SessionValue) (asks : Ask) (request : Request) → ((bytes : List ℕ) → asks ≡ ask.Output bytes → ⊥)
     → (lost_by s.phase ≡ None → lost_by u.phase ≡ None → WaitsFor s u request)
     → (lost_by s.phase ≡ None → lost_by u.phase ≢ None → StepBreaks asks u)
     → IfSome (lost_by s.phase) (λ fault. ⊥) → (lost_by s.phase ≡ None) × WaitsFor s u request
@@ -164,7 +165,7 @@ step_waits s u asks request other given broke lost =
         whole,
         elim (cases_lost (lost_by u.phase)) [
           | inl whole_after ↦ given whole whole_after
-          | inr f ↦ absurd (other (broke whole (some_not_none _ f.0 f.1)).gives)
+          | inr f ↦ absurd (other _ (broke whole (some_not_none _ f.0 f.1)).gives)
         ],
       )
       | inr f ↦ absurd (rw f.1 at lost)
@@ -227,11 +228,11 @@ step_closes s t result given broke lost =
 
 -- the sink failed at some of these bytes
 pub cut_off : (left : Rest) (log : Log) (output bytes : List ℕ) (t : SessionValue) (old mid new : Option (List ℕ))
-    → Along left log (output ++ bytes) t → Appends old mid output → AppendsFront mid new bytes → CutOff left log old new
+    → Along left log (output ++ bytes) t → Appends old mid output → AppendsFront mid new bytes → CutOff left log t.present.help old new
 cut_off left log output bytes t old mid new d written part =
-    let f : (asked : (left (answers log)).asked ≡ requests log) × (front : List ℕ) × BeginsWith (left (answers log)).output front × BeginsWith (front ++ memory_report) (output ++ bytes)
+    let f : (asked : (left (answers log)).asked ≡ requests log) × (front : List ℕ) × BeginsWith (left (answers log)).output front × BeginsWith (front ++ memory_report t.present.help) (output ++ bytes)
     = elim (cases_lost (lost_by t.phase)) [
-      | inl whole ↦ front_now left log (output ++ bytes) t d whole
+      | inl whole ↦ front_now left log (output ++ bytes) t d t.present.help whole
       | inr f ↦ front_lost left log (output ++ bytes) t d (some_not_none _ f.0 f.1)
     ] in
     record {
@@ -249,7 +250,7 @@ pub driven_ends : (left : Rest) (log : Log) (s t : SessionValue) (old new : Opti
     → (lost_by s.phase ≡ None → lost_by t.phase ≡ None → Steps s (ask.Ended result) t)
     → (lost_by s.phase ≡ None → lost_by t.phase ≢ None → StepBreaks (ask.Ended result) t)
     → IfSome (lost_by s.phase) (λ fault. LostSteps fault s (ask.Ended result) t)
-    → ((lost_by t.phase ≡ None) × Finished left log old new result) ⊎ ((result ≡ Err Memory) × RanOut left log old new)
+    → ((lost_by t.phase ≡ None) × Finished left log old new result) ⊎ ((result ≡ Err Memory) × RanOut left log t.present.help old new)
 driven_ends left log s t old new result d given broke lost =
     elim (cases_lost (lost_by s.phase)) [
       | inl whole ↦ elim (cases_lost (lost_by t.phase)) [
@@ -278,7 +279,7 @@ driven_ends left log s t old new result d given broke lost =
               asked = b.asked;
               front = b.front;
               begins = b.begins;
-              written = rw (sym b.whole, l.1, append-nil d.output) d.written;
+              written = rw (l.5, sym b.whole, l.1, append-nil d.output) d.written;
             },
           )
     ]

@@ -3,6 +3,7 @@ pub mod Cases
 pub mod Causes
 pub mod Driven
 pub mod Ended
+pub mod KeptLemmas
 pub mod Logs
 pub mod Performed
 pub mod Replies

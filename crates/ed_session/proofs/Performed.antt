@@ -5,7 +5,7 @@ use Rattle.ed_syntax.specs.declared.request.Answer.{Answer}
 use Rattle.ed_syntax.specs.declared.request.Request.{Request}
 use Rattle.ed_syntax.specs.declared.request.Request.TheVariants as request
 use Rattle.ed_syntax.specs.Progress.{Rest}
-use Rattle.ed_session.specs.Sessions.{SessionValue, Phase, Fresh, Between, Waiting, Over, Lost, rest, awaited, lost_by, is_waiting, is_started, path_of}
+use Rattle.ed_session.specs.Sessions.{SessionValue, Phase, Fresh, Between, Prompted, Waiting, Over, Lost, rest, awaited, lost_by, is_waiting, is_started, path_of}
 use Rattle.ed_session.specs.Steps.{SameRest, BreaksOff, Answers, Starts}
 use Rattle.ed_session.specs.Drives.{Log, added}
 use Rattle.ed_session.specs.Turns.{Along, Raises, Performs, Begins}
@@ -68,6 +68,7 @@ begins_alone old new l count whole same broke idle begun = record {
 pub waiting_whole : (p : Phase) → is_waiting p ≡ true → lost_by p ≡ None
 waiting_whole (Fresh path) h = refl
 waiting_whole Between h = refl
+waiting_whole Prompted h = refl
 waiting_whole Waiting h = refl
 waiting_whole (Over result) h = refl
 waiting_whole (Lost fault) h = cc
@@ -75,6 +76,7 @@ waiting_whole (Lost fault) h = cc
 pub fresh_whole : (p : Phase) → is_started p ≡ false → lost_by p ≡ None
 fresh_whole (Fresh path) h = refl
 fresh_whole Between h = refl
+fresh_whole Prompted h = refl
 fresh_whole Waiting h = refl
 fresh_whole (Over result) h = refl
 fresh_whole (Lost fault) h = cc
@@ -91,6 +93,7 @@ fresh_at : (p : Phase) (path : List ℕ) → path_of p ≡ Some path → p ≡ F
 fresh_at (Fresh None) path h = cc
 fresh_at (Fresh (Some q)) path h = let e : q ≡ path = cc in ap (λ x. Fresh (Some x)) e
 fresh_at Between path h = cc
+fresh_at Prompted path h = cc
 fresh_at Waiting path h = cc
 fresh_at (Over result) path h = cc
 fresh_at (Lost fault) path h = cc

@@ -1,4 +1,4 @@
--- What one command that is done in silence leaves.
+-- What a prompt, a command or the end leaves.
 use Rattle.std.specs.Prelude.{◌≡◌, ◌≢◌, true, false, Option, Some, None}
 use Rattle.ed_syntax.specs.declared.request.Request.{Request}
 use Rattle.ed_session.specs.Sessions.{SessionValue, lost_by, is_waiting, is_started}

@@ -50,28 +50,29 @@ pub record Finished (left : Rest) (log : Log) (old new : Option (List ℕ)) (res
   pub ended : (left (answers log)).stop ≡ Ends result
   pub written : Appends old new (left (answers log)).output
 
--- memory ran out: a front of the run's output was written, and then the report
-pub record RanOut (left : Rest) (log : Log) (old new : Option (List ℕ)) : Type 0 where
+-- memory ran out: a front of the run's output was written, and then the report in the mode that the session was in
+pub record RanOut (left : Rest) (log : Log) (help : Bool) (old new : Option (List ℕ)) : Type 0 where
   pub asked : (left (answers log)).asked ≡ requests log
   pub front : List ℕ
   pub begins : BeginsWith (left (answers log)).output front
-  pub written : Appends old new (front ++ memory_report)
+  pub written : Appends old new (front ++ memory_report help)
 
 -- the sink failed: it took a front of the run's output, which may break off with the report of want of memory, and not all of that
-pub record CutOff (left : Rest) (log : Log) (old new : Option (List ℕ)) : Type 0 where
+pub record CutOff (left : Rest) (log : Log) (help : Bool) (old new : Option (List ℕ)) : Type 0 where
   pub asked : (left (answers log)).asked ≡ requests log
   pub front : List ℕ
   pub begins : BeginsWith (left (answers log)).output front
   pub part : List ℕ
-  pub within : GoesOnBehind (front ++ memory_report) part
+  pub within : GoesOnBehind (front ++ memory_report help) part
   pub written : Appends old new part
 
--- How a run was driven: to its end, or till memory ran out, or till the sink failed. Its count of failures rose just where it failed.
-abbrev pub Drove : Rest → Log → Option (List ℕ) → Option (List ℕ) → ℕ → ℕ → Result Ending Fault → Type 0
-Drove left log old new failed_before failed result =
+-- How a run was driven, which left help mode on or off: to its end, or till memory ran out, or till the sink failed. Its
+-- count of failures rose just where it failed.
+abbrev pub Drove : Rest → Log → Bool → Option (List ℕ) → Option (List ℕ) → ℕ → ℕ → Result Ending Fault → Type 0
+Drove left log help old new failed_before failed result =
     (failed ≡ failed_before) × Finished left log old new result
-    ⊎ ((result ≡ Err Memory) × (failed ≡ failed_before) × RanOut left log old new
-    ⊎ (result ≡ Err Output) × (failed_before < failed) × CutOff left log old new)
+    ⊎ ((result ≡ Err Memory) × (failed ≡ failed_before) × RanOut left log help old new
+    ⊎ (result ≡ Err Output) × (failed_before < failed) × CutOff left log help old new)
 
 -- How a lost session was driven: nothing was asked, what it had to hand out was written and its fault came again; or the sink failed.
 pub record DroveLost (fault : Fault) (pending : List ℕ) (old_log new_log : Log) (old new : Option (List ℕ)) (failed_before failed : ℕ) (result : Result Ending Fault) : Type 0 where

@@ -6,8 +6,8 @@ pub mod Drives
 -- the tools for runs in memory
 pub mod MemFiles
 pub mod MemSinks
+pub mod KeptAnswers
 -- what serves clauses inside the crate
-pub mod Faults
 pub mod Insides
 pub mod Advances
 pub mod Work

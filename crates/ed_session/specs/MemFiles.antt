@@ -5,10 +5,7 @@ use Rattle.ed_syntax.specs.declared.request.Answer.{Answer}
 use Rattle.ed_syntax.specs.declared.request.Answer.TheVariants as answer
 use Rattle.ed_session.specs.declared.mem_files.MemFiles.{MemFiles}
 use Rattle.ed_session.specs.Drives.{Log}
-
--- paths with their bytes, the latest first
-abbrev pub Files : Type 0
-Files = List (List ℕ × List ℕ)
+use Rattle.ed_session.specs.KeptAnswers.{Files, found, told}
 
 -- the bytes of the file at a path: those that were added last
 abbrev pub file_at : List ℕ → Files → Option (List ℕ)
@@ -21,7 +18,7 @@ files_of m = m.files.items
 
 -- what was asked and answered, the oldest first
 abbrev pub log_of : MemFiles → Log
-log_of m = m.log.items
+log_of m = told (files_of m) m.log.items
 
 -- which of its calls it refuses, counted from 1; with 0 none
 abbrev pub refused_call : MemFiles → ℕ
@@ -34,11 +31,6 @@ refusals m = m.failures
 -- the next call is refused
 abbrev pub refuses_now : MemFiles → Bool
 refuses_now m = nat_eq (refused_call m) (length (log_of m) + 1)
-
--- what is answered of a file
-abbrev pub found : Option (List ℕ) → Answer
-found None = answer.Missing
-found (Some bytes) = answer.Bytes bytes
 
 -- what a read of a path is answered
 abbrev pub read_answer : MemFiles → List ℕ → Answer

@@ -6,13 +6,15 @@ use Rattle.ed_syntax.specs.declared.options.Ending.{Ending}
 use Rattle.ed_syntax.specs.declared.request.Request.{Request}
 use Rattle.ed_syntax.specs.Commands.{Command, Script}
 use Rattle.ed_syntax.specs.Progress.{Present, Rest, Stop, Waits, Ends, stopping, behind}
-use Rattle.ed_syntax.specs.Runs.{present, start, steps}
+use Rattle.ed_syntax.specs.Runs.{present, start, steps, unprompted}
 
--- Where a session is: it wants its start file, is between two commands, waits for the answer to a command's request,
--- or is over; or it was lost to want of memory or to its writer.
+-- Where a session is: it wants its start file, is between two commands, has written the prompt before its next command
+-- where prompting is on, waits for the answer to that command's request, or is over; or it was lost to want of memory or
+-- to its writer.
 pub data Phase : Type 0 where
   Fresh : (path : Option (List ℕ)) → Phase
   Between : Phase
+  Prompted : Phase
   Waiting : Phase
   Over : (result : Result Ending Fault) → Phase
   Lost : (fault : Fault) → Phase
@@ -41,6 +43,7 @@ made script o = record {
 abbrev pub lost_by : Phase → Option Fault
 lost_by (Fresh path) = None
 lost_by Between = None
+lost_by Prompted = None
 lost_by Waiting = None
 lost_by (Over result) = None
 lost_by (Lost fault) = Some fault
@@ -49,6 +52,7 @@ lost_by (Lost fault) = Some fault
 abbrev pub is_waiting : Phase → Bool
 is_waiting (Fresh path) = false
 is_waiting Between = false
+is_waiting Prompted = false
 is_waiting Waiting = true
 is_waiting (Over result) = false
 is_waiting (Lost fault) = false
@@ -57,6 +61,7 @@ is_waiting (Lost fault) = false
 abbrev pub is_started : Phase → Bool
 is_started (Fresh path) = false
 is_started Between = true
+is_started Prompted = true
 is_started Waiting = true
 is_started (Over result) = true
 is_started (Lost fault) = true
@@ -65,27 +70,43 @@ is_started (Lost fault) = true
 abbrev pub path_of : Phase → Option (List ℕ)
 path_of (Fresh path) = path
 path_of Between = None
+path_of Prompted = None
 path_of Waiting = None
 path_of (Over result) = None
 path_of (Lost fault) = None
 
--- a file's answer may come next
-abbrev pub can_take_answer : Phase → Bool
-can_take_answer (Fresh path) = true
-can_take_answer Between = false
-can_take_answer Waiting = true
-can_take_answer (Over result) = false
-can_take_answer (Lost fault) = false
+-- it is at a command, or behind the last
+abbrev pub is_at_command : Phase → Bool
+is_at_command (Fresh path) = false
+is_at_command Between = true
+is_at_command Prompted = true
+is_at_command Waiting = false
+is_at_command (Over result) = false
+is_at_command (Lost fault) = false
+
+-- its run may still go on
+abbrev pub may_go_on : Phase → Bool
+may_go_on (Fresh path) = true
+may_go_on Between = true
+may_go_on Prompted = true
+may_go_on Waiting = true
+may_go_on (Over result) = false
+may_go_on (Lost fault) = false
 
 -- the commands that are left, from here on
 abbrev pub go_on : SessionValue → Present → Rest
 go_on v = steps v.commands v.fault
 
+-- the same where the prompt before the next command was written
+abbrev pub go_on_unprompted : SessionValue → Present → Rest
+go_on_unprompted v = unprompted v.commands v.fault
+
 -- what is left of the run from a phase on; waiting only remembers that a request was handed out
 abbrev pub rest_at : Phase → SessionValue → Rest
 rest_at (Fresh path) v answers = start path v.present (go_on v) answers
 rest_at Between v answers = go_on v v.present answers
-rest_at Waiting v answers = go_on v v.present answers
+rest_at Prompted v answers = go_on_unprompted v v.present answers
+rest_at Waiting v answers = go_on_unprompted v v.present answers
 rest_at (Over result) v answers = stopping (Ends result)
 rest_at (Lost fault) v answers = stopping (Ends (Err fault))
 

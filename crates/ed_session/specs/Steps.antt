@@ -1,5 +1,5 @@
 -- What each call of a session does to what is left of its run.
-use Rattle.std.specs.Prelude.{ℕ, ◌≡◌, ◌≢◌, ◌<◌, List, [], ◌∷◌, true, false, length, Option, Some, None, Result, Ok, Err}
+use Rattle.std.specs.Prelude.{ℕ, ◌≡◌, ◌≢◌, ◌<◌, List, [], ◌∷◌, true, false, length, Bool, Option, Some, None, Result, Ok, Err}
 use Rattle.ed_base.specs.declared.fault.Fault.{Fault}
 use Rattle.ed_base.specs.declared.fault.Fault.TheVariants.{Memory, Output}
 use Rattle.ed_syntax.specs.declared.options.Ending.{Ending}
@@ -9,11 +9,11 @@ use Rattle.ed_syntax.specs.declared.request.Request.TheVariants as request
 use Rattle.ed_session.specs.declared.session.Ask.{Ask}
 use Rattle.ed_session.specs.declared.session.Ask.TheVariants as ask
 use Rattle.ed_syntax.specs.Progress.{behind, report}
-use Rattle.ed_session.specs.Sessions.{SessionValue, Phase, Fresh, Between, Waiting, Over, Lost, rest, awaited, lost_by, is_waiting}
+use Rattle.ed_session.specs.Sessions.{SessionValue, Waiting, Over, Lost, rest, awaited, lost_by, is_waiting}
 
--- what is written where memory runs out, in no help mode
-abbrev pub memory_report : List ℕ
-memory_report = report false Memory
+-- what is written where memory runs out, in help mode or not
+abbrev pub memory_report : Bool → List ℕ
+memory_report help = report help Memory
 
 -- the same is left of the run
 abbrev pub SameRest : SessionValue → SessionValue → Type 0
@@ -29,10 +29,10 @@ abbrev pub Starts : Option (List ℕ) → SessionValue → Answer → SessionVal
 Starts (Some path) old answer new = Answers old (request.Read path) answer new
 Starts None old answer new = SameRest old new
 
--- memory ran out: the report is what is left to hand out
+-- memory ran out: the report in the session's mode is what is left to hand out
 pub record BreaksOff (new : SessionValue) : Type 0 where
   pub lost : new.phase ≡ Lost Memory
-  pub pending : new.pending ≡ memory_report
+  pub pending : new.pending ≡ memory_report new.present.help
 
 -- the run has come to a request, and waits; all output before it was handed out
 pub record WaitsFor (old new : SessionValue) (request : Request) : Type 0 where
@@ -49,18 +49,18 @@ Steps old (ask.Read path) new = WaitsFor old new (request.Read path)
 Steps old (ask.Write path bytes) new = WaitsFor old new (request.Write path bytes)
 Steps old (ask.Ended result) new = (new.phase ≡ Over result) × (new.pending ≡ []) × (new.told ≡ true) × SameRest old new
 
--- what a step gives that ran out of memory: the report, and then its fault
+-- what a step gives that ran out of memory: the report in the session's mode, and then its fault
 pub record StepBreaks (asks : Ask) (new : SessionValue) : Type 0 where
-  pub gives : asks ≡ ask.Output memory_report
+  pub gives : asks ≡ ask.Output (memory_report new.present.help)
   pub lost : new.phase ≡ Lost Memory
   pub pending : new.pending ≡ []
 
 -- what a step of a lost session gives: what is left of the report, and then its fault
 abbrev pub LostSteps : Fault → SessionValue → Ask → SessionValue → Type 0
-LostSteps fault old (ask.Output bytes) new = (bytes ≡ old.pending) × (0 < length bytes) × (new.phase ≡ old.phase) × (new.pending ≡ [])
+LostSteps fault old (ask.Output bytes) new = (bytes ≡ old.pending) × (0 < length bytes) × (new.phase ≡ old.phase) × (new.pending ≡ []) × (new.present ≡ old.present)
 LostSteps fault old (ask.Read path) new = ⊥
 LostSteps fault old (ask.Write path bytes) new = ⊥
-LostSteps fault old (ask.Ended result) new = (result ≡ Err fault) × (old.pending ≡ []) × (new.phase ≡ old.phase) × (new.pending ≡ []) × (new.told ≡ true)
+LostSteps fault old (ask.Ended result) new = (result ≡ Err fault) × (old.pending ≡ []) × (new.phase ≡ old.phase) × (new.pending ≡ []) × (new.told ≡ true) × (new.present ≡ old.present)
 
 -- it tells the end
 abbrev pub IsEnded : Ask → Type 0
@@ -81,7 +81,8 @@ Tells (ask.Read path) new = new.told ≡ false
 Tells (ask.Write path bytes) new = new.told ≡ false
 Tells (ask.Ended result) new = (new.told ≡ true) × (lost_by new.phase ≡ None → IsOwnEnd result)
 
--- the output was refused, and nothing is left to hand out
-pub record LosesOutput (new : SessionValue) : Type 0 where
+-- the output was refused, and nothing is left to hand out; what the run holds stays
+pub record LosesOutput (old new : SessionValue) : Type 0 where
   pub lost : new.phase ≡ Lost Output
   pub pending : new.pending ≡ []
+  pub present : new.present ≡ old.present

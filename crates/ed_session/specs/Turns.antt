@@ -16,7 +16,7 @@ pub record BrokenOff (left : Rest) (log : Log) (output : List ℕ) (now : Sessio
   pub asked : (left (answers log)).asked ≡ requests log
   pub front : List ℕ
   pub begins : BeginsWith (left (answers log)).output front
-  pub whole : output ++ now.pending ≡ front ++ memory_report
+  pub whole : output ++ now.pending ≡ front ++ memory_report now.present.help
 
 -- behind this log and output the session stands here
 pub record Along (left : Rest) (log : Log) (output : List ℕ) (now : SessionValue) : Type 0 where

@@ -69,7 +69,7 @@ pub fn drive<S: LineStore, O: Outside, W: Sink>(
 
     // The run of these answers has ended so and its output was written; or memory ran out; or the sink failed.
     ensures run { lost_by session.old.phase ≡ None →
-        Drove (rest session.old) (added (O.log outside.old) (O.log outside.new))
+        Drove (rest session.old) (added (O.log outside.old) (O.log outside.new)) session.new.present.help
         (W.taken sink.old) (W.taken sink.new) (W.failures sink.old) (W.failures sink.new) result }
 
     // A lost session writes what it had to hand out, and ends by its fault again; or the sink failed.

@@ -2,10 +2,13 @@
 #![tactic(auto)]
 
 mod driving;
+mod kept;
 pub mod laws;
 mod mem_files;
 mod mem_sink;
+mod modes;
 mod outside;
+mod reports;
 mod session;
 mod sink;
 mod stage;

@@ -2,8 +2,10 @@
 ghost use Rattle.std.specs.Prelude.{◌≡◌, ◌≢◌, ◌<◌, ◌≤◌, ◌⊎◌, [], ◌∷◌, ◌++◌, length, IfOk, OnOk, OnErr};
 ghost use Rattle.ed_syntax.specs.declared.request.Answer.TheVariants as answer;
 ghost use Rattle.ed_syntax.specs.declared.request.Request.TheVariants as request;
+ghost use Rattle.ed_session.specs.KeptAnswers.{AllWithin, place_of, answer_of, found};
 
 use crate::Outside;
+use crate::kept::Kept;
 use ed_base::Bytes;
 use ed_syntax::{Answer, Request};
 use std::alloc::{AllocError, Global};
@@ -14,14 +16,15 @@ pub struct MemFiles {
     alloc: Global,
     // The latest first.
     files: Vec<(Bytes, Bytes)>,
-    log: Vec<(Request, Answer)>,
+    log: Vec<(Request, Kept)>,
     refused: u64,
     failures: usize,
     ghost few: { failures ≤ length log.items },
+    ghost within: { AllWithin (length files.items) log.items },
 }
 
 impl MemFiles {
-    ghost use Rattle.ed_session.specs.MemFiles.{file_at, files_of, found, log_of, refused_call, refusals, refuses_now, ChangesFiles, ChangesRefused};
+    ghost use Rattle.ed_session.specs.MemFiles.{file_at, files_of, log_of, refused_call, refusals, refuses_now, ChangesFiles, ChangesRefused};
 
     /// No files. It takes no memory.
     pub fn new(alloc: Global) -> Self
@@ -39,15 +42,14 @@ impl MemFiles {
         }
     }
 
-    /// Gives the file at a path these bytes, in place of those that it had.
-    pub fn add(&mut self, path: &[u8], bytes: &[u8]) -> Result<(), AllocError>
+    /// Gives the file at a path these bytes, in place of those that it had. The bytes themselves aren't copied.
+    pub fn add(&mut self, path: &[u8], bytes: Bytes) -> Result<(), AllocError>
         ensures added { OnOk result
-            (ChangesFiles self.old self.new ((path.now, bytes.now) ∷ files_of self.old)) }
+            (ChangesFiles self.old self.new ((path.now, bytes) ∷ files_of self.old)) }
         ensures unchanged { OnErr result (ChangesFiles self.old self.new (files_of self.old)) }
     {
         let name = Bytes::from_slice(self.alloc, path)?;
-        let held = Bytes::from_slice(self.alloc, bytes)?;
-        self.files.insert(0, (name, held))?;
+        self.files.insert(0, (name, bytes))?;
         Ok(())
     }
 
@@ -66,26 +68,49 @@ impl MemFiles {
         self.refused > 0 && self.refused - 1 == self.log.len() as u64
     }
 
-    fn find(&self, path: &[u8]) -> Result<Answer, AllocError>
-        ensures value { IfOk result (λ a. a ≡ found (file_at path.now (files_of self.now))) }
+    // What the log keeps of the file at a path.
+    fn find(&self, path: &[u8]) -> Kept
+        ensures within { place_of result ≤ length (files_of self.now) }
+        ensures value { answer_of (files_of self.now) result ≡ found (file_at path.now (files_of self.now)) }
     {
-        'files: for (name, bytes) in self.files.as_slice() {
+        let mut left = self.files.len();
+        'files: for (name, _) in self.files.as_slice() {
             if name.as_slice() == path {
-                return Ok(Answer::Bytes(bytes.try_copy()?));
+                return Kept::File(left);
             }
+            left -= 1;
         }
-        Ok(Answer::Missing)
+        Kept::Missing
+    }
+
+    // The answer that is kept so.
+    fn tell(&self, kept: Kept) -> Result<Answer, AllocError>
+        requires within { place_of kept ≤ length (files_of self.now) }
+        ensures value { IfOk result (λ a. a ≡ answer_of (files_of self.now) kept) }
+    {
+        match kept {
+            Kept::File(place) => match self.files.get(self.files.len() - place) {
+                Some((_, bytes)) => Ok(Answer::Bytes(bytes.try_copy()?)),
+                None => Ok(Answer::Missing),
+            }
+            Kept::Missing => Ok(Answer::Missing),
+            Kept::Refused => Ok(Answer::Refused),
+            Kept::Done => Ok(Answer::Done),
+        }
     }
 }
 
 impl Outside for MemFiles {
     ghost use Rattle.ed_session.specs.MemFiles.{files_of, log_of, refused_call, refusals, read_answer, write_answer, files_written, refusals_after};
 
-    ghost log = { λ m. m.log.items };
+    ghost log = { λ m. log_of m };
 
     ghost failures = { λ m. m.failures };
 
-    ghost few_failures = { λ m. m.few };
+    ghost use Rattle.std.proofs.Common.{subst, sym};
+    ghost use Rattle.std.proofs.lemmas.List.{length-map};
+
+    ghost few_failures = { λ m. subst (λ n. m.failures ≤ n) (sym (length-map m.log.items _)) m.few };
 
     fn read(&mut self, path: &[u8]) -> Result<Answer, AllocError>
         ensures logged { IfOk result (λ a.
@@ -104,14 +129,14 @@ impl Outside for MemFiles {
     {
         self.log.reserve(1)?;
         let asked = Request::Read(Bytes::from_slice(self.alloc, path)?);
-        let answer = if self.refuses() {
-            Answer::Refused
+        let kept = if self.refuses() {
+            Kept::Refused
         } else {
-            self.find(path)?
+            self.find(path)
         };
-        let kept = answer.try_copy()?;
+        let answer = self.tell(kept)?;
         self.log.push((asked, kept))?;
-        if matches!(&answer, Answer::Refused) {
+        if matches!(kept, Kept::Refused) {
             self.failures += 1;
         }
         Ok(answer)
@@ -138,12 +163,13 @@ impl Outside for MemFiles {
             Bytes::from_slice(self.alloc, bytes)?,
         );
         if self.refuses() {
-            self.log.push((asked, Answer::Refused))?;
+            self.log.push((asked, Kept::Refused))?;
             self.failures += 1;
             return Ok(Answer::Refused);
         }
-        self.add(path, bytes)?;
-        self.log.push((asked, Answer::Done))?;
+        let held = Bytes::from_slice(self.alloc, bytes)?;
+        self.add(path, held)?;
+        self.log.push((asked, Kept::Done))?;
         Ok(Answer::Done)
     }
 }

@@ -1,13 +1,14 @@
 //! A run that stops for its output and its files.
 ghost use Rattle.std.specs.Prelude.{◌≡◌, ◌≢◌, ◌<◌, ◌≤◌, List, [], Option, Some, None, true, false, IfOk, IfSome, IfNone, IsSome};
-ghost use Rattle.ed_syntax.specs.PublicTypes.{verb_value};
-ghost use Rattle.ed_session.specs.Insides.{quits_anyway};
-ghost use Rattle.ed_session.specs.Steps.{memory_report};
 
+mod advancing;
+
+use crate::modes::Modes;
+use crate::reports::Reports;
 use crate::stage::Stage;
 use ed_base::{Bytes, Fault};
 use ed_commands::{Editor, Reply};
-use ed_syntax::{Answer, Command, Ending, Options, Request, Script, Verb};
+use ed_syntax::{Answer, Command, Ending, Options, Request, Script};
 use line_store::LineStore;
 use std::alloc::{AllocError, Global};
 use std::marker::Model;
@@ -37,10 +38,12 @@ pub struct Session<S: LineStore> {
     // The place of the next command.
     next: usize,
     fault: Option<usize>,
+    modes: Modes,
+    // What is written before a command while prompting is on.
+    prompt: Bytes,
     // Output that wasn't handed out.
     pending: Bytes,
-    // What a fault writes, whose room is made at the start.
-    report: Bytes,
+    reports: Reports,
     stage: Stage,
     told: bool,
 }
@@ -52,11 +55,11 @@ impl<S: LineStore> Model for Session<S> {
 
     ghost Value = { SessionValue };
 
-    ghost use Rattle.ed_session.specs.Insides.{IsSound, phase_of, quiet};
+    ghost use Rattle.ed_session.specs.Insides.{IsSound, phase_of, silently};
 
     ghost view = { λ s. record {
       phase = phase_of s.stage;
-      present = quiet s.editor.state;
+      present = silently s.editor.state s.modes s.prompt;
       commands = map command_value (drop s.next s.commands.items);
       fault = s.fault;
       pending = s.pending;
@@ -64,60 +67,51 @@ impl<S: LineStore> Model for Session<S> {
     } };
 
     ghost invariant = { λ s. IsSound s.stage s.editor.state s.editor.failed (vec_len s.commands) s.next
-        (map command_value (drop s.next s.commands.items)) s.pending s.report s.told };
-}
-
-/// The report of a fault.
-fn make_report(alloc: Global) -> Result<Bytes, AllocError>
-    ensures value { IfOk result (λ report. report ≡ memory_report) }
-{
-    let mut report = Bytes::new(alloc);
-    report.push(b'?')?;
-    report.push(b'\n')?;
-    Ok(report)
-}
-
-// The command ends the run by itself.
-fn ends_run(verb: &Verb) -> bool
-    ensures value { result ≡ quits_anyway (verb_value verb.now) }
-{
-    matches!(verb, Verb::QuitAnyway)
+        (map command_value (drop s.next s.commands.items)) s.pending s.reports.brief s.reports.full s.told };
 }
 
 impl<S: LineStore> Session<S> {
     ghost use Rattle.ed_syntax.specs.PublicTypes.{script_value};
     ghost use Rattle.ed_syntax.specs.Runs.{run};
     ghost use Rattle.ed_syntax.specs.declared.request.Answer.{Answer};
-    ghost use Rattle.ed_session.specs.Sessions.{made, lost_by, is_waiting, is_started, rest, awaited, path_of, can_take_answer, Waiting, Between};
+    ghost use Rattle.ed_session.specs.Sessions.{made, lost_by, is_waiting, is_started, rest, awaited, path_of, may_go_on, Waiting};
     ghost use Rattle.ed_session.specs.Steps.{Answers, Starts, BreaksOff, Steps, StepBreaks, LostSteps, Tells, IsEnded, LosesOutput};
-    ghost use Rattle.ed_session.specs.Advances.{Advances, AdvancesBy};
     ghost use Rattle.ed_session.specs.Work.{work, Works};
 
     /// A session of this script that hasn't started.
     pub fn new(alloc: Global, script: Script, options: Options) -> Result<Self, AllocError>
         requires silent { options.silent ≡ true }
-        requires prompt { options.prompt ≡ None }
         ensures value { IfOk result (λ s. s ≡ made (script_value script) options) }
         // What is left of it is the whole run.
         ensures rest { IfOk result (λ s. (answers : List Answer) →
             rest s answers ≡ run (script_value script) options answers) }
     {
-        let report = make_report(alloc)?;
+        let reports = Reports::new(alloc)?;
         let store = S::empty(alloc)?;
         let Script { commands, fault } = script;
         let Options {
             silent: _,
-            prompt: _,
+            prompt,
             path,
         } = options;
+        let prompting = prompt.is_some();
+        let prompt = match prompt {
+            Some(prompt) => prompt,
+            None => Bytes::from_slice(alloc, b"*")?,
+        };
         Ok(Session {
             alloc,
             editor: Editor::new(alloc, store),
             commands,
             next: 0,
             fault,
+            modes: Modes {
+                prompting,
+                help: false,
+            },
+            prompt,
             pending: Bytes::new(alloc),
-            report,
+            reports,
             stage: Stage::Fresh(path),
             told: false,
         })
@@ -170,66 +164,9 @@ impl<S: LineStore> Session<S> {
             Answer::Refused | Answer::Done => Err(Fault::File),
         };
         if let Err(fault) = loaded {
-            self.stage = Stage::ended_by(fault);
-            self.pending = mem::replace(&mut self.report, Bytes::new(self.alloc));
-        }
-    }
-
-    // The end of the script, or of what could be read of it.
-    fn end(&mut self)
-        requires between { self.old.phase ≡ Between }
-        requires handed_out { self.old.pending ≡ [] }
-        requires none_left { self.old.commands ≡ [] }
-        ensures given { Advances self.old self.new }
-        ensures work { work self.new < work self.old }
-    {
-        let fault = if self.fault.is_some() {
-            Fault::Syntax
-        } else if self.editor.changed() {
-            Fault::Unsaved
-        } else {
-            self.stage = Stage::Over(Ok(Ending {
-                lines: self.editor.lines().len(),
-            }));
-            return;
-        };
-        self.stage = Stage::Over(Err(fault));
-        self.pending = mem::replace(&mut self.report, Bytes::new(self.alloc));
-    }
-
-    // Does the next command and keeps its output, or finds what it asks for, or comes to the end.
-    fn advance(&mut self) -> Option<Request>
-        requires between { self.old.phase ≡ Between }
-        requires handed_out { self.old.pending ≡ [] }
-        ensures given { AdvancesBy self.old result self.new }
-        ensures work { work self.new < work self.old }
-    {
-        if self.next == self.commands.len() {
-            self.end();
-            return None;
-        }
-        let command = &self.commands[self.next];
-        if ends_run(&command.verb) {
-            self.stage = Stage::Over(Ok(Ending {
-                lines: self.editor.lines().len(),
-            }));
-            return None;
-        }
-        match self.editor.apply(command, None) {
-            Ok(Reply::Done(output)) => {
-                self.next += 1;
-                self.pending = output;
-                None
-            }
-            Ok(Reply::Wants(request)) => {
-                self.stage = Stage::Waiting;
-                Some(request)
-            }
-            Err(fault) => {
-                self.stage = Stage::ended_by(fault);
-                self.pending = mem::replace(&mut self.report, Bytes::new(self.alloc));
-                None
-            }
+            let (stage, report) = self.reports.ending(self.modes.help, fault);
+            self.stage = stage;
+            self.pending = report;
         }
     }
 
@@ -247,7 +184,9 @@ impl<S: LineStore> Session<S> {
         ensures same_end { self.old.told ≡ true → IsEnded result × (self.new ≡ self.old) }
         ensures work { Works self.old result self.new }
     {
-        'commands: while self.pending.is_empty() && matches!(&self.stage, Stage::Between) {
+        'commands: while self.pending.is_empty()
+            && matches!(&self.stage, Stage::Between | Stage::Prompted)
+        {
             match self.advance() {
                 Some(Request::Read(path)) => return Ask::Read(path),
                 Some(Request::Write(path, bytes)) => return Ask::Write(path, bytes),
@@ -261,7 +200,7 @@ impl<S: LineStore> Session<S> {
         match &self.stage {
             Stage::Over(result) => Ask::Ended(*result),
             Stage::Lost(fault) => Ask::Ended(Err(*fault)),
-            Stage::Fresh(_) | Stage::Between | Stage::Waiting => unreachable!(),
+            Stage::Fresh(_) | Stage::Between | Stage::Prompted | Stage::Waiting => unreachable!(),
         }
     }
 
@@ -278,7 +217,7 @@ impl<S: LineStore> Session<S> {
             Ok(Reply::Done(_)) => unreachable!(),
             Err(_) => {
                 self.stage = Stage::Lost(Fault::Memory);
-                self.pending = mem::replace(&mut self.report, Bytes::new(self.alloc));
+                self.pending = self.reports.of_memory(self.modes.help);
                 None
             }
         }
@@ -298,34 +237,38 @@ impl<S: LineStore> Session<S> {
     {
         match self.editor.apply(&self.commands[self.next], Some(answer)) {
             Ok(Reply::Done(output)) => {
+                self.modes = self.modes.behind(&self.commands[self.next].verb);
                 self.next += 1;
                 self.pending = output;
                 self.stage = Stage::Between;
             }
             Ok(Reply::Wants(_)) => {
-                self.stage = Stage::Over(Err(Fault::File));
-                self.pending = mem::replace(&mut self.report, Bytes::new(self.alloc));
+                let (stage, report) = self.reports.ending(self.modes.help, Fault::File);
+                self.stage = stage;
+                self.pending = report;
             }
             Err(fault) => {
-                self.stage = Stage::ended_by(fault);
-                self.pending = mem::replace(&mut self.report, Bytes::new(self.alloc));
+                let (stage, report) = self.reports.ending(self.modes.help, fault);
+                self.stage = stage;
+                self.pending = report;
             }
         }
     }
 
-    // Loses the session because the outside had no memory for an answer.
+    // Loses the session because there was no memory, here or outside.
     pub(crate) fn fail_memory(&mut self)
-        requires unended { can_take_answer self.old.phase ≡ true }
+        requires unended { may_go_on self.old.phase ≡ true }
         ensures broke { BreaksOff self.new }
+        ensures untold { self.new.told ≡ false }
         ensures work { work self.new ≤ work self.old }
     {
         self.stage = Stage::Lost(Fault::Memory);
-        self.pending = mem::replace(&mut self.report, Bytes::new(self.alloc));
+        self.pending = self.reports.of_memory(self.modes.help);
     }
 
     /// Makes `Fault::Output` the end of a session that hasn't answered `Ended`; of one that has, nothing changes.
     pub fn fail_output(&mut self)
-        ensures ended { self.old.told ≡ false → LosesOutput self.new }
+        ensures ended { self.old.told ≡ false → LosesOutput self.old self.new }
         ensures unchanged { self.old.told ≡ true → self.new ≡ self.old }
     {
         if self.told {

@@ -1,5 +1,5 @@
 -- Worked runs over addresses, computed from the bytes of script and file; the outputs are those that the standard says.
-use Rattle.std.specs.Prelude.{◌≡◌, refl, ℕ, List, [], ◌∷◌, ◌++◌, codes}
+use Rattle.std.specs.Prelude.{◌≡◌, refl, [], ◌∷◌, ◌++◌, codes}
 use Rattle.std.specs.Fmt.{digits}
 use Rattle.bre_parse.specs.Tree as tree
 use Rattle.ed_base.specs.declared.fault.Fault.TheVariants as fault

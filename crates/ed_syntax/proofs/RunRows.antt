@@ -459,14 +459,30 @@ help_and_prompt : run (script_of (codes "1n\nH\nx\n")) (options true (Some (code
 unfolding digits
 help_and_prompt = refl
 
-prompt_turned_on : run (script_of (codes "P\n")) (options true None) (answer.Bytes letters ∷ []) ≡ ends (codes "*") 3
-prompt_turned_on = refl
+prompting_turned_on : run (script_of (codes "P\n")) (options true None) (answer.Bytes letters ∷ []) ≡ ends (codes "*") 3
+prompting_turned_on = refl
+
+prompting_turned_off : run (script_of (codes "P\n1p\nP\n1p\n")) (options true (Some (codes "> "))) (answer.Bytes letters ∷ []) ≡ ends (codes "> a\n> a\n> ") 3
+prompting_turned_off = refl
+
+empty_prompt : run (script_of (codes "1p\nP\nP\n")) (options true (Some [])) (answer.Bytes letters ∷ []) ≡ ends (codes "a\n") 3
+empty_prompt = refl
 
 suffix_before_help_mode : edited [] (codes "Hp\n") ≡ fails (codes "?\n") fault.Address
 suffix_before_help_mode = refl
 
-help_mode_turned_off : edited letters (codes "H\nH\nh\nx\n") ≡ fails (codes "?\n") fault.Syntax
-help_mode_turned_off = refl
+suffix_behind_help_mode : edited letters (codes "Hn\nx\n") ≡ fails (codes "3\tc\n?\ninvalid command\n") fault.Syntax
+unfolding digits
+suffix_behind_help_mode = refl
 
-no_address_before_help : edited letters (codes "1h\n") ≡ fails (codes "?\n") fault.Syntax
+help_turned_on : edited letters (codes "H\nz\n") ≡ fails (codes "?\ninvalid command\n") fault.Syntax
+help_turned_on = refl
+
+help_turned_off : edited letters (codes "H\nH\n9p\n") ≡ fails (codes "?\n") fault.Address
+help_turned_off = refl
+
+no_fault_to_tell : edited letters (codes "h\n1p\nQ\n") ≡ ends (codes "a\n") 3
+no_fault_to_tell = refl
+
+no_address_before_help : edited letters (codes "H\n1h\n") ≡ fails (codes "?\ninvalid command\n") fault.Syntax
 no_address_before_help = refl

@@ -1,10 +1,13 @@
 -- Worked scripts, computed from their bytes.
-use Rattle.std.specs.Prelude.{◌≡◌, refl, ℕ, false, List, [], ◌∷◌, Some, None, codes}
-use Rattle.ed_syntax.specs.Commands.{Number, Current, Last, Addresses, Without, One, Comma, Plain, Verb, Append, Delete, Write, QuitAnyway, Command, Script, at_base}
+use Rattle.std.specs.Prelude.{◌≡◌, refl, ℕ, pos, false, List, [], ◌∷◌, Some, None, codes}
+use Rattle.ed_syntax.specs.Commands.{Number, Current, Last, Forward, Addresses, Without, One, Comma, Form, Plain, Numbered, Unambiguous, Verb, Append, Change, Delete, Insert, Mark, Move, Copy, Write, HelpMode, QuitAnyway, Command, Script, at_base}
 use Rattle.ed_syntax.specs.Reading.{script_of}
 
 abbrev command : Addresses → Verb → Command
 command given verb = record { addresses = given; verb = verb; suffix = None; listed = false }
+
+abbrev with_suffix : Addresses → Verb → Form → Command
+with_suffix given verb suffix = record { addresses = given; verb = verb; suffix = Some suffix; listed = false }
 
 abbrev whole : List Command → Script
 whole commands = record { commands = commands; fault = None }
@@ -42,3 +45,46 @@ fault_on_last_line = refl
 
 no_digits_too_many : script_of (codes "1234567890d\n") ≡ faulty [] 1
 no_digits_too_many = refl
+
+-- a target ends where its address does, and a suffix stands directly behind it
+
+suffix_behind_target : script_of (codes "1m3p\n") ≡ whole (with_suffix (One (at_base (Number 1))) (Move (at_base (Number 3))) Plain ∷ [])
+suffix_behind_target = refl
+
+no_suffix_behind_blank : script_of (codes "m3 p\n") ≡ faulty [] 1
+no_suffix_behind_blank = refl
+
+suffix_behind_searched_target : script_of (codes "1m/x/p\n") ≡ whole (with_suffix (One (at_base (Number 1))) (Move (at_base (Forward (Some (codes "x"))))) Plain ∷ [])
+suffix_behind_searched_target = refl
+
+letter_in_open_pattern : script_of (codes "m/xp\n") ≡ whole (command Without (Move (at_base (Forward (Some (codes "xp"))))) ∷ [])
+letter_in_open_pattern = refl
+
+suffix_behind_offset : script_of (codes "t + n\n") ≡ faulty [] 1
+suffix_behind_offset = refl
+
+target_with_offset : script_of (codes "t +n\t\n") ≡ whole (with_suffix Without (Copy (record { base = Current; offset = pos 1 })) Numbered ∷ [])
+target_with_offset = refl
+
+suffix_is_no_target : script_of (codes "tp\n") ≡ faulty [] 1
+suffix_is_no_target = refl
+
+one_target : script_of (codes "1m2,3\n") ≡ faulty [] 1
+one_target = refl
+
+-- a letter that marks comes before a suffix
+
+mark_before_suffix : script_of (codes "kp\nkpp\n") ≡ whole (command Without (Mark 15) ∷ with_suffix Without (Mark 15) Plain ∷ [])
+mark_before_suffix = refl
+
+suffix_behind_form : script_of (codes "lp\n") ≡ whole (with_suffix Without (Write Unambiguous) Plain ∷ [])
+suffix_behind_form = refl
+
+one_suffix : script_of (codes "lpn\n") ≡ faulty [] 1
+one_suffix = refl
+
+suffix_behind_mode : script_of (codes "Hp\n") ≡ whole (with_suffix Without HelpMode Plain ∷ [])
+suffix_behind_mode = refl
+
+suffix_before_text : script_of (codes "2cp\nx\n.\n0i\ny") ≡ whole (with_suffix (One (at_base (Number 2))) (Change (codes "x" ∷ [])) Plain ∷ command (One (at_base (Number 0))) (Insert (codes "y" ∷ [])) ∷ [])
+suffix_before_text = refl

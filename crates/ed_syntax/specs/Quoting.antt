@@ -1,6 +1,6 @@
 -- Which bytes spell a pattern between delimiters (XCU ed, "Regular Expressions in ed", "Addresses in ed").
 -- Each names a text, what stands behind the part at its head, and what that part means. A text ends with its line.
-use Rattle.std.specs.Prelude.{ℕ, ◌≡◌, ◌≢◌, Bool, true, false, ◌||◌, List, [], ◌∷◌, ◌++◌, Option, Some, None, nat_eq}
+use Rattle.std.specs.Prelude.{ℕ, ◌≢◌, Bool, true, false, ◌||◌, List, [], ◌∷◌, ◌++◌, Option, Some, None, nat_eq}
 use Rattle.bre_parse.specs.Tree.{Tree}
 use Rattle.bre_parse.specs.Spelled as bre
 use Rattle.bre_parse.specs.SpelledBrackets.{SpellsBracket}

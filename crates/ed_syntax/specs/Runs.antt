@@ -9,7 +9,7 @@ use Rattle.ed_syntax.specs.declared.request.Answer.TheVariants as answer
 use Rattle.ed_syntax.specs.declared.request.Request.TheVariants as request
 use Rattle.ed_syntax.specs.declared.options.Options.{Options}
 use Rattle.ed_syntax.specs.Commands as ed
-use Rattle.ed_syntax.specs.Commands.{Command, Script}
+use Rattle.ed_syntax.specs.Commands.{Verb, Command, Script}
 use Rattle.ed_syntax.specs.States.{State, Nothing, opening}
 use Rattle.ed_syntax.specs.Applied.{Reply, Done, Wants, command}
 use Rattle.ed_syntax.specs.Progress.{Present, Waits, Progress, Rest, stopping, behind, failing, ending, quitting, count}
@@ -35,26 +35,25 @@ asking m (Ok (s, Wants r)) again go (a ∷ answers) = behind [] (r ∷ []) (answ
 abbrev pub one : Command → Present → (Present → Rest) → Rest
 one c m go = asking m (command m.state c None) (λ a. command m.state c (Some a)) go
 
--- A command that ends the run, or goes on. A mode is toggled once the command with its suffix is done; `h` writes nothing, since a
--- run has no earlier fault.
+-- the same run with help mode turned on or off
+abbrev pub help_turned : Present → Present
+help_turned m = record m { help = not m.help }
+
+-- the same run with prompting turned on or off
+abbrev pub prompting_turned : Present → Present
+prompting_turned m = record m { prompting = not m.prompting }
+
+-- A command that ends the run, or goes on. One that turns a mode does so when it is done with its suffix; `h` writes nothing, since
+-- no fault comes before it in a run.
+abbrev pub step_by : Verb → Command → Present → (Present → Rest) → Rest
+step_by ed.QuitAnyway c m go answers = ending m
+step_by ed.HelpMode c m go answers = one c m (λ t. go (help_turned t)) answers
+step_by ed.PromptMode c m go answers = one c m (λ t. go (prompting_turned t)) answers
+step_by verb c m go answers = one c m go answers
+
+-- what a command does to a run
 abbrev pub step : Command → Present → (Present → Rest) → Rest
-step c m go answers = elim c.verb [
-  | ed.QuitAnyway ↦ ending m
-  | ed.Append text ↦ one c m go answers
-  | ed.Change text ↦ one c m go answers
-  | ed.Insert text ↦ one c m go answers
-  | ed.Join ↦ one c m go answers
-  | ed.Move target ↦ one c m go answers
-  | ed.Copy target ↦ one c m go answers
-  | ed.Delete ↦ one c m go answers
-  | ed.Mark letter ↦ one c m go answers
-  | ed.LineNumber ↦ one c m go answers
-  | ed.Null ↦ one c m go answers
-  | ed.Write form ↦ one c m go answers
-  | ed.Help ↦ one c m go answers
-  | ed.HelpMode ↦ one c m (λ t. go (record t { help = not t.help })) answers
-  | ed.PromptMode ↦ one c m (λ t. go (record t { prompting = not t.prompting })) answers
-]
+step c m go answers = step_by c.verb c m go answers
 
 -- where prompting is on, the prompt is written before each command and before the end is found
 abbrev pub prompted : Present → Progress → Progress
@@ -70,7 +69,7 @@ abbrev pub steps : List Command → Option ℕ → Present → Rest
 steps [] bad m answers = prompted m (at_end bad m)
 steps (c ∷ cs) bad m answers = prompted m (step c m (λ t more. steps cs bad t more) answers)
 
--- the same, where the prompt before them was written
+-- the commands that are left where the prompt before the first was written, and the end of the script
 abbrev pub unprompted : List Command → Option ℕ → Present → Rest
 unprompted [] bad m answers = at_end bad m
 unprompted (c ∷ cs) bad m answers = step c m (λ t more. steps cs bad t more) answers

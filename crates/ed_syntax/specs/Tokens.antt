@@ -1,7 +1,6 @@
 -- How the reader takes addresses apart: functions on the bytes of a line (XCU ed, "Addresses in ed").
-use Rattle.std.specs.Prelude.{ℕ, zero, suc, ◌-◌, ℤ, pos, ◌+ℤ◌, neg_ℤ, Bool, true, false, ◌&&◌, List, [], ◌∷◌, ◌++◌, length, take, drop, Option, Some, None, Result, Ok, Err, nat_eq, nat_le}
+use Rattle.std.specs.Prelude.{ℕ, zero, suc, ◌-◌, ℤ, pos, ◌+ℤ◌, neg_ℤ, true, false, ◌&&◌, List, [], ◌∷◌, ◌++◌, length, take, drop, Option, Some, None, Ok, Err, nat_eq, nat_le}
 use Rattle.std.specs.List.{prefix_len}
-use Rattle.bre_parse.specs.Tree.{Tree}
 use Rattle.bre_parse.specs.Brackets.{behind_bracket}
 use Rattle.bre_parse.specs.Grammar.{pattern}
 use Rattle.ed_base.specs.Buffer.{letter_of}

@@ -3,6 +3,8 @@
 
 mod addresses;
 mod command;
+#[cfg(test)]
+mod line_command_tests;
 mod offsets;
 mod options;
 mod pattern;

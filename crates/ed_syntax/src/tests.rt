@@ -3,6 +3,7 @@
 use crate::{Address, Addresses, Answer, Base, Command, Form, Pattern, Taking, Verb, read_script};
 use bre_parse::fault::BreFault;
 use ed_base::{Bytes, Letter, Text};
+use std::alloc::Global;
 use std::test::Fail;
 
 fn command(addresses: Addresses, verb: Verb) -> Command {
@@ -113,42 +114,82 @@ fn a_script_is_read_up_to_its_first_fault(rt: HostRuntime) -> Result<(), Fail> {
     Ok(())
 }
 
-#[derive(Drop)]
-struct AddressesRow {
-    script: &'static [u8],
-    addresses: Addresses,
+// Whether a script is one command with these addresses.
+fn reads(alloc: Global, bytes: &[u8], expected: Addresses) -> Result<bool, Fail> {
+    let script = read_script(alloc, bytes)?;
+    match script.commands.as_slice() {
+        [command] => Ok(script.fault.is_none() && command.addresses == expected),
+        _ => Ok(false),
+    }
 }
 
-// XCU ed, "Addresses in ed": what each form stands for.
+struct OffsetRow {
+    script: &'static [u8],
+    offset: i128,
+}
+
+// XCU ed, "Addresses in ed": a sign alone counts 1, and blanks don't matter.
 #[rattlefmt::skip]
+const OFFSETS: [OffsetRow; 8] = [
+    OffsetRow { script: b".p", offset: 0 },
+    OffsetRow { script: b"+p", offset: 1 },
+    OffsetRow { script: b"--p", offset: -2 },
+    OffsetRow { script: b".+5p", offset: 5 },
+    OffsetRow { script: b"-12p", offset: -12 },
+    OffsetRow { script: b" . +7 -\t+3 p", offset: 9 },
+    OffsetRow { script: b"-999999999-p", offset: -1_000_000_000 },
+    OffsetRow { script: b"+0p", offset: 0 },
+];
+
 #[test]
-fn addresses_are_read_in_all_their_forms(rt: HostRuntime) -> Result<(), Fail> {
-    let rows = [
-        AddressesRow { script: b"p", addresses: Addresses::Without },
-        AddressesRow { script: b"7p", addresses: Addresses::One(at(Base::Number(7))) },
-        AddressesRow { script: b".p", addresses: Addresses::One(at(Base::Current)) },
-        AddressesRow { script: b"$p", addresses: Addresses::One(at(Base::Last)) },
-        AddressesRow { script: b"'zp", addresses: Addresses::One(at(Base::Marked(letter(b'z')?))) },
-        AddressesRow { script: b"+p", addresses: Addresses::One(from(Base::Current, 1)) },
-        AddressesRow { script: b"--p", addresses: Addresses::One(from(Base::Current, -2)) },
-        AddressesRow { script: b" $ - p", addresses: Addresses::One(from(Base::Last, -1)) },
-        AddressesRow { script: b"7+12 -\t+3p", addresses: Addresses::One(from(Base::Number(7), 14)) },
-        AddressesRow { script: b",p", addresses: Addresses::Comma(at(Base::Number(1)), at(Base::Last)) },
-        AddressesRow { script: b",7p", addresses: Addresses::Comma(at(Base::Number(1)), at(Base::Number(7))) },
-        AddressesRow { script: b"7,p", addresses: Addresses::Comma(at(Base::Number(7)), at(Base::Number(7))) },
-        AddressesRow { script: b"7,9p", addresses: Addresses::Comma(at(Base::Number(7)), at(Base::Number(9))) },
-        AddressesRow { script: b"7,+p", addresses: Addresses::Comma(at(Base::Number(7)), from(Base::Current, 1)) },
-        AddressesRow { script: b";p", addresses: Addresses::Semicolon(at(Base::Current), Some(at(Base::Last))) },
-        AddressesRow { script: b";7p", addresses: Addresses::Semicolon(at(Base::Current), Some(at(Base::Number(7)))) },
-        AddressesRow { script: b"7;p", addresses: Addresses::Semicolon(at(Base::Number(7)), None) },
-        AddressesRow { script: b"7 ; + p", addresses: Addresses::Semicolon(at(Base::Number(7)), Some(from(Base::Current, 1))) },
-    ];
-    for row in rows {
-        let script = read_script(rt.alloc(), row.script)?;
-        assert_eq!(rt; script.fault, None, "at {:?}", row.script);
-        assert_eq!(rt; script.commands.len(), 1, "at {:?}", row.script);
-        assert_eq!(rt; script.commands[0].addresses, row.addresses, "at {:?}", row.script);
+fn offsets_are_summed(rt: HostRuntime) -> Result<(), Fail> {
+    for row in &OFFSETS {
+        let expected = Addresses::One(from(Base::Current, row.offset));
+        assert!(rt;
+            reads(rt.alloc(), row.script, expected)?,
+            "at {:?}",
+            row.script
+        );
     }
+    Ok(())
+}
+
+#[test]
+fn an_address_begins_with_its_base(rt: HostRuntime) -> Result<(), Fail> {
+    let number = Addresses::One(at(Base::Number(7)));
+    assert!(rt; reads(rt.alloc(), b"7p", number)?);
+    let last = Addresses::One(from(Base::Last, -1));
+    assert!(rt; reads(rt.alloc(), b"$-p", last)?);
+    let marked = Addresses::One(from(Base::Marked(letter(b'z')?), 2));
+    assert!(rt; reads(rt.alloc(), b"'z+2p", marked)?);
+    assert!(rt; reads(rt.alloc(), b"p", Addresses::Without)?);
+    Ok(())
+}
+
+// XCU ed, "Addresses in ed": what stands for an address that is left out.
+#[test]
+fn an_omitted_address_at_a_comma_is_filled_in(rt: HostRuntime) -> Result<(), Fail> {
+    let all = Addresses::Comma(at(Base::Number(1)), at(Base::Last));
+    assert!(rt; reads(rt.alloc(), b",p", all)?);
+    let up_to = Addresses::Comma(at(Base::Number(1)), at(Base::Number(7)));
+    assert!(rt; reads(rt.alloc(), b",7p", up_to)?);
+    let twice = Addresses::Comma(at(Base::Number(7)), at(Base::Number(7)));
+    assert!(rt; reads(rt.alloc(), b"7,p", twice)?);
+    let both = Addresses::Comma(at(Base::Number(7)), from(Base::Current, 1));
+    assert!(rt; reads(rt.alloc(), b" 7 , + p", both)?);
+    Ok(())
+}
+
+#[test]
+fn an_omitted_address_at_a_semicolon_is_filled_in(rt: HostRuntime) -> Result<(), Fail> {
+    let rest = Addresses::Semicolon(at(Base::Current), Some(at(Base::Last)));
+    assert!(rt; reads(rt.alloc(), b";p", rest)?);
+    let up_to = Addresses::Semicolon(at(Base::Current), Some(at(Base::Number(7))));
+    assert!(rt; reads(rt.alloc(), b";7p", up_to)?);
+    let twice = Addresses::Semicolon(at(Base::Number(7)), None);
+    assert!(rt; reads(rt.alloc(), b"7;p", twice)?);
+    let both = Addresses::Semicolon(at(Base::Number(7)), Some(from(Base::Current, 1)));
+    assert!(rt; reads(rt.alloc(), b" 7 ; + p", both)?);
     Ok(())
 }
 
@@ -209,6 +250,7 @@ fn a_thousand_offsets_of_nine_digits_are_summed(rt: HostRuntime) -> Result<(), F
     bytes.push(b'p')?;
     let script = read_script(rt.alloc(), bytes.as_slice())?;
     assert_eq!(rt; script.fault, None);
+    assert_eq!(rt; script.commands.len(), 1);
     let expected = Addresses::One(from(Base::Current, 999_999_999_000));
     assert_eq!(rt; script.commands[0].addresses, expected);
     Ok(())
@@ -230,6 +272,7 @@ fn long_lines_are_read(rt: HostRuntime) -> Result<(), Fail> {
     let Verb::Append(text) = &script.commands[0].verb else {
         return Err(Fail::from("no text"));
     };
+    assert_eq!(rt; text.len(), 1);
     assert_eq!(rt; text.as_slice()[0].len(), 100_000);
     let Addresses::One(
         Address {

@@ -6,7 +6,8 @@ use Rattle.std.proofs.lemmas.List.{same_lists, set-set, set_past, get_or_past, m
 use Rattle.std.proofs.lemmas.List.Edits.{length-insert, get_or-insert_below, get_or-insert_at, get_or-insert_above, length-remove, get_or-remove_below, get_or-remove_above}
 use Rattle.std.proofs.lemmas.List.FromFn.{length-map-range_with_len, get_or-map-range_with_len, fill_by_all}
 use Rattle.ed_base.specs.Buffer.{Line, plain_line, has_letter, with_letter, marked_place, marked_at, SharesNoLetter}
-use Rattle.line_store.specs.Marks.{is_at, letters_at, lettered, opened, with_line, closed, without_line, AllBelow}
+use Rattle.line_store.specs.Marks.{is_at, letters_at, lettered, AllBelow}
+use Rattle.line_store.specs.Shifts.{opened, with_line, closed, without_line}
 use Rattle.line_store.specs.Lettered.{letter-there, some_same}
 use Rattle.line_store.proofs.Places.{opened-low, opened-high, closed-there, closed-low, closed-high, opened-below, opened-there, opened-above, closed-below, closed-above, is_there, not_at}
 

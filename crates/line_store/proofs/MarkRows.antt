@@ -1,7 +1,8 @@
 -- Worked rows of letters whose lines move.
 use Rattle.std.specs.Prelude.{◌≡◌, refl, true, false, List, [], ◌∷◌, map, Some, None, codes}
 use Rattle.ed_base.specs.Buffer.{Line, plain_line, marked_at}
-use Rattle.line_store.specs.Marks.{opened, closed, marks_of, lettered}
+use Rattle.line_store.specs.Marks.{marks_of, lettered}
+use Rattle.line_store.specs.Shifts.{opened, closed}
 
 -- a line comes in at place 2: letters before it stay, those from there on move
 line_in : map (λ place. opened 2 false (Some place)) (1 ∷ 2 ∷ 3 ∷ []) ≡ Some 1 ∷ Some 3 ∷ Some 4 ∷ []

@@ -1,7 +1,8 @@
 -- Where a letter is when a line comes in or goes out before it.
 use Rattle.std.proofs.Common.{◌≡◌, ◌≢◌, ℕ, ◌+◌, ◌-◌, ◌<◌, ◌≤◌, Bool, true, false, nat_eq, nat_lt, Option, Some, None, if◌then◌else◌, refl, ap, ◌∙◌, sym, arith, eq-eqb, ne_eqb, ⊎_elim}
 use Rattle.std.proofs.lemmas.Bool.{cases_lt, cases_eq, cond-true, cond-false, lt-ltb, le-ltb}
-use Rattle.line_store.specs.Marks.{is_at, opened, closed}
+use Rattle.line_store.specs.Marks.{is_at}
+use Rattle.line_store.specs.Shifts.{opened, closed}
 
 -- another place than this
 pub not_at : (place other : ℕ) → other ≢ place → is_at place (Some other) ≡ false

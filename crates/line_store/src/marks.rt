@@ -1,6 +1,7 @@
 //! Where the lines are that letters mark.
 ghost use Rattle.std.specs.Prelude.{◌≡◌, ◌-◌, ◌<◌, ◌^◌, Some, None, length, replicate, slice_index_or, slice_set, IfSome};
-ghost use Rattle.line_store.specs.Marks.{AllBelow, lettered, letters_at, marks_of, opened, closed, with_line, without_line};
+ghost use Rattle.line_store.specs.Marks.{AllBelow, lettered, letters_at, marks_of};
+ghost use Rattle.line_store.specs.Shifts.{opened, closed, with_line, without_line};
 
 use crate::LineStore;
 use ed_base::Letter;

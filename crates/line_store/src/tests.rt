@@ -49,25 +49,23 @@ fn a_letter_goes_with_its_line(rt: HostRuntime) -> Result<(), Fail> {
         return Err(Fail::new("a and z are letters"));
     };
     let mut store = store_of(rt.alloc(), b"x\ny\nz\n")?;
+    assert_eq!(rt; store.len(), 3);
     assert_eq!(rt; store.marked(a), None);
     store.mark(0, a);
     store.mark(1, a);
     store.mark(2, z);
     assert_eq!(rt; (store.marked(a), store.marked(z)), (Some(1), Some(2)));
     let before = Marks::of(&store);
-    let first = store.take(0);
-    assert_eq!(rt; (store.marked(a), store.marked(z)), (Some(0), Some(1)));
-    let marked = store.take(0);
-    assert_eq!(rt; (store.marked(a), store.marked(z)), (None, Some(0)));
-    assert!(rt; store.put(0, first).is_ok());
-    assert!(rt; store.put(2, marked).is_ok());
-    assert_eq!(rt; (store.marked(a), store.marked(z)), (Some(2), Some(1)));
-    assert_eq!(rt; store.text(2), b"y".as_slice());
+    let marked = store.take(1);
+    assert_eq!(rt; (store.marked(a), store.marked(z)), (None, Some(1)));
+    assert!(rt; store.put(0, marked).is_ok());
+    assert_eq!(rt; (store.marked(a), store.marked(z)), (Some(0), Some(2)));
     assert_eq!(rt; before.place_of(a), Some(1));
-    let bare = store.take(2).unmarked();
+    assert_eq!(rt; store.len(), 3);
+    let bare = store.take(0).unmarked();
     assert_eq!(rt; bare.bytes(), b"y".as_slice());
-    assert!(rt; store.put(0, bare).is_ok());
-    assert_eq!(rt; (store.marked(a), store.marked(z)), (None, Some(2)));
+    assert!(rt; store.put(2, bare).is_ok());
+    assert_eq!(rt; (store.marked(a), store.marked(z)), (None, Some(1)));
     Ok(())
 }
 

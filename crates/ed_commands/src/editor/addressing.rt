@@ -2,15 +2,24 @@
 ghost use Rattle.std.specs.Prelude.{◌≡◌, ◌≤◌, pos, ◌+ℤ◌, IfOk};
 ghost use Rattle.ed_syntax.specs.PublicTypes.{address_value, addresses_value, base_value, command_value, verb_value};
 ghost use Rattle.ed_syntax.specs.States.{last};
-ghost use Rattle.ed_syntax.specs.Values.{value, valued, base_number, remembered, within};
-ghost use Rattle.ed_syntax.specs.Verbs.{taking};
-ghost use Rattle.ed_syntax.specs.Ranges.{spanned};
-ghost use Rattle.ed_commands.specs.Editors.{Steps, Valued, SameButPattern, Fits, lines_named, lines_of_command, span_value, value_of_span, with_pattern};
+ghost use Rattle.ed_syntax.specs.Values.{value, valued, values, base_number, remembered, within};
+ghost use Rattle.ed_syntax.specs.Verbs.{taking, target_of};
+ghost use Rattle.ed_syntax.specs.Applied.{targeted};
+ghost use Rattle.ed_syntax.specs.Ranges.{last_of_two, spanned};
+ghost use Rattle.ed_commands.specs.Editors.{Steps, Valued, SameButPattern, Fits, lines_of_command, list_of_values, value_of_addressed, value_of_span, values_of_command, with_pattern};
 
 use crate::editor::Editor;
 use ed_base::Fault;
-use ed_syntax::{Address, Addresses, Base, Command, Taking};
+use ed_syntax::{Address, Addresses, Base, Command, Taking, Verb};
 use line_store::LineStore;
+
+/// The values of the addresses before a command, in order.
+#[derive(Clone, Copy, Debug, PartialEq, Eq)]
+pub enum Values {
+    Without,
+    One(usize),
+    Two(usize, usize),
+}
 
 /// The lines from first to last, counted from 1.
 #[derive(Clone, Copy, Debug, PartialEq, Eq)]
@@ -19,20 +28,40 @@ pub struct Span {
     pub last: usize,
 }
 
-// The lines that these values name, where one stands for both.
-fn spanned(taking: Taking, values: &[usize]) -> Result<Span, Fault>
-    ensures exact { spanned taking values.now ≡ value_of_span result }
+/// What the addresses of a command name: its lines, and its target, which is 0 where it has none.
+#[derive(Clone, Copy, Debug, PartialEq, Eq)]
+pub struct Addressed {
+    pub span: Span,
+    pub target: usize,
+}
+
+// The lines that these values name to a command that takes so many, in a buffer of so many lines.
+fn spanned(taking: Taking, lines: usize, values: Values) -> Result<Span, Fault>
+    requires within { last_of_two (list_of_values values) ≤ lines }
+    ensures exact { spanned taking lines (list_of_values values) ≡ value_of_span result }
+    ensures fits { IfOk result (λ span. Fits taking span lines) }
 {
     let (first, last) = match values {
-        [] => (0, 0),
-        [only] => (*only, *only),
-        [first, last, ..] => (*first, *last),
+        Values::Without => (0, 0),
+        Values::One(only) => (only, only),
+        Values::Two(first, last) => (first, last),
     };
+    // Where a command takes line 0 for line 1.
+    let from_one = last.max(1);
     match taking {
         Taking::NoAddress => Ok(Span { first: 0, last: 0 }),
         Taking::Place => Ok(Span { first: last, last }),
+        Taking::FirstPlace => Ok(Span {
+            first: from_one,
+            last: from_one,
+        }),
         Taking::OneLine if last == 0 => Err(Fault::Address),
         Taking::OneLine => Ok(Span { first: last, last }),
+        Taking::Lines if last < first || lines < from_one => Err(Fault::Address),
+        Taking::Lines => Ok(Span {
+            first: first.max(1),
+            last: from_one,
+        }),
         Taking::Range if first == 0 || last < first => Err(Fault::Address),
         Taking::Range => Ok(Span { first, last }),
     }
@@ -84,48 +113,72 @@ impl<S: LineStore> Editor<S> {
         self.offset_line(base, address.offset)
     }
 
-    // The lines that these addresses name to a command that takes so many. Behind a `;` the first one's value is the current line.
-    fn named(&mut self, taking: Taking, addresses: &Addresses) -> Result<Span, Fault>
-        ensures exact { Steps span_value (lines_named taking (addresses_value addresses.now) self.old.state) result self.new.state }
-        ensures fits { IfOk result (λ span. Fits taking span (last self.new.state)) }
+    // The values of the addresses before a command, first to last. Behind a `;` the first one's is the current line.
+    fn values(&mut self, addresses: &Addresses) -> Result<Values, Fault>
+        ensures exact { Steps list_of_values (values (addresses_value addresses.now) self.old.state) result self.new.state }
+        ensures within { IfOk result (λ values. last_of_two (list_of_values values) ≤ last self.new.state) }
         ensures lines { self.new.state.lines ≡ self.old.state.lines }
         ensures failed { self.new.failed ≡ self.old.failed }
     {
         match addresses {
-            Addresses::Without => spanned(taking, &[]),
-            Addresses::One(only) => {
-                let line = self.value_of(only)?;
-                spanned(taking, &[line])
-            }
+            Addresses::Without => Ok(Values::Without),
+            Addresses::One(only) => Ok(Values::One(self.value_of(only)?)),
             Addresses::Comma(first, second) => {
                 let first = self.value_of(first)?;
                 let second = self.value_of(second)?;
-                spanned(taking, &[first, second])
+                Ok(Values::Two(first, second))
             }
             Addresses::Semicolon(first, None) => {
                 let line = self.value_of(first)?;
                 self.current = line;
-                spanned(taking, &[line, line])
+                Ok(Values::Two(line, line))
             }
             Addresses::Semicolon(first, Some(second)) => {
                 let first = self.value_of(first)?;
                 self.current = first;
                 let second = self.value_of(second)?;
-                spanned(taking, &[first, second])
+                Ok(Values::Two(first, second))
             }
         }
     }
 
-    /// The lines that a command is applied to.
-    pub fn span(&mut self, command: &Command) -> Result<Span, Fault>
-        ensures exact { Steps span_value (lines_of_command (command_value command.now) self.old.state) result self.new.state }
-        ensures fits { IfOk result (λ span. Fits (taking (verb_value command.now.verb)) span (last self.new.state)) }
+    // The values of the addresses that are given before a command, or of those that stand for none.
+    fn given_values(&mut self, command: &Command) -> Result<Values, Fault>
+        ensures exact { Steps list_of_values (values_of_command (command_value command.now) self.old.state) result self.new.state }
+        ensures within { IfOk result (λ values. last_of_two (list_of_values values) ≤ last self.new.state) }
         ensures lines { self.new.state.lines ≡ self.old.state.lines }
         ensures failed { self.new.failed ≡ self.old.failed }
     {
         match &command.addresses {
-            Addresses::Without => self.named(command.verb.taking(), &command.verb.default_addresses()),
-            given => self.named(command.verb.taking(), given),
+            Addresses::Without => self.values(&command.verb.default_addresses()),
+            given => self.values(given),
         }
+    }
+
+    // The value of a command's target, or 0 where it has none.
+    fn target(&mut self, verb: &Verb) -> Result<usize, Fault>
+        ensures exact { Steps (λ line. line) (targeted (target_of (verb_value verb.now)) self.old.state) result self.new.state }
+        ensures within { IfOk result (λ line. line ≤ last self.new.state) }
+        ensures lines { self.new.state.lines ≡ self.old.state.lines }
+        ensures failed { self.new.failed ≡ self.old.failed }
+    {
+        match verb.target() {
+            Some(target) => self.value_of(target),
+            None => Ok(0),
+        }
+    }
+
+    /// What a command is applied to. All its addresses are valued before their order is looked at.
+    pub fn addressed(&mut self, command: &Command) -> Result<Addressed, Fault>
+        ensures exact { Steps value_of_addressed (lines_of_command (command_value command.now) self.old.state) result self.new.state }
+        ensures fits { IfOk result (λ addressed. Fits (taking (verb_value command.now.verb)) addressed.span (last self.new.state)) }
+        ensures target { IfOk result (λ addressed. addressed.target ≤ last self.new.state) }
+        ensures lines { self.new.state.lines ≡ self.old.state.lines }
+        ensures failed { self.new.failed ≡ self.old.failed }
+    {
+        let values = self.given_values(command)?;
+        let target = self.target(&command.verb)?;
+        let span = spanned(command.verb.taking(), self.store.len(), values)?;
+        Ok(Addressed { span, target })
     }
 }

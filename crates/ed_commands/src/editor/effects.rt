@@ -10,7 +10,7 @@ ghost use Rattle.ed_syntax.specs.Applied.{effect_of, settled};
 ghost use Rattle.ed_commands.specs.Editors.{Fits, Leaves, kept_at, span_value, suffixed};
 
 use crate::editor::Editor;
-use crate::editor::addressing::Span;
+use crate::editor::addressing::{Addressed, Span};
 use crate::editor::blocks::new_lines;
 use crate::editor::lines::write_lines;
 use ed_base::{Bytes, Fault, Letter, Text, push_number};
@@ -19,33 +19,32 @@ use line_store::LineStore;
 use std::alloc::AllocError;
 
 impl<S: LineStore> Editor<S> {
-    /// Does what a command does at the lines of a span, and tells what it wrote before its suffix. The line `before` was
-    /// current before the command's addresses were valued: undo would make it so again.
-    pub fn effect(&mut self, verb: &Verb, span: Span, before: usize) -> Result<Bytes, AllocError>
-        requires fits { Fits (taking (verb_value verb.now)) span (last self.old.state) }
-        ensures exact { IfOk result (λ output. (given : Option Answer) →
-            IsOkAnd (effect_of (verb_value verb.now) (span_value span) self.old.state given)
-            (Leaves (kept_at before self.old.state) self.new.state output)) }
+    /// Does what a command does at the lines that its addresses name, and tells what it wrote before its suffix. The line
+    /// `before` was current before the addresses were valued: undo would make it so again.
+    pub fn effect(&mut self, verb: &Verb, named: Addressed, before: usize) -> Result<Bytes, Fault>
+        requires fits { Fits (taking (verb_value verb.now)) named.span (last self.old.state) }
+        requires target { named.target ≤ last self.old.state }
+        ensures exact { (given : Option Answer) → let effect = effect_of (verb_value verb.now) (span_value named.span) named.target self.old.state given in
+            MatchResult result (λ output. IsOkAnd effect (Leaves (kept_at before self.old.state) self.new.state output))
+            (λ fault. fault ≢ Memory → effect ≡ Err fault) }
         ensures failed { self.new.failed ≡ self.old.failed }
     {
+        let Addressed { span, target } = named;
         match verb {
-            Verb::Append(text) => {
-                self.append(text, span, before)?;
-                Ok(Bytes::new(self.alloc))
-            }
-            Verb::Delete => {
-                self.delete(span, before)?;
-                Ok(Bytes::new(self.alloc))
-            }
-            Verb::Mark(letter) => {
-                self.mark(*letter, span);
-                Ok(Bytes::new(self.alloc))
-            }
-            Verb::LineNumber => self.line_number(span),
-            Verb::Null => self.write(Form::Plain, span),
-            Verb::Write(form) => self.write(*form, span),
-            Verb::QuitAnyway => Ok(Bytes::new(self.alloc)),
+            Verb::Append(text) => self.append(text, span, before)?,
+            Verb::Change(text) => self.change_lines(text, span, before)?,
+            Verb::Delete => self.delete(span, before)?,
+            Verb::Insert(text) => self.insert(text, span, before)?,
+            Verb::Join => self.join(span, before)?,
+            Verb::Mark(letter) => self.mark(*letter, span),
+            Verb::Move(_) => self.move_lines(span, target, before)?,
+            Verb::Copy(_) => self.copy(span, target, before)?,
+            Verb::LineNumber => return Ok(self.line_number(span)?),
+            Verb::Null => return Ok(self.write(Form::Plain, span)?),
+            Verb::Write(form) => return Ok(self.write(*form, span)?),
+            Verb::Help | Verb::HelpMode | Verb::PromptMode | Verb::QuitAnyway => {}
         }
+        Ok(Bytes::new(self.alloc))
     }
 
     // `a`: the text goes behind the first line of the span.

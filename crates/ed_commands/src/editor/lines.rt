@@ -1,18 +1,18 @@
-//! Ranges of lines of a store: written, put, taken out.
-ghost use Rattle.std.specs.Prelude.{◌≡◌, ◌-◌, ◌^◌, ◌≤◌, [], ◌++◌, length, map, min, flat_map, IfOk, OnOk, OnErr};
-ghost use Rattle.ed_base.specs.Lines.{AreLines, lines_of};
+//! Lines of a store: written, and put from a file.
+ghost use Rattle.std.specs.Prelude.{◌≡◌, ◌-◌, ◌^◌, ◌≤◌, ◌++◌, length, map, min, OnOk};
+ghost use Rattle.ed_base.specs.Lines.{lines_of};
 ghost use Rattle.ed_base.specs.Buffer.{plain_line};
 ghost use Rattle.ed_syntax.specs.PublicTypes.{form_value};
-ghost use Rattle.ed_syntax.specs.States.{between, replaced, inserted};
 ghost use Rattle.ed_syntax.specs.Forms.{lines_written};
 
 use crate::editor::addressing::Span;
+use crate::editor::forms::push_line;
 use ed_base::{Bytes, count_lines, next_line};
 use ed_syntax::Form;
 use line_store::{Line, LineStore};
 use std::alloc::{AllocError, Global};
 
-/// Appends the lines of a span, as the form writes them.
+/// Appends the lines of a span, as the form writes them. No form writes less than the plain one, for which room is made.
 pub fn write_lines<S: LineStore>(
     output: &mut Bytes,
     form: Form,
@@ -25,16 +25,11 @@ pub fn write_lines<S: LineStore>(
     ensures appended { OnOk result
         (output.new ≡ output.old ++ lines_written (form_value form) span.first span.last (S.lines store.now)) }
 {
-    match form {
-        Form::Plain => {
-            output.reserve(plain_size(span, store))?;
-            for i in span.first - 1..span.last {
-                output.extend_from_slice(store.text(i))?;
-                output.push(b'\n')?;
-            }
-            Ok(())
-        }
+    output.reserve(plain_size(span, store))?;
+    for i in span.first - 1..span.last {
+        push_line(output, form, i + 1, store.text(i))?;
     }
+    Ok(())
 }
 
 // How many bytes the lines of a span have with their newlines, or the greatest `usize` where that is more.

@@ -6,11 +6,12 @@ use line_store::PlainStore;
 use std::alloc::{AllocError, Global};
 use std::test::Fail;
 
-// A run on the file `F`: its script, the file's bytes, and how files and output are refused (0: not at all).
+// A run on the file `F`: its script, the file's bytes, its prompt, and how files and output are refused (0: not at all).
 #[derive(Clone, Copy)]
 struct Case {
     script: &'static [u8],
     file: Option<&'static [u8]>,
+    prompt: Option<&'static [u8]>,
     refused_call: u64,
     room: usize,
     piece: usize,
@@ -21,33 +22,49 @@ struct Case {
 struct Row {
     script: &'static [u8],
     file: Option<&'static [u8]>,
+    prompt: Option<&'static [u8]>,
     output: &'static [u8],
     ends: Result<usize, Fault>,
 }
 
 const ABC: Option<&[u8]> = Some(b"a\nb\nc\n");
 
+const ARROW: Option<&[u8]> = Some(b"> ");
+
 #[rattlefmt::skip]
-const ROWS: [Row; 13] = [
-    Row { script: b"2d\n,p\nQ\n", file: ABC, output: b"a\nc\n", ends: Ok(2) },
-    Row { script: b",p", file: Some(b""), output: b"?\n", ends: Err(Fault::Address) },
-    Row { script: b"a\nx", file: Some(b""), output: b"?\n", ends: Err(Fault::Unsaved) },
-    Row { script: b"9p\n", file: ABC, output: b"?\n", ends: Err(Fault::Address) },
-    Row { script: b"3,1p\n", file: ABC, output: b"?\n", ends: Err(Fault::Address) },
-    Row { script: b"x\n", file: ABC, output: b"?\n", ends: Err(Fault::Syntax) },
-    Row { script: b"1,2a\nz\n.\n,p\nQ\n", file: ABC, output: b"a\nb\nz\nc\n", ends: Ok(4) },
-    Row { script: b"1p\n2p\nx\n", file: ABC, output: b"a\nb\n?\n", ends: Err(Fault::Syntax) },
-    Row { script: b"p\n", file: ABC, output: b"c\n", ends: Ok(3) },
-    Row { script: b"Q\n9p\n", file: ABC, output: b"", ends: Ok(3) },
-    Row { script: b"", file: ABC, output: b"", ends: Ok(3) },
-    Row { script: b"", file: None, output: b"", ends: Ok(0) },
-    Row { script: b"a\nx\n.\n,p\nQ\n", file: None, output: b"x\n", ends: Ok(1) },
+const HELPED: Row = Row { script: b"1p\nH\nx\n", file: Some(b"a\nb\n"), prompt: ARROW, output: b"> a\n> > ?\ninvalid command\n", ends: Err(Fault::Syntax) };
+
+#[rattlefmt::skip]
+const ROWS: [Row; 22] = [
+    Row { script: b"2d\n,p\nQ\n", file: ABC, prompt: None, output: b"a\nc\n", ends: Ok(2) },
+    Row { script: b",p", file: Some(b""), prompt: None, output: b"?\n", ends: Err(Fault::Address) },
+    Row { script: b"a\nx", file: Some(b""), prompt: None, output: b"?\n", ends: Err(Fault::Unsaved) },
+    Row { script: b"9p\n", file: ABC, prompt: None, output: b"?\n", ends: Err(Fault::Address) },
+    Row { script: b"3,1p\n", file: ABC, prompt: None, output: b"?\n", ends: Err(Fault::Address) },
+    Row { script: b"x\n", file: ABC, prompt: None, output: b"?\n", ends: Err(Fault::Syntax) },
+    Row { script: b"1,2a\nz\n.\n,p\nQ\n", file: ABC, prompt: None, output: b"a\nb\nz\nc\n", ends: Ok(4) },
+    Row { script: b"1p\n2p\nx\n", file: ABC, prompt: None, output: b"a\nb\n?\n", ends: Err(Fault::Syntax) },
+    Row { script: b"p\n", file: ABC, prompt: None, output: b"c\n", ends: Ok(3) },
+    Row { script: b"Q\n9p\n", file: ABC, prompt: None, output: b"", ends: Ok(3) },
+    Row { script: b"", file: ABC, prompt: None, output: b"", ends: Ok(3) },
+    Row { script: b"", file: None, prompt: None, output: b"", ends: Ok(0) },
+    Row { script: b"a\nx\n.\n,p\nQ\n", file: None, prompt: None, output: b"x\n", ends: Ok(1) },
+    HELPED,
+    Row { script: b"P\n", file: ABC, prompt: None, output: b"*", ends: Ok(3) },
+    Row { script: b"1p\nP\n2p\nP\n3p\n", file: ABC, prompt: ARROW, output: b"> a\n> b\n> c\n> ", ends: Ok(3) },
+    Row { script: b"1p\n2p\n", file: ABC, prompt: Some(b""), output: b"a\nb\n", ends: Ok(3) },
+    Row { script: b"a\nx\n", file: Some(b""), prompt: ARROW, output: b"> > ?\n", ends: Err(Fault::Unsaved) },
+    Row { script: b"H\nH\n9p\n", file: ABC, prompt: None, output: b"?\n", ends: Err(Fault::Address) },
+    Row { script: b"H\n9p\n", file: ABC, prompt: None, output: b"?\ninvalid address\n", ends: Err(Fault::Address) },
+    Row { script: b"H\na\nx\n", file: None, prompt: None, output: b"?\nbuffer modified\n", ends: Err(Fault::Unsaved) },
+    Row { script: b"h\n1p\nQ\n", file: ABC, prompt: None, output: b"a\n", ends: Ok(3) },
 ];
 
-fn plain(script: &'static [u8], file: Option<&'static [u8]>) -> Case {
+fn plain(row: &Row) -> Case {
     Case {
-        script,
-        file,
+        script: row.script,
+        file: row.file,
+        prompt: row.prompt,
         refused_call: 0,
         room: 64,
         piece: 64,
@@ -65,6 +82,7 @@ fn lines(end: Result<Ending, Fault>) -> Result<usize, Fault> {
 fn session_of(
     alloc: Global,
     script: &[u8],
+    prompt: Option<Bytes>,
     path: Option<Bytes>,
 ) -> Result<Session<PlainStore>, AllocError> {
     let script = read_script(alloc, script)?;
@@ -73,7 +91,7 @@ fn session_of(
         script,
         Options {
             silent: true,
-            prompt: None,
+            prompt,
             path,
         },
     )
@@ -83,12 +101,17 @@ fn session_of(
 fn run(alloc: Global, case: Case) -> Result<(Result<usize, Fault>, MemSink), AllocError> {
     let mut files = MemFiles::new(alloc);
     if let Some(bytes) = case.file {
-        files.add(b"F", bytes)?;
+        files.add(b"F", Bytes::from_slice(alloc, bytes)?)?;
     }
     files.refuse(case.refused_call);
     let mut sink = MemSink::new(alloc, case.room, case.piece)?;
     sink.refuse(case.refused_write);
-    let mut session = session_of(alloc, case.script, Some(Bytes::from_slice(alloc, b"F")?))?;
+    let prompt = match case.prompt {
+        Some(prompt) => Some(Bytes::from_slice(alloc, prompt)?),
+        None => None,
+    };
+    let path = Bytes::from_slice(alloc, b"F")?;
+    let mut session = session_of(alloc, case.script, prompt, Some(path))?;
     let end = drive(&mut session, &mut files, &mut sink);
     Ok((lines(end), sink))
 }
@@ -99,7 +122,7 @@ fn runs_write_and_end_as_the_standard_says(rt: HostRuntime) -> Result<(), Fail> 
         for piece in [64, 1] {
             let case = Case {
                 piece,
-                ..plain(row.script, row.file)
+                ..plain(row)
             };
             let (ends, sink) = run(rt.alloc(), case)?;
             assert_eq!(rt; sink.taken(), row.output, "row {number}, {piece} at once");
@@ -113,9 +136,16 @@ fn runs_write_and_end_as_the_standard_says(rt: HostRuntime) -> Result<(), Fail> 
 fn a_refused_start_file_is_reported_and_ends_the_run(rt: HostRuntime) -> Result<(), Fail> {
     let case = Case {
         refused_call: 1,
-        ..plain(ROWS[0].script, ROWS[0].file)
+        ..plain(&ROWS[0])
     };
     let (ends, sink) = run(rt.alloc(), case)?;
+    assert_eq!(rt; sink.taken(), b"?\n".as_slice());
+    assert_eq!(rt; ends, Err(Fault::File));
+    let prompting = Case {
+        prompt: ARROW,
+        ..case
+    };
+    let (ends, sink) = run(rt.alloc(), prompting)?;
     assert_eq!(rt; sink.taken(), b"?\n".as_slice());
     assert_eq!(rt; ends, Err(Fault::File));
     let later = Case {
@@ -128,33 +158,40 @@ fn a_refused_start_file_is_reported_and_ends_the_run(rt: HostRuntime) -> Result<
     Ok(())
 }
 
-// Row 1 in this case ends by the refusal of its output, of which so many bytes were taken.
-fn is_refused_behind(alloc: Global, case: Case, taken: usize) -> Result<bool, AllocError> {
+// A row in this case ends by the refusal of its output, of which so many bytes were taken.
+fn is_refused_behind(
+    alloc: Global,
+    row: &Row,
+    case: Case,
+    taken: usize,
+) -> Result<bool, AllocError> {
     let (ends, sink) = run(alloc, case)?;
     Ok(
         ends == Err(Fault::Output)
             && sink.taken().len() == taken
-            && ROWS[0].output.starts_with(sink.taken()),
+            && row.output.starts_with(sink.taken()),
     )
 }
 
 #[test]
 fn each_refused_write_and_each_full_room_ends_the_run(rt: HostRuntime) -> Result<(), Fail> {
-    for (taken, number) in (0..4).zip(1..) {
-        let refused = Case {
-            piece: 1,
-            refused_write: number,
-            ..plain(ROWS[0].script, ROWS[0].file)
-        };
-        let full = Case {
-            room: taken,
-            ..plain(ROWS[0].script, ROWS[0].file)
-        };
-        for case in [refused, full] {
-            assert!(rt;
-                is_refused_behind(rt.alloc(), case, taken)?,
-                "{taken} bytes"
-            );
+    for row in [&ROWS[0], &HELPED] {
+        for (taken, number) in (0..row.output.len()).zip(1..) {
+            let refused = Case {
+                piece: 1,
+                refused_write: number,
+                ..plain(row)
+            };
+            let full = Case {
+                room: taken,
+                ..plain(row)
+            };
+            for case in [refused, full] {
+                assert!(rt;
+                    is_refused_behind(rt.alloc(), row, case, taken)?,
+                    "{taken} bytes"
+                );
+            }
         }
     }
     Ok(())
@@ -163,12 +200,13 @@ fn each_refused_write_and_each_full_room_ends_the_run(rt: HostRuntime) -> Result
 #[test]
 fn a_writer_takes_the_output_till_it_is_full(rt: HostRuntime) -> Result<(), Fail> {
     let mut files = MemFiles::new(rt.alloc());
-    files.add(b"F", b"a\nb\nc\n")?;
+    files.add(b"F", Bytes::from_slice(rt.alloc(), b"a\nb\nc\n")?)?;
     let mut room = [0u8; 3];
     let mut sink = Out::new(room.as_mut_slice());
     let mut session = session_of(
         rt.alloc(),
         ROWS[0].script,
+        None,
         Some(Bytes::from_slice(rt.alloc(), b"F")?),
     )?;
     let end = drive(&mut session, &mut files, &mut sink);
@@ -180,7 +218,7 @@ fn a_writer_takes_the_output_till_it_is_full(rt: HostRuntime) -> Result<(), Fail
 
 #[test]
 fn a_session_without_a_path_is_stepped_to_its_end(rt: HostRuntime) -> Result<(), Fail> {
-    let mut session = session_of(rt.alloc(), b"a\nx\n.\np\nx\n", None)?;
+    let mut session = session_of(rt.alloc(), b"a\nx\n.\np\nx\n", None, None)?;
     assert!(rt; !session.started());
     session.start(Answer::Refused);
     for output in ["x\n", "?\n"] {
@@ -205,6 +243,7 @@ fn an_ended_session_that_is_driven_again_ends_so_again(rt: HostRuntime) -> Resul
     let mut session = session_of(
         rt.alloc(),
         b"x\n",
+        None,
         Some(Bytes::from_slice(rt.alloc(), b"F")?),
     )?;
     for output in ["?\n", ""] {
@@ -216,19 +255,26 @@ fn an_ended_session_that_is_driven_again_ends_so_again(rt: HostRuntime) -> Resul
     Ok(())
 }
 
+// What was taken is a front of a row's output, and then the report of want of memory, with its text only if the row turns help
+// mode on.
+fn breaks_off(row: &Row, taken: &[u8]) -> bool {
+    let is_behind_front = |report: &[u8]| {
+        taken
+            .strip_suffix(report)
+            .is_some_and(|front| row.output.starts_with(front))
+    };
+    is_behind_front(b"?\n") || row.script.contains(&b'H') && is_behind_front(b"?\nout of memory\n")
+}
+
 // For runs in which an allocation is refused (`rt try --test --fail-alloc N`).
 #[test]
 fn a_run_that_finds_no_memory_writes_a_front_and_its_report(rt: HostRuntime) -> Result<(), Fail> {
-    for (row, number) in [&ROWS[0], &ROWS[6]].iter().zip(1..) {
-        let Ok((ends, sink)) = run(rt.alloc(), plain(row.script, row.file)) else {
+    for (row, number) in [&ROWS[0], &ROWS[6], &HELPED].iter().zip(1..) {
+        let Ok((ends, sink)) = run(rt.alloc(), plain(row)) else {
             return Ok(());
         };
         if ends == Err(Fault::Memory) {
-            let front = sink.taken().strip_suffix(b"?\n".as_slice());
-            assert!(rt;
-                front.is_some_and(|bytes| row.output.starts_with(bytes)),
-                "row {number}"
-            );
+            assert!(rt; breaks_off(row, sink.taken()), "row {number}");
             return Ok(());
         }
         assert_eq!(rt; sink.taken(), row.output, "row {number}");

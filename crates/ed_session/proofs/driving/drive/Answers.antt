@@ -58,7 +58,7 @@ turns-preserved-in-Read g c =
     let e = c.in-Read.ensures in
     let u = c.step.new.self in
     let asked = request.Read c.in-Read.path in
-    let w = step_waits c.turns.session u (ask.Read c.in-Read.path) asked (λ h. cc) e.given e.broke e.lost in
+    let w = step_waits c.turns.session u (ask.Read c.in-Read.path) asked (λ _ h. cc) e.given e.broke e.lost in
     let whole_now = ap lost_by w.1.waiting in
     let p = c.perform.ensures.done in
     record {
@@ -84,7 +84,7 @@ turns-preserved g c =
     let e = c.in-Write.ensures in
     let u = c.step.new.self in
     let asked = request.Write c.in-Write.path c.in-Write.bytes in
-    let w = step_waits c.turns.session u (ask.Write c.in-Write.path c.in-Write.bytes) asked (λ h. cc) e.given e.broke e.lost in
+    let w = step_waits c.turns.session u (ask.Write c.in-Write.path c.in-Write.bytes) asked (λ _ h. cc) e.given e.broke e.lost in
     let whole_now = ap lost_by w.1.waiting in
     let p = c.perform-in-Write.ensures.done in
     record {
@@ -114,8 +114,8 @@ returns-then-not-give-clause-run g c = λ whole.
     inr (inr (
       refl,
       omega (arith, gave.1, i.count),
-      cut_off _ _ _ bytes c.step.new.self _ _ _
-          (along_output _ _ _ _ d.along c.step.new.self bytes e.given e.broke e.lost) d.written gave.0,
+      rw (c.fail_output.ensures.ended e.told).present (cut_off _ _ _ bytes c.step.new.self _ _ _
+          (along_output _ _ _ _ d.along c.step.new.self bytes e.given e.broke e.lost) d.written gave.0),
     ))
 
 pub returns-then-not-give-clause-lost : goal.returns-then-not-give-clause-lost

@@ -1,57 +1,71 @@
-use Rattle.std.proofs.Common.{◌≡◌, ◌+◌, ◌≤◌, pos, neg_ℤ, ◌+ℤ◌, ◌-ℤ◌, FitsSigned, ◌∷◌, length, get_or, ap, ◌∙◌, arith}
+use Rattle.std.proofs.Common.{◌≡◌, ◌<◌, pos, neg_ℤ, ◌+ℤ◌, ◌-ℤ◌, FitsSigned, ◌∷◌, length, get_or, sym, ap, ◌∙◌, arith, rules}
 use Rattle.std.proofs.lemmas.Int.{ints}
 use mir.Val.{to_z, of_z}
 use mir.Syntax.{w128}
-use Rattle.ed_syntax.specs.Characters.{behind_blanks}
-use Rattle.ed_syntax.specs.Tokens.{summed, offsets}
-use Rattle.ed_syntax.proofs.Fronts.{behind_first, first_and_others}
-use Rattle.ed_syntax.proofs.OffsetSteps.{none_summed, plus_first, minus_first}
+use Rattle.ed_syntax.specs.Tokens.{offsets}
+use Rattle.ed_syntax.proofs.Fronts.{behind_first, first_and_others, no_first}
+use Rattle.ed_syntax.proofs.OffsetSteps.{none_summed, plus_first, minus_first, none_left}
 use Rattle.ed_syntax.proofs.offsets.offsets.Goals as goal
-use Rattle.ed_syntax.proofs.offsets.offsets.Goals.{then-sign-eq43, else-sign-eq43}
+use Rattle.ed_syntax.proofs.offsets.offsets.Goals.{in_default, in_default-2}
 
 pub offsets-init : goal.offsets-init
 offsets-init c =
-    let bytes = behind_blanks c.args.bytes.now in
-    let is = c.behind_blanks-left.ensures.value in record {
-      left = (length bytes, omega (arith, ap length is), ap (λ left. summed (pos 0) (offsets (length bytes) left)) is ∙ none_summed (offsets (length bytes) bytes));
-      shorter = omega (arith, c.behind_blanks-left.ensures.shorter);
+    let bytes = c.args.bytes.now in record {
+      left = (length bytes, omega arith, none_summed (offsets (length bytes) bytes));
+      shorter = omega arith;
       low = omega (arith, ints);
       high = omega (arith, ints);
     }
 
-pub overflow_sub-sum : goal.overflow_sub-sum
-overflow_sub-sum c = omega (arith, ints, c.in_ok-lines.ensures.few, c.offsets.invariant.low, c.offsets.invariant.high)
+pub offsets-preserved-then-sign-eq43 : goal.offsets-preserved-then-sign-eq43
+offsets-preserved-then-sign-eq43 c =
+    let left = c.behind_blanks.result.now in
+    let rest = behind_first left in
+    let is : left ≡ get_or left 0 0 ∷ rest = first_and_others left c.in-43.len_at_least in
+    let lines = c.in_ok-lines in
+    let sum = to_z w128 c.offsets.sum-bits in
+    let given = to_z w128 (of_z w128 c.from-sum.result) in
+    let more = to_z w128 (of_z w128 (sum +ℤ given)) in
+    let all = offsets (length c.args.bytes.now) c.args.bytes.now in
+    let is_given : given ≡ pos lines.lines = omega (arith, ints) in
+    let fits : FitsSigned w128 (sum +ℤ given) = omega (arith, ints, is_given, lines.ensures.few, c.offsets.invariant.low, c.offsets.invariant.high) in
+    let total : more ≡ sum +ℤ pos lines.lines = omega (arith, ints, fits, is_given) in
+    let fewer : length lines.rest.now < length c.offsets.left.now = omega (arith, ap length is, lines.ensures.shorter, c.behind_blanks.ensures.shorter) in record {
+      left = plus_first c.offsets.left.now rest lines.rest.now sum more lines.lines all lines.ensures.value fewer (sym c.behind_blanks.ensures.value ∙ is ∙ ap (λ b. b ∷ rest) c.if-sign-eq43.true) total c.offsets.invariant.left;
+      shorter = omega (arith, fewer, c.offsets.invariant.shorter);
+      low = omega (arith, ints, total, fewer, lines.ensures.few, c.offsets.invariant.low);
+      high = omega (arith, ints, total, fewer, lines.ensures.few, c.offsets.invariant.high);
+    }
 
 pub offsets-preserved : goal.offsets-preserved
 offsets-preserved c =
-    let left = c.offsets.left.now in
+    let left = c.behind_blanks.result.now in
     let rest = behind_first left in
     let is : left ≡ get_or left 0 0 ∷ rest = first_and_others left c.in-43.len_at_least in
-    let next = c.behind_blanks-left-in-43 in
+    let sign : get_or left 0 0 ≡ 45 = omega arith in
     let lines = c.in_ok-lines in
     let sum = to_z w128 c.offsets.sum-bits in
-    let more = to_z w128 c.if-sign-eq43.sum-bits in
-    let bytes = behind_blanks c.args.bytes.now in
-    let all = offsets (length bytes) bytes in
-    let fewer : length rest + 1 ≡ length left = omega (arith, ap length is) in
-    let shorter : length next.result.now ≤ length rest = omega (arith, next.ensures.shorter, lines.ensures.shorter) in
-    elim c.if-sign-eq43.branch [
-      | then-sign-eq43 w ↦
-          let total : more ≡ sum +ℤ pos lines.lines = omega (arith, ints, lines.ensures.few, c.offsets.invariant.low, c.offsets.invariant.high, w.sum-is) in record {
-            left = plus_first left rest lines.rest.now next.result.now sum more lines.lines all lines.ensures.value next.ensures.value shorter (is ∙ ap (λ b. b ∷ rest) w.if-sign-eq43.true) total c.offsets.invariant.left;
-            shorter = omega (arith, shorter, fewer, c.offsets.invariant.shorter);
-            low = omega (arith, ints, total, shorter, fewer, lines.ensures.few, c.offsets.invariant.low);
-            high = omega (arith, ints, total, shorter, fewer, lines.ensures.few, c.offsets.invariant.high);
-          }
-      | else-sign-eq43 w ↦
-          let sign : get_or left 0 0 ≡ 45 = omega arith in
-          let given = to_z w128 (of_z w128 w.from-sum-else-sign-eq43.result) in
-          let is_given : given ≡ pos lines.lines = omega (arith, ints) in
-          let fits : FitsSigned w128 (sum -ℤ given) = omega (arith, ints, is_given, lines.ensures.few, c.offsets.invariant.low, c.offsets.invariant.high) in
-          let total : more ≡ sum +ℤ neg_ℤ (pos lines.lines) = omega (arith, ints) in record {
-            left = minus_first left rest lines.rest.now next.result.now sum more lines.lines all lines.ensures.value next.ensures.value shorter (is ∙ ap (λ b. b ∷ rest) sign) total c.offsets.invariant.left;
-            shorter = omega (arith, shorter, fewer, c.offsets.invariant.shorter);
-            low = omega (arith, ints, total, shorter, fewer, lines.ensures.few, c.offsets.invariant.low);
-            high = omega (arith, ints, total, shorter, fewer, lines.ensures.few, c.offsets.invariant.high);
-          }
-    ]
+    let given = to_z w128 (of_z w128 c.from-sum-else-sign-eq43.result) in
+    let more = to_z w128 (of_z w128 (sum -ℤ given)) in
+    let all = offsets (length c.args.bytes.now) c.args.bytes.now in
+    let is_given : given ≡ pos lines.lines = omega (arith, ints) in
+    let fits : FitsSigned w128 (sum -ℤ given) = omega (arith, ints, is_given, lines.ensures.few, c.offsets.invariant.low, c.offsets.invariant.high) in
+    let total : more ≡ sum +ℤ neg_ℤ (pos lines.lines) = omega (arith, ints, fits, is_given) in
+    let fewer : length lines.rest.now < length c.offsets.left.now = omega (arith, ap length is, lines.ensures.shorter, c.behind_blanks.ensures.shorter) in record {
+      left = minus_first c.offsets.left.now rest lines.rest.now sum more lines.lines all lines.ensures.value fewer (sym c.behind_blanks.ensures.value ∙ is ∙ ap (λ b. b ∷ rest) sign) total c.offsets.invariant.left;
+      shorter = omega (arith, fewer, c.offsets.invariant.shorter);
+      low = omega (arith, ints, total, fewer, lines.ensures.few, c.offsets.invariant.low);
+      high = omega (arith, ints, total, fewer, lines.ensures.few, c.offsets.invariant.high);
+    }
+
+pub returns : goal.returns
+returns c =
+    let next = c.behind_blanks.result.now in
+    let whole = none_left c.offsets.left.now next (to_z w128 c.offsets.sum-bits) (offsets (length c.args.bytes.now) c.args.bytes.now) (sym c.behind_blanks.ensures.value) in record {
+      value = elim c.if-behind_blanks-lt1.branch [
+        | in_default w ↦
+            let none : get_or next 0 0 ≡ 0 = no_first next w.in_default.len_below in
+            whole (omega arith) (omega arith) c.offsets.invariant.left
+        | in_default-2 w ↦ whole (search rules) (search rules) c.offsets.invariant.left
+      ];
+    }

@@ -1,55 +1,39 @@
 -- The line is found among those behind the current one, or among those up to it, or not at all.
 use Rattle.std.proofs.Common.{◌≡◌, ◌+◌, ◌-◌, List, ℕ, refl, sym, ap, ◌∙◌, Some, None, arith}
 use Rattle.std.specs.Prelude.{find}
-use Rattle.ed_syntax.specs.States.{State, last}
-use Rattle.ed_syntax.specs.Values.{count_from, lines_forward, matches_line, searched, sought}
-use Rattle.ed_commands.specs.Editors.{past_of, with_pattern}
-use Rattle.ed_commands.proofs.Searching.{as-sought, looked, forward, found-first, found-second}
+use Rattle.ed_syntax.specs.States.{last}
+use Rattle.ed_syntax.specs.Values.{count_from, lines_forward, matches_line, searched}
+use Rattle.ed_commands.proofs.Held.{held}
+use Rattle.ed_commands.proofs.Searching.{leaves, as-sought, looked, forward, found-first, found-second}
 use Rattle.ed_commands.proofs.editor.Editor.search_forward.Goals as goal
 
 pub returns-in-Some-2-clause-exact : goal.returns-in-Some-2-clause-exact
 returns-in-Some-2-clause-exact g c =
     let e = c.self.inside in
     let lines = g.S.LineStore.lines e.store in
-    let now : State = record {
-      lines = lines;
-      current = e.current;
-      pattern = e.pattern;
-      replacement = None;
-      name = e.name;
-      changed = e.changed;
-      past = past_of e.change lines;
-    } in
+    let now = held lines e.current e.pattern e.name e.changed e.change in
     let own = c.args.own.now in
     let before = c.args.self.now.state in
     let text = c.in-Some.pattern in
     let is : now ≡ c.remember.new.self.state = ap (λ v. v.state) c.self.view_is in
-    let left : c.remember.new.self.state ≡ with_pattern (sought own before) before =
-    ap (λ v. v.state) c.in_ok-remember.ensures.others ∙ ap (λ p. with_pattern p before) c.in_ok-remember.ensures.remembered in
+    let left = leaves before c.remember.new.self.state own (ap (λ v. v.state) c.in_ok-remember.ensures.others) c.in_ok-remember.ensures.remembered in
     let found : find (matches_line text lines) (count_from (e.current + 1) (last now - e.current)) ≡ Some c.in-Some-2.line =
-    ap (λ n. find (matches_line text lines) (count_from (e.current + 1) (n - e.current))) (sym c.len-last.ensures.value) ∙ sym c.in_ok-line.ensures.value ∙ c.in-Some-2.is in
-    (as-sought lines_forward before now own text _ refl (is ∙ left) c.in-Some.is
-    (ap (λ o. searched (Some text) o now) (forward now c.self.invariant) ∙ found-first text now _ _ c.in-Some-2.line found), left)
+    ap (λ n. find (matches_line text lines) (count_from (e.current + 1) (n - e.current))) (sym c.len-last.ensures.value) ∙ sym c.in_ok-line.ensures.value ∙ c.in-Some-2.is in (
+      as-sought lines_forward before now own text _ refl (is ∙ left) c.in-Some.is
+          (ap (λ o. searched (Some text) o now) (forward now c.self.invariant) ∙ found-first text now _ _ c.in-Some-2.line found),
+      left,
+    )
 
 pub returns-clause-exact : goal.returns-clause-exact
 returns-clause-exact g c =
     let e = c.self.inside in
     let lines = g.S.LineStore.lines e.store in
-    let now : State = record {
-      lines = lines;
-      current = e.current;
-      pattern = e.pattern;
-      replacement = None;
-      name = e.name;
-      changed = e.changed;
-      past = past_of e.change lines;
-    } in
+    let now = held lines e.current e.pattern e.name e.changed e.change in
     let own = c.args.own.now in
     let before = c.args.self.now.state in
     let text = c.in-Some.pattern in
     let is : now ≡ c.remember.new.self.state = ap (λ v. v.state) c.self.view_is in
-    let left : c.remember.new.self.state ≡ with_pattern (sought own before) before =
-    ap (λ v. v.state) c.in_ok-remember.ensures.others ∙ ap (λ p. with_pattern p before) c.in_ok-remember.ensures.remembered in
+    let left = leaves before c.remember.new.self.state own (ap (λ v. v.state) c.in_ok-remember.ensures.others) c.in_ok-remember.ensures.remembered in
     let none : find (matches_line text lines) (count_from (e.current + 1) (last now - e.current)) ≡ None =
     ap (λ n. find (matches_line text lines) (count_from (e.current + 1) (n - e.current))) (sym c.len-last.ensures.value) ∙ sym c.in_ok-line.ensures.value ∙ c.in_default-2.is in
     looked _ _ c.in_ok-found.found _ _

@@ -1,12 +1,12 @@
 -- What is written, and the lines that are left, make all.
-use Rattle.std.proofs.Common.{◌≡◌, ◌++◌, ◌-◌, drop, take}
-use Rattle.std.specs.Prelude.{flat_map}
-use Rattle.ed_syntax.specs.Commands.{Plain}
-use Rattle.ed_syntax.specs.Forms.{written}
+use Rattle.std.proofs.Common.{◌≡◌, ◌+◌, ◌++◌, drop, take}
+use Rattle.ed_syntax.specs.PublicTypes.{form_value}
+use Rattle.ed_syntax.specs.Forms.{all_written, lines_written}
 use Rattle.ed_commands.proofs.editor.lines.write_lines.Given as goal
 
 abbrev pub invariant-loop-i : goal.invariant-loop-i
 invariant-loop-i g l =
-    let part = take l.fn.span.last (g.S.LineStore.lines l.store) in
-    l.output ++ flat_map (written Plain) (drop l.i part)
-    ≡ l.fn.output ++ flat_map (written Plain) (drop (l.fn.span.first - 1) part)
+    let form = form_value l.form in
+    let lines = g.S.LineStore.lines l.store in
+    l.output ++ all_written form (l.i + 1) (drop l.i (take l.fn.span.last lines))
+    ≡ l.fn.output ++ lines_written form l.fn.span.first l.fn.span.last lines

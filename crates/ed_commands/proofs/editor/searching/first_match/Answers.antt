@@ -9,10 +9,12 @@ pub returns-then-matched : goal.returns-then-matched
 returns-then-matched g c =
     let lines = g.S.LineStore.lines c.args.store.now in
     let text = c.args.pattern.now in
-    record { value =
-      sym (found-up (matches_line text lines) c.loop-i.i c.args.to (omega arith)
-      (told text (bre_tree c.bre.result.now) lines c.loop-i.i c.text.result.now c.in_ok-matched.matched c.bre.ensures.value c.text.ensures.value c.in_ok-matched.ensures.value ∙ c.if-matched.true))
-      ∙ c.loop-i.invariant }
+    record {
+      value =
+          sym (found-up (matches_line text lines) c.loop-i.i c.args.to (omega arith)
+          (told text (bre_tree c.bre.result.now) lines c.loop-i.i c.text.result.now c.in_ok-matched.matched c.bre.ensures.value c.text.ensures.value c.in_ok-matched.ensures.value ∙ c.if-matched.true))
+          ∙ c.loop-i.invariant;
+    }
 
 pub loop-i-preserved : goal.loop-i-preserved
 loop-i-preserved g c =

@@ -10,10 +10,12 @@ returns-then-matched g c =
     let lines = g.S.LineStore.lines c.args.store.now in
     let text = c.args.pattern.now in
     let i = c.loop-i.i - 1 in
-    record { value =
-      sym (found-down (matches_line text lines) c.args.from i c.loop-i.i (omega arith) (omega arith)
-      (told text (bre_tree c.bre.result.now) lines i c.text.result.now c.in_ok-matched.matched c.bre.ensures.value c.text.ensures.value c.in_ok-matched.ensures.value ∙ c.if-matched.true))
-      ∙ c.loop-i.invariant }
+    record {
+      value =
+          sym (found-down (matches_line text lines) c.args.from i c.loop-i.i (omega arith) (omega arith)
+          (told text (bre_tree c.bre.result.now) lines i c.text.result.now c.in_ok-matched.matched c.bre.ensures.value c.text.ensures.value c.in_ok-matched.ensures.value ∙ c.if-matched.true))
+          ∙ c.loop-i.invariant;
+    }
 
 pub loop-i-preserved : goal.loop-i-preserved
 loop-i-preserved g c =

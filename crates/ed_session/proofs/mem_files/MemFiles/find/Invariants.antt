@@ -1,7 +1,10 @@
 -- The file isn't among those that the loop has passed.
-use Rattle.std.proofs.Common.{◌≡◌, drop}
+use Rattle.std.proofs.Common.{◌≡◌, ◌+◌, drop, length}
 use Rattle.ed_session.specs.MemFiles.{file_at}
 use Rattle.ed_session.proofs.mem_files.MemFiles.find.Given as goal
 
 abbrev pub invariant-files : goal.invariant-files
-invariant-files l = file_at l.path l.self.files.items ≡ file_at l.path (drop l.name-index l.self.files.items)
+invariant-files l = record {
+  passed : file_at l.path l.self.files.items ≡ file_at l.path (drop l.name-index l.self.files.items);
+  left : l.left + l.name-index ≡ length l.self.files.items;
+}

@@ -1,7 +1,8 @@
 -- Each letter is where it is to be, and is told where the line had it.
 use Rattle.std.proofs.Common.{arith, get_or, None, false}
 use Rattle.std.proofs.lemmas.List.FromFn.{fill_by_all}
-use Rattle.line_store.specs.Marks.{is_at, closed}
+use Rattle.line_store.specs.Marks.{is_at}
+use Rattle.line_store.specs.Shifts.{closed}
 use Rattle.line_store.proofs.marks.Marks.close.Goals as goal
 
 pub returns-clause-letters : goal.returns-clause-letters

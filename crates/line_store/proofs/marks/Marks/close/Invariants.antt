@@ -1,6 +1,7 @@
 -- The letters that were passed are where they are to be, and the others where they were.
 use Rattle.std.proofs.Common.{◌≡◌, ℕ, ◌<◌, ◌≤◌, get_or, length, false, None}
-use Rattle.line_store.specs.Marks.{is_at, closed}
+use Rattle.line_store.specs.Marks.{is_at}
+use Rattle.line_store.specs.Shifts.{closed}
 use Rattle.line_store.proofs.marks.Marks.close.Given as goal
 
 abbrev pub invariant-loop-letter : goal.invariant-loop-letter

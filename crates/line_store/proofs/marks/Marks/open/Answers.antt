@@ -1,7 +1,7 @@
 -- Each letter is where it is to be.
 use Rattle.std.proofs.Common.{arith, get_or, None, false}
 use Rattle.std.proofs.lemmas.List.FromFn.{fill_by_all}
-use Rattle.line_store.specs.Marks.{opened}
+use Rattle.line_store.specs.Shifts.{opened}
 use Rattle.line_store.proofs.marks.Marks.open.Goals as goal
 
 pub returns : goal.returns

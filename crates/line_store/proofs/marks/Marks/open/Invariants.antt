@@ -1,6 +1,6 @@
 -- The letters that were passed are where they are to be, and the others where they were.
 use Rattle.std.proofs.Common.{◌≡◌, ℕ, ◌<◌, ◌≤◌, get_or, length, false, None}
-use Rattle.line_store.specs.Marks.{opened}
+use Rattle.line_store.specs.Shifts.{opened}
 use Rattle.line_store.proofs.marks.Marks.open.Given as goal
 
 abbrev pub invariant-loop-letter : goal.invariant-loop-letter

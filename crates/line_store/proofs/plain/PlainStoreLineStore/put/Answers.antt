@@ -3,7 +3,8 @@ use Rattle.std.proofs.Common.{◌≡◌, ◌≤◌, ◌+◌, ◌∙◌, ap, sym,
 use Rattle.std.proofs.lemmas.List.{length-map}
 use Rattle.std.proofs.lemmas.List.Edits.{length-insert}
 use Rattle.ed_base.specs.Buffer.{plain_line, SharesNoLetter}
-use Rattle.line_store.specs.Marks.{AllBelow, lettered, with_line}
+use Rattle.line_store.specs.Marks.{AllBelow, lettered}
+use Rattle.line_store.specs.Shifts.{with_line}
 use Rattle.line_store.specs.Plain.{lines_of}
 use Rattle.line_store.proofs.Lettered.{length-plain, plain-insert, lettered-insert, HaveNoPlace, without_places, with_line-below}
 use Rattle.line_store.proofs.plain.PlainStoreLineStore.put.Goals as goal

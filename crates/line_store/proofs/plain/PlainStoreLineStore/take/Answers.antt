@@ -3,7 +3,8 @@ use Rattle.std.proofs.Common.{◌≡◌, ◌<◌, ◌+◌, ◌∙◌, ap, sym, m
 use Rattle.std.proofs.lemmas.List.{length-map}
 use Rattle.std.proofs.lemmas.List.Edits.{length-remove}
 use Rattle.ed_base.specs.Buffer.{plain_line}
-use Rattle.line_store.specs.Marks.{lettered, without_line}
+use Rattle.line_store.specs.Marks.{lettered}
+use Rattle.line_store.specs.Shifts.{without_line}
 use Rattle.line_store.specs.Plain.{lines_of}
 use Rattle.line_store.proofs.Lettered.{length-plain, plain-remove, plain-at, lettered-remove, without_line-below}
 use Rattle.line_store.proofs.plain.PlainStoreLineStore.take.Goals as goal

@@ -1,0 +1,17 @@
+-- The state of an editor that holds these.
+use Rattle.std.specs.Prelude.{ℕ, Bool, List, Option, None}
+use Rattle.ed_base.specs.Buffer.{Line}
+use Rattle.ed_syntax.specs.States.{State}
+use Rattle.ed_commands.specs.declared.editor.change.Change.{Change}
+use Rattle.ed_commands.specs.Editors.{past_of}
+
+abbrev pub held : List Line → (current : ℕ) → (pattern name : Option (List ℕ)) → (changed : Bool) → Option Change → State
+held lines current pattern name changed change = record {
+  lines = lines;
+  current = current;
+  pattern = pattern;
+  replacement = None;
+  name = name;
+  changed = changed;
+  past = past_of change lines;
+}

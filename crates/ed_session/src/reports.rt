@@ -1,0 +1,72 @@
+//! The reports of faults (XCU ed, "Consequences of Errors").
+ghost use Rattle.std.specs.Prelude.{◌≡◌, IfOk};
+ghost use Rattle.ed_syntax.specs.Progress.{report};
+ghost use Rattle.ed_session.specs.Insides.{AreReady, EndsBy};
+ghost use Rattle.ed_session.specs.Steps.{memory_report};
+
+use crate::stage::Stage;
+use ed_base::{Bytes, Fault};
+use std::alloc::{AllocError, Global};
+use std::mem;
+
+/// The reports of want of memory, for which room is made beforehand. Only one report is ever handed out.
+#[derive(Drop)]
+pub(crate) struct Reports {
+    alloc: Global,
+    // Out of help mode all reports are this one.
+    brief: Bytes,
+    // In help mode.
+    full: Bytes,
+}
+
+// What is written of a fault, in help mode also its text.
+fn report_of(alloc: Global, help: bool, fault: Fault) -> Result<Bytes, AllocError>
+    ensures value { IfOk result (λ written. written ≡ report help fault) }
+{
+    let mut written = Bytes::from_slice(alloc, b"?\n")?;
+    if help {
+        written.extend_from_slice(fault.text().as_bytes())?;
+        written.push(b'\n')?;
+    }
+    Ok(written)
+}
+
+impl Reports {
+    pub(crate) fn new(alloc: Global) -> Result<Self, AllocError>
+        ensures ready { IfOk result (λ r. AreReady r.brief r.full) }
+    {
+        Ok(Reports {
+            alloc,
+            brief: report_of(alloc, false, Fault::Memory)?,
+            full: report_of(alloc, true, Fault::Memory)?,
+        })
+    }
+
+    /// That of want of memory. It takes none.
+    pub(crate) fn of_memory(&mut self, help: bool) -> Bytes
+        requires ready { AreReady self.old.brief self.old.full }
+        ensures value { result ≡ memory_report help }
+    {
+        let none = Bytes::new(self.alloc);
+        if help {
+            mem::replace(&mut self.full, none)
+        } else {
+            mem::replace(&mut self.brief, none)
+        }
+    }
+
+    /// The stage of a session whose run this fault ends, and what is written of it.
+    pub(crate) fn ending(&mut self, help: bool, fault: Fault) -> (Stage, Bytes)
+        requires ready { AreReady self.old.brief self.old.full }
+        ensures value { EndsBy fault help result.0 result.1 }
+    {
+        match fault {
+            Fault::Memory => (Stage::Lost(Fault::Memory), self.of_memory(help)),
+            _ if !help => (Stage::Over(Err(fault)), self.of_memory(false)),
+            _ => match report_of(self.alloc, true, fault) {
+                Ok(written) => (Stage::Over(Err(fault)), written),
+                Err(_) => (Stage::Lost(Fault::Memory), self.of_memory(true)),
+            },
+        }
+    }
+}
