@@ -1,9 +1,8 @@
-//! Ranges of lines of a store: written, put, taken out.
-ghost use Rattle.std.specs.Prelude.{◌≡◌, ◌-◌, ◌^◌, ◌≤◌, [], ◌++◌, length, map, min, IfOk, OnOk, OnErr};
-ghost use Rattle.ed_base.specs.Lines.{AreLines, lines_of};
+//! Lines of a store: written, and put from a file.
+ghost use Rattle.std.specs.Prelude.{◌≡◌, ◌-◌, ◌^◌, ◌≤◌, ◌++◌, length, map, min, OnOk};
+ghost use Rattle.ed_base.specs.Lines.{lines_of};
 ghost use Rattle.ed_base.specs.Buffer.{plain_line};
 ghost use Rattle.ed_syntax.specs.PublicTypes.{form_value};
-ghost use Rattle.ed_syntax.specs.States.{between, replaced, inserted};
 ghost use Rattle.ed_syntax.specs.Forms.{lines_written};
 
 use crate::editor::addressing::Span;

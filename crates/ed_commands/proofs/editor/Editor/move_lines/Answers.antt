@@ -1,27 +1,20 @@
 -- The lines are carried, and what undo keeps carries them back.
 use Rattle.std.proofs.Common.{◌≡◌, ◌≤◌, ◌+◌, ◌-◌, true, ◌∙◌, refl, sym, ap, subst, arith, length}
-use Rattle.std.specs.Prelude.{None, IsOkAnd}
+use Rattle.std.specs.Prelude.{IsOkAnd}
 use Rattle.line_store.specs.Marks.{lettered}
 use Rattle.ed_syntax.specs.States.{State, Was}
 use Rattle.ed_syntax.specs.Effects.{altered}
 use Rattle.ed_syntax.specs.Applied.{settled}
-use Rattle.ed_commands.specs.Editors.{carried, kept_at, past_of}
+use Rattle.ed_commands.specs.Editors.{carried, kept_at}
 use Rattle.ed_commands.proofs.Changes.{moving, moved-to}
+use Rattle.ed_commands.proofs.Held.{held}
 use Rattle.ed_commands.proofs.editor.Editor.move_lines.Goals as goal
 
 pub returns-clause-exact : goal.returns-clause-exact
 returns-clause-exact g c =
     let e = c.self.inside in
     let lines = g.S.LineStore.lines e.store in
-    let s : State = record {
-      lines = lines;
-      current = e.current;
-      pattern = e.pattern;
-      replacement = None;
-      name = e.name;
-      changed = e.changed;
-      past = past_of e.change lines;
-    } in
+    let s = held lines e.current e.pattern e.name e.changed e.change in
     let old = c.args.self.now.state in
     let is : s ≡ old = ap (λ v. v.state) c.self.view_is in
     let a = c.args.span.first in

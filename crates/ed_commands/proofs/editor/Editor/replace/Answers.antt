@@ -1,27 +1,18 @@
 -- The lines are exchanged, and what undo keeps brings the others back.
 use Rattle.std.proofs.Common.{◌≡◌, ◌+◌, ◌≤◌, ◌∙◌, ap, arith, length}
-use Rattle.std.specs.Prelude.{None}
-use Rattle.ed_syntax.specs.States.{State}
 use Rattle.ed_syntax.specs.Effects.{altered}
 use Rattle.ed_syntax.specs.Applied.{settled}
-use Rattle.ed_commands.specs.Editors.{exchanged, kept_at, past_of}
+use Rattle.ed_commands.specs.Editors.{exchanged, kept_at}
 use Rattle.ed_commands.proofs.Blocks.{length-other}
 use Rattle.ed_commands.proofs.Changes.{exchanging}
+use Rattle.ed_commands.proofs.Held.{held}
 use Rattle.ed_commands.proofs.editor.Editor.replace.Goals as goal
 
 pub returns-clause-exact : goal.returns-clause-exact
 returns-clause-exact g c =
     let e = c.self.inside in
     let lines = g.S.LineStore.lines e.store in
-    let s : State = record {
-      lines = lines;
-      current = e.current;
-      pattern = e.pattern;
-      replacement = None;
-      name = e.name;
-      changed = e.changed;
-      past = past_of e.change lines;
-    } in
+    let s = held lines e.current e.pattern e.name e.changed e.change in
     let is : s ≡ c.args.self.now.state = ap (λ v. v.state) c.self.view_is in
     let from = c.args.from in
     let to = c.args.to in
