@@ -29,13 +29,22 @@ struct Row {
 
 const ABC: Option<&[u8]> = Some(b"a\nb\nc\n");
 
+const ABA: Option<&[u8]> = Some(b"a\nb\na\n");
+
+const FIVE: &[u8] = b"1\n2\n3\n4\n5\n";
+
+// A line of eighty letters.
+const EIGHTY: Option<&[u8]> = Some(
+    b"aaaaaaaaaaaaaaaaaaaaaaaaaaaaaaaaaaaaaaaaaaaaaaaaaaaaaaaaaaaaaaaaaaaaaaaaaaaaaaaa\n",
+);
+
 const ARROW: Option<&[u8]> = Some(b"> ");
 
 #[rattlefmt::skip]
-const HELPED: Row = Row { script: b"1p\nH\nx\n", file: Some(b"a\nb\n"), prompt: ARROW, output: b"> a\n> > ?\ninvalid command\n", ends: Err(Fault::Syntax) };
+const HELPED: Row = Row { script: b"1n\nH\nx\n", file: Some(b"a\nb\n"), prompt: ARROW, output: b"> 1\ta\n> > ?\ninvalid command\n", ends: Err(Fault::Syntax) };
 
 #[rattlefmt::skip]
-const ROWS: [Row; 22] = [
+const ROWS: [Row; 56] = [
     Row { script: b"2d\n,p\nQ\n", file: ABC, prompt: None, output: b"a\nc\n", ends: Ok(2) },
     Row { script: b",p", file: Some(b""), prompt: None, output: b"?\n", ends: Err(Fault::Address) },
     Row { script: b"a\nx", file: Some(b""), prompt: None, output: b"?\n", ends: Err(Fault::Unsaved) },
@@ -58,6 +67,40 @@ const ROWS: [Row; 22] = [
     Row { script: b"H\n9p\n", file: ABC, prompt: None, output: b"?\ninvalid address\n", ends: Err(Fault::Address) },
     Row { script: b"H\na\nx\n", file: None, prompt: None, output: b"?\nbuffer modified\n", ends: Err(Fault::Unsaved) },
     Row { script: b"h\n1p\nQ\n", file: ABC, prompt: None, output: b"a\n", ends: Ok(3) },
+    Row { script: b"2,4m4\n", file: Some(FIVE), prompt: None, output: b"?\n", ends: Err(Fault::Destination) },
+    Row { script: b"2,4m3\n", file: Some(FIVE), prompt: None, output: b"?\n", ends: Err(Fault::Destination) },
+    Row { script: b"2,4m1\n.=\nQ\n", file: Some(FIVE), prompt: None, output: b"4\n", ends: Ok(5) },
+    Row { script: b"1m$\n", file: Some(b"x\n"), prompt: None, output: b"?\n", ends: Err(Fault::Destination) },
+    Row { script: b"1;+1p\nQ\n", file: ABC, prompt: None, output: b"a\nb\n", ends: Ok(3) },
+    Row { script: b"1,+1p\n", file: ABC, prompt: None, output: b"?\n", ends: Err(Fault::Address) },
+    Row { script: b"0i\nx\n.\n,p\nQ\n", file: Some(b""), prompt: None, output: b"x\n", ends: Ok(1) },
+    Row { script: b"0c\n", file: Some(b""), prompt: None, output: b"?\n", ends: Err(Fault::Address) },
+    Row { script: b"/b/\n//=\nQ\n", file: ABA, prompt: None, output: b"b\n2\n", ends: Ok(3) },
+    Row { script: b"/a/=\nQ\n", file: ABA, prompt: None, output: b"1\n", ends: Ok(3) },
+    Row { script: b"/z/\n", file: ABA, prompt: None, output: b"?\n", ends: Err(Fault::NoMatch) },
+    Row { script: b"//\n", file: ABA, prompt: None, output: b"?\n", ends: Err(Fault::Pattern) },
+    Row { script: b"'a\n", file: ABA, prompt: None, output: b"?\n", ends: Err(Fault::Mark) },
+    Row { script: b"-5+4=\nQ\n", file: ABC, prompt: None, output: b"2\n", ends: Ok(3) },
+    Row { script: b"-5+6=\n", file: ABC, prompt: None, output: b"?\n", ends: Err(Fault::Address) },
+    Row { script: b"3,1=\nQ\n", file: ABC, prompt: None, output: b"1\n", ends: Ok(3) },
+    Row { script: b"9,1=\n", file: ABC, prompt: None, output: b"?\n", ends: Err(Fault::Address) },
+    Row { script: b"0;1=\nQ\n", file: ABC, prompt: None, output: b"1\n", ends: Ok(3) },
+    Row { script: b"2ka\n1d\n'a=\nQ\n", file: ABC, prompt: None, output: b"1\n", ends: Ok(2) },
+    Row { script: b"2ka\n2d\n'a=\n", file: ABC, prompt: None, output: b"?\n", ends: Err(Fault::Mark) },
+    Row { script: b" \n", file: ABC, prompt: None, output: b"?\n", ends: Err(Fault::Address) },
+    Row { script: b"1,2t$\n1,3j\n,p\nQ\n", file: ABC, prompt: None, output: b"abc\na\nb\n", ends: Ok(3) },
+    Row { script: b"1ka\n1m$\n'a=\nQ\n", file: ABC, prompt: None, output: b"3\n", ends: Ok(3) },
+    Row { script: b"l\nQ\n", file: Some(b"a\t\\$\xc3\n"), prompt: None, output: b"a\\t\\\\\\$\\303$\n", ends: Ok(1) },
+    Row { script: b"l\nQ\n", file: EIGHTY, prompt: None, output: b"aaaaaaaaaaaaaaaaaaaaaaaaaaaaaaaaaaaaaaaaaaaaaaaaaaaaaaaaaaaaaaaaaaaaaaa\\\naaaaaaaaa$\n", ends: Ok(1) },
+    Row { script: b"1dp\n", file: Some(b"x\n"), prompt: None, output: b"?\n", ends: Err(Fault::Address) },
+    Row { script: b"1,1j\n2j\n,p\nQ\n", file: Some(b"a\nb\n"), prompt: None, output: b"a\nb\n", ends: Ok(2) },
+    Row { script: b"1c\n.\n.=\nQ\n", file: Some(b"a\nb\n"), prompt: None, output: b"1\n", ends: Ok(1) },
+    Row { script: b"2lp\nQ\n", file: ABC, prompt: None, output: b"b$\nb\n", ends: Ok(3) },
+    Row { script: b"=p\n", file: Some(b""), prompt: None, output: b"?\n", ends: Err(Fault::Address) },
+    Row { script: b"Hp\n", file: Some(b""), prompt: None, output: b"?\n", ends: Err(Fault::Address) },
+    Row { script: b"0i\n.\n.=\nQ\n", file: ABC, prompt: None, output: b"1\n", ends: Ok(3) },
+    Row { script: b"1m3 p\n", file: ABC, prompt: None, output: b"?\n", ends: Err(Fault::Syntax) },
+    Row { script: b"1m3p\nQ\n", file: ABC, prompt: None, output: b"a\n", ends: Ok(3) },
 ];
 
 fn plain(row: &Row) -> Case {
@@ -66,7 +109,7 @@ fn plain(row: &Row) -> Case {
         file: row.file,
         prompt: row.prompt,
         refused_call: 0,
-        room: 64,
+        room: 128,
         piece: 64,
         refused_write: 0,
     }
