@@ -1,7 +1,7 @@
 //! Tests of the line commands, their targets and suffixes, with values that the standard says.
 
 use crate::{Address, Addresses, Base, Command, Form, Pattern, Taking, Verb, read_script};
-use ed_base::{Bytes, Letter, Text};
+use ed_base::{Bytes, Letter, Text, split_lines};
 use std::alloc::Global;
 use std::test::Fail;
 
@@ -32,9 +32,7 @@ fn pattern(alloc: Global, text: &[u8]) -> Result<Option<Pattern>, Fail> {
 }
 
 fn text(alloc: Global, line: &[u8]) -> Result<Text, Fail> {
-    let mut text = Text::new(alloc);
-    text.push(Bytes::from_slice(alloc, line)?)?;
-    Ok(text)
+    Ok(split_lines(alloc, line)?)
 }
 
 #[derive(Drop)]

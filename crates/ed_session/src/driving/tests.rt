@@ -4,6 +4,7 @@ use ed_base::{Bytes, Fault};
 use ed_syntax::{Answer, Ending, Options, read_script};
 use line_store::PlainStore;
 use std::alloc::{AllocError, Global};
+use std::process::Abort;
 use std::test::Fail;
 
 // A run on the file `F`: its script, the file's bytes, its prompt, and how files and output are refused (0: not at all).
@@ -44,7 +45,7 @@ const ARROW: Option<&[u8]> = Some(b"> ");
 const HELPED: Row = Row { script: b"1n\nH\nx\n", file: Some(b"a\nb\n"), prompt: ARROW, output: b"> 1\ta\n> > ?\ninvalid command\n", ends: Err(Fault::Syntax) };
 
 #[rattlefmt::skip]
-const ROWS: [Row; 56] = [
+const ROWS: [Row; 22] = [
     Row { script: b"2d\n,p\nQ\n", file: ABC, prompt: None, output: b"a\nc\n", ends: Ok(2) },
     Row { script: b",p", file: Some(b""), prompt: None, output: b"?\n", ends: Err(Fault::Address) },
     Row { script: b"a\nx", file: Some(b""), prompt: None, output: b"?\n", ends: Err(Fault::Unsaved) },
@@ -67,14 +68,12 @@ const ROWS: [Row; 56] = [
     Row { script: b"H\n9p\n", file: ABC, prompt: None, output: b"?\ninvalid address\n", ends: Err(Fault::Address) },
     Row { script: b"H\na\nx\n", file: None, prompt: None, output: b"?\nbuffer modified\n", ends: Err(Fault::Unsaved) },
     Row { script: b"h\n1p\nQ\n", file: ABC, prompt: None, output: b"a\n", ends: Ok(3) },
-    Row { script: b"2,4m4\n", file: Some(FIVE), prompt: None, output: b"?\n", ends: Err(Fault::Destination) },
-    Row { script: b"2,4m3\n", file: Some(FIVE), prompt: None, output: b"?\n", ends: Err(Fault::Destination) },
-    Row { script: b"2,4m1\n.=\nQ\n", file: Some(FIVE), prompt: None, output: b"4\n", ends: Ok(5) },
-    Row { script: b"1m$\n", file: Some(b"x\n"), prompt: None, output: b"?\n", ends: Err(Fault::Destination) },
+];
+
+#[rattlefmt::skip]
+const ADDRESSES: [Row; 15] = [
     Row { script: b"1;+1p\nQ\n", file: ABC, prompt: None, output: b"a\nb\n", ends: Ok(3) },
     Row { script: b"1,+1p\n", file: ABC, prompt: None, output: b"?\n", ends: Err(Fault::Address) },
-    Row { script: b"0i\nx\n.\n,p\nQ\n", file: Some(b""), prompt: None, output: b"x\n", ends: Ok(1) },
-    Row { script: b"0c\n", file: Some(b""), prompt: None, output: b"?\n", ends: Err(Fault::Address) },
     Row { script: b"/b/\n//=\nQ\n", file: ABA, prompt: None, output: b"b\n2\n", ends: Ok(3) },
     Row { script: b"/a/=\nQ\n", file: ABA, prompt: None, output: b"1\n", ends: Ok(3) },
     Row { script: b"/z/\n", file: ABA, prompt: None, output: b"?\n", ends: Err(Fault::NoMatch) },
@@ -88,6 +87,16 @@ const ROWS: [Row; 56] = [
     Row { script: b"2ka\n1d\n'a=\nQ\n", file: ABC, prompt: None, output: b"1\n", ends: Ok(2) },
     Row { script: b"2ka\n2d\n'a=\n", file: ABC, prompt: None, output: b"?\n", ends: Err(Fault::Mark) },
     Row { script: b" \n", file: ABC, prompt: None, output: b"?\n", ends: Err(Fault::Address) },
+];
+
+#[rattlefmt::skip]
+const LINE_COMMANDS: [Row; 19] = [
+    Row { script: b"2,4m4\n", file: Some(FIVE), prompt: None, output: b"?\n", ends: Err(Fault::Destination) },
+    Row { script: b"2,4m3\n", file: Some(FIVE), prompt: None, output: b"?\n", ends: Err(Fault::Destination) },
+    Row { script: b"2,4m1\n.=\nQ\n", file: Some(FIVE), prompt: None, output: b"4\n", ends: Ok(5) },
+    Row { script: b"1m$\n", file: Some(b"x\n"), prompt: None, output: b"?\n", ends: Err(Fault::Destination) },
+    Row { script: b"0i\nx\n.\n,p\nQ\n", file: Some(b""), prompt: None, output: b"x\n", ends: Ok(1) },
+    Row { script: b"0c\n", file: Some(b""), prompt: None, output: b"?\n", ends: Err(Fault::Address) },
     Row { script: b"1,2t$\n1,3j\n,p\nQ\n", file: ABC, prompt: None, output: b"abc\na\nb\n", ends: Ok(3) },
     Row { script: b"1ka\n1m$\n'a=\nQ\n", file: ABC, prompt: None, output: b"3\n", ends: Ok(3) },
     Row { script: b"l\nQ\n", file: Some(b"a\t\\$\xc3\n"), prompt: None, output: b"a\\t\\\\\\$\\303$\n", ends: Ok(1) },
@@ -159,18 +168,45 @@ fn run(alloc: Global, case: Case) -> Result<(Result<usize, Fault>, MemSink), All
     Ok((lines(end), sink))
 }
 
+// A row's run writes and ends as it says, whether its output is taken in large pieces or byte by byte.
+fn check(rt: &impl Abort, alloc: Global, row: &Row) -> Result<(), Fail> {
+    for piece in [64, 1] {
+        let case = Case {
+            piece,
+            ..plain(row)
+        };
+        let (ends, sink) = run(alloc, case)?;
+        assert_eq!(*rt;
+            sink.taken(),
+            row.output,
+            "{:?}, {piece} at once",
+            row.script
+        );
+        assert_eq!(rt; ends, row.ends, "{:?}, {piece} at once", row.script);
+    }
+    Ok(())
+}
+
 #[test]
 fn runs_write_and_end_as_the_standard_says(rt: HostRuntime) -> Result<(), Fail> {
-    for (row, number) in ROWS.iter().zip(1..) {
-        for piece in [64, 1] {
-            let case = Case {
-                piece,
-                ..plain(row)
-            };
-            let (ends, sink) = run(rt.alloc(), case)?;
-            assert_eq!(rt; sink.taken(), row.output, "row {number}, {piece} at once");
-            assert_eq!(rt; ends, row.ends, "row {number}, {piece} at once");
-        }
+    for row in &ROWS {
+        check(&rt, rt.alloc(), row)?;
+    }
+    Ok(())
+}
+
+#[test]
+fn runs_find_the_lines_that_the_standard_says(rt: HostRuntime) -> Result<(), Fail> {
+    for row in &ADDRESSES {
+        check(&rt, rt.alloc(), row)?;
+    }
+    Ok(())
+}
+
+#[test]
+fn runs_move_join_and_show_lines_as_the_standard_says(rt: HostRuntime) -> Result<(), Fail> {
+    for row in &LINE_COMMANDS {
+        check(&rt, rt.alloc(), row)?;
     }
     Ok(())
 }
