@@ -1,5 +1,5 @@
 #!/bin/sh
-# Refuses each allocation of the program in turn, on runs that delete, enter and print lines. Each has to end by want of memory
+# Refuses each allocation of the program in turn, on runs of most commands. Each has to end by want of memory
 # (status 2), its output being a front of the run's own, followed by the report `?` where the run had begun, with its text where
 # the script turns help mode on; or, where the library under it can do without, just as the run does.
 # Build crates/ed_main first. It needs a C compiler. Usage: bench/editor/refused.sh, from anywhere.
@@ -49,3 +49,4 @@ on '2d\n,p\nQ\n'
 on '1,2a\nz\n.\n,p\nQ\n'
 on '1p\n2a\nx\ny\n.\n1d\n,p\n$p\nQ\n'
 on 'P\n1p\nH\nP\n9p\n'
+on '/b/ka\n1m$\n1t.\n1,$j\n2i\nx\n.\n,l\n,n\nQ\n'
