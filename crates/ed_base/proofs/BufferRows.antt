@@ -1,6 +1,6 @@
 -- Worked rows of letters and the lines that they mark.
-use Rattle.std.specs.Prelude.{◌≡◌, refl, ℕ, true, false, List, [], ◌∷◌, map, Some, None, codes}
-use Rattle.ed_base.specs.Buffer.{Line, plain_line, texts, letter_of, has_letter, marked_place, marked_at}
+use Rattle.std.specs.Prelude.{◌≡◌, refl, List, [], ◌∷◌, map, Some, None, codes}
+use Rattle.ed_base.specs.Buffer.{Line, plain_line, texts, letter_of, marked_place, marked_at}
 
 -- `a` is 0 and `z` 25; capital letters mark nothing
 letters_of_bytes : map letter_of (codes "az`{AZ") ≡ Some 0 ∷ Some 25 ∷ None ∷ None ∷ None ∷ None ∷ []

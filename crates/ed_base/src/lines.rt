@@ -39,6 +39,7 @@ pub fn split_lines(alloc: Global, bytes: &[u8]) -> Result<Text, AllocError>
 /// The file of these lines, each with a newline after it. It allocates once.
 pub fn join_lines(alloc: Global, lines: &Text) -> Result<Bytes, AllocError>
     ensures exact { IfOk result (λ bytes. bytes ≡ bytes_of lines.now) }
+    ensures read_back { IfOk result (λ bytes. lines_of bytes ≡ lines.now) }
 {
     let mut bytes = Bytes::new(alloc);
     bytes.reserve(file_size(lines.as_slice()))?;

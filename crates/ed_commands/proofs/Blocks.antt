@@ -1,8 +1,10 @@
 -- Blocks of lists: exchanged for other elements, carried to another place, and brought back.
-use Rattle.std.proofs.Common.{◌≡◌, ℕ, ◌+◌, ◌-◌, ◌<◌, ◌≤◌, List, [], ◌∷◌, ◌++◌, take, drop, length, map, get_or, sym, ap, ◌∙◌, arith, append_assoc}
+use Rattle.std.proofs.Common.{◌≡◌, ℕ, zero, suc, refl, ◌+◌, ◌-◌, ◌<◌, ◌≤◌, List, [], ◌∷◌, ◌++◌, take, drop, length, get_or, sym, ap, ◌∙◌, arith, append_assoc}
 use Rattle.std.specs.List.{concat}
 use Rattle.std.proofs.lemmas.List.{take_at, drop_at, take-take, take-append-drop, drop-append-le, length-take-le, length-drop, length-append, take_more, map-append, drop_all, length-take, append-nil}
 use Rattle.std.proofs.lemmas.List.Folds.{concat-append}
+use Rattle.std.proofs.lemmas.List.Elements.{All-append, All-same}
+use Rattle.ed_base.specs.Lines.{newline, IsLine, AreLines, bytes_of}
 use Rattle.ed_base.specs.Buffer.{Line, plain_line, texts}
 
 -- the elements behind place a up to place b
@@ -91,19 +93,41 @@ carried-back a b place xs h k l =
 pub part-none : {X : Type 0} (a : ℕ) (xs : List X) → part a a xs ≡ []
 part-none a xs = drop_all a (take a xs) (omega (arith, length-take a xs))
 
--- one more line's text copied, and joined to the others
-pub copied-more : (a i : ℕ) (lines : List Line) (line : Line) → a ≤ i → i < length lines → line ≡ plain_line (get_or lines i (plain_line [])).bytes →
-    map plain_line (texts (part a i lines)) ++ line ∷ [] ≡ map plain_line (texts (part a (i + 1) lines))
-copied-more a i lines line h k e =
-    ap (λ t. map plain_line (texts (part a i lines)) ++ t ∷ []) e
-    ∙ sym (ap (λ t. map plain_line (texts t)) (part-more a i lines (plain_line []) h k)
-    ∙ ap (map plain_line) (map-append (λ l. l.bytes) (part a i lines) (get_or lines i (plain_line []) ∷ []))
-    ∙ map-append plain_line (texts (part a i lines)) ((get_or lines i (plain_line [])).bytes ∷ []))
+-- the texts of one more line
+texts-more : (a i : ℕ) (lines : List Line) (text : List ℕ) → a ≤ i → i < length lines → text ≡ (get_or lines i (plain_line [])).bytes →
+    texts (part a (i + 1) lines) ≡ texts (part a i lines) ++ text ∷ []
+texts-more a i lines text h k e =
+    ap texts (part-more a i lines (plain_line []) h k)
+    ∙ map-append (λ l. l.bytes) (part a i lines) (get_or lines i (plain_line []) ∷ [])
+    ∙ ap (λ t. texts (part a i lines) ++ t ∷ []) (sym e)
 
+-- one more line's text joined to the others
 pub joined-more : (a i : ℕ) (lines : List Line) (text : List ℕ) → a ≤ i → i < length lines → text ≡ (get_or lines i (plain_line [])).bytes →
     concat (texts (part a (i + 1) lines)) ≡ concat (texts (part a i lines)) ++ text
 joined-more a i lines text h k e =
-    ap (λ t. concat (texts t)) (part-more a i lines (plain_line []) h k)
-    ∙ ap concat (map-append (λ l. l.bytes) (part a i lines) (get_or lines i (plain_line []) ∷ []))
-    ∙ concat-append (texts (part a i lines)) ((get_or lines i (plain_line [])).bytes ∷ [])
-    ∙ ap (λ t. concat (texts (part a i lines)) ++ t) (append-nil (get_or lines i (plain_line [])).bytes ∙ sym e)
+    ap concat (texts-more a i lines text h k e)
+    ∙ concat-append (texts (part a i lines)) (text ∷ [])
+    ∙ ap (λ t. concat (texts (part a i lines)) ++ t) (append-nil text)
+
+-- a file of one more line
+bytes-more : (lines : List (List ℕ)) (line : List ℕ) → bytes_of (lines ++ line ∷ []) ≡ (bytes_of lines ++ line) ++ newline ∷ []
+bytes-more [] line = refl
+bytes-more (first ∷ lines) line =
+    ap (λ t. first ++ newline ∷ t) (bytes-more lines line)
+    ∙ sym (ap (λ t. t ++ newline ∷ []) (append_assoc first (newline ∷ bytes_of lines) line)
+    ∙ append_assoc first (newline ∷ (bytes_of lines ++ line)) (newline ∷ []))
+
+one-line : (line : List ℕ) → IsLine line → AreLines (line ∷ [])
+one-line line h zero d b = h
+one-line line h (suc k) d b = absurd (omega arith)
+
+-- one more line's text copied behind the others
+pub copied-more : (a i : ℕ) (lines : List Line) (text : List ℕ) → a ≤ i → i < length lines → text ≡ (get_or lines i (plain_line [])).bytes →
+    bytes_of (texts (part a (i + 1) lines)) ≡ (bytes_of (texts (part a i lines)) ++ text) ++ newline ∷ []
+copied-more a i lines text h k e = ap bytes_of (texts-more a i lines text h k e) ∙ bytes-more (texts (part a i lines)) text
+
+pub lines-more : (a i : ℕ) (lines : List Line) (text : List ℕ) → a ≤ i → i < length lines → text ≡ (get_or lines i (plain_line [])).bytes →
+    IsLine text → AreLines (texts (part a i lines)) → AreLines (texts (part a (i + 1) lines))
+lines-more a i lines text h k e line before =
+    All-same IsLine (texts (part a (i + 1) lines)) (texts (part a i lines) ++ text ∷ []) (texts-more a i lines text h k e)
+        (All-append IsLine (texts (part a i lines)) (text ∷ []) before (one-line text line))

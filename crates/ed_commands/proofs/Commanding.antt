@@ -11,7 +11,7 @@ use Rattle.ed_syntax.specs.Verbs.{taking, target_of}
 use Rattle.ed_syntax.specs.Values.{◌>>◌}
 use Rattle.ed_syntax.specs.Ranges as ranges
 use Rattle.ed_syntax.specs.Ranges.{spanned}
-use Rattle.ed_syntax.specs.Applied.{Effect, Makes, Asks, Reply, Done, Wants, effect_of, replied, settled, suffix_written, targeted, command}
+use Rattle.ed_syntax.specs.Applied.{Effect, Makes, Asks, Reply, Done, effect_of, replied, settled, suffix_written, targeted, command}
 use Rattle.ed_commands.specs.Editors.{Steps, Leaves, kept_at, lines_of_command, suffixed, values_of_command}
 
 -- a value beside a state

@@ -1,5 +1,5 @@
 //! An editor over any store: one command at a time.
-ghost use Rattle.std.specs.Prelude.{◌≡◌, [], Option, None, IfErr, IfSome, OnOk};
+ghost use Rattle.std.specs.Prelude.{◌≡◌, [], Option, Some, None, Err, IfErr, IfSome, OnOk};
 ghost use Rattle.ed_base.specs.declared.fault.Fault.TheVariants.{Memory};
 ghost use Rattle.ed_syntax.specs.PublicTypes.{command_value};
 ghost use Rattle.ed_syntax.specs.declared.request.Answer.{Answer};
@@ -78,10 +78,23 @@ impl<S: LineStore> Editor<S> {
     }
 
     /// Loads a file's bytes into an editor that was just made: its lines are the buffer, the last one is current, and the path is
-    /// remembered.
+    /// remembered. The bytes are copied once.
     pub fn load(&mut self, bytes: &[u8], path: Bytes) -> Result<(), Fault>
         requires opening { self.old ≡ opening_value }
         ensures loaded { OnOk result (self.new.state ≡ loaded bytes.now path self.old.state) }
+        ensures memory { IfErr result (λ fault. fault ≡ Memory) }
+        ensures failed { self.new.failed ≡ failure_of self.old.failed result }
+    {
+        match Bytes::from_slice(self.alloc, bytes) {
+            Ok(bytes) => self.load_bytes(bytes, path),
+            Err(_) => self.fail_load(),
+        }
+    }
+
+    /// Loads a file as `load` does. Its lines share these very bytes.
+    pub fn load_bytes(&mut self, bytes: Bytes, path: Bytes) -> Result<(), Fault>
+        requires opening { self.old ≡ opening_value }
+        ensures loaded { OnOk result (self.new.state ≡ loaded bytes path self.old.state) }
         ensures memory { IfErr result (λ fault. fault ≡ Memory) }
         ensures failed { self.new.failed ≡ failure_of self.old.failed result }
     {
@@ -91,11 +104,17 @@ impl<S: LineStore> Editor<S> {
                 self.name = Some(path);
                 Ok(())
             }
-            Err(_) => {
-                self.failed = Some(Fault::Memory);
-                Err(Fault::Memory)
-            }
+            Err(_) => self.fail_load(),
         }
+    }
+
+    // No memory was found to load a file.
+    fn fail_load(&mut self) -> Result<(), Fault>
+        ensures memory { result ≡ Err Memory }
+        ensures failed { self.new ≡ record self.old { failed = Some Memory } }
+    {
+        self.failed = Some(Fault::Memory);
+        Err(Fault::Memory)
     }
 
     /// Carries out a command (XCU ed, "Commands in ed"). No command asks for a file yet, so the answer isn't looked at. After an

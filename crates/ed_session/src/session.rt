@@ -159,7 +159,7 @@ impl<S: LineStore> Session<S> {
             return;
         };
         let loaded = match answer {
-            Answer::Bytes(bytes) => self.editor.load(bytes.as_slice(), path),
+            Answer::Bytes(bytes) => self.editor.load_bytes(bytes, path),
             Answer::Missing => self.editor.load(b"", path),
             Answer::Refused | Answer::Done => Err(Fault::File),
         };

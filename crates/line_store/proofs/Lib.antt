@@ -1,4 +1,5 @@
 pub mod Places
 pub mod Lettered
 pub mod Own
+mod Cuts
 mod MarkRows

@@ -4,35 +4,10 @@ ghost use Rattle.ed_base.specs.Lines.{IsLine};
 ghost use Rattle.ed_base.specs.Buffer.{plain_line, no_letters};
 
 use crate::marks::LETTERS;
+use crate::shared::LineBytes;
 use ed_base::Bytes;
 use std::alloc::{AllocError, Global};
 use std::marker::Model;
-
-/// The bytes of a line: any but a newline.
-#[derive(Drop)]
-pub(crate) struct LineBytes {
-    items: Vec<u8>,
-}
-
-impl Model for LineBytes {
-    ghost use Rattle.std.specs.Prelude.{ℕ, List};
-    ghost use Rattle.ed_base.specs.Lines.{IsLine};
-
-    ghost Value = { List ℕ };
-
-    ghost view = { λ b. b.items.items };
-
-    ghost invariant = { λ b. IsLine b.items.items };
-}
-
-impl LineBytes {
-    pub(crate) fn as_slice(&self) -> &[u8]
-        ensures value { result.now ≡ self.now }
-        ensures line { IsLine result.now }
-    {
-        self.items.as_slice()
-    }
-}
 
 /// A line: any bytes but a newline, and the letters that mark it. No command flags a line yet, so its flag is none.
 #[derive(Drop)]
@@ -58,18 +33,23 @@ impl Line {
         requires line { IsLine bytes.now }
         ensures value { IfOk result (λ line. line ≡ plain_line bytes.now) }
     {
-        Ok(Line::from_bytes(Bytes::from_slice(alloc, bytes)?))
+        Line::from_bytes(alloc, Bytes::from_slice(alloc, bytes)?)
     }
 
-    /// The line of these bytes, without letters or flag. It takes no memory.
-    pub fn from_bytes(bytes: Bytes) -> Line
+    /// The line of these bytes, without letters or flag. It doesn't copy them.
+    pub fn from_bytes(alloc: Global, bytes: Bytes) -> Result<Line, AllocError>
         requires line { IsLine bytes }
+        ensures value { IfOk result (λ line. line ≡ plain_line bytes) }
+    {
+        Ok(Line::of(LineBytes::new(alloc, bytes)?))
+    }
+
+    // The line of these bytes, without letters or flag.
+    pub(crate) fn of(bytes: LineBytes) -> Line
         ensures value { result ≡ plain_line bytes }
     {
         Line {
-            bytes: LineBytes {
-                items: bytes.into_vec(),
-            },
+            bytes,
             letters: [false; LETTERS],
         }
     }

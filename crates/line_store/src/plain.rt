@@ -1,7 +1,7 @@
 //! The plain store: a vector of lines.
 
-use crate::line::LineBytes;
 use crate::marks::Marks;
+use crate::shared::LineBytes;
 use crate::{Line, LineStore};
 use ed_base::Letter;
 use std::alloc::{AllocError, Global};

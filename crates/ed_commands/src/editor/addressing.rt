@@ -169,7 +169,7 @@ impl<S: LineStore> Editor<S> {
     }
 
     /// What a command is applied to. All its addresses are valued before their order is looked at.
-    pub fn addressed(&mut self, command: &Command) -> Result<Addressed, Fault>
+    pub(crate) fn addressed(&mut self, command: &Command) -> Result<Addressed, Fault>
         ensures exact { Steps value_of_addressed (lines_of_command (command_value command.now) self.old.state) result self.new.state }
         ensures fits { IfOk result (λ addressed. Fits (taking (verb_value command.now.verb)) addressed.span (last self.new.state)) }
         ensures target { IfOk result (λ addressed. addressed.target ≤ last self.new.state) }

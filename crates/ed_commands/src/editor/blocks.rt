@@ -2,31 +2,25 @@
 ghost use Rattle.std.specs.Prelude.{◌≡◌, ◌≢◌, ◌+◌, ◌-◌, ◌^◌, ◌<◌, ◌≤◌, [], length, map, min, max, insert, remove, slice_index_or, IfOk, IfErr, OnOk, OnErr, MatchResult};
 ghost use Rattle.std.specs.List.{concat};
 ghost use Rattle.ed_base.specs.declared.fault.Fault.TheVariants.{Memory};
-ghost use Rattle.ed_base.specs.Lines.{AreLines};
+ghost use Rattle.ed_base.specs.Lines.{lines_of};
 ghost use Rattle.ed_base.specs.Buffer.{plain_line, texts};
 ghost use Rattle.ed_syntax.specs.States.{inserted};
 ghost use Rattle.ed_commands.specs.Editors.{AreNew, block, exchanged, carried, place_beside, span_value};
 
 use crate::editor::addressing::Span;
-use ed_base::{Bytes, Fault};
-use line_store::{Line, LineStore};
+use ed_base::{Bytes, Fault, Text, join_lines, written_lines_are_read_back};
+use line_store::{FileLines, Line, LineStore};
 use std::alloc::{AllocError, Global};
 
-/// New lines of these texts.
-pub fn new_lines(alloc: Global, texts: &[Bytes]) -> Result<Vec<Line>, AllocError>
-    requires lines { AreLines texts.now }
+/// New lines of these texts, which share one copy of their bytes.
+pub fn new_lines(alloc: Global, texts: &Text) -> Result<Vec<Line>, AllocError>
     ensures value { IfOk result (λ lines. lines.items ≡ map plain_line texts.now) }
 {
-    let mut lines = Vec::with_capacity(alloc, texts.len())?;
-    for text in texts {
-        let line = Line::new(alloc, text.as_slice())?;
-        lines.push_reserved(line);
-    }
-    Ok(lines)
+    file_lines(alloc, join_lines(alloc, texts)?)
 }
 
-/// New lines of the texts of a block.
-pub fn copy_lines<S: LineStore>(
+/// New lines of the texts of a block, which share one copy of their bytes.
+pub fn copy_block<S: LineStore>(
     alloc: Global,
     from: usize,
     to: usize,
@@ -36,16 +30,31 @@ pub fn copy_lines<S: LineStore>(
     requires last { to ≤ length (S.lines store.now) }
     ensures value { IfOk result (λ lines. lines.items ≡ map plain_line (texts (block from to (S.lines store.now)))) }
 {
-    let mut lines = Vec::with_capacity(alloc, to - from)?;
+    let mut bytes = Bytes::new(alloc);
+    bytes.reserve(text_size(from, to, store).saturating_add(to - from))?;
     for i in from..to {
-        let line = Line::new(alloc, store.text(i))?;
-        lines.push_reserved(line);
+        bytes.extend_from_slice(store.text(i))?;
+        bytes.push(b'\n')?;
+    }
+    // The law by which these are the block's lines: it does nothing.
+    written_lines_are_read_back();
+    file_lines(alloc, bytes)
+}
+
+// New lines of a file's bytes, which they share.
+fn file_lines(alloc: Global, bytes: Bytes) -> Result<Vec<Line>, AllocError>
+    ensures value { IfOk result (λ lines. lines.items ≡ map plain_line (lines_of bytes)) }
+{
+    let mut lines = Vec::new(alloc);
+    let mut file = FileLines::new(alloc, bytes)?;
+    while let Some(line) = file.next_line()? {
+        lines.push(line)?;
     }
     Ok(lines)
 }
 
 /// A new line of all the bytes of a block.
-pub fn join_lines<S: LineStore>(
+pub fn join_block<S: LineStore>(
     alloc: Global,
     from: usize,
     to: usize,
@@ -60,7 +69,7 @@ pub fn join_lines<S: LineStore>(
     for i in from..to {
         bytes.extend_from_slice(store.text(i))?;
     }
-    Ok(Line::from_bytes(bytes))
+    Line::from_bytes(alloc, bytes)
 }
 
 // How many bytes the lines of a block have, or the greatest `usize` where that is more.

@@ -21,7 +21,7 @@ use std::alloc::AllocError;
 impl<S: LineStore> Editor<S> {
     /// Does what a command does at the lines that its addresses name, and tells what it wrote before its suffix. The line
     /// `before` was current before the addresses were valued: undo would make it so again.
-    pub fn effect(&mut self, verb: &Verb, named: Addressed, before: usize) -> Result<Bytes, Fault>
+    pub(crate) fn effect(&mut self, verb: &Verb, named: Addressed, before: usize) -> Result<Bytes, Fault>
         requires fits { Fits (taking (verb_value verb.now)) named.span (last self.old.state) }
         requires target { named.target ≤ last self.old.state }
         ensures exact { (given : Option Answer) → let effect = effect_of (verb_value verb.now) (span_value named.span) named.target self.old.state given in
@@ -54,12 +54,12 @@ impl<S: LineStore> Editor<S> {
             (self.new.state ≡ settled (kept_at before self.old.state) (effect.append text.now (span_value span) self.old.state)) }
         ensures failed { self.new.failed ≡ self.old.failed }
     {
-        let lines = new_lines(self.alloc, text.as_slice())?;
+        let lines = new_lines(self.alloc, text)?;
         self.enter(span.first, lines, before)
     }
 
     /// `d`: the lines of the span go out, into what undo keeps.
-    pub fn delete(&mut self, span: Span, before: usize) -> Result<(), AllocError>
+    pub(crate) fn delete(&mut self, span: Span, before: usize) -> Result<(), AllocError>
         requires first { 1 ≤ span.first }
         requires order { span.first ≤ span.last }
         requires last { span.last ≤ last self.old.state }
@@ -108,7 +108,7 @@ impl<S: LineStore> Editor<S> {
     }
 
     /// Appends what a suffix writes, the new current line, to a command's output.
-    pub fn write_suffix(&self, suffix: Option<Form>, mut output: Bytes) -> Result<Bytes, Fault>
+    pub(crate) fn write_suffix(&self, suffix: Option<Form>, mut output: Bytes) -> Result<Bytes, Fault>
         ensures exact { let expected = suffixed output (suffix_value suffix) self.now.state in
             MatchResult result (λ all. expected ≡ Ok all) (λ fault. fault ≢ Memory → expected ≡ Err fault) }
     {

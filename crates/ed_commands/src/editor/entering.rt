@@ -18,7 +18,7 @@ use std::alloc::AllocError;
 impl<S: LineStore> Editor<S> {
     /// Puts new lines in place of those behind line `from` up to line `to`, which undo keeps. The last new line is current or,
     /// without any, the line in front of them. Undo would make the line `before` current again.
-    pub fn replace(
+    pub(crate) fn replace(
         &mut self,
         from: usize,
         to: usize,
@@ -51,7 +51,7 @@ impl<S: LineStore> Editor<S> {
     }
 
     /// Puts new lines behind line `place`, the last one current. Without any that line is current, and nothing has changed.
-    pub fn enter(&mut self, place: usize, lines: Vec<Line>, before: usize) -> Result<(), AllocError>
+    pub(crate) fn enter(&mut self, place: usize, lines: Vec<Line>, before: usize) -> Result<(), AllocError>
         requires place { place ≤ last self.old.state }
         requires new { AreNew lines.items }
         ensures exact { OnOk result
@@ -66,7 +66,7 @@ impl<S: LineStore> Editor<S> {
     }
 
     /// `i`: the text goes before the first line of the span; an empty buffer has none, and then it is all.
-    pub fn insert(&mut self, text: &Text, span: Span, before: usize) -> Result<(), AllocError>
+    pub(crate) fn insert(&mut self, text: &Text, span: Span, before: usize) -> Result<(), AllocError>
         requires first { 1 ≤ span.first }
         requires place { span.first ≤ last self.old.state + 1 }
         ensures exact { OnOk result
@@ -77,12 +77,12 @@ impl<S: LineStore> Editor<S> {
             self.current = span.first.min(self.store.len());
             return Ok(());
         }
-        let lines = new_lines(self.alloc, text.as_slice())?;
+        let lines = new_lines(self.alloc, text)?;
         self.enter(span.first - 1, lines, before)
     }
 
     /// `c`: the text comes in place of the lines of the span.
-    pub fn change_lines(&mut self, text: &Text, span: Span, before: usize) -> Result<(), AllocError>
+    pub(crate) fn change_lines(&mut self, text: &Text, span: Span, before: usize) -> Result<(), AllocError>
         requires first { 1 ≤ span.first }
         requires order { span.first ≤ span.last }
         requires last { span.last ≤ last self.old.state }
@@ -93,7 +93,7 @@ impl<S: LineStore> Editor<S> {
         if text.is_empty() {
             return self.delete(span, before);
         }
-        let lines = new_lines(self.alloc, text.as_slice())?;
+        let lines = new_lines(self.alloc, text)?;
         self.replace(span.first - 1, span.last, lines, before)
     }
 }

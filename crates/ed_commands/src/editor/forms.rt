@@ -206,7 +206,11 @@ mod tests {
     #[test]
     fn the_lines_of_a_span_have_their_numbers_in_the_buffer(rt: HostRuntime) -> Result<(), Fail> {
         let mut store = PlainStore::empty(rt.alloc())?;
-        put_file(rt.alloc(), b"a\nb\nc\nd\n", &mut store)?;
+        put_file(
+            rt.alloc(),
+            Bytes::from_slice(rt.alloc(), b"a\nb\nc\nd\n")?,
+            &mut store,
+        )?;
         let mut output = Bytes::from_slice(rt.alloc(), b"x")?;
         let span = Span { first: 2, last: 3 };
         write_lines(&mut output, Form::Numbered, span, &store)?;

@@ -7,9 +7,9 @@ ghost use Rattle.ed_syntax.specs.Forms.{lines_written};
 
 use crate::editor::addressing::Span;
 use crate::editor::forms::push_line;
-use ed_base::{Bytes, count_lines, next_line};
+use ed_base::Bytes;
 use ed_syntax::Form;
-use line_store::{Line, LineStore};
+use line_store::{FileLines, LineStore};
 use std::alloc::{AllocError, Global};
 
 /// Appends the lines of a span, as the form writes them. No form writes less than the plain one, for which room is made.
@@ -47,20 +47,17 @@ fn plain_size<S: LineStore>(span: Span, store: &S) -> usize
     size
 }
 
-/// Puts the lines of a file's bytes behind all others.
-pub fn put_file<S: LineStore>(alloc: Global, bytes: &[u8], store: &mut S) -> Result<(), AllocError>
-    ensures appended { OnOk result (S.lines store.new ≡ S.lines store.old ++ map plain_line (lines_of bytes.now)) }
+/// Puts the lines of a file's bytes, which they share, behind all others.
+pub fn put_file<S: LineStore>(alloc: Global, bytes: Bytes, store: &mut S) -> Result<(), AllocError>
+    ensures appended { OnOk result (S.lines store.new ≡ S.lines store.old ++ map plain_line (lines_of bytes)) }
     ensures no_fewer { length (S.lines store.old) ≤ length (S.lines store.new) }
 {
-    store.reserve(count_lines(bytes))?;
-    let mut left = bytes;
-    while let Some((text, rest)) = next_line(left) {
-        let line = Line::new(alloc, text)?;
+    let mut file = FileLines::new(alloc, bytes)?;
+    while let Some(line) = file.next_line()? {
         match store.put(store.len(), line) {
             Ok(()) => {}
             Err(_refused) => return Err(AllocError),
         }
-        left = rest;
     }
     Ok(())
 }

@@ -8,7 +8,7 @@ ghost use Rattle.ed_commands.specs.Editors.{kept_at, span_value};
 
 use crate::editor::Editor;
 use crate::editor::addressing::Span;
-use crate::editor::blocks::{carry, copy_lines, join_lines};
+use crate::editor::blocks::{carry, copy_block, join_block};
 use crate::editor::change::{Change, Kind};
 use ed_base::Fault;
 use line_store::{LineStore, Marks};
@@ -16,7 +16,7 @@ use std::alloc::AllocError;
 
 impl<S: LineStore> Editor<S> {
     /// `j`: the lines of the span become one. A single line stays as it is.
-    pub fn join(&mut self, span: Span, before: usize) -> Result<(), AllocError>
+    pub(crate) fn join(&mut self, span: Span, before: usize) -> Result<(), AllocError>
         requires first { 1 ≤ span.first }
         requires order { span.first ≤ span.last }
         requires last { span.last ≤ last self.old.state }
@@ -27,14 +27,14 @@ impl<S: LineStore> Editor<S> {
         if span.first == span.last {
             return Ok(());
         }
-        let joined = join_lines(self.alloc, span.first - 1, span.last, &self.store)?;
+        let joined = join_block(self.alloc, span.first - 1, span.last, &self.store)?;
         let mut lines = Vec::with_capacity(self.alloc, 1)?;
         lines.push_reserved(joined);
         self.replace(span.first - 1, span.last, lines, before)
     }
 
     /// `m`: the lines of the span go behind the target line, with their letters. Where they don't, nothing has changed.
-    pub fn move_lines(&mut self, span: Span, target: usize, before: usize) -> Result<(), Fault>
+    pub(crate) fn move_lines(&mut self, span: Span, target: usize, before: usize) -> Result<(), Fault>
         requires first { 1 ≤ span.first }
         requires order { span.first ≤ span.last }
         requires last { span.last ≤ last self.old.state }
@@ -65,7 +65,7 @@ impl<S: LineStore> Editor<S> {
     }
 
     /// `t`: copies of the lines of the span go behind the target line, without letters.
-    pub fn copy(&mut self, span: Span, target: usize, before: usize) -> Result<(), AllocError>
+    pub(crate) fn copy(&mut self, span: Span, target: usize, before: usize) -> Result<(), AllocError>
         requires first { 1 ≤ span.first }
         requires order { span.first ≤ span.last }
         requires last { span.last ≤ last self.old.state }
@@ -74,7 +74,7 @@ impl<S: LineStore> Editor<S> {
             (self.new.state ≡ settled (kept_at before self.old.state) (effect.copy (span_value span) target self.old.state)) }
         ensures failed { self.new.failed ≡ self.old.failed }
     {
-        let copies = copy_lines(self.alloc, span.first - 1, span.last, &self.store)?;
+        let copies = copy_block(self.alloc, span.first - 1, span.last, &self.store)?;
         self.enter(target, copies, before)
     }
 }

@@ -70,7 +70,7 @@ impl<S: LineStore> Editor<S> {
 
     /// `/RE/`: the next line that matches, from the one behind the current line on, and at the end of the buffer round to
     /// the current line.
-    pub fn search_forward(&mut self, own: &Option<Pattern>) -> Result<usize, Fault>
+    pub(crate) fn search_forward(&mut self, own: &Option<Pattern>) -> Result<usize, Fault>
         ensures exact { Valued (searched (sought own.now self.old.state) (lines_forward self.old.state) self.old.state)
             (with_pattern (sought own.now self.old.state) self.old.state) result self.new.state }
         ensures unchanged { SameButPattern self.old self.new }
@@ -89,7 +89,7 @@ impl<S: LineStore> Editor<S> {
 
     /// `?RE?`: the line before that matches, from the one in front of the current line on, and at the beginning of the
     /// buffer round to the current line.
-    pub fn search_backward(&mut self, own: &Option<Pattern>) -> Result<usize, Fault>
+    pub(crate) fn search_backward(&mut self, own: &Option<Pattern>) -> Result<usize, Fault>
         ensures exact { Valued (searched (sought own.now self.old.state) (lines_backward self.old.state) self.old.state)
             (with_pattern (sought own.now self.old.state) self.old.state) result self.new.state }
         ensures unchanged { SameButPattern self.old self.new }

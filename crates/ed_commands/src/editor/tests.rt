@@ -177,6 +177,21 @@ fn an_address_that_meets_a_fault_leaves_an_editor_that_goes_on(
     Ok(())
 }
 
+#[test]
+fn a_file_is_loaded_from_its_own_bytes(rt: HostRuntime) -> Result<(), Fail> {
+    let mut editor = Editor::new(rt.alloc(), PlainStore::empty(rt.alloc())?);
+    let file = Bytes::from_slice(rt.alloc(), b"a\n\nc")?;
+    editor.load_bytes(file, Bytes::from_slice(rt.alloc(), b"F")?)?;
+    assert_eq!(rt; (editor.current(), editor.changed()), (3, false));
+    let mut texts = Bytes::new(rt.alloc());
+    for place in 0..editor.lines().len() {
+        texts.extend_from_slice(editor.lines().text(place))?;
+        texts.push(b'\n')?;
+    }
+    assert_eq!(rt; texts.as_slice(), b"a\n\nc\n".as_slice());
+    Ok(())
+}
+
 // For runs in which an allocation is refused (`rt try --test --fail-alloc N`): none of them may fail.
 #[test]
 fn an_editor_that_found_no_memory_answers_so_from_then_on(rt: HostRuntime) {

@@ -1,5 +1,5 @@
 -- The text's lines are new ones.
-use Rattle.std.proofs.Common.{◌≡◌, ◌∙◌, subst}
+use Rattle.std.proofs.Common.{◌≡◌, subst}
 use Rattle.std.specs.Prelude.{OnOk}
 use Rattle.ed_base.specs.Buffer.{texts}
 use Rattle.ed_syntax.specs.Effects.{entered}
@@ -9,11 +9,11 @@ use Rattle.ed_commands.proofs.Changes.{made-new, texts-made}
 use Rattle.ed_commands.proofs.editor.Editor.append.Goals as goal
 
 pub enter-requires-clause-new : goal.enter-requires-clause-new
-enter-requires-clause-new g c = made-new c.in_ok-lines.lines.items c.as_slice.result.now c.in_ok-lines.ensures.value
+enter-requires-clause-new g c = made-new c.in_ok-lines.lines.items c.args.text.now c.in_ok-lines.ensures.value
 
 pub returns-clause-exact : goal.returns-clause-exact
 returns-clause-exact g c =
     let before = c.args.self.now.state in
     let same : texts c.in_ok-lines.lines.items ≡ c.args.text.now =
-    texts-made c.in_ok-lines.lines.items c.as_slice.result.now c.in_ok-lines.ensures.value ∙ c.as_slice.ensures.value in
+    texts-made c.in_ok-lines.lines.items c.args.text.now c.in_ok-lines.ensures.value in
     subst (λ t. OnOk c.enter.result (c.enter.new.self.state ≡ settled (kept_at c.args.before before) (entered c.args.span.first t before))) same c.enter.ensures.exact

@@ -1,7 +1,6 @@
 -- The text's lines are new ones, and there are some.
-use Rattle.std.proofs.Common.{◌≡◌, ◌+◌, ◌-◌, ◌∙◌, ap, sym, subst, map, length}
+use Rattle.std.proofs.Common.{◌≡◌, ◌+◌, ◌-◌, ◌∙◌, ap, sym, subst, length}
 use Rattle.std.specs.Prelude.{OnOk}
-use Rattle.ed_base.specs.Buffer.{plain_line}
 use Rattle.ed_syntax.specs.Effects as effect
 use Rattle.ed_syntax.specs.Effects.{altered}
 use Rattle.ed_syntax.specs.Applied.{settled}
@@ -10,7 +9,7 @@ use Rattle.ed_commands.proofs.Changes.{made-new, changed-some}
 use Rattle.ed_commands.proofs.editor.Editor.change_lines.Goals as goal
 
 pub replace-requires-clause-new : goal.replace-requires-clause-new
-replace-requires-clause-new g c = made-new c.in_ok-lines.lines.items c.as_slice.result.now c.in_ok-lines.ensures.value
+replace-requires-clause-new g c = made-new c.in_ok-lines.lines.items c.args.text.now c.in_ok-lines.ensures.value
 
 pub returns-clause-exact : goal.returns-clause-exact
 returns-clause-exact g c =
@@ -20,6 +19,6 @@ returns-clause-exact g c =
     let text = c.args.text.now in
     let made = c.in_ok-lines.lines.items in
     let same : altered (exchanged from to made before.lines) (from + length made) before ≡ effect.change text (span_value c.args.span) before =
-    ap (λ t. altered (exchanged from to t before.lines) (from + length t) before) (c.in_ok-lines.ensures.value ∙ ap (map plain_line) c.as_slice.ensures.value)
+    ap (λ t. altered (exchanged from to t before.lines) (from + length t) before) (c.in_ok-lines.ensures.value)
     ∙ sym (changed-some text (span_value c.args.span) before (λ none. cc (c.is_empty.ensures.value.1 none, c.if-is_empty.false))) in
     subst (λ t. OnOk c.replace.result (c.replace.new.self.state ≡ settled (kept_at c.args.before before) t)) same c.replace.ensures.exact

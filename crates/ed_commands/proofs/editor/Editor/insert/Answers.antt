@@ -10,13 +10,13 @@ use Rattle.ed_commands.proofs.Changes.{made-new, texts-made, inserted-some}
 use Rattle.ed_commands.proofs.editor.Editor.insert.Goals as goal
 
 pub enter-requires-clause-new : goal.enter-requires-clause-new
-enter-requires-clause-new g c = made-new c.in_ok-lines.lines.items c.as_slice.result.now c.in_ok-lines.ensures.value
+enter-requires-clause-new g c = made-new c.in_ok-lines.lines.items c.args.text.now c.in_ok-lines.ensures.value
 
 pub returns-clause-exact : goal.returns-clause-exact
 returns-clause-exact g c =
     let before = c.args.self.now.state in
     let same : entered (c.args.span.first - 1) (texts c.in_ok-lines.lines.items) before ≡ effect.insert c.args.text.now (span_value c.args.span) before =
     ap (λ t. entered (c.args.span.first - 1) t before)
-    (texts-made c.in_ok-lines.lines.items c.as_slice.result.now c.in_ok-lines.ensures.value ∙ c.as_slice.ensures.value)
+    (texts-made c.in_ok-lines.lines.items c.args.text.now c.in_ok-lines.ensures.value)
     ∙ sym (inserted-some c.args.text.now (span_value c.args.span) before (λ none. cc (c.is_empty.ensures.value.1 none, c.if-is_empty.false))) in
     subst (λ t. OnOk c.enter.result (c.enter.new.self.state ≡ settled (kept_at c.args.before before) t)) same c.enter.ensures.exact

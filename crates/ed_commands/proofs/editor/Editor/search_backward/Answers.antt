@@ -1,5 +1,5 @@
 -- The line is found among those before the current one, or among those from it on, or not at all.
-use Rattle.std.proofs.Common.{◌≡◌, ◌+◌, ◌-◌, List, ℕ, reverse, refl, sym, ap, ◌∙◌, Some, None, arith}
+use Rattle.std.proofs.Common.{◌≡◌, ◌+◌, ◌-◌, reverse, refl, sym, ap, ◌∙◌, Some, None}
 use Rattle.std.specs.Prelude.{find}
 use Rattle.ed_syntax.specs.States.{last}
 use Rattle.ed_syntax.specs.Values.{count_from, lines_backward, matches_line, searched}

@@ -1,5 +1,5 @@
 -- The line is found among those behind the current one, or among those up to it, or not at all.
-use Rattle.std.proofs.Common.{◌≡◌, ◌+◌, ◌-◌, List, ℕ, refl, sym, ap, ◌∙◌, Some, None, arith}
+use Rattle.std.proofs.Common.{◌≡◌, ◌+◌, ◌-◌, refl, sym, ap, ◌∙◌, Some, None}
 use Rattle.std.specs.Prelude.{find}
 use Rattle.ed_syntax.specs.States.{last}
 use Rattle.ed_syntax.specs.Values.{count_from, lines_forward, matches_line, searched}

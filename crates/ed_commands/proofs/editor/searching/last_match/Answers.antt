@@ -1,5 +1,5 @@
 -- Each line that is passed doesn't match.
-use Rattle.std.proofs.Common.{◌≡◌, ◌+◌, ◌-◌, ◌≤◌, refl, sym, ◌∙◌, arith}
+use Rattle.std.proofs.Common.{◌-◌, sym, ◌∙◌, arith}
 use Rattle.ed_syntax.specs.Values.{matches_line}
 use Rattle.bre_parse.specs.Bre.{bre_tree}
 use Rattle.ed_commands.proofs.Searching.{told, passed-down, found-down}

@@ -1,5 +1,5 @@
 -- What is found among the lines that are left is found among all.
-use Rattle.std.proofs.Common.{◌≡◌, ◌≤◌, ◌+◌, ◌-◌, reverse}
+use Rattle.std.proofs.Common.{◌≡◌, ◌+◌, ◌-◌, reverse}
 use Rattle.std.specs.Prelude.{find}
 use Rattle.ed_syntax.specs.Values.{count_from, matches_line}
 use Rattle.ed_commands.proofs.editor.searching.last_match.Given as goal

@@ -5,7 +5,7 @@ use Rattle.std.proofs.lemmas.List.Elements.{All-append, All-same}
 use Rattle.ed_base.specs.Lines.{newline}
 use Rattle.ed_base.specs.Buffer.{texts}
 use Rattle.ed_commands.proofs.Blocks.{part-none, joined-more}
-use Rattle.ed_commands.proofs.editor.blocks.join_lines.Goals as goal
+use Rattle.ed_commands.proofs.editor.blocks.join_block.Goals as goal
 
 pub loop-i-init : goal.loop-i-init
 loop-i-init g c = record {
