@@ -130,4 +130,4 @@ pub lines-more : (a i : ℕ) (lines : List Line) (text : List ℕ) → a ≤ i �
     IsLine text → AreLines (texts (part a i lines)) → AreLines (texts (part a (i + 1) lines))
 lines-more a i lines text h k e line before =
     All-same IsLine (texts (part a (i + 1) lines)) (texts (part a i lines) ++ text ∷ []) (texts-more a i lines text h k e)
-        (All-append IsLine (texts (part a i lines)) (text ∷ []) before (one-line text line))
+    (All-append IsLine (texts (part a i lines)) (text ∷ []) before (one-line text line))

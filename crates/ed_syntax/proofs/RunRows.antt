@@ -45,6 +45,20 @@ last_line_entered_is_current = refl
 text_into_empty_buffer : edited [] (codes "a\nx\n.\n,p\nQ\n") ≡ ends (codes "x\n") 1
 text_into_empty_buffer = refl
 
+-- the order of two addresses is tested before `c`, not before `i`
+text_before_line_zero : edited letters (codes "1,0i\nx\n.\n,p\nQ\n") ≡ ends (codes "x\na\nb\nc\n") 4
+text_before_line_zero = refl
+
+change_up_to_line_zero : edited letters (codes "1,0c\nx\n.\n") ≡ fails (codes "?\n") fault.Address
+change_up_to_line_zero = refl
+
+-- an address before a command is no current line for its target
+target_at_the_line_that_was_current : edited letters (codes "1t.\n,p\nQ\n") ≡ ends (codes "a\nb\nc\na\n") 4
+target_at_the_line_that_was_current = refl
+
+target_from_the_line_that_was_current : edited letters (codes "1m+\n") ≡ fails (codes "?\n") fault.Address
+target_from_the_line_that_was_current = refl
+
 -- without text the addressed line is current, and the buffer isn't changed
 no_text : edited letters (codes "1a\n.\np\n") ≡ ends (codes "a\n") 3
 no_text = refl

@@ -65,7 +65,7 @@ takes_any takes.Lines = true
 takes_any takes.OneLine = true
 takes_any takes.Range = true
 
--- addresses stand only before a command that takes some; others are a fault of syntax (our choice)
+-- addresses stand only before a command that takes some; others are an error, by our choice a fault of syntax
 abbrev pub may_have : Addresses → Verb → Bool
 may_have Without verb = true
 may_have (One a) verb = takes_any (taking verb)

@@ -1,5 +1,5 @@
 //! One line of the buffer.
-ghost use Rattle.std.specs.Prelude.{◌≡◌, length, IfOk};
+ghost use Rattle.std.specs.Prelude.{◌≡◌, IfOk};
 ghost use Rattle.ed_base.specs.Lines.{IsLine};
 ghost use Rattle.ed_base.specs.Buffer.{plain_line, no_letters};
 

@@ -1,5 +1,5 @@
 //! The bytes of lines, which many lines may share.
-ghost use Rattle.std.specs.Prelude.{◌≡◌, ◌≤◌, ◌↔◌, [], ◌∷◌, List, length, IsNone, IfOk, IfSome, OnErr, OnOk};
+ghost use Rattle.std.specs.Prelude.{◌≡◌, ◌↔◌, [], ◌∷◌, IsNone, IfOk, IfSome, OnErr};
 ghost use Rattle.ed_base.specs.Lines.{IsLine, lines_of};
 ghost use Rattle.ed_base.specs.Buffer.{plain_line};
 

@@ -60,7 +60,10 @@ fn a_file_without_bytes_has_no_line(rt: HostRuntime) -> Result<(), Fail> {
 #[test]
 fn a_line_takes_bytes_as_its_own(rt: HostRuntime) -> Result<(), Fail> {
     let bytes = Bytes::new(rt.alloc());
-    assert_eq!(rt; Line::from_bytes(rt.alloc(), bytes)?.bytes(), b"".as_slice());
+    assert_eq!(rt;
+        Line::from_bytes(rt.alloc(), bytes)?.bytes(),
+        b"".as_slice()
+    );
     Ok(())
 }
 

@@ -21,7 +21,12 @@ use std::alloc::AllocError;
 impl<S: LineStore> Editor<S> {
     /// Does what a command does at the lines that its addresses name, and tells what it wrote before its suffix. The line
     /// `before` was current before the addresses were valued: undo would make it so again.
-    pub(crate) fn effect(&mut self, verb: &Verb, named: Addressed, before: usize) -> Result<Bytes, Fault>
+    pub(crate) fn effect(
+        &mut self,
+        verb: &Verb,
+        named: Addressed,
+        before: usize,
+    ) -> Result<Bytes, Fault>
         requires fits { Fits (taking (verb_value verb.now)) named.span (last self.old.state) }
         requires target { named.target ≤ last self.old.state }
         ensures exact { (given : Option Answer) → let effect = effect_of (verb_value verb.now) (span_value named.span) named.target self.old.state given in
@@ -108,7 +113,11 @@ impl<S: LineStore> Editor<S> {
     }
 
     /// Appends what a suffix writes, the new current line, to a command's output.
-    pub(crate) fn write_suffix(&self, suffix: Option<Form>, mut output: Bytes) -> Result<Bytes, Fault>
+    pub(crate) fn write_suffix(
+        &self,
+        suffix: Option<Form>,
+        mut output: Bytes,
+    ) -> Result<Bytes, Fault>
         ensures exact { let expected = suffixed output (suffix_value suffix) self.now.state in
             MatchResult result (λ all. expected ≡ Ok all) (λ fault. fault ≢ Memory → expected ≡ Err fault) }
     {

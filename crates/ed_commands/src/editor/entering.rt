@@ -51,7 +51,12 @@ impl<S: LineStore> Editor<S> {
     }
 
     /// Puts new lines behind line `place`, the last one current. Without any that line is current, and nothing has changed.
-    pub(crate) fn enter(&mut self, place: usize, lines: Vec<Line>, before: usize) -> Result<(), AllocError>
+    pub(crate) fn enter(
+        &mut self,
+        place: usize,
+        lines: Vec<Line>,
+        before: usize,
+    ) -> Result<(), AllocError>
         requires place { place ≤ last self.old.state }
         requires new { AreNew lines.items }
         ensures exact { OnOk result
@@ -66,7 +71,12 @@ impl<S: LineStore> Editor<S> {
     }
 
     /// `i`: the text goes before the first line of the span; an empty buffer has none, and then it is all.
-    pub(crate) fn insert(&mut self, text: &Text, span: Span, before: usize) -> Result<(), AllocError>
+    pub(crate) fn insert(
+        &mut self,
+        text: &Text,
+        span: Span,
+        before: usize,
+    ) -> Result<(), AllocError>
         requires first { 1 ≤ span.first }
         requires place { span.first ≤ last self.old.state + 1 }
         ensures exact { OnOk result
@@ -82,7 +92,12 @@ impl<S: LineStore> Editor<S> {
     }
 
     /// `c`: the text comes in place of the lines of the span.
-    pub(crate) fn change_lines(&mut self, text: &Text, span: Span, before: usize) -> Result<(), AllocError>
+    pub(crate) fn change_lines(
+        &mut self,
+        text: &Text,
+        span: Span,
+        before: usize,
+    ) -> Result<(), AllocError>
         requires first { 1 ≤ span.first }
         requires order { span.first ≤ span.last }
         requires last { span.last ≤ last self.old.state }

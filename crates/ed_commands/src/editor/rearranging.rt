@@ -34,7 +34,12 @@ impl<S: LineStore> Editor<S> {
     }
 
     /// `m`: the lines of the span go behind the target line, with their letters. Where they don't, nothing has changed.
-    pub(crate) fn move_lines(&mut self, span: Span, target: usize, before: usize) -> Result<(), Fault>
+    pub(crate) fn move_lines(
+        &mut self,
+        span: Span,
+        target: usize,
+        before: usize,
+    ) -> Result<(), Fault>
         requires first { 1 ≤ span.first }
         requires order { span.first ≤ span.last }
         requires last { span.last ≤ last self.old.state }
@@ -65,7 +70,12 @@ impl<S: LineStore> Editor<S> {
     }
 
     /// `t`: copies of the lines of the span go behind the target line, without letters.
-    pub(crate) fn copy(&mut self, span: Span, target: usize, before: usize) -> Result<(), AllocError>
+    pub(crate) fn copy(
+        &mut self,
+        span: Span,
+        target: usize,
+        before: usize,
+    ) -> Result<(), AllocError>
         requires first { 1 ≤ span.first }
         requires order { span.first ≤ span.last }
         requires last { span.last ≤ last self.old.state }

@@ -9,5 +9,5 @@ use Rattle.ed_commands.proofs.editor.lines.put_file.Goals as goal
 pub put-requires-clause-letters : goal.put-requires-clause-letters
 put-requires-clause-letters g c =
     let first = subst (λ next. IfSome next (λ line. (line ≡ plain_line line.bytes) × (lines_of c.loop-file.file ≡ line.bytes ∷ lines_of c.next_line.new.self)))
-        c.in-Some.is c.in_ok-line.ensures.first in
+    c.in-Some.is c.in_ok-line.ensures.first in
     rw first.0 (plain_shares_none c.in-Some.line.bytes (g.S.LineStore.lines c.loop-file.store))

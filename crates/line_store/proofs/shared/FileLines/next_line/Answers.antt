@@ -18,10 +18,9 @@ returns-clause-first c =
     ∙ line-between e.block.value _ text rest e.next left c.in-Some.ensures.cut in
     let behind : drop (length c.as_slice-bytes.result.now - length rest) e.block.value ≡ rest =
     ap (λ f. drop (length f - length rest) e.block.value) file
-    ∙ rest-behind e.block.value _ text rest e.next c.self.invariant left c.in-Some.ensures.cut in
-    (
+    ∙ rest-behind e.block.value _ text rest e.next c.self.invariant left c.in-Some.ensures.cut in (
       rw c.of.ensures.value refl,
       ap lines_of (sym c.self.view_is ∙ left) ∙ c.in-Some.ensures.first
-      ∙ ap (λ t. t ∷ lines_of rest) (sym line)
-      ∙ ap (λ r. c.of.result.bytes ∷ lines_of r) (sym behind),
+          ∙ ap (λ t. t ∷ lines_of rest) (sym line)
+          ∙ ap (λ r. c.of.result.bytes ∷ lines_of r) (sym behind),
     )
