@@ -36,7 +36,7 @@ pub fn copy_block<S: LineStore>(
         bytes.extend_from_slice(store.text(i))?;
         bytes.push(b'\n')?;
     }
-    // The law by which these are the block's lines: it does nothing.
+    // The law by which the lines are read back from these bytes. It does nothing when it runs.
     written_lines_are_read_back();
     file_lines(alloc, bytes)
 }
