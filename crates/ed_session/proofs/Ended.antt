@@ -21,6 +21,7 @@ use Rattle.ed_session.specs.Sessions.{SessionValue, Between, Prompted, Waiting, 
 use Rattle.ed_session.specs.Steps.{IsOwnEnd, SameRest}
 use Rattle.ed_session.specs.Advances.{Advances}
 use Rattle.ed_session.proofs.Cases.{step_one, steps_prompted, going}
+use Rattle.ed_session.proofs.Comes.{comes_staying, comes_one}
 use Rattle.ed_session.proofs.Replies.{asks_nothing}
 
 pub prompted_live : (p : Stage) → phase_of p ≡ Prompted → is_live p ≡ true
@@ -80,6 +81,7 @@ pub advances_prompted : (old new : SessionValue) → old.phase ≡ Between → o
 advances_prompted old new between handed prompting prompted written present commands fault told = record {
   same = λ _ answers. rw (between, handed, prompted, written, present, commands, fault, steps_prompted old.commands old.fault old.present answers, prompting) refl;
   broke = λ h. absurd (h (ap lost_by prompted));
+  comes = comes_staying old new (record { commands = commands; help = ap (λ m. m.help) present });
   idle = ap is_waiting prompted;
   started = ap is_started prompted;
   untold = told;
@@ -93,21 +95,23 @@ keeps_ended f help at written s commands pending (inr e) own = rw e.0 (refl, tt)
 
 -- a session behind a fault
 pub advances_ended : (f : Fault) (at : Stage) (old new : SessionValue) → EndsBy f new.present.help at new.pending → new.phase ≡ phase_of at → new.told ≡ false
-    → new.present.help ≡ old.present.help → (f ≢ Memory → (answers : List Answer) → rest old answers ≡ failing old.present f) → Advances old new
-advances_ended f at old new (inl e) phase told help same =
+    → new.present.help ≡ old.present.help → new.commands ≡ old.commands → (f ≢ Memory → (answers : List Answer) → rest old answers ≡ failing old.present f) → Advances old new
+advances_ended f at old new (inl e) phase told help commands same =
     let over = phase ∙ ap phase_of e.1 in
     record {
       same = λ _ answers. same e.0 answers ∙ rw (over, e.2, help) refl;
       broke = λ h. absurd (h (ap lost_by over));
+      comes = comes_staying old new (record { commands = commands; help = help });
       idle = ap is_waiting over;
       started = ap is_started over;
       untold = told;
     }
-advances_ended f at old new (inr e) phase told help same =
+advances_ended f at old new (inr e) phase told help commands same =
     let lost = phase ∙ ap phase_of e.0 in
     record {
       same = λ h. let n : Some Memory ≡ None = ap lost_by (sym lost) ∙ h in cc;
-      broke = λ _. record { lost = lost; pending = e.1 };
+      broke = λ _. (record { lost = lost; pending = e.1 }, record { commands = commands; help = help });
+      comes = comes_staying old new (record { commands = commands; help = help });
       idle = ap is_waiting lost;
       started = ap is_started lost;
       untold = told;
@@ -150,6 +154,7 @@ pub advances_done : (old v new : SessionValue) (c : Command) (s : State) (output
 advances_done old v new c s output is phase pending commands goes done between fault written present told = record {
   same = λ _. rest_done old v new c s output is phase pending commands goes done between fault written present;
   broke = λ h. absurd (h (ap lost_by between));
+  comes = comes_one old v new c is commands (ap (λ m. m.help) present);
   idle = ap is_waiting between;
   started = ap is_started between;
   untold = told;

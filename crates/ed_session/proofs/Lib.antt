@@ -1,6 +1,7 @@
 pub mod Asked
 pub mod Cases
 pub mod Causes
+pub mod Comes
 pub mod Driven
 pub mod Ended
 pub mod KeptLemmas

@@ -23,7 +23,7 @@ module _ (l0 l1 l2 : Log) (s : SessionValue) (r : Request) (t : SessionValue) (n
   pub performed_along : (left : Rest) (output : List ℕ) → lost_by s.phase ≡ None → awaited s ≡ Some r → Along left (added l0 l1) output s → Along left (added l0 l2) output t
   performed_along left output whole waits d =
       elim p.done [
-        | inl x ↦ rw (added_more l0 l1 l2 ((r, x.answer) ∷ []) e x.logged) (along_answer left (added l0 l1) output s d t r x.answer whole waits x.given x.broke)
+        | inl x ↦ rw (added_more l0 l1 l2 ((r, x.answer) ∷ []) e x.logged) (along_answer left (added l0 l1) output s d t r x.answer whole waits x.given (λ h. (x.broke h).0))
         | inr x ↦ rw x.logged (along_no_answer left (added l0 l1) output s d t whole x.broke)
       ]
 

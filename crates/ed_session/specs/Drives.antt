@@ -50,7 +50,8 @@ pub record Finished (left : Rest) (log : Log) (old new : Option (List ℕ)) (res
   pub ended : (left (answers log)).stop ≡ Ends result
   pub written : Appends old new (left (answers log)).output
 
--- memory ran out: a front of the run's output was written, and then the report in the mode that the session was in
+-- Memory ran out: a front of the run's output was written, and then the report in this mode, which the commands done left
+-- (`ComesBy` of `Modes`).
 pub record RanOut (left : Rest) (log : Log) (help : Bool) (old new : Option (List ℕ)) : Type 0 where
   pub asked : (left (answers log)).asked ≡ requests log
   pub front : List ℕ

@@ -11,6 +11,7 @@ use Rattle.ed_syntax.specs.States.{State, opening}
 use Rattle.ed_session.specs.declared.modes.Modes.{Modes}
 use Rattle.ed_session.specs.declared.stage.Stage.{Stage}
 use Rattle.ed_session.specs.declared.stage.Stage.TheVariants as stage
+use Rattle.ed_session.specs.Modes.{help_behind}
 use Rattle.ed_session.specs.Sessions.{Phase, Fresh, Between, Prompted, Waiting, Over, Lost}
 use Rattle.ed_session.specs.Steps.{memory_report, IsOwnEnd}
 
@@ -40,11 +41,6 @@ silently s modes prompt = record { state = s; silent = true; prompting = modes.p
 abbrev pub quits_anyway : Verb → Bool
 quits_anyway ed.QuitAnyway = true
 quits_anyway verb = false
-
--- help mode behind a command: `H` turns it on or off
-abbrev pub help_behind : Verb → Bool → Bool
-help_behind ed.HelpMode help = not help
-help_behind verb help = help
 
 -- prompting behind a command: `P` turns it on or off
 abbrev pub prompting_behind : Verb → Bool → Bool

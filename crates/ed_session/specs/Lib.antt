@@ -1,5 +1,6 @@
 -- what a reader has to believe
 pub mod Sessions
+pub mod Modes
 pub mod Steps
 pub mod Sinks
 pub mod Drives

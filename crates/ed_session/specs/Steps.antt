@@ -29,7 +29,7 @@ abbrev pub Starts : Option (List ℕ) → SessionValue → Answer → SessionVal
 Starts (Some path) old answer new = Answers old (request.Read path) answer new
 Starts None old answer new = SameRest old new
 
--- memory ran out: the report in the session's mode is what is left to hand out
+-- memory ran out: the report in the session's mode is what is left to hand out; which mode that is, `Modes` says
 pub record BreaksOff (new : SessionValue) : Type 0 where
   pub lost : new.phase ≡ Lost Memory
   pub pending : new.pending ≡ memory_report new.present.help

@@ -5,6 +5,7 @@ use Rattle.ed_base.specs.declared.fault.Fault.TheVariants.{Memory}
 use Rattle.ed_syntax.specs.declared.request.Answer.{Answer}
 use Rattle.ed_syntax.specs.declared.request.Request.{Request}
 use Rattle.ed_syntax.specs.Progress.{Rest, behind}
+use Rattle.ed_session.specs.Modes.{StaysAt}
 use Rattle.ed_session.specs.Sessions.{SessionValue, Lost, rest, lost_by, is_waiting, is_started}
 use Rattle.ed_session.specs.Sinks.{BeginsWith}
 use Rattle.ed_session.specs.Steps.{Answers, BreaksOff, memory_report}
@@ -46,7 +47,7 @@ pub record Answered (old : SessionValue) (request : Request) (new : SessionValue
   pub answer : Answer
   pub logged : new_log ≡ old_log ++ (request, answer) ∷ []
   pub given : lost_by new.phase ≡ None → Answers old request answer new
-  pub broke : lost_by new.phase ≢ None → BreaksOff new
+  pub broke : lost_by new.phase ≢ None → BreaksOff new × StaysAt old new
   pub raises : fits request answer ≡ false → before < after
 
 -- there was no memory for an answer

@@ -2,6 +2,7 @@
 ghost use Rattle.std.specs.Prelude.{◌≡◌, ◌<◌, ◌≤◌, ◌-◌, ◌^◌, ◌++◌, Some, None, Err, true, false, IfSome};
 ghost use Rattle.ed_session.specs.Sessions.{rest, lost_by, awaited, is_started, is_waiting, Waiting};
 ghost use Rattle.ed_session.specs.Drives.{added, Drove, DroveLost, Closed, FileRefused};
+ghost use Rattle.ed_session.specs.Modes.{ComesBy};
 ghost use Rattle.ed_session.specs.Turns.{Performs, Begins};
 ghost use Rattle.ed_session.specs.Work.{work};
 
@@ -17,6 +18,7 @@ fn perform<S: LineStore, O: Outside>(session: &mut Session<S>, outside: &mut O, 
     requires asked { awaited session.old ≡ Some request }
     ensures done { Performs session.old request session.new
         (O.log outside.old) (O.log outside.new) (O.failures outside.old) (O.failures outside.new) }
+    ensures mode { ComesBy session.old session.new }
     ensures work { work session.new ≤ work session.old }
 {
     let answered = match &request {
@@ -33,6 +35,7 @@ fn perform<S: LineStore, O: Outside>(session: &mut Session<S>, outside: &mut O, 
 fn begin<S: LineStore, O: Outside>(session: &mut Session<S>, outside: &mut O)
     ensures begun { Begins session.old session.new
         (O.log outside.old) (O.log outside.new) (O.failures outside.old) (O.failures outside.new) }
+    ensures mode { ComesBy session.old session.new }
 {
     if session.waits() {
         match session.requested() {
@@ -71,6 +74,9 @@ pub fn drive<S: LineStore, O: Outside, W: Sink>(
     ensures run { lost_by session.old.phase ≡ None →
         Drove (rest session.old) (added (O.log outside.old) (O.log outside.new)) session.new.present.help
         (W.taken sink.old) (W.taken sink.new) (W.failures sink.old) (W.failures sink.new) result }
+
+    // The report of want of memory is in the mode that the commands done before it left.
+    ensures mode { ComesBy session.old session.new }
 
     // A lost session writes what it had to hand out, and ends by its fault again; or the sink failed.
     ensures lost { IfSome (lost_by session.old.phase) (λ fault.

@@ -1,7 +1,8 @@
 //! What a run has turned on.
 ghost use Rattle.std.specs.Prelude.{◌≡◌};
 ghost use Rattle.ed_syntax.specs.PublicTypes.{verb_value};
-ghost use Rattle.ed_session.specs.Insides.{help_behind, prompting_behind};
+ghost use Rattle.ed_session.specs.Insides.{prompting_behind};
+ghost use Rattle.ed_session.specs.Modes.{help_behind};
 
 use ed_syntax::Verb;
 

@@ -74,6 +74,7 @@ impl<S: LineStore> Session<S> {
     ghost use Rattle.ed_syntax.specs.PublicTypes.{script_value};
     ghost use Rattle.ed_syntax.specs.Runs.{run};
     ghost use Rattle.ed_syntax.specs.declared.request.Answer.{Answer};
+    ghost use Rattle.ed_session.specs.Modes.{ComesBy, StaysAt};
     ghost use Rattle.ed_session.specs.Sessions.{made, lost_by, is_waiting, is_started, rest, awaited, path_of, may_go_on, Waiting};
     ghost use Rattle.ed_session.specs.Steps.{Answers, Starts, BreaksOff, Steps, StepBreaks, LostSteps, Tells, IsEnded, LosesOutput};
     ghost use Rattle.ed_session.specs.Work.{work, Works};
@@ -150,6 +151,7 @@ impl<S: LineStore> Session<S> {
         ensures given { lost_by self.new.phase ≡ None →
             Starts (path_of self.old.phase) self.old answer self.new }
         ensures broke { lost_by self.new.phase ≢ None → BreaksOff self.new }
+        ensures mode { StaysAt self.old self.new }
         ensures started { is_started self.new.phase ≡ true }
         ensures idle { is_waiting self.new.phase ≡ false }
         ensures untold { self.new.told ≡ false }
@@ -178,6 +180,7 @@ impl<S: LineStore> Session<S> {
             Steps self.old result self.new }
         ensures broke { lost_by self.old.phase ≡ None → lost_by self.new.phase ≢ None →
             StepBreaks result self.new }
+        ensures mode { ComesBy self.old self.new }
         ensures lost { IfSome (lost_by self.old.phase) (λ fault. LostSteps fault self.old result self.new) }
         ensures started { is_started self.new.phase ≡ true }
         ensures told { Tells result self.new }
@@ -210,6 +213,7 @@ impl<S: LineStore> Session<S> {
         ensures value { IfSome result (λ request.
             (awaited self.old ≡ Some request) × (self.new ≡ self.old)) }
         ensures broke { IfNone result (BreaksOff self.new) }
+        ensures mode { StaysAt self.old self.new }
         ensures work { work self.new ≤ work self.old }
     {
         match self.editor.apply(&self.commands[self.next], None) {
@@ -229,7 +233,8 @@ impl<S: LineStore> Session<S> {
         ensures awaited { IsSome (awaited self.old) }
         ensures given { lost_by self.new.phase ≡ None →
             IfSome (awaited self.old) (λ request. Answers self.old request answer self.new) }
-        ensures broke { lost_by self.new.phase ≢ None → BreaksOff self.new }
+        ensures broke { lost_by self.new.phase ≢ None → BreaksOff self.new × StaysAt self.old self.new }
+        ensures mode { ComesBy self.old self.new }
         ensures idle { is_waiting self.new.phase ≡ false }
         ensures started { is_started self.new.phase ≡ true }
         ensures untold { self.new.told ≡ false }
@@ -259,6 +264,7 @@ impl<S: LineStore> Session<S> {
     pub(crate) fn fail_memory(&mut self)
         requires unended { may_go_on self.old.phase ≡ true }
         ensures broke { BreaksOff self.new }
+        ensures mode { StaysAt self.old self.new }
         ensures untold { self.new.told ≡ false }
         ensures work { work self.new ≤ work self.old }
     {
@@ -270,6 +276,7 @@ impl<S: LineStore> Session<S> {
     pub fn fail_output(&mut self)
         ensures ended { self.old.told ≡ false → LosesOutput self.old self.new }
         ensures unchanged { self.old.told ≡ true → self.new ≡ self.old }
+        ensures mode { StaysAt self.old self.new }
     {
         if self.told {
             return;

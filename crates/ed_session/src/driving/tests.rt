@@ -334,15 +334,23 @@ fn an_ended_session_that_is_driven_again_ends_so_again(rt: HostRuntime) -> Resul
     Ok(())
 }
 
-// What was taken is a front of a row's output, and then the report of want of memory, with its text only if the row turns help
-// mode on.
+// How much of `HELPED`'s output is written before its `H` is done.
+const BEFORE_HELP: usize = 8;
+
+// What was taken is a front of a row's output, and then the report of want of memory: its text comes just where `H` was done.
 fn breaks_off(row: &Row, taken: &[u8]) -> bool {
-    let is_behind_front = |report: &[u8]| {
-        taken
-            .strip_suffix(report)
-            .is_some_and(|front| row.output.starts_with(front))
+    let brief_till = if row.script.contains(&b'H') {
+        BEFORE_HELP
+    } else {
+        usize::MAX
     };
-    is_behind_front(b"?\n") || row.script.contains(&b'H') && is_behind_front(b"?\nout of memory\n")
+    let is_behind_front = |report: &[u8], from: usize, till: usize| {
+        taken.strip_suffix(report).is_some_and(|front| {
+            from <= front.len() && front.len() <= till && row.output.starts_with(front)
+        })
+    };
+    is_behind_front(b"?\n", 0, brief_till)
+        || is_behind_front(b"?\nout of memory\n", brief_till, row.output.len())
 }
 
 // For runs in which an allocation is refused (`rt try --test --fail-alloc N`).

@@ -9,6 +9,7 @@ use Rattle.ed_session.specs.Steps.{IsOwnEnd}
 use Rattle.ed_session.proofs.Asked.{rest_asks_nothing}
 use Rattle.ed_session.proofs.Causes.{rest_no_file}
 use Rattle.ed_session.proofs.Driven.{cases_lost, along_same, along_output, step_waits, step_idle, step_closes, lost_hands_out, lost_cut_off, lost_ends, cut_off, driven_ends}
+use Rattle.ed_session.proofs.Comes.{comes_more, comes_staying}
 use Rattle.ed_session.proofs.Performed.{performed_log, performed_along, performed_raises}
 use Rattle.ed_session.proofs.Taken.{Appends-more, Appends-none}
 use Rattle.ed_session.proofs.driving.drive.Goals as goal
@@ -19,6 +20,7 @@ turns-init g c =
     record {
       log = b.log;
       driven = λ whole. record { output = []; written = Appends-none _; along = b.along whole };
+      mode = c.begin.ensures.mode;
       lost = λ fault is. let l = rw is at b.lost in record { phase = ap (λ v. v.phase) l.0; same_log = l.1; output = []; written = Appends-none _; whole = ap (λ v. v.pending) l.0 };
       raises = b.raises;
       rises = b.rises;
@@ -44,6 +46,7 @@ turns-preserved-in-Output g c =
             written = Appends-more _ _ _ _ _ d.written gave.0;
             along = along_output _ _ _ _ d.along t bytes e.given e.broke e.lost;
           };
+      mode = comes_more _ s t i.mode e.mode;
       lost = λ fault is. lost_hands_out fault _ s t bytes _ _ _ _ _ is (i.lost fault is) e.lost gave.0;
       raises = i.raises;
       rises = i.rises;
@@ -61,6 +64,7 @@ turns-preserved-in-Read g c =
     let w = step_waits c.turns.session u (ask.Read c.in-Read.path) asked (λ _ h. cc) e.given e.broke e.lost in
     let whole_now = ap lost_by w.1.waiting in
     let p = c.perform.ensures.done in
+    let comes = comes_more _ _ _ i.mode (comes_more _ u _ e.mode c.perform.ensures.mode) in
     record {
       log = performed_log _ _ _ u asked _ _ _ i.log p;
       driven = λ whole.
@@ -70,6 +74,7 @@ turns-preserved-in-Read g c =
             written = d.written;
             along = performed_along _ _ _ u asked _ _ _ i.log p _ _ whole_now w.1.asks (along_same _ _ _ _ d.along u w.0 whole_now w.1.same);
           };
+      mode = comes;
       lost = λ fault is. absurd (let l = ap lost_by (i.lost fault is).phase ∙ is in let n = w.0 in cc);
       raises = performed_raises _ _ _ u asked _ _ _ i.log p _ i.rises i.raises;
       rises = omega (arith, i.rises, p.rises);
@@ -87,6 +92,7 @@ turns-preserved g c =
     let w = step_waits c.turns.session u (ask.Write c.in-Write.path c.in-Write.bytes) asked (λ _ h. cc) e.given e.broke e.lost in
     let whole_now = ap lost_by w.1.waiting in
     let p = c.perform-in-Write.ensures.done in
+    let comes = comes_more _ _ _ i.mode (comes_more _ u _ e.mode c.perform-in-Write.ensures.mode) in
     record {
       log = performed_log _ _ _ u asked _ _ _ i.log p;
       driven = λ whole.
@@ -96,6 +102,7 @@ turns-preserved g c =
             written = d.written;
             along = performed_along _ _ _ u asked _ _ _ i.log p _ _ whole_now w.1.asks (along_same _ _ _ _ d.along u w.0 whole_now w.1.same);
           };
+      mode = comes;
       lost = λ fault is. absurd (let l = ap lost_by (i.lost fault is).phase ∙ is in let n = w.0 in cc);
       raises = performed_raises _ _ _ u asked _ _ _ i.log p _ i.rises i.raises;
       rises = omega (arith, i.rises, p.rises);
@@ -182,3 +189,13 @@ pub returns-then-not-give-clause-closed : goal.returns-then-not-give-clause-clos
 returns-then-not-give-clause-closed g c =
     let x = c.fail_output.ensures.ended c.in-Output.ensures.told in
     drives.lost c.fail_output.new.self fault.Output x.lost (inr refl) x.pending
+
+pub returns-then-not-give-clause-mode : goal.returns-then-not-give-clause-mode
+returns-then-not-give-clause-mode g c =
+    let s = c.turns.session in
+    let t = c.step.new.self in
+    let u = c.fail_output.new.self in
+    comes_more _ s u c.turns.invariant.mode (comes_more s t u c.in-Output.ensures.mode (comes_staying t u c.fail_output.ensures.mode))
+
+pub returns-in-Ended-clause-mode : goal.returns-in-Ended-clause-mode
+returns-in-Ended-clause-mode g c = comes_more _ c.turns.session c.step.new.self c.turns.invariant.mode c.in-Ended.ensures.mode

@@ -60,7 +60,7 @@ returns-in-Err-clause-given g c =
     let below = left_below i.commands.items i.next (λ e. c.requires.left (ap (λ v. v.commands) (sym c.self.view_is) ∙ e)) in
     let goes : quits_anyway (command_value x).verb ≡ false = sym c.if-ends_run.ensures.value in
     let untold = is_false i.told (λ h. let n = (c.self.invariant.ended h).0 in cc) in
-    advances_ended f c.ending-stage.result.0 c.args.self.now _ c.ending-stage.ensures.value refl untold (ap (λ v. v.present.help) c.self.view_is)
+    advances_ended f c.ending-stage.result.0 c.args.self.now _ c.ending-stage.ensures.value refl untold (ap (λ v. v.present.help) c.self.view_is) (ap (λ v. v.commands) c.self.view_is)
     (λ (h : f ≢ Memory).
     rest_fails c.args.self.now _ (command_value x) (map command_value (drop (i.next + 1) i.commands.items)) f c.self.view_is c.requires.prompted c.requires.handed_out
     (left_next i.commands.items i.next x below c.index-command.ensures) goes (c.in-Err.ensures.exact (c.self.invariant.works live) h))
