@@ -1,17 +1,34 @@
-# `make` builds the program and shows it at work; `make test` is the whole gate; `make bench` measures.
+# `make` builds the program and shows it at work. `make check` is what one runs while working, `make test` the merge gate,
+# `make wrong-bodies` tries the wrong bodies that the gate leaves out, and `make bench` measures: docs/GATE.md says more.
 # Each does all set-up on a fresh machine that has the toolchain's command `rt`.
 
-.PHONY: all program test bench
+PREFIX ?= /usr/local
+PROGRAM = crates/ed_main/out/ed_main
+
+.PHONY: all program install check test wrong-bodies bench
 
 all: program
-	examples/run
+	examples/run --show
+	@echo
+	@echo "The program is $(CURDIR)/$(PROGRAM). To copy it to PREFIX/bin: make install PREFIX=.."
 
-# `rt run` proves, compiles and links, and leaves the program in crates/ed_main/out/ed_main.
+# `rt run` proves, compiles and links, and leaves the program in out/.
 program:
+	mkdir -p crates/ed_main/out
 	cd crates/ed_main && rt run -- edit -s data/F <stdin >out/first_run
 
+install: program
+	install -D -m 755 $(PROGRAM) $(DESTDIR)$(PREFIX)/bin/ed_main
+
+check:
+	tests/check
+
 test:
-	rt ci
+	tests/gate
+
+# CRATE names one or more crates; with none, all are tried.
+wrong-bodies:
+	tests/wrong-bodies $(CRATE)
 
 bench: program
 	bench/run

@@ -2,14 +2,20 @@
 # Refuses each allocation of the program in turn, on runs of most commands. Each has to end by want of memory
 # (status 2), its output being a front of the run's own, followed by the report `?` where the run had begun, with its text where
 # the script turns help mode on; or, where the library under it can do without, just as the run does.
-# Build crates/ed_main first. It needs a C compiler. Usage: bench/editor/refused.sh, from anywhere.
+# It runs the program that `make` built, from anywhere, and needs a C compiler. The last line counts the runs.
 cd "$(dirname "$0")" || exit 1
-program=$(pwd)/../../crates/ed_main/out/ed_main
+program=$(cd ../.. && pwd)/crates/ed_main/out/ed_main
 work=$(mktemp -d)
 trap 'rm -rf "$work"' EXIT
-cc -shared -fPIC -O1 -o "$work/refuse.so" ../patterns/refuse.c -ldl || exit 1
+if ! [ -x "$program" ] || ! cc -shared -fPIC -O1 -o "$work/refuse.so" refuse.c -ldl; then
+    echo "the program is not built, or there is no C compiler"
+    echo "0 passed, 1 failed"
+    exit 1
+fi
 printf 'a\nb\nc\n' > "$work/FILE"
 cd "$work" || exit 1
+passed=0
+failed=0
 
 printf '?\n' > brief
 printf '?\nout of memory\n' > full
@@ -27,8 +33,8 @@ is_front() {
     grep -q '^H$' script && is_behind_front full "$1"
 }
 
-on() { # SCRIPT: refuses the allocations of its run one after the other
-    printf "$1" > script
+# Refuses the allocations of the script's run one after the other, until none is left to refuse.
+each_is_refused() {
     "$program" edit -s FILE < script > whole
     ends=$?
     refused=0
@@ -39,10 +45,21 @@ on() { # SCRIPT: refuses the allocations of its run one after the other
         refused=$((refused + 1))
         if [ "$status" -eq 2 ] && is_front output; then continue; fi
         if [ "$status" -eq "$ends" ] && cmp -s output whole; then continue; fi
-        echo "another answer with allocation $refused refused: status $status"
-        exit 1
+        return 1
     done
-    echo "$refused allocations, each refused once"
+    [ "$refused" -gt 0 ]
+}
+
+on() { # SCRIPT
+    printf "$1" > script
+    if each_is_refused; then
+        echo "$refused allocations, each refused once"
+        passed=$((passed + 1))
+    else
+        echo "another answer with allocation $refused refused: status $status, on this script:"
+        cat script
+        failed=$((failed + 1))
+    fi
 }
 
 on '2d\n,p\nQ\n'
@@ -50,3 +67,5 @@ on '1,2a\nz\n.\n,p\nQ\n'
 on '1p\n2a\nx\ny\n.\n1d\n,p\n$p\nQ\n'
 on 'P\n1p\nH\nP\n9p\n'
 on '/b/ka\n1m$\n1t.\n1,$j\n2i\nx\n.\n,l\n,n\nQ\n'
+echo "$passed passed, $failed failed"
+[ "$failed" -eq 0 ]
