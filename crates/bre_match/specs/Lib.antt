@@ -1,8 +1,14 @@
--- to believe: what `find` answers, and what the laws say
+-- to believe: what `find` answers
 pub mod Answer
-pub mod Laws
 -- these only serve clauses inside the crate
 pub mod Runs
 pub mod Order
 pub mod Turns
 pub mod Starts
+pub mod Parts
+pub mod Columns
+pub mod Marks
+pub mod Spans
+pub mod Backwards
+pub mod Ends
+pub mod Tables

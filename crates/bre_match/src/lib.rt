@@ -1,22 +1,31 @@
 //! Where a basic regular expression matches a text (XBD 9.3).
 #![tactic(auto)]
 
-ghost use Rattle.std.specs.Prelude.{◌≡◌, ◌≤◌, IfOk, IfSome, length, option_map};
+ghost use Rattle.std.specs.Prelude.{◌≡◌, ◌≤◌, IfOk, IfSome, IsOk, IsSome, length, option_map};
 ghost use Rattle.std.specs.Option.{is_some};
 ghost use Rattle.bre_parse.specs.Tree.{sequence_of};
 ghost use Rattle.bre_parse.specs.Bre.{bre_tree};
+ghost use Rattle.bre_parse.specs.Literal.{literal};
 ghost use Rattle.bre_parse.specs.Match.{match_from};
 ghost use Rattle.bre_match.specs.Answer.{spans, LiesWithin};
 
-pub mod laws;
+mod backwards;
+mod column;
+mod grouping;
 mod order;
+mod row;
 mod run;
 mod search;
+mod span;
 mod start;
-#[cfg(test)]
-mod tests;
+mod table;
+mod word;
 
+use crate::grouping::set_row;
+use crate::row::{is_quick_row, is_too_wide};
+use crate::span::span;
 use crate::start::{longest_from, starts_without};
+use crate::word::find_word;
 use bre_parse::Bre;
 use bre_parse::tree::{Groups, Node};
 use std::alloc::{AllocError, Global};
@@ -43,15 +52,41 @@ pub fn find(
     requires place { from ≤ length text.now }
     ensures value { IfOk result (λ found. option_map spans found ≡ match_from (bre_tree pattern.now) text.now from) }
     ensures within { IfOk result (λ found. IfSome found (LiesWithin from (length text.now))) }
+
+    // A literal pattern takes no memory.
+    ensures without_memory { IsSome (literal (bre_tree pattern.now)) → IsOk result }
 {
-    first_match(alloc, pattern.items(), text, from)
+    if let Some(word) = pattern.literal() {
+        return Ok(find_word(word, text, from));
+    }
+    let items = pattern.items();
+    if pattern.refers() || is_quick_row(items) || is_too_wide(items) {
+        return first_match(alloc, items, text, from);
+    }
+    match span(alloc, items, text, from)? {
+        None => Ok(None),
+        Some((start, end)) => {
+            let mut groups = [None; 9];
+            set_row(&mut groups, alloc, items, text, start, end)?;
+            Ok(Some(Match { start, end, groups }))
+        }
+    }
 }
 
 /// Whether a pattern matches anywhere in a text.
 pub fn matches(alloc: Global, pattern: &Bre, text: &[u8]) -> Result<bool, AllocError>
     ensures value { IfOk result (λ matches. matches ≡ is_some (match_from (bre_tree pattern.now) text.now 0)) }
+    ensures without_memory { IsSome (literal (bre_tree pattern.now)) → IsOk result }
 {
-    let found = find(alloc, pattern, text, 0)?;
+    if let Some(word) = pattern.literal() {
+        return Ok(find_word(word, text, 0).is_some());
+    }
+    let items = pattern.items();
+    if is_quick_row(items) || is_too_wide(items) || pattern.refers() {
+        let found = first_match(alloc, items, text, 0)?;
+        return Ok(found.is_some());
+    }
+    let found = span(alloc, items, text, 0)?;
     Ok(found.is_some())
 }
 

@@ -1,10 +1,11 @@
 //! Basic regular expressions: what a pattern means, and its tree.
 #![tactic(auto)]
 
-ghost use Rattle.std.specs.Prelude.{◌≡◌, true};
+ghost use Rattle.std.specs.Prelude.{◌≡◌, option_map};
 ghost use Rattle.bre_parse.specs.Tree.{sequence_of};
-ghost use Rattle.bre_parse.specs.Groups.{number_of_groups};
-ghost use Rattle.bre_parse.specs.WellFormed.{repeats_in_order};
+ghost use Rattle.bre_parse.specs.Groups.{number_of_groups, refers as has_reference};
+ghost use Rattle.bre_parse.specs.Literal.{literal as word_of};
+ghost use Rattle.bre_parse.specs.WellFormed.{IsRead};
 
 mod always;
 mod bracket;
@@ -12,37 +13,47 @@ pub mod fault;
 mod head;
 mod interval;
 mod item;
+mod laws;
+mod literal;
 mod refusal;
 mod repeat;
 mod spelling;
-#[cfg(test)]
-mod tests;
 pub mod tree;
 
 pub use always::always_matches;
 pub use bracket::behind_bracket;
 use fault::BreFault;
 use item::whole;
+pub use laws::{
+    ends_ignore_groups, literals_match_themselves, matches_lie_within, order_keeps_first,
+    readings_ignore_counts, ways_end_within, ways_ignore_count,
+};
+use literal::copied;
 use refusal::Refusal;
 pub use spelling::{
     brackets_are_read_as_spelled, intervals_are_read_as_spelled, patterns_are_read_as_spelled,
 };
 use std::alloc::{AllocError, Global};
-use tree::{Node, copies_of};
+use tree::{Node, any_refers, copies_of};
 
 /// A basic regular expression (XBD 9.3).
 #[derive(Drop)]
 pub struct Bre {
     items: Vec<Node>,
     groups: usize,
-    ghost in_order: { repeats_in_order (sequence_of items.items) ≡ true },
+    refers: bool,
+    literal: Option<Vec<u8>>,
+    ghost read: { IsRead (sequence_of items.items) },
     ghost counted: { groups ≡ number_of_groups (sequence_of items.items) },
+    ghost referring: { refers ≡ has_reference (sequence_of items.items) },
+    ghost word: { option_map (λ word. word.items) literal ≡ word_of (sequence_of items.items) },
 }
 
 impl Bre {
-    ghost use Rattle.std.specs.Prelude.{◌≢◌, ℕ, List, IfOk, IfErr, IsTrue, IsSome};
+    ghost use Rattle.std.specs.Prelude.{◌≢◌, ◌≤◌, ℕ, List, true, IfOk, IfErr, IsTrue, IsSome};
     ghost use Rattle.bre_parse.specs.declared.fault.BreFault.TheVariants.{Memory};
-    ghost use Rattle.bre_parse.specs.Grammar.{pattern};
+    ghost use Rattle.bre_parse.specs.Grammar.{pattern, nesting, deepest};
+    ghost use Rattle.bre_parse.specs.WellFormed.{repeats_in_order};
     ghost use Rattle.bre_parse.specs.Always.{always};
     ghost use Rattle.bre_parse.specs.Match.{match_from};
     ghost use Rattle.bre_parse.specs.Bre.{bre_tree};
@@ -53,7 +64,18 @@ impl Bre {
         ensures first_fault { IfErr result (λ fault. fault ≢ Memory → pattern text.now ≡ Err fault) }
     {
         match whole(alloc, text) {
-            Ok((items, groups)) => Ok(Bre { items, groups }),
+            Ok((items, groups)) => {
+                let refers = any_refers(&items);
+                let Ok(literal) = literal::literal(alloc, &items) else {
+                    return Err(BreFault::Memory);
+                };
+                Ok(Bre {
+                    items,
+                    groups,
+                    refers,
+                    literal,
+                })
+            }
             Err(Refusal::Memory) => Err(BreFault::Memory),
             Err(Refusal::Fault(fault)) => Err(fault),
         }
@@ -62,6 +84,9 @@ impl Bre {
     /// The items of the pattern, one after another.
     pub fn items(&self) -> &[Node]
         ensures value { sequence_of result.now ≡ bre_tree self.now }
+        ensures in_order { repeats_in_order (sequence_of result.now) ≡ true }
+        ensures read { IsRead (bre_tree self.now) }
+        ensures depth { nesting (bre_tree self.now) ≤ deepest }
     {
         self.items.as_slice()
     }
@@ -73,6 +98,23 @@ impl Bre {
         self.groups
     }
 
+    /// The one word that the pattern matches, where it is a sequence of sets of one byte each.
+    pub fn literal(&self) -> Option<&[u8]>
+        ensures value { option_map (λ word. word.now) result ≡ word_of (bre_tree self.now) }
+    {
+        match &self.literal {
+            Some(word) => Some(word.as_slice()),
+            None => None,
+        }
+    }
+
+    /// Whether a back-reference stands in the pattern.
+    pub fn refers(&self) -> bool
+        ensures value { result ≡ has_reference (bre_tree self.now) }
+    {
+        self.refers
+    }
+
     /// Whether the pattern has a match in every text.
     pub fn always(&self) -> bool
         ensures value { result ≡ always (bre_tree self.now) }
@@ -81,13 +123,18 @@ impl Bre {
         always::always(&self.items)
     }
 
-    /// An equal pattern.
-    pub fn try_copy(&self, alloc: Global) -> Result<Bre, AllocError>
+    /// An equal pattern, made by the same allocator.
+    pub fn try_copy(&self) -> Result<Bre, AllocError>
         ensures value { IfOk result (λ copy. bre_tree copy ≡ bre_tree self.now) }
     {
+        let alloc = *self.items.allocator();
+        let items = copies_of(alloc, &self.items)?;
+        let literal = copied(alloc, &self.literal)?;
         Ok(Bre {
-            items: copies_of(alloc, &self.items)?,
+            items,
             groups: self.groups,
+            refers: self.refers,
+            literal,
         })
     }
 }

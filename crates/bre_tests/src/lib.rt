@@ -1,0 +1,7 @@
+//! Tests of the public calls of `bre_parse` and `bre_match`.
+#![tactic(auto)]
+
+#[cfg(test)]
+mod matching;
+#[cfg(test)]
+mod reading;
