@@ -1,12 +1,12 @@
 -- Known differences stay known.
-use Rattle.std.proofs.Common.{◌≡◌, ◌≢◌, ◌<◌, ℕ, ℤ, neg_ℤ, ◌+ℤ◌, ◌-ℤ◌, Bool, true, false, cond, eqb, Option, Some, arith, refl, ◌∙◌, sym, ap, inl, inr}
+use Rattle.std.proofs.Common.{◌≡◌, ◌≢◌, ◌<◌, ℕ, ℤ, pos, neg_ℤ, ◌+ℤ◌, ◌-ℤ◌, Bool, true, false, cond, eqb, Option, Some, arith, refl, ◌∙◌, sym, ap, inl, inr}
 use Rattle.std.proofs.lemmas.Int.{ints}
 use Rattle.std.proofs.lemmas.Bool.Decides.{eqb_tells}
 use Rattle.zones.specs.Bound.{Obeys, IsKept, raise, lower, greater_of, widen_bound, widen_diagonal}
 use Rattle.zones.specs.Zone.{Bounds, Numbers, bound, Holds, ChangesOnly}
-use Rattle.zones.specs.Steps.{after_set, after_shift, after_forget, join_of, join_bound, widening_of, widening_bound}
+use Rattle.zones.specs.Steps.{any_zone, any_bound, after_set, after_shift, after_forget, join_of, join_bound, widening_of, widening_bound}
 use Rattle.zones.specs.Differences.{IsDifference, Fixes, with_name}
-use Rattle.zones.proofs.Formulas.{bound-after_set, bound-after_shift, bound-after_forget, bound-join_of, bound-widening_of, set_bound-row, set_bound-column, set_bound-corner, set_bound-other, shift_bound-row, shift_bound-column, shift_bound-corner, shift_bound-other, forget_bound-other}
+use Rattle.zones.proofs.Formulas.{bound-any_zone, bound-after_set, bound-after_shift, bound-after_forget, bound-join_of, bound-widening_of, set_bound-row, set_bound-column, set_bound-corner, set_bound-other, shift_bound-row, shift_bound-column, shift_bound-corner, shift_bound-other, forget_bound-other}
 use Rattle.zones.proofs.Kept.{clip-is, IsKept-negative}
 
 raise-is : (b : Option ℤ) (k c d : ℤ) → b ≡ Some k → k +ℤ c ≡ d → IsKept (Some d) → raise b (Some c) ≡ Some d
@@ -70,6 +70,18 @@ pub Fixes-fewer : (zone : Bounds) (fixed fewer : ℕ → Bool) (number : Numbers
     ((p : ℕ) → fewer p ≡ true → fixed p ≡ true) → Fixes zone fixed number → Fixes zone fewer number
 unfolding Fixes
 Fixes-fewer zone fixed fewer number h fixes p q hp hq fp fq = fixes p q hp hq (h p fp) (h q fq)
+
+any_bound-same : (p q : ℕ) → p ≡ q → any_bound p q ≡ Some (pos 0)
+any_bound-same p q e = elim (eqb_tells p q) [ inl g ↦ rw g.0 refl | inr g ↦ absurd (g.1 e) ]
+
+-- before any step each name is fixed by itself
+pub Fixes-any_zone : (fixed : ℕ → Bool) (number : Numbers) → ((p q : ℕ) → fixed p ≡ true → fixed q ≡ true → p ≡ q) → Fixes any_zone fixed number
+unfolding Fixes
+Fixes-any_zone fixed number one p q hp hq fp fq =
+    let e : p ≡ q = one p q fp fq in
+    let d : number p ≡ number q = ap number e in
+    let zero : number p -ℤ number q ≡ pos 0 = omega (arith, ints) in
+    bound-any_zone p q hp hq ∙ any_bound-same p q e ∙ ap (λ n. Some n) (sym zero)
 
 -- the name that is set, or one that was fixed
 was_fixed : (x p : ℕ) (fixed : ℕ → Bool) → p ≢ x → with_name x fixed p ≡ true → fixed p ≡ true

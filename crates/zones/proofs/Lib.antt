@@ -8,3 +8,5 @@ pub mod Clamps
 pub mod Rooms
 pub mod Fixed
 pub mod Guarded
+pub mod Known
+pub mod Isolated

@@ -20,7 +20,7 @@ Obeys-lesser_of d None b h k = k
 Obeys-lesser_of d (Some a) None h k = h
 Obeys-lesser_of d (Some a) (Some b) h k = elim (int_lt b a) as (λ r. Obeys d (cond r (Some b) (Some a))) [ true ↦ k | false ↦ h ]
 
-Obeys-sum_of : (d e f : ℤ) (a b : Option ℤ) → Obeys d a → Obeys e b → f ≡ d +ℤ e → Obeys f (sum_of a b)
+pub Obeys-sum_of : (d e f : ℤ) (a b : Option ℤ) → Obeys d a → Obeys e b → f ≡ d +ℤ e → Obeys f (sum_of a b)
 Obeys-sum_of d e f None b h k q = tt
 Obeys-sum_of d e f (Some a) None h k q = tt
 Obeys-sum_of d e f (Some a) (Some b) h k q = omega (arith, ints)

@@ -3,7 +3,9 @@ pub mod Name
 pub mod Bound
 pub mod Zone
 pub mod Steps
+pub mod Known
 -- what the laws about limits, differences and room mean
 pub mod Limits
 pub mod Differences
+pub mod Isolated
 pub mod Room

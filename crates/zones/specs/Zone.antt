@@ -1,5 +1,5 @@
 -- Zones: to each ordered pair (x, y) of 32 names a bound of x - y. Names go by their places.
-use Rattle.std.specs.Prelude.{◌≡◌, ◌≢◌, true, ℕ, ◌+◌, ◌*◌, ◌/◌, ◌%◌, ◌<◌, ℤ, ◌-ℤ◌, Option, None, List, map, get_or}
+use Rattle.std.specs.Prelude.{◌≡◌, ◌≢◌, true, ℕ, ◌+◌, ◌*◌, ◌/◌, ◌%◌, ◌<◌, ◌==◌, if◌then◌else◌, ℤ, ◌-ℤ◌, Option, None, List, map, get_or}
 use Rattle.std.specs.List.{range_with_len}
 use Rattle.zones.specs.Bound.{Obeys, covers_bound}
 
@@ -26,6 +26,10 @@ Holds zone number = (x y : ℕ) → x < 32 → y < 32 → Obeys (number x -ℤ n
 -- the numbers before and after are the same, but for that of x
 abbrev pub ChangesOnly : ℕ → Numbers → Numbers → Type 0
 ChangesOnly x before after = (p : ℕ) → p ≢ x → after p ≡ before p
+
+-- the numbers, but that x stands for n
+abbrev pub updated : Numbers → ℕ → ℤ → Numbers
+updated number x n p = if p == x then n else number p
 
 -- a zone covers another where no bound of it is less than the other's
 unfoldable pub Covers : Bounds → Bounds → Type 0

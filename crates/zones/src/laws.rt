@@ -2,11 +2,13 @@
 //! do nothing.
 
 ghost use Rattle.std.specs.Prelude.{◌≡◌, ◌≢◌, ℕ, ◌<◌, ◌≤◌, ℤ, ◌+ℤ◌, ◌-ℤ◌, ◌≤ℤ◌, neg_ℤ, Bool, true, false, Option, Some, length};
-ghost use Rattle.zones.specs.Bound.{Obeys, IsKept, negative_of, covers_bound};
-ghost use Rattle.zones.specs.Zone.{Bounds, Numbers, bound, zone_by, Holds, ChangesOnly, Covers};
+ghost use Rattle.zones.specs.Bound.{Obeys, IsKept, sum_of, negative_of, covers_bound};
+ghost use Rattle.zones.specs.Zone.{Bounds, Numbers, bound, zone_by, Holds, ChangesOnly, updated, Covers};
 ghost use Rattle.zones.specs.Steps.{any_bound, any_zone, guard_bound, after_guard, set_bound, after_set, shift_bound, after_shift, forget_bound, after_forget, join_bound, join_of, widening_bound, widening_of, put_bound, after_put};
 ghost use Rattle.zones.specs.Limits.{IsZone, HasLowDiagonal, clamp, clamp_side};
+ghost use Rattle.zones.specs.Known.{known, least, greatest};
 ghost use Rattle.zones.specs.Differences.{IsDifference, Fixes, with_name};
+ghost use Rattle.zones.specs.Isolated.{IsIsolated};
 ghost use Rattle.zones.specs.Room.{total_room};
 
 /// The bound of a zone that is made by a formula is the formula, and a zone is known by its bounds.
@@ -86,6 +88,58 @@ pub fn covering_is_an_order()
     ensures widen_other { (old new : Bounds) → Covers (widening_of old new) new }
 {}
 
+/// What a zone says it knows is true of all numbers that it holds of.
+pub fn known_bounds_are_true()
+    ensures known { (zone : Bounds) (number : Numbers) (x y : ℕ) (c : ℤ) →
+        known zone x y c ≡ true → x < 32 → y < 32 → Holds zone number →
+        (number x -ℤ number y) ≤ℤ c }
+    ensures least { (zone : Bounds) (number : Numbers) (x y : ℕ) → x < 32 → y < 32 →
+        Holds zone number → Obeys (number y -ℤ number x) (negative_of (least zone x y)) }
+    ensures greatest { (zone : Bounds) (number : Numbers) (x y : ℕ) → x < 32 → y < 32 →
+        Holds zone number → Obeys (number x -ℤ number y) (greatest zone x y) }
+{}
+
+/// How differences obey sums and negatives of bounds, from those of the parts.
+pub fn differences_obey_sums()
+    ensures less { (d e : ℤ) (b : Option ℤ) → Obeys d b → e ≤ℤ d → Obeys e b }
+    ensures sum { (d e f : ℤ) (a b : Option ℤ) → Obeys d a → Obeys e b → f ≡ d +ℤ e →
+        Obeys f (sum_of a b) }
+    ensures negative_sum { (d e f : ℤ) (a b : Option ℤ) → Obeys d (negative_of a) →
+        Obeys e (negative_of b) → f ≡ d +ℤ e → Obeys f (negative_of (sum_of a b)) }
+    ensures twice_negative { (d e : ℤ) (b : Option ℤ) → Obeys d b → e ≡ d →
+        Obeys e (negative_of (negative_of b)) }
+{}
+
+/// Numbers of which one is changed.
+pub fn numbers_are_updated()
+    ensures same { (number : Numbers) (x : ℕ) (n : ℤ) → updated number x n x ≡ n }
+    ensures others { (number : Numbers) (x : ℕ) (n : ℤ) → ChangesOnly x number (updated number x n) }
+
+    // A zone holds of all numbers that are equal to those that it holds of.
+    ensures equal { (zone : Bounds) (before after : Numbers) → ((p : ℕ) → after p ≡ before p) →
+        Holds zone before → Holds zone after }
+{}
+
+/// Of a name of which nothing is known nothing becomes known by a step on other names.
+pub fn isolated_names_stay_isolated()
+    ensures any { (x : ℕ) → x < 32 → IsIsolated any_zone x }
+    ensures guard { (zone : Bounds) (x y z : ℕ) (c : ℤ) → x < 32 → y < 32 → z < 32 → y ≢ x →
+        z ≢ x → IsIsolated zone x → IsIsolated (after_guard zone y z c) x }
+    ensures set { (zone : Bounds) (x y z : ℕ) (c : ℤ) → x < 32 → y < 32 → z < 32 → y ≢ x → z ≢ x →
+        IsIsolated zone x → IsIsolated (after_set zone y z c) x }
+    ensures shift { (zone : Bounds) (x y : ℕ) (low high : Option ℤ) → x < 32 → y < 32 → y ≢ x →
+        IsIsolated zone x → IsIsolated (after_shift zone y low high) x }
+    ensures forget { (zone : Bounds) (x y : ℕ) → x < 32 → y ≢ x → IsIsolated zone x →
+        IsIsolated (after_forget zone y) x }
+    ensures join { (one other : Bounds) (x : ℕ) → x < 32 → IsIsolated one x → IsIsolated other x →
+        IsIsolated (join_of one other) x }
+    ensures widen { (old new : Bounds) (x : ℕ) → x < 32 → IsIsolated old x → IsIsolated new x →
+        IsIsolated (widening_of old new) x }
+
+    // A name that is forgotten is isolated.
+    ensures forgotten { (zone : Bounds) (x : ℕ) → x < 32 → IsIsolated (after_forget zone x) x }
+{}
+
 /// Each step gives a zone: 1024 bounds, none beyond the clip.
 pub fn steps_keep_to_the_clip()
     ensures any { IsZone any_zone }
@@ -145,6 +199,10 @@ pub fn fixed_names_stay_fixed()
     ensures meaning { (zone : Bounds) (fixed : ℕ → Bool) (number : Numbers) (x y : ℕ) → x < 32 →
         y < 32 → Fixes zone fixed number → fixed x ≡ true → fixed y ≡ true →
         IsDifference zone x y (number x -ℤ number y) }
+
+    // Before any step each name is fixed by itself.
+    ensures any { (fixed : ℕ → Bool) (number : Numbers) →
+        ((p q : ℕ) → fixed p ≡ true → fixed q ≡ true → p ≡ q) → Fixes any_zone fixed number }
 
     // A name that is set from a fixed one by a number becomes fixed.
     ensures set { (zone : Bounds) (x y : ℕ) (c : ℤ) (fixed : ℕ → Bool) (before after : Numbers) →

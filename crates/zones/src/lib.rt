@@ -4,16 +4,16 @@
 mod laws;
 mod name;
 mod number;
-#[cfg(test)]
-mod rows;
 mod table;
+mod wide;
 mod zone;
 
 pub use laws::{
-    bounds_are_formulas, covering_is_an_order, covering_is_weaker, fixed_names_stay_fixed,
-    known_differences_stay_known, offsets_may_be_clamped, room_falls, steps_are_formulas,
-    steps_are_sound, steps_keep_diagonals_low, steps_keep_to_the_clip,
+    bounds_are_formulas, covering_is_an_order, covering_is_weaker, differences_obey_sums,
+    fixed_names_stay_fixed, isolated_names_stay_isolated, known_bounds_are_true,
+    known_differences_stay_known, numbers_are_updated, offsets_may_be_clamped, room_falls,
+    steps_are_formulas, steps_are_sound, steps_keep_diagonals_low, steps_keep_to_the_clip,
 };
 pub use name::Name;
-pub use number::LIMIT;
+pub use number::{LIMIT, clamped};
 pub use zone::Zone;

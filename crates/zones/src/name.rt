@@ -1,7 +1,7 @@
 //! The names whose numbers a zone compares.
 
-ghost use Rattle.std.specs.Prelude.{◌≡◌, ◌<◌, ◌≤◌, IfSome, IfNone};
-ghost use Rattle.zones.specs.Name.{IsLowerCase, mark};
+ghost use Rattle.std.specs.Prelude.{◌≡◌, ◌<◌, ◌≤◌, IfSome, IfNone, [], ◌∷◌};
+ghost use Rattle.zones.specs.Name.{zero, current_line, last_line, first_address, second_address, target_address, IsLowerCase, mark};
 
 use std::marker::Model;
 
@@ -43,6 +43,21 @@ impl Name {
     /// How many names there are.
     pub const COUNT: usize = 32;
 
+    /// The names that are no marks, in their order.
+    pub fn unmarked() -> [Name; 6]
+        ensures value { result ≡ zero ∷ current_line ∷ last_line ∷ first_address ∷ second_address ∷
+            target_address ∷ [] }
+    {
+        [
+            Name::ZERO,
+            Name::CURRENT_LINE,
+            Name::LAST_LINE,
+            Name::FIRST_ADDRESS,
+            Name::SECOND_ADDRESS,
+            Name::TARGET_ADDRESS,
+        ]
+    }
+
     /// The line that a letter marks, by the letter's byte, from `b'a'` to `b'z'`.
     pub fn mark(letter: u8) -> Self
         requires lower_case { IsLowerCase letter }
@@ -82,35 +97,5 @@ impl Name {
         ensures value { result ≡ place }
     {
         Name { place: place as u8 }
-    }
-}
-
-#[cfg(test)]
-mod tests {
-    use super::*;
-
-    #[test]
-    fn names_go_in_their_order(rt: HostRuntime) {
-        #[rattlefmt::skip]
-        const FIRST: [Name; 6] = [
-            Name::ZERO, Name::CURRENT_LINE, Name::LAST_LINE,
-            Name::FIRST_ADDRESS, Name::SECOND_ADDRESS, Name::TARGET_ADDRESS,
-        ];
-        for (place, name) in FIRST.iter().enumerate() {
-            assert_eq!(rt; name.place(), place);
-            assert_eq!(rt; name.letter(), None);
-        }
-        for place in 0..Name::COUNT {
-            assert_eq!(rt; Name::from_place(place).place(), place);
-        }
-    }
-
-    #[test]
-    fn a_mark_gives_its_letter_back(rt: HostRuntime) {
-        assert_eq!(rt; Name::mark(b'a').place(), 6);
-        assert_eq!(rt; Name::mark(b'z').place(), 31);
-        for letter in b'a'..=b'z' {
-            assert_eq!(rt; Name::mark(letter).letter(), Some(letter));
-        }
     }
 }

@@ -1,10 +1,37 @@
 //! Arithmetic on single bounds. Sums are made in 128 bits, so none is too large, and then clipped.
 
 ghost use Rattle.std.specs.Prelude.{◌≡◌, ◌+ℤ◌, Some};
+ghost use Rattle.zones.specs.Limits.{clamp, clamp_side};
 ghost use Rattle.zones.specs.Bound.{clip, clip_bound, sum_of, lesser_of, greater_of, tighten, raise, lower, widen_bound, widen_diagonal, covers_bound};
 
 /// The greatest number that a zone keeps, and with a minus sign the least.
 pub const LIMIT: i64 = 1_000_000_000_000_000;
+
+/// No bound of a zone differs between an offset beyond this number and the number itself.
+const FARTHEST: i64 = 4_000_000_000_000_000;
+
+/// The offset, but at most 4 * 10^15 on either side. A step by it is a step by the offset.
+pub fn clamped(offset: i128) -> i64
+    ensures value { result ≡ clamp offset }
+{
+    if offset > i128::from(FARTHEST) {
+        FARTHEST
+    } else if offset < -i128::from(FARTHEST) {
+        -FARTHEST
+    } else {
+        offset as i64
+    }
+}
+
+/// An offset that may be unbounded, clamped.
+pub(crate) fn clamped_side(offset: Option<i128>) -> Option<i64>
+    ensures value { result ≡ clamp_side offset }
+{
+    match offset {
+        Some(offset) => Some(clamped(offset)),
+        None => None,
+    }
+}
 
 /// The number as a zone keeps it: one above the limit says nothing, one below it is raised.
 pub(crate) fn clip(number: i128) -> Option<i64>

@@ -143,6 +143,3 @@ impl Zone {
         self.table = put_table(&self.table, x.place(), y.place(), number);
     }
 }
-
-#[cfg(test)]
-mod tests;

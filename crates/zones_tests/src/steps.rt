@@ -1,6 +1,6 @@
-use super::*;
+//! Worked rows of the steps, and of the names.
 
-const LIMIT: i64 = crate::LIMIT;
+use zones::{LIMIT, Name, Zone};
 
 // From 1 to 3 lines, of which the last is current.
 fn short_buffer() -> Zone {
@@ -122,4 +122,22 @@ fn a_diagonal_bound_that_rises_is_widened_to_zero(rt: HostRuntime) {
     assert_eq!(rt; risen.bound(Name::ZERO, Name::ZERO), Some(0));
     less_low.widen(&low);
     assert_eq!(rt; less_low.bound(Name::ZERO, Name::ZERO), Some(-1));
+}
+
+#[test]
+fn names_go_in_their_order(rt: HostRuntime) {
+    #[rattlefmt::skip]
+    const FIRST: [Name; 6] = [
+        Name::ZERO, Name::CURRENT_LINE, Name::LAST_LINE,
+        Name::FIRST_ADDRESS, Name::SECOND_ADDRESS, Name::TARGET_ADDRESS,
+    ];
+    for (place, name) in FIRST.iter().enumerate() {
+        assert_eq!(rt; name.place(), place);
+        assert_eq!(rt; name.letter(), None, "place {place}");
+    }
+    assert_eq!(rt; Name::from_place(31), Name::mark(b'z'));
+    assert_eq!(rt; Name::mark(b'a').place(), 6);
+    for letter in b'a'..=b'z' {
+        assert_eq!(rt; Name::mark(letter).letter(), Some(letter));
+    }
 }

@@ -1,27 +1,10 @@
 //! Worked rows: what the definitions of the steps give, by evaluation.
 
-ghost use Rattle.std.specs.Prelude.{◌≡◌, true, false, pos, negsuc, [], ◌∷◌};
+ghost use Rattle.std.specs.Prelude.{◌≡◌, true, false, pos, negsuc};
 ghost use Rattle.zones.specs.Bound.{greater_of, widen_bound, widen_diagonal, covers_bound};
 ghost use Rattle.zones.specs.Zone.{bound};
 ghost use Rattle.zones.specs.Steps.{any_zone, after_guard, after_set, after_shift, after_forget, join_of, widening_of, after_put};
-ghost use Rattle.zones.specs.Name.{zero, current_line, last_line, first_address, second_address, target_address, mark};
-
-use crate::name::Name;
-
-// The constants are the names of the definitions.
-fn places_of_constants() -> [usize; 6]
-    ensures value { result ≡ zero ∷ current_line ∷ last_line ∷ first_address ∷ second_address ∷
-        target_address ∷ [] }
-{
-    [
-        Name::ZERO.place(),
-        Name::CURRENT_LINE.place(),
-        Name::LAST_LINE.place(),
-        Name::FIRST_ADDRESS.place(),
-        Name::SECOND_ADDRESS.place(),
-        Name::TARGET_ADDRESS.place(),
-    ]
-}
+ghost use Rattle.zones.specs.Name.{zero, current_line, last_line, mark};
 
 // A buffer of 1 to 3 lines, of which the last is current; then it loses a line.
 fn rows_of_a_deletion()
@@ -85,7 +68,6 @@ fn rows_of_two_zones()
 
 #[test]
 fn the_definitions_give_the_worked_rows(rt: HostRuntime) {
-    assert_eq!(rt; places_of_constants(), [0, 1, 2, 3, 4, 5]);
     rows_of_a_deletion();
     rows_of_the_clip();
     rows_of_two_zones();

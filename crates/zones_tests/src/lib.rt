@@ -1,0 +1,7 @@
+//! Tests of the public calls of `zones`.
+#![tactic(auto)]
+
+#[cfg(test)]
+mod rows;
+#[cfg(test)]
+mod steps;
