@@ -7,6 +7,7 @@ A peak of some 10 MiB is that of this script, from which each program is started
 
 import math
 import os
+import random
 import shutil
 import subprocess
 import sys
@@ -19,8 +20,8 @@ RUNS = 3
 class Work:
     """One piece of work at one size: the file, the script, and how often it is run."""
 
-    def __init__(self, folder, name, size, lines, script, repeat=1, sed=None):
-        self.name, self.size, self.repeat, self.sed = name, size, repeat, sed
+    def __init__(self, folder, name, size, lines, script, repeat=1, sed=None, vim=False):
+        self.name, self.size, self.repeat, self.sed, self.vim = name, size, repeat, sed, vim
         self.file = os.path.join(folder, f"{name}-{size}")
         self.script = self.file + ".ed"
         with open(self.file, "wb") as out:
@@ -78,6 +79,30 @@ def move_a_mark(folder, n):
     return Work(folder, "mark", n, text_lines(LINES), script)
 
 
+def changed_lines(n, edits):
+    """Which of n lines are changed: as many as edits, each once, far from each other."""
+    return [1 + i * n // edits for i in range(edits)]
+
+
+def change_rising(folder, n):
+    script = [b"%dc\nx\n.\n" % line for line in changed_lines(n, 10_000)] + [b"Q\n"]
+    return Work(folder, "rising", n, text_lines(n), script, vim=True)
+
+
+def change_at_random(folder, n):
+    lines = changed_lines(n, 10_000)
+    random.Random(1).shuffle(lines)
+    return Work(folder, "random", n, text_lines(n), [b"%dc\nx\n.\n" % line for line in lines] + [b"Q\n"], vim=True)
+
+
+def move_to_front(folder, n):
+    return Work(folder, "front", n, text_lines(n), [b"%dm0\n" % line for line in range(1, n + 1)] + [b"Q\n"])
+
+
+def double(folder, n):
+    return Work(folder, "double", n, text_lines(1_000), [b"1,$t$\n" * ((n // 1_000).bit_length() - 1), b"Q\n"])
+
+
 def measured(words, work):
     """Processor seconds and peak mebibytes of the runs of the work."""
     seconds, peak = 0.0, 0
@@ -107,6 +132,8 @@ def programs_for(work):
         programs["ed"] = ["ed", "-s"]
     if work.sed and shutil.which("sed"):
         programs["sed"] = work.sed
+    if work.vim and shutil.which("vim"):
+        programs["vim"] = ["vim", "-es", "-u", "NONE", "-n", "-i", "NONE"]
     return programs
 
 
@@ -141,6 +168,10 @@ def main():
         report("start on a file of three lines (runs)", [start(folder, n) for n in (50, 100, 200)])
         report("enter a text by a script (lines)", [enter(folder, n) for n in (50_000, 100_000, 200_000)])
         report("delete lines one by one from the end (lines)", [delete_from_end(folder, n) for n in (25_000, 50_000, 100_000)])
+        report("change 10,000 lines at rising places (lines)", [change_rising(folder, n) for n in (250_000, 500_000, 1_000_000)])
+        report("change 10,000 lines in random order (lines)", [change_at_random(folder, n) for n in (250_000, 500_000, 1_000_000)])
+        report("move each line to the front (lines)", [move_to_front(folder, n) for n in (12_500, 25_000, 50_000)])
+        report("double 1,000 lines by 1,$t$ (lines)", [double(folder, n) for n in (512_000, 1_024_000, 2_048_000)])
         report("search onwards in 100,000 lines (searches)", [search_onwards(folder, n) for n in (250, 500, 1_000)])
         report("search around 100,000 lines (searches)", [search_around(folder, n) for n in (10, 20, 40)])
         report("print ten of 100,000 lines between marks (times)", [print_between_marks(folder, n) for n in (2_500, 5_000, 10_000)])

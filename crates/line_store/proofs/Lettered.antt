@@ -1,8 +1,8 @@
 -- Lines with just the letters whose places are given, after a line came in, went out or was marked.
-use Rattle.std.proofs.Common.{◌≡◌, ℕ, zero, suc, ◌+◌, ◌-◌, ◌<◌, ◌≤◌, List, [], ◌∷◌, ◌++◌, take, drop, Bool, true, false, not, cond, length, map, get_or, set, insert, remove, replicate, nat_lt, Option, Some, None, refl, ap, ◌∙◌, sym, arith, get_or-set_same, get_or-set_other, length-set, ⊎_elim}
+use Rattle.std.proofs.Common.{◌≡◌, ℕ, zero, suc, ◌+◌, ◌-◌, ◌<◌, ◌≤◌, List, [], ◌∷◌, Bool, true, false, not, cond, length, map, get_or, set, insert, remove, replicate, nat_lt, Option, Some, None, refl, ap, ◌∙◌, sym, arith, get_or-set_same, get_or-set_other, length-set, ⊎_elim}
 use Rattle.std.specs.List.{range_with_len, position_or_len}
 use Rattle.std.proofs.lemmas.Bool.{cases_lt, cases_eq, cases_order, cond-true, cond-false, lt-ltb, le-ltb}
-use Rattle.std.proofs.lemmas.List.{same_lists, set-set, set_past, get_or_past, map-append, take-map, drop-map, length-map, get_or-map}
+use Rattle.std.proofs.lemmas.List.{same_lists, set-set, set_past, get_or_past, get_or_default}
 use Rattle.std.proofs.lemmas.List.Edits.{length-insert, get_or-insert_below, get_or-insert_at, get_or-insert_above, length-remove, get_or-remove_below, get_or-remove_above}
 use Rattle.std.proofs.lemmas.List.FromFn.{length-map-range_with_len, get_or-map-range_with_len, fill_by_all}
 use Rattle.ed_base.specs.Buffer.{Line, plain_line, no_letters, has_letter, with_letter, marked_place, marked_at, SharesNoLetter}
@@ -268,25 +268,9 @@ without_line-below count fewer at marks h m below letter place e = ⊎_elim
     sym (get_or_past (without_line at marks) letter None (omega (arith, length-map-range_with_len (λ k. closed at (get_or marks k None)) 0 26))) ∙ e in absurd cc)
     (cases_lt letter 26)
 
--- plain lines, of which one came in or went out
-pub plain-insert : (texts : List (List ℕ)) (at : ℕ) (text : List ℕ) → map plain_line (insert texts at text) ≡ insert (map plain_line texts) at (plain_line text)
-plain-insert texts at text =
-    map-append plain_line (take at texts) (text ∷ drop at texts)
-    ∙ ap (λ t. t ++ plain_line text ∷ map plain_line (drop at texts)) (sym (take-map plain_line at texts))
-    ∙ ap (λ t. take at (map plain_line texts) ++ plain_line text ∷ t) (sym (drop-map plain_line at texts))
-
-pub plain-remove : (texts : List (List ℕ)) (at : ℕ) → map plain_line (remove texts at) ≡ remove (map plain_line texts) at
-plain-remove texts at =
-    map-append plain_line (take at texts) (drop (suc at) texts)
-    ∙ ap (λ t. t ++ map plain_line (drop (suc at) texts)) (sym (take-map plain_line at texts))
-    ∙ ap (λ t. take at (map plain_line texts) ++ t) (sym (drop-map plain_line (suc at) texts))
-
--- how many lines there are of these texts, and which
-pub length-plain : (marks : List (Option ℕ)) (texts : List (List ℕ)) → length (lettered marks 0 (map plain_line texts)) ≡ length texts
-length-plain marks texts = length-lettered marks 0 (map plain_line texts) ∙ length-map texts plain_line
-
-pub plain-at : (marks : List (Option ℕ)) (texts : List (List ℕ)) (i : ℕ) (text : List ℕ) → i < length texts → text ≡ get_or texts i text →
-    get_or (lettered marks 0 (map plain_line texts)) i (plain_line []) ≡ record (plain_line text) { letters = letters_at i marks }
-plain-at marks texts i text h e =
-    get_or-lettered marks 0 i i (map plain_line texts) (plain_line []) (omega (arith, length-map texts plain_line)) (omega arith)
-    ∙ ap (line_with marks i) (get_or-map plain_line texts i text (plain_line []) h ∙ ap plain_line (sym e))
+-- a line of those that have letters
+pub lettered-at : (marks : List (Option ℕ)) (lines : List Line) (i : ℕ) (line : Line) → i < length lines → line ≡ get_or lines i line →
+    get_or (lettered marks 0 lines) i (plain_line []) ≡ record line { letters = letters_at i marks }
+lettered-at marks lines i line h e =
+    get_or-lettered marks 0 i i lines (plain_line []) h (omega arith)
+    ∙ ap (line_with marks i) (get_or_default lines i (plain_line []) line h ∙ sym e)

@@ -2,5 +2,7 @@
 pub mod Marks
 -- what serves clauses inside the crate
 pub mod Shifts
-pub mod Plain
+pub mod Kept
+pub mod Gaps
+pub mod Chunks
 pub mod Lettered

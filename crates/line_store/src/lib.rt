@@ -1,17 +1,21 @@
 //! Lines, and stores of them.
 #![tactic(auto)]
 
+mod bare_lines;
+mod chunk;
+mod chunks;
+mod gap;
+mod kept;
 mod line;
 mod marks;
-mod plain;
 mod shared;
 mod store;
 
+pub use bare_lines::BareLines;
+pub use chunks::{ChunkLines, ChunkStore};
+pub use gap::{GapLines, GapStore};
+pub use kept::{PlainStore, Store};
 pub use line::Line;
 pub use marks::Marks;
-pub use plain::PlainStore;
-pub use shared::FileLines;
+pub use shared::{BareLine, FileLines};
 pub use store::LineStore;
-
-#[cfg(test)]
-mod tests;

@@ -4,25 +4,25 @@ ghost use Rattle.ed_base.specs.Lines.{IsLine};
 ghost use Rattle.ed_base.specs.Buffer.{plain_line, no_letters};
 
 use crate::marks::LETTERS;
-use crate::shared::LineBytes;
+use crate::shared::BareLine;
 use ed_base::Bytes;
 use std::alloc::{AllocError, Global};
 use std::marker::Model;
 
-/// A line: any bytes but a newline, and the letters that mark it. No command flags a line yet, so its flag is none.
+/// A line: any bytes but a newline, the letters that mark it, and the flag that a global command sets.
 #[derive(Drop)]
 pub struct Line {
-    pub(crate) bytes: LineBytes,
+    pub(crate) bare: BareLine,
     pub(crate) letters: [bool; LETTERS],
 }
 
 impl Model for Line {
-    ghost use Rattle.std.specs.Prelude.{◌≡◌, false, length};
+    ghost use Rattle.std.specs.Prelude.{◌≡◌, length};
     ghost use Rattle.ed_base.specs.Buffer.{Line};
 
     ghost Value = { Line };
 
-    ghost view = { λ l. record { bytes = l.bytes; letters = l.letters; flag = false } };
+    ghost view = { λ l. record l.bare { letters = l.letters } };
 
     ghost invariant = { λ l. length l.letters ≡ 26 };
 }
@@ -41,15 +41,15 @@ impl Line {
         requires line { IsLine bytes }
         ensures value { IfOk result (λ line. line ≡ plain_line bytes) }
     {
-        Ok(Line::of(LineBytes::new(alloc, bytes)?))
+        Ok(Line::of(BareLine::new(alloc, bytes)?))
     }
 
-    // The line of these bytes, without letters or flag.
-    pub(crate) fn of(bytes: LineBytes) -> Line
-        ensures value { result ≡ plain_line bytes }
+    // The line that no letter marks.
+    pub(crate) fn of(bare: BareLine) -> Line
+        ensures value { result ≡ record bare { letters = no_letters } }
     {
         Line {
-            bytes,
+            bare,
             letters: [false; LETTERS],
         }
     }
@@ -59,7 +59,7 @@ impl Line {
         ensures value { result.now ≡ self.now.bytes }
         ensures line { IsLine result.now }
     {
-        self.bytes.as_slice()
+        self.bare.as_slice()
     }
 
     /// The line without the letters that mark it.

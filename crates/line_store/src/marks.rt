@@ -88,6 +88,15 @@ impl Marks {
         self.places[letter.place()]
     }
 
+    /// The same places once more.
+    pub(crate) fn copy(&self) -> Self
+        ensures value { result ≡ self.now }
+    {
+        Marks {
+            places: self.places,
+        }
+    }
+
     /// The letter marks the line at this place, and no other.
     pub(crate) fn set(&mut self, letter: Letter, place: usize)
         ensures value { self.new ≡ slice_set self.old letter (Some place) }

@@ -1,7 +1,7 @@
-//! The bytes of lines, which many lines may share.
+//! Lines without letters, which may share the block that their bytes stand in.
 ghost use Rattle.std.specs.Prelude.{◌≡◌, ◌↔◌, [], ◌∷◌, IsNone, IfOk, IfSome, OnErr};
 ghost use Rattle.ed_base.specs.Lines.{IsLine, lines_of};
-ghost use Rattle.ed_base.specs.Buffer.{plain_line};
+ghost use Rattle.ed_base.specs.Buffer.{plain_line, with_flag};
 
 use crate::Line;
 use ed_base::{Bytes, next_line};
@@ -9,44 +9,85 @@ use std::alloc::{AllocError, Global};
 use std::marker::Model;
 use std::rc::Rc;
 
-/// The bytes of a line: any but a newline. They are a part of a block of bytes, which goes with the last of its lines.
+/// A line without the letters that mark it: its bytes, any but a newline, and its flag. The bytes are a part of a block that
+/// other lines may share, and which goes with the last of them. A line takes 32 bytes beside its block.
 #[derive(Drop)]
-pub(crate) struct LineBytes {
+pub struct BareLine {
     block: Rc<Bytes>,
     start: usize,
     end: usize,
+    flag: bool,
 }
 
-impl Model for LineBytes {
-    ghost use Rattle.std.specs.Prelude.{ℕ, ◌≤◌, List, length, slice_range};
+impl Model for BareLine {
+    ghost use Rattle.std.specs.Prelude.{◌≤◌, length, slice_range};
     ghost use Rattle.ed_base.specs.Lines.{IsLine};
+    ghost use Rattle.ed_base.specs.Buffer.{Line, no_letters};
 
-    ghost Value = { List ℕ };
+    ghost Value = { Line };
 
-    ghost view = { λ b. slice_range b.block.value b.start b.end };
+    ghost view = { λ b. record { bytes = slice_range b.block.value b.start b.end; letters = no_letters; flag = b.flag } };
 
     ghost invariant = { λ b. (b.start ≤ b.end) × (b.end ≤ length b.block.value) × IsLine (slice_range b.block.value b.start b.end) };
 }
 
-impl LineBytes {
-    /// The bytes of a line that shares them with no other.
+impl BareLine {
+    /// The line of these bytes, which it shares with no other, without the flag.
     pub(crate) fn new(alloc: Global, bytes: Bytes) -> Result<Self, AllocError>
         requires line { IsLine bytes }
-        ensures value { IfOk result (λ line. line ≡ bytes) }
+        ensures value { IfOk result (λ line. line ≡ plain_line bytes) }
     {
         let end = bytes.len();
-        Ok(LineBytes {
+        Ok(BareLine {
             block: Rc::new(alloc, bytes)?,
             start: 0,
             end,
+            flag: false,
         })
     }
 
     pub(crate) fn as_slice(&self) -> &[u8]
-        ensures value { result.now ≡ self.now }
+        ensures value { result.now ≡ self.now.bytes }
         ensures line { IsLine result.now }
     {
         &self.block.as_slice()[self.start..self.end]
+    }
+
+    pub(crate) fn flag(&self) -> bool
+        ensures value { result ≡ self.now.flag }
+    {
+        self.flag
+    }
+
+    /// The line with the flag or without it.
+    pub(crate) fn set_flag(&mut self, flag: bool)
+        ensures value { self.new ≡ with_flag flag self.old }
+    {
+        self.flag = flag;
+    }
+
+    /// A line of the same bytes, which both share, without the flag.
+    pub(crate) fn plain_copy(&self) -> Result<Self, AllocError>
+        ensures value { IfOk result (λ copy. copy ≡ plain_line self.now.bytes) }
+    {
+        Ok(BareLine {
+            block: self.block.clone()?,
+            start: self.start,
+            end: self.end,
+            flag: false,
+        })
+    }
+
+    /// The same line once more, which shares its bytes.
+    pub(crate) fn try_copy(&self) -> Result<Self, AllocError>
+        ensures value { IfOk result (λ copy. copy ≡ self.now) }
+    {
+        Ok(BareLine {
+            block: self.block.clone()?,
+            start: self.start,
+            end: self.end,
+            flag: self.flag,
+        })
     }
 }
 
@@ -96,6 +137,11 @@ impl FileLines {
         let behind = bytes.len() - rest.len();
         let block = self.block.clone()?;
         self.next = behind;
-        Ok(Some(Line::of(LineBytes { block, start, end })))
+        Ok(Some(Line::of(BareLine {
+            block,
+            start,
+            end,
+            flag: false,
+        })))
     }
 }

@@ -1,7 +1,7 @@
 //! A list of lines, however it is kept.
-ghost use Rattle.std.specs.Prelude.{◌≡◌, ◌+◌, ◌<◌, ◌≤◌, ℕ, List, [], length, insert, remove, slice_index_or, IfOk, IfErr, OnOk, OnErr, IsOk};
+ghost use Rattle.std.specs.Prelude.{◌≡◌, ◌+◌, ◌<◌, ◌≤◌, ℕ, List, [], true, false, length, insert, remove, slice_index_or, slice_set, IfOk, IfErr, OnOk, OnErr, IsOk};
 ghost use Rattle.ed_base.specs.Lines.{IsLine};
-ghost use Rattle.ed_base.specs.Buffer.{Line, plain_line, marked_at, marked_place, AtMostOnce, KnowLetters, SharesNoLetter};
+ghost use Rattle.ed_base.specs.Buffer.{Line, plain_line, marked_at, marked_place, flagged_at, flagged_place, AtMostOnce, KnowLetters, SharesNoLetter};
 
 use crate::Line;
 use ed_base::Letter;
@@ -33,7 +33,10 @@ pub trait LineStore: Drop {
     fn reserve(&mut self, n: usize) -> Result<(), AllocError>
         ensures room { OnOk result (n ≤ spare self.new) }
         ensures unchanged { lines self.new ≡ lines self.old }
-        ensures keeps_room { spare self.old ≤ spare self.new };
+        ensures keeps_room { spare self.old ≤ spare self.new }
+
+        // Where there is room already, nothing is refused.
+        ensures in_place { n ≤ spare self.old → IsOk result };
 
     /// Puts a line before place `at`, with the letters that it has.
     fn put(&mut self, at: usize, line: Line) -> Result<(), Line>
@@ -58,6 +61,14 @@ pub trait LineStore: Drop {
         ensures removed { lines self.new ≡ remove (lines self.old) i }
         ensures keeps_room { spare self.old ≤ spare self.new };
 
+    /// Puts a line in place of another, which comes back with the letters that mark it. No other line moves.
+    fn exchange(&mut self, i: usize, line: Line) -> Line
+        requires place { i < length (lines self.old) }
+        requires letters { SharesNoLetter line (remove (lines self.old) i) }
+        ensures value { result ≡ slice_index_or (lines self.old) i (plain_line []) }
+        ensures exchanged { lines self.new ≡ slice_set (lines self.old) i line }
+        ensures keeps_room { spare self.old ≤ spare self.new };
+
     /// Marks a line by a letter, which from then on marks no other.
     fn mark(&mut self, i: usize, letter: Letter)
         requires place { i < length (lines self.old) }
@@ -67,6 +78,33 @@ pub trait LineStore: Drop {
     /// The place of the line that a letter marks.
     fn marked(&self, letter: Letter) -> Option<usize>
         ensures value { result ≡ marked_place letter (lines self.now) };
+
+    /// Flags a line, as a global command does with those that it will take.
+    fn flag(&mut self, i: usize)
+        requires place { i < length (lines self.old) }
+        ensures flagged { lines self.new ≡ flagged_at i true (lines self.old) }
+        ensures keeps_room { spare self.old ≤ spare self.new };
+
+    /// Takes a line's flag.
+    fn unflag(&mut self, i: usize)
+        requires place { i < length (lines self.old) }
+        ensures unflagged { lines self.new ≡ flagged_at i false (lines self.old) }
+        ensures keeps_room { spare self.old ≤ spare self.new };
+
+    /// The place of the first line that has the flag. It remembers how far it has looked.
+    fn next_flagged(&mut self) -> Option<usize>
+        ensures value { result ≡ flagged_place (lines self.old) }
+        ensures unchanged { lines self.new ≡ lines self.old }
+        ensures keeps_room { spare self.old ≤ spare self.new };
+
+    /// A new line of a line's text, without letters or flag.
+    fn copy_of(&self, i: usize) -> Result<Line, AllocError>
+        requires place { i < length (lines self.now) }
+        ensures value { IfOk result (λ line. line ≡ plain_line (slice_index_or (lines self.now) i (plain_line [])).bytes) };
+
+    /// A store of the same lines, with their letters and flags.
+    fn try_copy(&self) -> Result<Self, AllocError>
+        ensures value { IfOk result (λ copy. lines copy ≡ lines self.now) };
 
     /// A letter marks one line at most.
     ghost once: { (store : Self) → AtMostOnce (lines store) };

@@ -1,0 +1,138 @@
+-- Lines exchanged and flagged, whose letters are told from places, and how far none has the flag.
+use Rattle.std.proofs.Common.{◌≡◌, ℕ, zero, suc, ◌+◌, ◌-◌, ◌<◌, ◌≤◌, List, [], ◌∷◌, Bool, true, false, cond, min, length, get_or, set, insert, remove, nat_lt, Option, Some, None, refl, ap, ◌∙◌, sym, subst, arith, get_or-set_same, get_or-set_other, ⊎_elim}
+use Rattle.std.specs.List.{position, position_or_len}
+use Rattle.std.proofs.lemmas.Bool.{cases_lt, cases_eq, cases_order, cond-true, cond-false, lt-ltb, le-ltb}
+use Rattle.std.proofs.lemmas.List.{get_or_past, get_or_default, set_past}
+use Rattle.std.proofs.lemmas.List.Sums.{position_or_len_is}
+use Rattle.std.proofs.lemmas.List.Edits.{length-remove, get_or-insert_below, get_or-insert_at, get_or-insert_above, get_or-remove_below, get_or-remove_above}
+use Rattle.ed_base.specs.Buffer.{Line, plain_line, with_flag, flagged_at, flagged_place, SharesNoLetter}
+use Rattle.line_store.specs.Marks.{lettered, AllBelow}
+use Rattle.line_store.specs.Shifts.{with_line, without_line}
+use Rattle.line_store.specs.Kept.{Unflagged}
+use Rattle.line_store.proofs.Lettered.{line_with, length-lettered, get_or-lettered, lettered-insert, lettered-remove, HaveNoPlace, without_places, with_line-below, without_line-below}
+
+-- a line exchanged is a line that went out and one that came in
+pub insert-removed : {X : Type 0} (xs : List X) (i : ℕ) (x : X) → i < length xs → insert (remove xs i) i x ≡ set xs i x
+insert-removed [] i x h = absurd (omega arith)
+insert-removed (y ∷ xs) zero x h = refl
+insert-removed (y ∷ xs) (suc i) x h = ap (λ t. y ∷ t) (insert-removed xs i x (omega arith))
+
+-- another line in place of one
+pub lettered-item : (marks : List (Option ℕ)) (place i j : ℕ) (lines : List Line) (new : Line) → place + i ≡ j →
+    lettered marks place (set lines i new) ≡ set (lettered marks place lines) i (line_with marks j new)
+lettered-item marks place i j [] new e = refl
+lettered-item marks place zero j (line ∷ lines) new e =
+    ap (λ n. line_with marks n new ∷ lettered marks (suc place) lines) (let f : place ≡ j = omega arith in f)
+lettered-item marks place (suc i) j (line ∷ lines) new e =
+    ap (λ t. line_with marks place line ∷ t) (lettered-item marks (suc place) i j lines new (omega arith))
+
+-- a line is flagged, whatever its letters
+pub lettered-flagged : (marks : List (Option ℕ)) (i : ℕ) (flag : Bool) (lines : List Line) → i < length lines →
+    lettered marks 0 (flagged_at i flag lines) ≡ flagged_at i flag (lettered marks 0 lines)
+lettered-flagged marks i flag lines h =
+    lettered-item marks 0 i i lines (with_flag flag (get_or lines i (plain_line []))) (omega arith)
+    ∙ ap (λ t. set (lettered marks 0 lines) i (with_flag flag t)) (sym (get_or-lettered marks 0 i i lines (plain_line []) h (omega arith)))
+
+-- the letters of a line that comes in place of another have no place once that went out
+pub exchanged-places : (marks : List (Option ℕ)) (i : ℕ) (lines : List Line) (line : Line) → i < length lines → AllBelow (length lines) marks →
+    SharesNoLetter line (remove (lettered marks 0 lines) i) → HaveNoPlace line.letters (without_line i marks)
+exchanged-places marks i lines line h below shares =
+    without_places (without_line i marks) (remove lines i) line
+    (without_line-below (length lines) (length (remove lines i)) i marks h (length-remove lines i h) below)
+    (subst (SharesNoLetter line) (sym (lettered-remove marks i lines h)) shares)
+
+-- a line was exchanged
+pub lettered-exchange : (marks : List (Option ℕ)) (i : ℕ) (lines : List Line) (new : Line) (letters : List Bool) → i < length lines → length letters ≡ 26 →
+    HaveNoPlace letters (without_line i marks) →
+    lettered (with_line i letters (without_line i marks)) 0 (set lines i new) ≡ set (lettered marks 0 lines) i (record new { letters = letters })
+lettered-exchange marks i lines new letters h n none =
+    let after = with_line i letters (without_line i marks) in
+    let within : i ≤ length (remove lines i) = omega (arith, length-remove lines i h) in
+    let inside : i < length (lettered marks 0 lines) = omega (arith, length-lettered marks 0 lines) in
+    ap (lettered after 0) (sym (insert-removed lines i new h))
+    ∙ lettered-insert (without_line i marks) i (remove lines i) new letters within n none
+    ∙ ap (λ t. insert t i (record new { letters = letters })) (lettered-remove marks i lines h)
+    ∙ insert-removed (lettered marks 0 lines) i (record new { letters = letters }) inside
+
+pub exchanged-below : (marks : List (Option ℕ)) (i : ℕ) (letters : List Bool) (lines : List Line) (new : Line) → i < length lines → AllBelow (length lines) marks →
+    AllBelow (length lines) (with_line i letters (without_line i marks))
+exchanged-below marks i letters lines new h below =
+    let fewer = length-remove lines i h in
+    with_line-below (length (remove lines i)) (length lines) i letters (without_line i marks) (omega (arith, fewer)) (sym fewer)
+    (without_line-below (length lines) (length (remove lines i)) i marks h fewer below)
+
+-- how far no line has the flag, where less far is told
+pub unflagged-less : (near far : ℕ) (lines : List Line) → near ≤ far → Unflagged far lines → Unflagged near lines
+unflagged-less near far lines h none i l = none i (omega arith)
+
+-- a line came in behind those that are told
+pub unflagged-behind : (place at : ℕ) (lines : List Line) (new : Line) → place ≤ at → at ≤ length lines → Unflagged place lines → Unflagged place (insert lines at new)
+unflagged-behind place at lines new h inside none i l =
+    ap (λ line. line.flag) (get_or-insert_below lines at new (plain_line []) i (omega arith) inside) ∙ none i l
+
+-- a line without the flag came in among them
+pub unflagged-among : (place at : ℕ) (lines : List Line) (new : Line) → at ≤ place → at ≤ length lines → new.flag ≡ false → Unflagged place lines → Unflagged (place + 1) (insert lines at new)
+unflagged-among place at lines new h inside bare none i l = ⊎_elim
+    (λ e. ap (λ k. (get_or (insert lines at new) k (plain_line [])).flag) e ∙ ap (λ line. line.flag) (get_or-insert_at lines at new (plain_line []) inside) ∙ bare)
+    (⊎_elim
+    (λ low. ap (λ line. line.flag) (get_or-insert_below lines at new (plain_line []) i low inside) ∙ none i (omega arith))
+    (λ high.
+    let k = i - 1 in
+    let e : i ≡ k + 1 = omega arith in
+    ap (λ n. (get_or (insert lines at new) n (plain_line [])).flag) e
+    ∙ ap (λ line. line.flag) (get_or-insert_above lines at new (plain_line []) k (omega arith) inside) ∙ none k (omega arith)))
+    (cases_order i at)
+
+-- a line came in, wherever it stands and whether it has the flag
+pub unflagged-inserted : (place at : ℕ) (lines : List Line) (new : Line) → at ≤ length lines → Unflagged place lines →
+    (at ≤ place → new.flag ≡ false → (next : ℕ) → next ≤ place + 1 → Unflagged next (insert lines at new))
+unflagged-inserted place at lines new inside none h bare next l =
+    unflagged-less next (place + 1) (insert lines at new) l (unflagged-among place at lines new h inside bare none)
+
+-- a line went out
+pub unflagged-before : (place i : ℕ) (lines : List Line) → i < place → i < length lines → Unflagged place lines → Unflagged (place - 1) (remove lines i)
+unflagged-before place i lines h inside none k l = ⊎_elim
+    (λ low. ap (λ line. line.flag) (get_or-remove_below lines i (plain_line []) k low inside) ∙ none k (omega arith))
+    (λ high. ap (λ line. line.flag) (get_or-remove_above lines i (plain_line []) k high inside) ∙ none (k + 1) (omega arith))
+    (cases_lt k i)
+
+pub unflagged-after : (place i : ℕ) (lines : List Line) → place ≤ i → i < length lines → Unflagged place lines → Unflagged place (remove lines i)
+unflagged-after place i lines h inside none k l =
+    ap (λ line. line.flag) (get_or-remove_below lines i (plain_line []) k (omega arith) inside) ∙ none k l
+
+-- a line came in place of another
+pub unflagged-set : (place i : ℕ) (lines : List Line) (new : Line) → (i < place → new.flag ≡ false) → Unflagged place lines → Unflagged place (set lines i new)
+unflagged-set place i lines new bare none k l = ⊎_elim
+    (λ e. ⊎_elim
+    (λ inside. ap (λ n. (get_or (set lines i new) n (plain_line [])).flag) e ∙ ap (λ line. line.flag) (get_or-set_same lines i new (plain_line []) inside) ∙ bare (omega arith))
+    (λ past. ap (λ t. (get_or t k (plain_line [])).flag) (set_past lines i new past) ∙ none k l)
+    (cases_lt i (length lines)))
+    (λ other. ap (λ line. line.flag) (get_or-set_other lines i k new (plain_line []) other) ∙ none k l)
+    (cases_eq k i)
+
+-- letters change no flag
+flag-lettered : (marks : List (Option ℕ)) (lines : List Line) (k : ℕ) → (get_or (lettered marks 0 lines) k (plain_line [])).flag ≡ (get_or lines k (plain_line [])).flag
+flag-lettered marks lines k = ⊎_elim
+    (λ l. ap (λ line. line.flag) (get_or-lettered marks 0 k k lines (plain_line []) l (omega arith)))
+    (λ past. ap (λ line. line.flag) (get_or_past (lettered marks 0 lines) k (plain_line []) (omega (arith, length-lettered marks 0 lines)) ∙ sym (get_or_past lines k (plain_line []) past)))
+    (cases_lt k (length lines))
+
+-- the first flagged line, where the search found one
+pub flagged-found : (marks : List (Option ℕ)) (lines : List Line) (place : ℕ) → place < length lines → Unflagged place lines → (get_or lines place (plain_line [])).flag ≡ true →
+    flagged_place (lettered marks 0 lines) ≡ Some place
+flagged-found marks lines place h none is =
+    let long = length-lettered marks 0 lines in
+    let n = position_or_len (λ line. line.flag) (lettered marks 0 lines) in
+    let at : n ≡ place = position_or_len_is (λ line. line.flag) (lettered marks 0 lines) place (plain_line []) (omega arith)
+    (λ k l. flag-lettered marks lines k ∙ none k l) (λ l. flag-lettered marks lines place ∙ is) in
+    cond-true (nat_lt n (length (lettered marks 0 lines))) (Some n) None (lt-ltb n (length (lettered marks 0 lines)) (omega arith)) ∙ ap (λ k. Some k) at
+
+-- and where it found none
+pub flagged-none : (marks : List (Option ℕ)) (lines : List Line) (place : ℕ) → length lines ≤ place → Unflagged place lines → flagged_place (lettered marks 0 lines) ≡ None
+flagged-none marks lines place h none =
+    let long = length-lettered marks 0 lines in
+    let all = lettered marks 0 lines in
+    let n = position_or_len (λ line. line.flag) all in
+    let at : n ≡ length all = position_or_len_is (λ line. line.flag) all (length all) (plain_line []) (omega arith)
+    (λ k l. flag-lettered marks lines k ∙ none k (omega arith)) (λ l. absurd (omega arith)) in
+    cond-false (nat_lt n (length all)) (Some n) None (le-ltb n (length all) (omega arith))

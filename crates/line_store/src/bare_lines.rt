@@ -1,0 +1,129 @@
+//! Lists of lines without letters, however they are kept.
+ghost use Rattle.std.specs.Prelude.{◌≡◌, ◌+◌, ◌<◌, ◌≤◌, ℕ, List, [], length, insert, remove, slice_index_or, slice_set, IfOk, IfErr, OnOk, OnErr, IsOk};
+ghost use Rattle.ed_base.specs.Buffer.{Line, flagged_at};
+
+use crate::BareLine;
+use std::alloc::{AllocError, Global};
+use std::mem::replace;
+
+/// A list of lines without letters. Places count from 0. The clauses are those of a store, letters aside.
+pub trait BareLines: Drop {
+    /// The lines, in order.
+    ghost items: { Self → List Line };
+
+    /// How many lines can come in before memory is asked for.
+    ghost spare: { Self → ℕ };
+
+    /// A list without lines.
+    fn empty(alloc: Global) -> Result<Self, AllocError>
+        ensures value { IfOk result (λ lines. items lines ≡ []) };
+
+    /// How many lines there are.
+    fn len(&self) -> usize
+        ensures value { result ≡ length (items self.now) };
+
+    /// A line.
+    fn line(&self, i: usize) -> &BareLine
+        requires place { i < length (items self.now) }
+        ensures value { result.now ≡ slice_index_or (items self.now) i result.now };
+
+    /// Makes room for `n` more lines.
+    fn reserve(&mut self, n: usize) -> Result<(), AllocError>
+        ensures room { OnOk result (n ≤ spare self.new) }
+        ensures unchanged { items self.new ≡ items self.old }
+        ensures keeps_room { spare self.old ≤ spare self.new }
+
+        // Where there is room already, nothing is refused.
+        ensures in_place { n ≤ spare self.old → IsOk result };
+
+    /// Puts a line before place `at`.
+    fn insert(&mut self, at: usize, line: BareLine) -> Result<(), BareLine>
+        requires place { at ≤ length (items self.old) }
+
+        ensures inserted { OnOk result (items self.new ≡ insert (items self.old) at line) }
+
+        // A refused line comes back, and the list is as before.
+        ensures handed_back { IfErr result (λ back. back ≡ line) }
+        ensures unchanged { OnErr result (items self.new ≡ items self.old) }
+
+        // Where `reserve` made room, nothing is refused.
+        ensures room { 0 < spare self.old → IsOk result }
+        ensures spends_one { spare self.old ≤ spare self.new + 1 }
+        ensures keeps_room { OnErr result (spare self.old ≤ spare self.new) };
+
+    /// Takes a line out.
+    fn remove(&mut self, i: usize) -> BareLine
+        requires place { i < length (items self.old) }
+        ensures value { result ≡ slice_index_or (items self.old) i result }
+        ensures removed { items self.new ≡ remove (items self.old) i }
+        ensures keeps_room { spare self.old ≤ spare self.new };
+
+    /// Puts a line in place of another, which comes back.
+    fn exchange(&mut self, i: usize, line: BareLine) -> BareLine
+        requires place { i < length (items self.old) }
+        ensures value { result ≡ slice_index_or (items self.old) i result }
+        ensures exchanged { items self.new ≡ slice_set (items self.old) i line }
+        ensures keeps_room { spare self.old ≤ spare self.new };
+
+    /// Flags a line, or takes its flag.
+    fn set_flag(&mut self, i: usize, flag: bool)
+        requires place { i < length (items self.old) }
+        ensures flagged { items self.new ≡ flagged_at i flag (items self.old) }
+        ensures keeps_room { spare self.old ≤ spare self.new };
+
+    /// The same lines once more, which share their bytes.
+    fn try_copy(&self) -> Result<Self, AllocError>
+        ensures value { IfOk result (λ copy. items copy ≡ items self.now) };
+}
+
+/// In a vector a line that comes in or goes out moves all the lines behind it.
+impl BareLines for Vec<BareLine> {
+    ghost use Rattle.std.specs.Prelude.{◌-◌, vec_capacity, vec_len};
+
+    ghost items = { λ v. v.items };
+
+    ghost spare = { λ v. vec_capacity v - vec_len v };
+
+    fn empty(alloc: Global) -> Result<Self, AllocError> {
+        Ok(Vec::new(alloc))
+    }
+
+    fn len(&self) -> usize {
+        self.as_slice().len()
+    }
+
+    fn line(&self, i: usize) -> &BareLine {
+        &self[i]
+    }
+
+    fn reserve(&mut self, n: usize) -> Result<(), AllocError> {
+        Vec::reserve(self, n)
+    }
+
+    fn insert(&mut self, at: usize, line: BareLine) -> Result<(), BareLine> {
+        match Vec::insert(self, at, line) {
+            Ok(()) => Ok(()),
+            Err(refused) => Err(refused.value),
+        }
+    }
+
+    fn remove(&mut self, i: usize) -> BareLine {
+        Vec::remove(self, i)
+    }
+
+    fn exchange(&mut self, i: usize, line: BareLine) -> BareLine {
+        replace(&mut self[i], line)
+    }
+
+    fn set_flag(&mut self, i: usize, flag: bool) {
+        self[i].set_flag(flag);
+    }
+
+    fn try_copy(&self) -> Result<Self, AllocError> {
+        let mut copy = Vec::with_capacity(*self.allocator(), self.as_slice().len())?;
+        for line in self {
+            copy.push(line.try_copy()?)?;
+        }
+        Ok(copy)
+    }
+}

@@ -1,0 +1,124 @@
+//! A chunk of lines.
+ghost use Rattle.std.specs.Prelude.{◌≡◌, ◌<◌, ◌≤◌, [], ◌∷◌, ◌++◌, length, insert, remove, slice_index_or, slice_set, IfOk};
+ghost use Rattle.ed_base.specs.Buffer.{flagged_at};
+ghost use Rattle.line_store.specs.Chunks.{full};
+
+use crate::BareLine;
+use std::alloc::{AllocError, Global};
+use std::collections::VecDeque;
+use std::marker::Model;
+use std::mem::replace;
+
+/// How many lines a chunk holds when it is full. It has room for them from the start.
+pub(crate) const FULL: usize = 1024;
+
+/// Up to `FULL` lines. They stand in a ring, so that one comes in or goes out at either end without a move of the others.
+#[derive(Drop)]
+pub struct Chunk {
+    ring: VecDeque<BareLine>,
+}
+
+impl Model for Chunk {
+    ghost use Rattle.std.specs.Prelude.{◌≤◌, List, length};
+    ghost use Rattle.std.specs.VecDeque.{deque_capacity};
+    ghost use Rattle.ed_base.specs.Buffer.{Line};
+    ghost use Rattle.line_store.specs.Chunks.{full};
+
+    ghost Value = { List Line };
+
+    ghost view = { λ c. c.ring.items };
+
+    ghost invariant = { λ c. (full ≤ deque_capacity c.ring) × (length c.ring.items ≤ full) };
+}
+
+impl Chunk {
+    /// A chunk without lines.
+    pub(crate) fn new(alloc: Global) -> Result<Self, AllocError>
+        ensures value { IfOk result (λ chunk. chunk ≡ []) }
+    {
+        Ok(Chunk {
+            ring: VecDeque::with_capacity(alloc, FULL)?,
+        })
+    }
+
+    /// A line.
+    pub(crate) fn line(&self, i: usize) -> &BareLine
+        requires place { i < length self.now }
+        ensures value { result.now ≡ slice_index_or self.now i result.now }
+    {
+        &self.ring[i]
+    }
+
+    /// Puts a line before place `at`.
+    pub(crate) fn insert(&mut self, at: usize, line: BareLine)
+        requires place { at ≤ length self.old }
+        requires room { length self.old < full }
+        ensures inserted { self.new ≡ insert self.old at line }
+    {
+        match self.ring.insert(at, line) {
+            Ok(()) => {}
+            Err(_refused) => unreachable!(),
+        }
+    }
+
+    /// Puts a line before place `at` of a full chunk, whose last line goes out for it.
+    pub(crate) fn shift(&mut self, at: usize, line: BareLine) -> BareLine
+        requires place { at < full }
+        requires full { length self.old ≡ full }
+        ensures shifted { self.new ++ result ∷ [] ≡ insert self.old at line }
+    {
+        let Some(last) = self.ring.pop_back() else {
+            unreachable!()
+        };
+        self.insert(at, line);
+        last
+    }
+
+    /// Takes a line out.
+    pub(crate) fn remove(&mut self, i: usize) -> BareLine
+        requires place { i < length self.old }
+        ensures value { result ≡ slice_index_or self.old i result }
+        ensures removed { self.new ≡ remove self.old i }
+    {
+        match self.ring.remove(i) {
+            Some(line) => line,
+            None => unreachable!(),
+        }
+    }
+
+    /// Puts a line behind all others.
+    pub(crate) fn push(&mut self, line: BareLine)
+        requires room { length self.old < full }
+        ensures pushed { self.new ≡ self.old ++ line ∷ [] }
+    {
+        self.ring.push_back_reserved(line);
+    }
+
+    /// Puts a line in place of another, which comes back.
+    pub(crate) fn exchange(&mut self, i: usize, line: BareLine) -> BareLine
+        requires place { i < length self.old }
+        ensures value { result ≡ slice_index_or self.old i result }
+        ensures exchanged { self.new ≡ slice_set self.old i line }
+    {
+        replace(&mut self.ring[i], line)
+    }
+
+    /// Flags a line, or takes its flag.
+    pub(crate) fn set_flag(&mut self, i: usize, flag: bool)
+        requires place { i < length self.old }
+        ensures flagged { self.new ≡ flagged_at i flag self.old }
+    {
+        self.ring[i].set_flag(flag);
+    }
+
+    /// The same lines once more, which share their bytes.
+    pub(crate) fn try_copy(&self, alloc: Global) -> Result<Self, AllocError>
+        ensures value { IfOk result (λ copy. copy ≡ self.now) }
+    {
+        let mut ring = VecDeque::with_capacity(alloc, FULL)?;
+        for i in 0..self.ring.len() {
+            ring.push_back(self.ring[i].try_copy()?)?;
+        }
+        Ok(Chunk { ring })
+    }
+}

@@ -1,0 +1,183 @@
+//! Stores: a list of lines without letters, and apart from it where each letter's line is.
+ghost use Rattle.std.specs.Prelude.{◌≡◌, ◌<◌, ◌≤◌, List, [], length, true, insert, remove, slice_index_or, slice_set};
+ghost use Rattle.ed_base.specs.Buffer.{Line, plain_line};
+ghost use Rattle.line_store.specs.Kept.{Unflagged};
+
+use crate::marks::Marks;
+use crate::{BareLine, BareLines, Line, LineStore};
+use ed_base::Letter;
+use std::alloc::{AllocError, Global};
+use std::marker::Model;
+
+/// Lines in a list of any kind, and apart from them where each letter's line is. So a letter costs nothing to the lines that it
+/// doesn't mark, and no call looks through the lines for it.
+#[derive(Drop)]
+pub struct Store<L: BareLines> {
+    lines: L,
+    marks: Marks,
+    // No line before this place has the flag, so the search for the next one goes on from here.
+    unflagged: usize,
+}
+
+/// A store in one vector: a line put or taken moves all the lines behind it.
+pub type PlainStore = Store<Vec<BareLine>>;
+
+impl<L: BareLines> Model for Store<L> {
+    ghost use Rattle.std.specs.Prelude.{length};
+    ghost use Rattle.line_store.specs.Marks.{AllBelow};
+    ghost use Rattle.line_store.specs.Kept.{StoreValue, Unflagged};
+
+    ghost Value = { StoreValue };
+
+    ghost view = { λ s. record { items = L.items s.lines; marks = s.marks; room = L.spare s.lines } };
+
+    ghost invariant = { λ s. AllBelow (length (L.items s.lines)) s.marks × Unflagged s.unflagged (L.items s.lines) };
+}
+
+// The first place from `place` on where a line has the flag, or one behind all lines.
+fn flagged_from<L: BareLines>(lines: &L, place: usize) -> usize
+    requires before { Unflagged place (L.items lines.now) }
+    ensures before { Unflagged result (L.items lines.now) }
+    ensures flagged { result < length (L.items lines.now) → (slice_index_or (L.items lines.now) result (plain_line [])).flag ≡ true }
+{
+    let count = lines.len();
+    let mut next = place;
+    while next < count && !lines.line(next).flag() {
+        next += 1;
+    }
+    next
+}
+
+// Before which place no line has the flag, once a line has come in at `at`.
+fn place_with(place: usize, at: usize, flag: bool) -> usize
+    ensures { (lines : List Line) (new : Line) → new.flag ≡ flag → at ≤ length lines → Unflagged place lines →
+        Unflagged result (insert lines at new) }
+{
+    if place < at {
+        return place;
+    }
+    if flag {
+        return at;
+    }
+    place.saturating_add(1)
+}
+
+// The same, once a line has gone out.
+fn place_without(place: usize, i: usize) -> usize
+    ensures { (lines : List Line) → i < length lines → Unflagged place lines → Unflagged result (remove lines i) }
+{
+    if i < place { place - 1 } else { place }
+}
+
+// The same, once a line has come in place of another.
+fn place_exchanged(place: usize, i: usize, flag: bool) -> usize
+    ensures { (lines : List Line) (new : Line) → new.flag ≡ flag → Unflagged place lines → Unflagged result (slice_set lines i new) }
+{
+    if flag { place.min(i) } else { place }
+}
+
+impl<L: BareLines> LineStore for Store<L> {
+    ghost use Rattle.line_store.specs.Kept.{lines_of};
+    ghost use Rattle.line_store.specs.Lettered.{lettered-once, lettered-known};
+
+    ghost lines = { lines_of };
+
+    ghost spare = { λ s. s.room };
+
+    ghost once = { λ s. lettered-once s.marks s.items };
+
+    ghost known = { λ s. lettered-known s.marks 0 s.items };
+
+    fn empty(alloc: Global) -> Result<Self, AllocError> {
+        Ok(Store {
+            lines: L::empty(alloc)?,
+            marks: Marks::none(),
+            unflagged: 0,
+        })
+    }
+
+    fn len(&self) -> usize {
+        self.lines.len()
+    }
+
+    fn text(&self, i: usize) -> &[u8] {
+        self.lines.line(i).as_slice()
+    }
+
+    fn reserve(&mut self, n: usize) -> Result<(), AllocError> {
+        self.lines.reserve(n)
+    }
+
+    fn put(&mut self, at: usize, line: Line) -> Result<(), Line> {
+        let count = self.lines.len();
+        let Line { bare, letters } = line;
+        let flag = bare.flag();
+        match self.lines.insert(at, bare) {
+            Ok(()) => {
+                self.marks.open_among(at, count, &letters);
+                self.unflagged = place_with(self.unflagged, at, flag);
+                Ok(())
+            }
+            Err(bare) => Err(Line { bare, letters }),
+        }
+    }
+
+    fn take(&mut self, i: usize) -> Line {
+        self.unflagged = place_without(self.unflagged, i);
+        Line {
+            bare: self.lines.remove(i),
+            letters: self.marks.close(i),
+        }
+    }
+
+    fn exchange(&mut self, i: usize, line: Line) -> Line {
+        let Line { bare, letters } = line;
+        self.unflagged = place_exchanged(self.unflagged, i, bare.flag());
+        let others = self.lines.len() - 1;
+        let before = self.marks.close(i);
+        self.marks.open_among(i, others, &letters);
+        Line {
+            bare: self.lines.exchange(i, bare),
+            letters: before,
+        }
+    }
+
+    fn mark(&mut self, i: usize, letter: Letter) {
+        self.marks.set(letter, i);
+    }
+
+    fn marked(&self, letter: Letter) -> Option<usize> {
+        self.marks.place_of(letter)
+    }
+
+    fn flag(&mut self, i: usize) {
+        self.lines.set_flag(i, true);
+        self.unflagged = self.unflagged.min(i);
+    }
+
+    fn unflag(&mut self, i: usize) {
+        self.lines.set_flag(i, false);
+    }
+
+    fn next_flagged(&mut self) -> Option<usize> {
+        let place = flagged_from(&self.lines, self.unflagged);
+        self.unflagged = place;
+        if place < self.lines.len() {
+            Some(place)
+        } else {
+            None
+        }
+    }
+
+    fn copy_of(&self, i: usize) -> Result<Line, AllocError> {
+        Ok(Line::of(self.lines.line(i).plain_copy()?))
+    }
+
+    fn try_copy(&self) -> Result<Self, AllocError> {
+        Ok(Store {
+            lines: self.lines.try_copy()?,
+            marks: self.marks.copy(),
+            unflagged: self.unflagged,
+        })
+    }
+}
