@@ -1,6 +1,6 @@
 -- Worked rows of letters and the lines that they mark.
-use Rattle.std.specs.Prelude.{◌≡◌, refl, List, [], ◌∷◌, map, Some, None, codes}
-use Rattle.ed_base.specs.Buffer.{Line, plain_line, texts, letter_of, marked_place, marked_at}
+use Rattle.std.specs.Prelude.{◌≡◌, refl, List, [], ◌∷◌, map, true, false, Some, None, codes}
+use Rattle.ed_base.specs.Buffer.{Line, plain_line, texts, letter_of, marked_place, marked_at, flagged_at, flagged_place}
 
 -- `a` is 0 and `z` 25; capital letters mark nothing
 letters_of_bytes : map letter_of (codes "az`{AZ") ≡ Some 0 ∷ Some 25 ∷ None ∷ None ∷ None ∷ None ∷ []
@@ -31,3 +31,13 @@ two_letters_on_one_line = refl
 -- a mark changes no byte
 texts_stay : texts (marked_at 1 0 plain) ≡ texts plain
 texts_stay = refl
+
+-- the first line that has the flag is told, and the others keep theirs
+no_line_is_flagged : flagged_place plain ≡ None
+no_line_is_flagged = refl
+
+first_flagged_line : flagged_place (flagged_at 1 true (flagged_at 2 true plain)) ≡ Some 1
+first_flagged_line = refl
+
+next_flagged_line : flagged_place (flagged_at 1 false (flagged_at 1 true (flagged_at 2 true plain))) ≡ Some 2
+next_flagged_line = refl

@@ -1,2 +1,4 @@
 pub mod BufferRows
 pub mod LineLemmas
+pub mod Letters
+pub mod PartLemmas

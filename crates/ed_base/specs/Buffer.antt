@@ -41,6 +41,18 @@ marked_at place letter lines =
     let others = map (with_letter letter false) lines in
     slice_set others place (with_letter letter true (slice_index_or others place (plain_line [])))
 
+-- the line with the flag or without it
+abbrev pub with_flag : Bool → Line → Line
+with_flag flag line = record line { flag = flag }
+
+-- the line at this place with the flag or without it, and the others as they were
+abbrev pub flagged_at : (place : ℕ) → Bool → List Line → List Line
+flagged_at place flag lines = slice_set lines place (with_flag flag (slice_index_or lines place (plain_line [])))
+
+-- the place of the first line that has the flag, counted from 0
+abbrev pub flagged_place : List Line → Option ℕ
+flagged_place lines = position (λ line. line.flag) lines
+
 -- a letter marks one line at most
 abbrev pub AtMostOnce : List Line → Type 0
 AtMostOnce lines = (letter i j : ℕ) → has_letter letter (slice_index_or lines i (plain_line [])) ≡ true →

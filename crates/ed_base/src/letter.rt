@@ -1,6 +1,6 @@
 //! The letters that mark lines.
-ghost use Rattle.std.specs.Prelude.{◌≡◌, ◌<◌};
-ghost use Rattle.ed_base.specs.Buffer.{letter_of};
+ghost use Rattle.std.specs.Prelude.{ℕ, ◌≡◌, ◌<◌, ◌≤◌, ◌↔◌, List, map, count_by};
+ghost use Rattle.ed_base.specs.Buffer.{Line, plain_line, has_letter, letter_of, marked_at, AtMostOnce, KnowLetters};
 
 use std::marker::Model;
 
@@ -42,3 +42,17 @@ impl Letter {
         usize::from(self.place)
     }
 }
+
+/// Lines without letters, and lines of which one has been marked: a letter marks one of them at most, and of each it is known
+/// which of the 26 letters mark it.
+pub fn marking_keeps_letters()
+    ensures known_at_first { (texts : List (List ℕ)) → KnowLetters (map plain_line texts) }
+    ensures known { (place letter : ℕ) (lines : List Line) → KnowLetters lines → KnowLetters (marked_at place letter lines) }
+    ensures once { (place letter : ℕ) (lines : List Line) → AtMostOnce lines → AtMostOnce (marked_at place letter lines) }
+{}
+
+/// That a letter marks one line at most can be told by counts, which are sums over the parts of a list.
+pub fn letters_are_counted()
+    ensures plain { (texts : List (List ℕ)) (letter : ℕ) → count_by (has_letter letter) (map plain_line texts) ≡ 0 }
+    ensures once { (lines : List Line) → AtMostOnce lines ↔ ((letter : ℕ) → count_by (has_letter letter) lines ≤ 1) }
+{}

@@ -10,13 +10,10 @@ mod text;
 
 pub use bytes::Bytes;
 pub use fault::Fault;
-pub use letter::Letter;
+pub use letter::{Letter, letters_are_counted, marking_keeps_letters};
 pub use lines::{
     bytes_hold_their_lines, count_lines, join_lines, next_line, split_lines,
     written_lines_are_read_back,
 };
 pub use numbers::push_number;
 pub use text::Text;
-
-#[cfg(test)]
-mod tests;

@@ -6,108 +6,97 @@ use Rattle.std.proofs.lemmas.List.Folds.{concat-append}
 use Rattle.std.proofs.lemmas.List.Elements.{All-append, All-same}
 use Rattle.ed_base.specs.Lines.{newline, IsLine, AreLines, bytes_of}
 use Rattle.ed_base.specs.Buffer.{Line, plain_line, texts}
+use Rattle.ed_base.specs.Parts.{block, exchanged, carried}
 
--- the elements behind place a up to place b
-abbrev pub part : {X : Type 0} → (a b : ℕ) → List X → List X
-part a b xs = drop a (take b xs)
+pub length-block : {X : Type 0} (a b : ℕ) (xs : List X) → b ≤ length xs → length (block a b xs) ≡ b - a
+length-block a b xs h = length-drop a (take b xs) ∙ ap (λ n. n - a) (length-take-le b xs h)
 
--- other elements in place of those
-abbrev pub other : {X : Type 0} → (a b : ℕ) → List X → List X → List X
-other a b new xs = take a xs ++ (new ++ drop b xs)
-
--- those elements behind this place of the others
-abbrev pub carried : {X : Type 0} → (a b place : ℕ) → List X → List X
-carried a b place xs = other place place (part a b xs) (other a b [] xs)
-
-pub length-part : {X : Type 0} (a b : ℕ) (xs : List X) → b ≤ length xs → length (part a b xs) ≡ b - a
-length-part a b xs h = length-drop a (take b xs) ∙ ap (λ n. n - a) (length-take-le b xs h)
-
-pub length-other : {X : Type 0} (a b : ℕ) (new xs : List X) → a ≤ b → b ≤ length xs → length (other a b new xs) + (b - a) ≡ length xs + length new
-length-other a b new xs h k =
+pub length-exchanged : {X : Type 0} (a b : ℕ) (new xs : List X) → a ≤ b → b ≤ length xs → length (exchanged a b new xs) + (b - a) ≡ length xs + length new
+length-exchanged a b new xs h k =
     omega (arith, length-append (take a xs) (new ++ drop b xs), length-append new (drop b xs), length-take-le a xs (omega arith), length-drop b xs)
 
 -- one more element of a part
-pub part-more : {X : Type 0} (a i : ℕ) (xs : List X) (d : X) → a ≤ i → i < length xs → part a (i + 1) xs ≡ part a i xs ++ get_or xs i d ∷ []
-part-more a i xs d h k =
+pub block-more : {X : Type 0} (a i : ℕ) (xs : List X) (d : X) → a ≤ i → i < length xs → block a (i + 1) xs ≡ block a i xs ++ get_or xs i d ∷ []
+block-more a i xs d h k =
     ap (drop a) (take_more xs i d k) ∙ drop-append-le a (take i xs) (get_or xs i d ∷ []) (omega (arith, length-take-le i xs (omega arith)))
 
 -- the elements before a place are those before an earlier one, and those between
-pub front : {X : Type 0} (a b : ℕ) (xs : List X) → a ≤ b → take a xs ++ part a b xs ≡ take b xs
-front a b xs h = ap (λ t. t ++ part a b xs) (sym (take-take a b xs h)) ∙ take-append-drop a (take b xs)
+pub front : {X : Type 0} (a b : ℕ) (xs : List X) → a ≤ b → take a xs ++ block a b xs ≡ take b xs
+front a b xs h = ap (λ t. t ++ block a b xs) (sym (take-take a b xs h)) ∙ take-append-drop a (take b xs)
 
 -- a part stands between what is before it and what is behind it
-pub whole : {X : Type 0} (a b : ℕ) (xs : List X) → a ≤ b → take a xs ++ (part a b xs ++ drop b xs) ≡ xs
+pub whole : {X : Type 0} (a b : ℕ) (xs : List X) → a ≤ b → take a xs ++ (block a b xs ++ drop b xs) ≡ xs
 whole a b xs h =
-    sym (append_assoc (take a xs) (part a b xs) (drop b xs))
+    sym (append_assoc (take a xs) (block a b xs) (drop b xs))
     ∙ ap (λ t. t ++ drop b xs) (front a b xs h)
     ∙ take-append-drop b xs
 
 -- the elements behind a place are those up to a later one, and those behind it
-pub rear : {X : Type 0} (a b : ℕ) (xs : List X) → a ≤ b → b ≤ length xs → drop a xs ≡ part a b xs ++ drop b xs
+pub rear : {X : Type 0} (a b : ℕ) (xs : List X) → a ≤ b → b ≤ length xs → drop a xs ≡ block a b xs ++ drop b xs
 rear a b xs h k =
     ap (drop a) (sym (take-append-drop b xs)) ∙ drop-append-le a (take b xs) (drop b xs) (omega (arith, length-take-le b xs k))
 
 -- elements put where a part was
-pub put-there : {X : Type 0} (a b : ℕ) (new xs : List X) → a ≤ length xs → other a a new (other a b [] xs) ≡ other a b new xs
+pub put-there : {X : Type 0} (a b : ℕ) (new xs : List X) → a ≤ length xs → exchanged a a new (exchanged a b [] xs) ≡ exchanged a b new xs
 put-there a b new xs h =
     ap (λ t. t ++ (new ++ drop a (take a xs ++ drop b xs))) (take_at (take a xs) (drop b xs) a (length-take-le a xs h))
     ∙ ap (λ t. take a xs ++ (new ++ t)) (drop_at (take a xs) (drop b xs) a (length-take-le a xs h))
 
 -- what stood between the front and the back, put there again
 taken-back : {X : Type 0} (front new old back : List X) (a b : ℕ) → length front ≡ a → a + length new ≡ b →
-    other a b old (front ++ (new ++ back)) ≡ front ++ (old ++ back)
+    exchanged a b old (front ++ (new ++ back)) ≡ front ++ (old ++ back)
 taken-back front new old back a b h k =
     ap (λ t. t ++ (old ++ drop b (front ++ (new ++ back)))) (take_at front (new ++ back) a h)
     ∙ ap (λ t. front ++ (old ++ t)) (ap (drop b) (sym (append_assoc front new back)) ∙ drop_at (front ++ new) back b (length-append front new ∙ omega arith))
 
-part-there : {X : Type 0} (front new back : List X) (a b : ℕ) → length front ≡ a → a + length new ≡ b → part a b (front ++ (new ++ back)) ≡ new
-part-there front new back a b h k =
+block-there : {X : Type 0} (front new back : List X) (a b : ℕ) → length front ≡ a → a + length new ≡ b → block a b (front ++ (new ++ back)) ≡ new
+block-there front new back a b h k =
     ap (λ t. drop a (take b t)) (sym (append_assoc front new back))
     ∙ ap (drop a) (take_at (front ++ new) back b (length-append front new ∙ omega arith))
     ∙ drop_at front new a h
 
 -- elements that were put in place of a part, taken out again for it
-pub put-back : {X : Type 0} (a b n : ℕ) (new xs : List X) → a ≤ b → b ≤ length xs → length new ≡ n → other a (a + n) (part a b xs) (other a b new xs) ≡ xs
+pub put-back : {X : Type 0} (a b n : ℕ) (new xs : List X) → a ≤ b → b ≤ length xs → length new ≡ n → exchanged a (a + n) (block a b xs) (exchanged a b new xs) ≡ xs
 put-back a b n new xs h k e =
-    taken-back (take a xs) new (part a b xs) (drop b xs) a (a + n) (length-take-le a xs (omega arith)) (omega arith)
+    taken-back (take a xs) new (block a b xs) (drop b xs) a (a + n) (length-take-le a xs (omega arith)) (omega arith)
     ∙ whole a b xs h
 
 -- a part that was carried, carried back
 pub carried-back : {X : Type 0} (a b place : ℕ) (xs : List X) → a ≤ b → b ≤ length xs → place + (b - a) ≤ length xs →
     carried place (place + (b - a)) a (carried a b place xs) ≡ xs
 carried-back a b place xs h k l =
-    let left = other a b [] xs in
-    let moved = part a b xs in
-    let short : place ≤ length left = omega (arith, length-other a b [] xs h k) in
+    let left = exchanged a b [] xs in
+    let moved = block a b xs in
+    let short : place ≤ length left = omega (arith, length-exchanged a b [] xs h k) in
     let at : length (take place left) ≡ place = length-take-le place left short in
-    let long : place + length moved ≡ place + (b - a) = ap (λ n. place + n) (length-part a b xs k) in
-    let others : other place (place + (b - a)) [] (carried a b place xs) ≡ left =
+    let long : place + length moved ≡ place + (b - a) = ap (λ n. place + n) (length-block a b xs k) in
+    let others : exchanged place (place + (b - a)) [] (carried a b place xs) ≡ left =
     taken-back (take place left) moved [] (drop place left) place (place + (b - a)) at long ∙ take-append-drop place left in
-    let again : part place (place + (b - a)) (carried a b place xs) ≡ moved =
-    part-there (take place left) moved (drop place left) place (place + (b - a)) at long in
-    ap (λ t. other a a t (other place (place + (b - a)) [] (carried a b place xs))) again
-    ∙ ap (other a a moved) others
+    let again : block place (place + (b - a)) (carried a b place xs) ≡ moved =
+    block-there (take place left) moved (drop place left) place (place + (b - a)) at long in
+    ap (λ t. exchanged a a t (exchanged place (place + (b - a)) [] (carried a b place xs))) again
+    ∙ ap (exchanged a a moved) others
     ∙ put-there a b moved xs (omega arith)
     ∙ whole a b xs h
 
-pub part-none : {X : Type 0} (a : ℕ) (xs : List X) → part a a xs ≡ []
-part-none a xs = drop_all a (take a xs) (omega (arith, length-take a xs))
+pub block-none : {X : Type 0} (a : ℕ) (xs : List X) → block a a xs ≡ []
+block-none a xs = drop_all a (take a xs) (omega (arith, length-take a xs))
 
 -- the texts of one more line
 texts-more : (a i : ℕ) (lines : List Line) (text : List ℕ) → a ≤ i → i < length lines → text ≡ (get_or lines i (plain_line [])).bytes →
-    texts (part a (i + 1) lines) ≡ texts (part a i lines) ++ text ∷ []
+    texts (block a (i + 1) lines) ≡ texts (block a i lines) ++ text ∷ []
 texts-more a i lines text h k e =
-    ap texts (part-more a i lines (plain_line []) h k)
-    ∙ map-append (λ l. l.bytes) (part a i lines) (get_or lines i (plain_line []) ∷ [])
-    ∙ ap (λ t. texts (part a i lines) ++ t ∷ []) (sym e)
+    ap texts (block-more a i lines (plain_line []) h k)
+    ∙ map-append (λ l. l.bytes) (block a i lines) (get_or lines i (plain_line []) ∷ [])
+    ∙ ap (λ t. texts (block a i lines) ++ t ∷ []) (sym e)
 
 -- one more line's text joined to the others
 pub joined-more : (a i : ℕ) (lines : List Line) (text : List ℕ) → a ≤ i → i < length lines → text ≡ (get_or lines i (plain_line [])).bytes →
-    concat (texts (part a (i + 1) lines)) ≡ concat (texts (part a i lines)) ++ text
+    concat (texts (block a (i + 1) lines)) ≡ concat (texts (block a i lines)) ++ text
 joined-more a i lines text h k e =
     ap concat (texts-more a i lines text h k e)
-    ∙ concat-append (texts (part a i lines)) (text ∷ [])
-    ∙ ap (λ t. concat (texts (part a i lines)) ++ t) (append-nil text)
+    ∙ concat-append (texts (block a i lines)) (text ∷ [])
+    ∙ ap (λ t. concat (texts (block a i lines)) ++ t) (append-nil text)
 
 -- a file of one more line
 bytes-more : (lines : List (List ℕ)) (line : List ℕ) → bytes_of (lines ++ line ∷ []) ≡ (bytes_of lines ++ line) ++ newline ∷ []
@@ -123,11 +112,11 @@ one-line line h (suc k) d b = absurd (omega arith)
 
 -- one more line's text copied behind the others
 pub copied-more : (a i : ℕ) (lines : List Line) (text : List ℕ) → a ≤ i → i < length lines → text ≡ (get_or lines i (plain_line [])).bytes →
-    bytes_of (texts (part a (i + 1) lines)) ≡ (bytes_of (texts (part a i lines)) ++ text) ++ newline ∷ []
-copied-more a i lines text h k e = ap bytes_of (texts-more a i lines text h k e) ∙ bytes-more (texts (part a i lines)) text
+    bytes_of (texts (block a (i + 1) lines)) ≡ (bytes_of (texts (block a i lines)) ++ text) ++ newline ∷ []
+copied-more a i lines text h k e = ap bytes_of (texts-more a i lines text h k e) ∙ bytes-more (texts (block a i lines)) text
 
 pub lines-more : (a i : ℕ) (lines : List Line) (text : List ℕ) → a ≤ i → i < length lines → text ≡ (get_or lines i (plain_line [])).bytes →
-    IsLine text → AreLines (texts (part a i lines)) → AreLines (texts (part a (i + 1) lines))
+    IsLine text → AreLines (texts (block a i lines)) → AreLines (texts (block a (i + 1) lines))
 lines-more a i lines text h k e line before =
-    All-same IsLine (texts (part a (i + 1) lines)) (texts (part a i lines) ++ text ∷ []) (texts-more a i lines text h k e)
-    (All-append IsLine (texts (part a i lines)) (text ∷ []) before (one-line text line))
+    All-same IsLine (texts (block a (i + 1) lines)) (texts (block a i lines) ++ text ∷ []) (texts-more a i lines text h k e)
+    (All-append IsLine (texts (block a i lines)) (text ∷ []) before (one-line text line))

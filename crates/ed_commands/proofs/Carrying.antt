@@ -2,7 +2,8 @@
 use Rattle.std.proofs.Common.{◌≡◌, ℕ, suc, ◌+◌, ◌-◌, ◌<◌, ◌≤◌, List, [], ◌∷◌, ◌++◌, take, drop, length, get_or, sym, ap, ◌∙◌, arith, append_assoc}
 use Rattle.std.specs.Prelude.{remove, insert}
 use Rattle.std.proofs.lemmas.List.{take_at, drop_at, take_all, drop_all, take-take, take-append-le, drop-append-le, length-take-le, length-append, take_more, drop_more, get_or_at}
-use Rattle.ed_commands.proofs.Blocks.{part, other, carried, length-part, front, whole, rear}
+use Rattle.ed_base.specs.Parts.{block, exchanged, carried}
+use Rattle.ed_commands.proofs.Blocks.{length-block, front, whole, rear}
 
 -- a block of which the elements before place m stand in front of others, and the rest behind them
 abbrev pub parted : {X : Type 0} → (before block others behind : List X) → ℕ → List X
@@ -63,61 +64,61 @@ turn-down xs before block others behind m i j d h b e f =
 
 -- A block is carried up behind a place before it.
 abbrev pub going_up : {X : Type 0} → (a b place : ℕ) → List X → ℕ → List X
-going_up a b place xs m = parted (take place xs) (part a b xs) (part place a xs) (drop b xs) m
+going_up a b place xs m = parted (take place xs) (block a b xs) (block place a xs) (drop b xs) m
 
 pub up-init : {X : Type 0} (a b place : ℕ) (xs : List X) → place ≤ a → a ≤ b → going_up a b place xs 0 ≡ xs
 up-init a b place xs h k =
-    sym (append_assoc (take place xs) (part place a xs) (part a b xs ++ drop b xs))
-    ∙ ap (λ t. t ++ (part a b xs ++ drop b xs)) (front place a xs h)
+    sym (append_assoc (take place xs) (block place a xs) (block a b xs ++ drop b xs))
+    ∙ ap (λ t. t ++ (block a b xs ++ drop b xs)) (front place a xs h)
     ∙ whole a b xs k
 
 pub up-done : {X : Type 0} (a b place n : ℕ) (xs : List X) → place ≤ a → a ≤ b → b ≤ length xs → n ≡ b - a → going_up a b place xs n ≡ carried a b place xs
 up-done a b place n xs h k l e =
-    let all : length (part a b xs) ≡ n = length-part a b xs l ∙ sym e in
+    let all : length (block a b xs) ≡ n = length-block a b xs l ∙ sym e in
     let long : length (take a xs) ≡ a = length-take-le a xs (omega arith) in
-    ap (λ t. take place xs ++ (t ++ (part place a xs ++ (drop n (part a b xs) ++ drop b xs)))) (take_all n (part a b xs) (omega arith))
-    ∙ ap (λ t. take place xs ++ (part a b xs ++ (part place a xs ++ (t ++ drop b xs)))) (drop_all n (part a b xs) (omega arith))
-    ∙ sym (ap (λ t. t ++ (part a b xs ++ drop place (take a xs ++ drop b xs))) (take-append-le place (take a xs) (drop b xs) (omega arith) ∙ take-take place a xs h)
-    ∙ ap (λ t. take place xs ++ (part a b xs ++ t)) (drop-append-le place (take a xs) (drop b xs) (omega arith)))
+    ap (λ t. take place xs ++ (t ++ (block place a xs ++ (drop n (block a b xs) ++ drop b xs)))) (take_all n (block a b xs) (omega arith))
+    ∙ ap (λ t. take place xs ++ (block a b xs ++ (block place a xs ++ (t ++ drop b xs)))) (drop_all n (block a b xs) (omega arith))
+    ∙ sym (ap (λ t. t ++ (block a b xs ++ drop place (take a xs ++ drop b xs))) (take-append-le place (take a xs) (drop b xs) (omega arith) ∙ take-take place a xs h)
+    ∙ ap (λ t. take place xs ++ (block a b xs ++ t)) (drop-append-le place (take a xs) (drop b xs) (omega arith)))
 
 pub up-turn : {X : Type 0} (a b place m i j : ℕ) (before xs : List X) (d : X) → xs ≡ going_up a b place before m → place ≤ a → b ≤ length before → a + m < b →
     i ≡ a + m → j ≡ place + m → insert (remove xs i) j (get_or xs i d) ≡ going_up a b place before (m + 1)
 up-turn a b place m i j before xs d h k l b' e f =
-    turn-up xs (take place before) (part a b before) (part place a before) (drop b before) m i j d h
-    (omega (arith, length-part a b before l))
-    (omega (arith, length-take-le place before (omega arith), length-part place a before (omega arith)))
+    turn-up xs (take place before) (block a b before) (block place a before) (drop b before) m i j d h
+    (omega (arith, length-block a b before l))
+    (omega (arith, length-take-le place before (omega arith), length-block place a before (omega arith)))
     (omega (arith, length-take-le place before (omega arith)))
 
 -- A block is carried down behind a place behind it.
 abbrev pub going_down : {X : Type 0} → (a b target : ℕ) → List X → ℕ → List X
-going_down a b target xs m = parted (take a xs) (part a b xs) (part b target xs) (drop target xs) m
+going_down a b target xs m = parted (take a xs) (block a b xs) (block b target xs) (drop target xs) m
 
 pub down-init : {X : Type 0} (a b target n : ℕ) (xs : List X) → a ≤ b → b ≤ target → target ≤ length xs → n ≡ b - a → going_down a b target xs n ≡ xs
 down-init a b target n xs h k l e =
-    let all : length (part a b xs) ≡ n = length-part a b xs (omega arith) ∙ sym e in
-    ap (λ t. take a xs ++ (t ++ (part b target xs ++ (drop n (part a b xs) ++ drop target xs)))) (take_all n (part a b xs) (omega arith))
-    ∙ ap (λ t. take a xs ++ (part a b xs ++ (part b target xs ++ (t ++ drop target xs)))) (drop_all n (part a b xs) (omega arith))
-    ∙ ap (λ t. take a xs ++ (part a b xs ++ t)) (sym (rear b target xs k l))
+    let all : length (block a b xs) ≡ n = length-block a b xs (omega arith) ∙ sym e in
+    ap (λ t. take a xs ++ (t ++ (block b target xs ++ (drop n (block a b xs) ++ drop target xs)))) (take_all n (block a b xs) (omega arith))
+    ∙ ap (λ t. take a xs ++ (block a b xs ++ (block b target xs ++ (t ++ drop target xs)))) (drop_all n (block a b xs) (omega arith))
+    ∙ ap (λ t. take a xs ++ (block a b xs ++ t)) (sym (rear b target xs k l))
     ∙ whole a b xs h
 
 pub down-done : {X : Type 0} (a b target place : ℕ) (xs : List X) → a ≤ b → b ≤ target → target ≤ length xs → place ≡ target - (b - a) →
     going_down a b target xs 0 ≡ carried a b place xs
 down-done a b target place xs h k l e =
-    let gap = part b target xs in
+    let gap = block b target xs in
     let back = drop target xs in
-    let left : other a b [] xs ≡ (take a xs ++ gap) ++ back =
+    let left : exchanged a b [] xs ≡ (take a xs ++ gap) ++ back =
     ap (λ t. take a xs ++ t) (rear b target xs k l) ∙ sym (append_assoc (take a xs) gap back) in
     let long : length (take a xs ++ gap) ≡ place =
-    omega (arith, length-append (take a xs) gap, length-take-le a xs (omega arith), length-part b target xs l) in
-    sym (append_assoc (take a xs) gap (part a b xs ++ back))
-    ∙ sym (ap (λ t. take place t ++ (part a b xs ++ drop place t)) left
-    ∙ ap (λ t. t ++ (part a b xs ++ drop place ((take a xs ++ gap) ++ back))) (take_at (take a xs ++ gap) back place long)
-    ∙ ap (λ t. (take a xs ++ gap) ++ (part a b xs ++ t)) (drop_at (take a xs ++ gap) back place long))
+    omega (arith, length-append (take a xs) gap, length-take-le a xs (omega arith), length-block b target xs l) in
+    sym (append_assoc (take a xs) gap (block a b xs ++ back))
+    ∙ sym (ap (λ t. take place t ++ (block a b xs ++ drop place t)) left
+    ∙ ap (λ t. t ++ (block a b xs ++ drop place ((take a xs ++ gap) ++ back))) (take_at (take a xs ++ gap) back place long)
+    ∙ ap (λ t. (take a xs ++ gap) ++ (block a b xs ++ t)) (drop_at (take a xs ++ gap) back place long))
 
 pub down-turn : {X : Type 0} (a b target m i j : ℕ) (before xs : List X) (d : X) → xs ≡ going_down a b target before (m + 1) → a + m < b → b ≤ target → target ≤ length before →
     i ≡ a + m → j ≡ target - (b - i) → insert (remove xs i) j (get_or xs i d) ≡ going_down a b target before m
 down-turn a b target m i j before xs d h b' k l e f =
-    turn-down xs (take a before) (part a b before) (part b target before) (drop target before) m i j d h
-    (omega (arith, length-part a b before (omega arith)))
+    turn-down xs (take a before) (block a b before) (block b target before) (drop target before) m i j d h
+    (omega (arith, length-block a b before (omega arith)))
     (omega (arith, length-take-le a before (omega arith)))
-    (omega (arith, length-take-le a before (omega arith), length-part b target before l))
+    (omega (arith, length-take-le a before (omega arith), length-block b target before l))

@@ -1,53 +1,46 @@
 -- What a change of the buffer leaves, and that undo would bring back the buffer before it.
-use Rattle.std.proofs.Common.{◌≡◌, ◌≢◌, ℕ, ◌+◌, ◌-◌, ◌<◌, ◌≤◌, Bool, true, false, ◌&&◌, nat_le, List, [], ◌∷◌, length, map, get_or, refl, sym, ap, ◌∙◌, arith}
+use Rattle.std.proofs.Common.{◌≡◌, ◌≢◌, ℕ, ◌+◌, ◌-◌, ◌<◌, ◌≤◌, Bool, true, false, ◌&&◌, nat_le, List, [], ◌∷◌, ◌++◌, length, map, get_or, refl, sym, ap, ◌∙◌, arith}
 use Rattle.std.specs.Prelude.{Option, Result, Ok, Err}
 use Rattle.std.proofs.lemmas.List.{length-map, get_or-map}
 use Rattle.ed_base.specs.Buffer.{Line, plain_line, texts, marked_at}
 use Rattle.ed_base.specs.declared.fault.Fault.{Fault}
 use Rattle.ed_base.specs.declared.fault.Fault.TheVariants.{Destination}
 use Rattle.line_store.specs.Marks.{lettered}
-use Rattle.ed_syntax.specs.States.{State, Was, between, inserted}
+use Rattle.ed_base.specs.Parts.{between, block, carried, exchanged, inserted}
+use Rattle.ed_syntax.specs.States.{State}
 use Rattle.ed_syntax.specs.Ranges as ranges
 use Rattle.ed_syntax.specs.Effects as effect
 use Rattle.ed_syntax.specs.Effects.{Outcome, altered, entered}
-use Rattle.ed_syntax.specs.Applied.{settled}
-use Rattle.ed_commands.specs.declared.editor.change.Change.{Change}
-use Rattle.ed_commands.specs.Editors.{AreNew, block, exchanged, carried, kept_at, past_of, place_beside}
-use Rattle.ed_commands.proofs.Blocks.{length-part, put-back, carried-back}
+use Rattle.ed_syntax.specs.Applied.{past_after}
+use Rattle.ed_commands.specs.declared.editor.past.Past.{Past}
+use Rattle.ed_commands.specs.declared.editor.past.Before.{Before}
+use Rattle.ed_commands.specs.declared.editor.past.Change.{Change}
+use Rattle.ed_commands.specs.Editors.{AreNew, kept_at, kept_of, left_by, lines_before, past_of, place_beside, rewound}
+use Rattle.ed_commands.proofs.Blocks.{length-block}
 use Rattle.ed_commands.proofs.Letters.{past-marked}
 
--- lines exchanged, with what undo keeps
-pub exchanging : (s : State) (a b before n count : ℕ) (lines new removed : List Line) (marks : List (Option ℕ)) → a ≤ b → b ≤ length s.lines →
-    lines ≡ exchanged a b new s.lines → removed ≡ block a b s.lines → lettered marks 0 s.lines ≡ s.lines → count ≡ length new → n ≡ a + length new →
-    record s {
-      lines = lines;
-      current = n;
-      changed = true;
-      past = Was (record { lines = lettered marks 0 (exchanged a (a + count) removed lines); current = before });
-    }
-    ≡ settled (kept_at before s) (altered (exchanged a b new s.lines) (a + length new) s)
-exchanging s a b before n count lines new removed marks h k put out own counted at =
-    let back : exchanged a (a + count) removed lines ≡ s.lines = rw (put, out) (put-back a b count new s.lines h k (sym counted)) in
-    rw (back, own, at, put) refl
+-- one more change is taken back before the others
+pub rewound-more : (changes : List Change) (c : Change) (lines : List Line) → rewound (changes ++ c ∷ []) lines ≡ rewound changes (lines_before c lines)
+rewound-more [] c lines = refl
+rewound-more (first ∷ changes) c lines = ap (lines_before first) (rewound-more changes c lines)
 
--- lines moved, with what undo keeps
-pub moving : (s : State) (a b place before n : ℕ) (lines : List Line) (marks : List (Option ℕ)) → a ≤ b → b ≤ length s.lines → place + (b - a) ≤ length s.lines →
-    lines ≡ carried a b place s.lines → lettered marks 0 s.lines ≡ s.lines → n ≡ place + (b - a) →
-    record s {
-      lines = lines;
-      current = n;
-      changed = true;
-      past = Was (record { lines = lettered marks 0 (carried place (place + (b - a)) a lines); current = before });
-    }
-    ≡ settled (kept_at before s) (altered (carried a b place s.lines) (place + (b - a)) s)
-moving s a b place before n lines marks h k l put own at =
-    let back : carried place (place + (b - a)) a lines ≡ s.lines = rw put (carried-back a b place s.lines h k l) in
-    rw (back, own, at, put) refl
+-- the lines become these, with what undo keeps
+pub changing : (s : State) (p q : Past) (b : Before) (c : Change) (n count : ℕ) (lines new : List Line) (marks : List (Option ℕ)) →
+    lines_before c lines ≡ s.lines → lines ≡ new → n ≡ count → lettered marks 0 s.lines ≡ s.lines → s.past ≡ past_of p s.lines →
+    past_of q lines ≡ past_after b.listed (kept_of b.current marks (lines_before c lines)) (past_of p (lines_before c lines)) →
+    record s { lines = lines; current = n; changed = true; past = past_of q lines } ≡ left_by b s (altered new count s)
+changing s p q b c n count lines new marks back put at own was kept =
+    let past : past_of q lines ≡ past_after b.listed (kept_at b.current s) s.past =
+    kept
+    ∙ ap (λ t. past_after b.listed (kept_of b.current marks t) (past_of p t)) back
+    ∙ ap (λ t. past_after b.listed (record { lines = t; current = b.current }) (past_of p s.lines)) own
+    ∙ ap (past_after b.listed (kept_at b.current s)) (sym was) in
+    rw (past, put, at) refl
 
 -- a line marked, with what undo keeps
-pub marked : (s : State) (c : Option Change) (place letter : ℕ) (lines : List Line) → s.past ≡ past_of c s.lines → lines ≡ marked_at place letter s.lines →
-    record s { lines = lines; past = past_of c lines } ≡ record s { lines = marked_at place letter s.lines }
-marked s c place letter lines past put = rw (put, past-marked c place letter s.lines, ← past) refl
+pub marked : (s : State) (p : Past) (place letter : ℕ) (lines : List Line) → s.past ≡ past_of p s.lines → lines ≡ marked_at place letter s.lines →
+    record s { lines = lines; past = past_of p lines } ≡ record s { lines = marked_at place letter s.lines }
+marked s p place letter lines past put = rw (put, past-marked p place letter s.lines, ← past) refl
 
 -- the texts of new lines are those that they were made of
 pub texts-plain : (text : List (List ℕ)) → texts (map plain_line text) ≡ text
@@ -99,4 +92,4 @@ pub moved-to : (a b target place : ℕ) (s : State) → 1 ≤ a → a ≤ b → 
 moved-to a b target place s h k l p =
     placed (nat_le a target && nat_le target b) Destination (effect.place_left (ranges.span a b) target) place
     (λ n. Ok (altered (carried (a - 1) b n s.lines) (n + length (between a b s.lines)) s)) p
-    ∙ ap (λ n. Ok (altered (carried (a - 1) b place s.lines) (place + n) s)) (length-part (a - 1) b s.lines l)
+    ∙ ap (λ n. Ok (altered (carried (a - 1) b place s.lines) (place + n) s)) (length-block (a - 1) b s.lines l)

@@ -2,16 +2,16 @@
 use Rattle.std.specs.Prelude.{ℕ, Bool, List, Option, None}
 use Rattle.ed_base.specs.Buffer.{Line}
 use Rattle.ed_syntax.specs.States.{State}
-use Rattle.ed_commands.specs.declared.editor.change.Change.{Change}
+use Rattle.ed_commands.specs.declared.editor.past.Past.{Past}
 use Rattle.ed_commands.specs.Editors.{past_of}
 
-abbrev pub held : List Line → (current : ℕ) → (pattern name : Option (List ℕ)) → (changed : Bool) → Option Change → State
-held lines current pattern name changed change = record {
+abbrev pub held : List Line → (current : ℕ) → (pattern name : Option (List ℕ)) → (changed : Bool) → Past → State
+held lines current pattern name changed past = record {
   lines = lines;
   current = current;
   pattern = pattern;
   replacement = None;
   name = name;
   changed = changed;
-  past = past_of change lines;
+  past = past_of past lines;
 }

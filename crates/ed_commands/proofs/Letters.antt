@@ -4,11 +4,13 @@ use Rattle.std.proofs.lemmas.List.{map-append, take-map, drop-map}
 use Rattle.std.proofs.Math.Seq.{map-set_same}
 use Rattle.ed_base.specs.Buffer.{Line, plain_line, with_letter, marked_at}
 use Rattle.line_store.specs.Marks.{letters_at, lettered}
+use Rattle.ed_base.specs.Parts.{block, exchanged, carried}
 use Rattle.ed_syntax.specs.States.{Was}
-use Rattle.ed_commands.specs.declared.editor.change.Change.{Change}
-use Rattle.ed_commands.specs.declared.editor.change.Kind.{Kind}
-use Rattle.ed_commands.specs.declared.editor.change.Kind.TheVariants as kind
-use Rattle.ed_commands.specs.Editors.{block, exchanged, carried, lines_before, past_of}
+use Rattle.ed_commands.specs.declared.editor.past.Past.{Past}
+use Rattle.ed_commands.specs.declared.editor.past.Held.{Held}
+use Rattle.ed_commands.specs.declared.editor.past.Change.{Change}
+use Rattle.ed_commands.specs.declared.editor.past.Change.TheVariants as change
+use Rattle.ed_commands.specs.Editors.{lines_before, rewound, held_past, past_of}
 
 -- a line without its letters
 abbrev pub bare : Line → Line
@@ -44,23 +46,31 @@ bare-carried a b place lines =
     ∙ ap (exchanged place place (block a b (map bare lines))) (bare-exchanged a b [] lines)
 
 -- the same lines but for their letters were the same before a change
-bare-before : (k : Kind) (xs ys : List Line) → map bare xs ≡ map bare ys → map bare (lines_before k xs) ≡ map bare (lines_before k ys)
-bare-before (kind.Replaced from entered removed) xs ys h =
+bare-before : (k : Change) (xs ys : List Line) → map bare xs ≡ map bare ys → map bare (lines_before k xs) ≡ map bare (lines_before k ys)
+bare-before (change.Replaced from entered removed) xs ys h =
     bare-exchanged from (from + entered) removed.items xs
     ∙ ap (exchanged from (from + entered) (map bare removed.items)) h
     ∙ sym (bare-exchanged from (from + entered) removed.items ys)
-bare-before (kind.Moved from to place) xs ys h =
+bare-before (change.Moved from to place) xs ys h =
     bare-carried place (place + (to - from)) from xs
     ∙ ap (carried place (place + (to - from)) from) h
     ∙ sym (bare-carried place (place + (to - from)) from ys)
 
+-- and so were they before several
+bare-rewound : (changes : List Change) (xs ys : List Line) → map bare xs ≡ map bare ys → map bare (rewound changes xs) ≡ map bare (rewound changes ys)
+bare-rewound [] xs ys h = h
+bare-rewound (k ∷ later) xs ys h = bare-before k (rewound later xs) (rewound later ys) (bare-rewound later xs ys h)
+
 lettered-same : (marks : List (Option ℕ)) (xs ys : List Line) → map bare xs ≡ map bare ys → lettered marks 0 xs ≡ lettered marks 0 ys
 lettered-same marks xs ys h = sym (lettered-bare marks 0 xs) ∙ ap (lettered marks 0) h ∙ lettered-bare marks 0 ys
 
+-- lines that are the same but for their letters are kept as the same
+same-past : (h : Option Held) (xs ys : List Line) → map bare xs ≡ map bare ys → held_past h xs ≡ held_past h ys
+same-past None xs ys e = refl
+same-past (Some h) xs ys e = ap (λ t. Was (record { lines = t; current = h.current })) (lettered-same h.marks xs ys e)
+
 -- a letter that marks another line changes nothing of what undo would bring back
-pub past-marked : (c : Option Change) (place letter : ℕ) (lines : List Line) → past_of c (marked_at place letter lines) ≡ past_of c lines
-past-marked None place letter lines = refl
-past-marked (Some c) place letter lines =
-    ap (λ t. Was (record { lines = t; current = c.current }))
-    (lettered-same c.marks (lines_before c.kind (marked_at place letter lines)) (lines_before c.kind lines)
-    (bare-before c.kind (marked_at place letter lines) lines (bare-marked_at place letter lines)))
+pub past-marked : (p : Past) (place letter : ℕ) (lines : List Line) → past_of p (marked_at place letter lines) ≡ past_of p lines
+past-marked p place letter lines =
+    same-past p.held (rewound p.changes.items (marked_at place letter lines)) (rewound p.changes.items lines)
+    (bare-rewound p.changes.items (marked_at place letter lines) lines (bare-marked_at place letter lines))

@@ -6,3 +6,4 @@ pub mod Held
 pub mod Letters
 pub mod Ranges
 pub mod Searching
+pub mod Scanning

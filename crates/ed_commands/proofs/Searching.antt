@@ -12,7 +12,7 @@ use Rattle.ed_base.specs.declared.fault.Fault.{Fault}
 use Rattle.ed_base.specs.declared.fault.Fault.TheVariants as fault
 use Rattle.ed_syntax.specs.States.{State, last}
 use Rattle.ed_syntax.specs.Values.{count_from, upwards, lines_forward, lines_backward, matches, matches_line, searched, sought}
-use Rattle.ed_commands.specs.Editors.{Valued, with_pattern}
+use Rattle.ed_commands.specs.Editors.{TellsLine, with_pattern}
 
 matched-by : (text line : List ℕ) (tree : Tree) → pattern text ≡ Ok tree → matches text line ≡ is_some (match_from tree line 0)
 matched-by text line tree h = rw (h, matches) refl
@@ -99,6 +99,6 @@ as-sought order s now own text result stays is some r =
 
 -- what came of a search that has looked at all lines
 pub looked : (expected result : Result ℕ Fault) (found : Option ℕ) (after new : State) → expected ≡ ok_or found fault.NoMatch → result ≡ ok_or found fault.NoMatch → new ≡ after →
-    Valued expected after result new
+    TellsLine expected after result new
 looked expected result None after new e r n = rw r (λ other. (e, n))
 looked expected result (Some line) after new e r n = rw r (e, n)

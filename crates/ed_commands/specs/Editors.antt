@@ -1,25 +1,26 @@
 -- An editor as a value: what it holds, and the fault that it has failed by.
-use Rattle.std.specs.Prelude.{ℕ, ◌≡◌, ◌≢◌, ◌+◌, ◌-◌, ◌≤◌, true, false, ◌&&◌, List, [], ◌∷◌, ◌++◌, map, take, drop, nat_le, Option, Some, None, Result, Ok, Err, MatchResult}
+use Rattle.std.specs.Prelude.{ℕ, ◌≡◌, ◌≢◌, ◌+◌, ◌-◌, ◌≤◌, Bool, true, false, ◌&&◌, List, [], ◌∷◌, ◌++◌, map, nat_le, Option, Some, None, Result, Ok, Err, IsOkAnd, MatchResult}
 use Rattle.ed_base.specs.Buffer.{Line, plain_line, texts}
+use Rattle.ed_base.specs.Parts.{exchanged, carried}
 use Rattle.ed_base.specs.declared.fault.Fault.{Fault}
 use Rattle.ed_base.specs.declared.fault.Fault.TheVariants.{Destination, Memory}
 use Rattle.line_store.specs.Marks.{lettered}
-use Rattle.ed_syntax.specs.States.{State, Kept, Past, Nothing, Was, last, inserted, opening}
 use Rattle.ed_syntax.specs.Commands as ed
+use Rattle.ed_syntax.specs.States as states
+use Rattle.ed_syntax.specs.States.{State, Kept, Nothing, Was, opening}
 use Rattle.ed_syntax.specs.declared.verbs.Taking.{Taking}
-use Rattle.ed_syntax.specs.declared.verbs.Taking.TheVariants as takes
-use Rattle.ed_syntax.specs.Verbs.{taking, default, given_or, target_of}
-use Rattle.ed_syntax.specs.Values.{◌>>◌, values}
+use Rattle.ed_syntax.specs.declared.verbs.Taking.TheVariants as many
+use Rattle.ed_syntax.specs.Values.{◌>>◌}
 use Rattle.ed_syntax.specs.Ranges as ranges
-use Rattle.ed_syntax.specs.Ranges.{spanned}
-use Rattle.ed_syntax.specs.Effects.{place_left}
-use Rattle.ed_syntax.specs.Applied as applied
-use Rattle.ed_syntax.specs.Applied.{Effect, Makes, Asks, settled, suffix_written, targeted}
+use Rattle.ed_syntax.specs.Effects.{Outcome, Effect, Makes, Asks, place_left}
+use Rattle.ed_syntax.specs.Applied.{Placed, settled, suffix_written}
 use Rattle.ed_commands.specs.declared.editor.Reply.{Reply}
 use Rattle.ed_commands.specs.declared.editor.Reply.TheVariants as reply
-use Rattle.ed_commands.specs.declared.editor.change.Change.{Change}
-use Rattle.ed_commands.specs.declared.editor.change.Kind.{Kind}
-use Rattle.ed_commands.specs.declared.editor.change.Kind.TheVariants as kind
+use Rattle.ed_commands.specs.declared.editor.past.Past.{Past}
+use Rattle.ed_commands.specs.declared.editor.past.Before.{Before}
+use Rattle.ed_commands.specs.declared.editor.past.Held.{Held}
+use Rattle.ed_commands.specs.declared.editor.past.Change.{Change}
+use Rattle.ed_commands.specs.declared.editor.past.Change.TheVariants as change
 use Rattle.ed_commands.specs.declared.editor.addressing.Addressed.{Addressed}
 use Rattle.ed_commands.specs.declared.editor.addressing.Span.{Span}
 use Rattle.ed_commands.specs.declared.editor.addressing.Values.{Values}
@@ -33,22 +34,30 @@ pub record EditorValue : Type 0 where
 abbrev pub opening_value : EditorValue
 opening_value = record { state = opening; failed = None }
 
--- a step gave what was expected and left the state that was expected; or the expected fault; or it had no memory
+-- a call told what was expected, or the expected fault; or it was out of memory
+abbrev pub Tells : {A B : Type 0} → (A → B) → Result B Fault → Result A Fault → Type 0
+Tells value expected result = MatchResult result (λ x. expected ≡ Ok (value x)) (λ fault. fault ≢ Memory → expected ≡ Err fault)
+
+-- a step gave what was expected and left the state that was expected; or the expected fault; or it was out of memory
 abbrev pub Steps : {A B : Type 0} → (A → B) → Result (State × B) Fault → Result A Fault → State → Type 0
-Steps value expected result new = MatchResult result (λ x. expected ≡ Ok (new, value x)) (λ fault. fault ≢ Memory → expected ≡ Err fault)
+Steps value expected result new = Tells (λ x. (new, value x)) expected result
 
--- what a public reply stands for
-abbrev pub reply_value : Reply → applied.Reply
-reply_value (reply.Done output) = applied.Done output
-reply_value (reply.Wants request) = applied.Wants request
+-- A reply to a command of this effect: what it wrote, where it left the state that was expected; or the request that it makes
+-- first, where nothing has changed.
+abbrev pub Replies : (old new : State) → Reply → Effect → Type 0
+Replies old new (reply.Done output) (Makes o) = (new ≡ o.state) × (output ≡ o.output)
+Replies old new (reply.Done output) (Asks request) = ⊥
+Replies old new (reply.Wants request) (Makes o) = ⊥
+Replies old new (reply.Wants request) (Asks asked) = (request ≡ asked) × (new ≡ old)
 
--- what came of a command
-abbrev pub Applied : Result (State × applied.Reply) Fault → Result Reply Fault → State → Type 0
-Applied expected result new = Steps reply_value expected result new
+-- what came of a command: a reply to its effect, or the expected fault; or it was out of memory
+abbrev pub Applied : Result Effect Fault → Result Reply Fault → (old new : State) → Type 0
+Applied expected result old new =
+    MatchResult result (λ r. IsOkAnd expected (Replies old new r)) (λ fault. fault ≢ Memory → expected ≡ Err fault)
 
--- a line was told that was expected, or the expected fault, and in both cases this state was left; or there was no memory
-abbrev pub Valued : Result ℕ Fault → State → Result ℕ Fault → State → Type 0
-Valued expected after result new =
+-- a line was told that was expected, or the expected fault, and in both cases this state was left; or it was out of memory
+abbrev pub TellsLine : Result ℕ Fault → State → Result ℕ Fault → State → Type 0
+TellsLine expected after result new =
     MatchResult result (λ line. (expected ≡ Ok line) × (new ≡ after)) (λ fault. fault ≢ Memory → (expected ≡ Err fault) × (new ≡ after))
 
 -- the state where this pattern is remembered
@@ -65,31 +74,28 @@ failure_of (Some fault) result = Some fault
 failure_of None (Ok r) = None
 failure_of None (Err fault) = Some fault
 
--- the lines behind line a up to line b
-abbrev pub block : (a b : ℕ) → List Line → List Line
-block a b lines = drop a (take b lines)
+-- The lines before a change, told from those after it. What was moved is carried back.
+abbrev pub lines_before : Change → List Line → List Line
+lines_before (change.Replaced from entered removed) lines = exchanged from (from + entered) removed.items lines
+lines_before (change.Moved from to place) lines = carried place (place + (to - from)) from lines
 
--- other lines in place of those behind line a up to line b
-abbrev pub exchanged : (a b : ℕ) → List Line → List Line → List Line
-exchanged a b new lines = take a lines ++ (new ++ drop b lines)
+-- the lines before several changes, of which the last one is taken back first
+abbrev pub rewound : List Change → List Line → List Line
+rewound [] lines = lines
+rewound (c ∷ later) lines = lines_before c (rewound later lines)
 
--- the lines behind line a up to line b behind this line of the others
-abbrev pub carried : (a b place : ℕ) → List Line → List Line
-carried a b place lines = inserted place (block a b lines) (exchanged a b [] lines)
+-- these lines as undo keeps them, with their letters where they were then
+abbrev pub kept_of : (current : ℕ) → (marks : List (Option ℕ)) → List Line → Kept
+kept_of current marks lines = record { lines = lettered marks 0 lines; current = current }
 
--- The lines before a change, told from those behind it. What was moved is carried back.
-abbrev pub lines_before : Kind → List Line → List Line
-lines_before (kind.Replaced from entered removed) lines = exchanged from (from + entered) removed.items lines
-lines_before (kind.Moved from to place) lines = carried place (place + (to - from)) from lines
+-- what undo would bring back, where this is held of the buffer that it keeps, whose lines are these
+abbrev pub held_past : Option Held → List Line → states.Past
+held_past None lines = Nothing
+held_past (Some h) lines = Was (kept_of h.current h.marks lines)
 
--- the buffer before a change, told from the lines behind it, whose letters may be other ones
-abbrev pub before_change : Change → List Line → Kept
-before_change c lines = record { lines = lettered c.marks 0 (lines_before c.kind lines); current = c.current }
-
--- what undo would bring back, told from the last change
-abbrev pub past_of : Option Change → List Line → Past
-past_of None lines = Nothing
-past_of (Some c) lines = Was (before_change c lines)
+-- what undo would bring back, told from the lines as they are now, whose letters may be other ones
+abbrev pub past_of : Past → List Line → states.Past
+past_of p lines = held_past p.held (rewound p.changes.items lines)
 
 -- the values of addresses as a list
 abbrev pub list_of_values : Values → List ℕ
@@ -101,34 +107,18 @@ list_of_values (these.Two first second) = first ∷ second ∷ []
 abbrev pub span_value : Span → ranges.Span
 span_value x = record { first = x.first; last = x.last }
 
--- the lines and the target of a command
-abbrev pub value_of_addressed : Addressed → ranges.Span × ℕ
-value_of_addressed a = (span_value a.span, a.target)
-
--- what came of naming the lines of a command
-abbrev pub value_of_span : Result Span Fault → Result ranges.Span Fault
-value_of_span (Ok x) = Ok (span_value x)
-value_of_span (Err fault) = Err fault
-
--- the values of the addresses that are given before a command, or of those that stand for none, and the state once they were valued
-abbrev pub values_of_command : ed.Command → State → Result (State × List ℕ) Fault
-values_of_command c s = values (given_or c.addresses (default c.verb)) s
-
--- the lines that a command is applied to and the value of its target, and the state once its addresses were valued
-abbrev pub lines_of_command : ed.Command → State → Result (State × (ranges.Span × ℕ)) Fault
-lines_of_command c s =
-    values_of_command c s >> λ v.
-    targeted (target_of c.verb) v.0 >> λ t.
-    spanned (taking c.verb) (last s) v.1 >> λ x. Ok (t.0, (x, t.1))
+-- what the addresses of a command name, and the state once they were evaluated
+abbrev pub placed_value : State → Addressed → Placed
+placed_value s a = record { state = s; span = span_value a.span; target = a.target }
 
 -- a span where a command that takes so many addresses may be applied, in a buffer of so many lines
 abbrev pub Fits : Taking → Span → ℕ → Type 0
-Fits takes.NoAddress x last = Unit {0}
-Fits takes.Place x last = x.first ≤ last
-Fits takes.FirstPlace x last = (1 ≤ x.first) × (x.first ≤ last + 1)
-Fits takes.OneLine x last = (1 ≤ x.first) × (x.first ≤ x.last) × (x.last ≤ last)
-Fits takes.Lines x last = (1 ≤ x.first) × (x.first ≤ x.last) × (x.last ≤ last)
-Fits takes.Range x last = (1 ≤ x.first) × (x.first ≤ x.last) × (x.last ≤ last)
+Fits many.NoAddress x last = Unit {0}
+Fits many.Place x last = x.first ≤ last
+Fits many.FirstPlace x last = (1 ≤ x.first) × (x.first ≤ last + 1)
+Fits many.OneLine x last = (1 ≤ x.first) × (x.first ≤ x.last) × (x.last ≤ last)
+Fits many.Lines x last = (1 ≤ x.first) × (x.first ≤ x.last) × (x.last ≤ last)
+Fits many.Range x last = (1 ≤ x.first) × (x.first ≤ x.last) × (x.last ≤ last)
 
 -- lines that no letter marks
 abbrev pub AreNew : List Line → Type 0
@@ -139,14 +129,18 @@ abbrev pub place_beside : ranges.Span → (target : ℕ) → Result ℕ Fault
 place_beside x target = elim (nat_le x.first target && nat_le target x.last) [ true ↦ Err Destination | false ↦ Ok (place_left x target) ]
 
 -- the buffer as undo keeps it, where this line was current
-abbrev pub kept_at : ℕ → State → Kept
+abbrev pub kept_at : (current : ℕ) → State → Kept
 kept_at current s = record { lines = s.lines; current = current }
 
--- what an effect leaves and writes before a suffix, where undo keeps this buffer
-abbrev pub Leaves : Kept → State → List ℕ → Effect → Type 0
-Leaves before new output (Makes o) = (new ≡ settled before o) × (output ≡ o.output)
-Leaves before new output (Asks request) = ⊥
+-- the state that an outcome leaves, where the command came from this line, in a list or not
+abbrev pub left_by : Before → State → Outcome → State
+left_by b s o = settled b.listed (kept_at b.current s) o
 
--- some output, and behind it what a suffix writes
+-- what an effect leaves and writes before a suffix
+abbrev pub Leaves : Before → (old new : State) → (output : List ℕ) → Effect → Type 0
+Leaves b old new output (Makes o) = (new ≡ left_by b old o) × (output ≡ o.output)
+Leaves b old new output (Asks request) = ⊥
+
+-- some output, and after it what a suffix writes
 abbrev pub suffixed : List ℕ → Option ed.Form → State → Result (List ℕ) Fault
 suffixed output suffix s = suffix_written suffix s >> λ more. Ok (output ++ more)

@@ -1,1 +1,2 @@
 pub mod Editors
+pub mod Scans

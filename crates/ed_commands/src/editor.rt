@@ -1,28 +1,29 @@
 //! An editor over any store: one command at a time.
-ghost use Rattle.std.specs.Prelude.{◌≡◌, [], Option, Some, None, Err, IfErr, IfSome, OnOk};
+ghost use Rattle.std.specs.Prelude.{◌≡◌, ◌≢◌, [], Option, Some, None, Err, IfErr, IfSome, IsOkAnd, MatchResult, OnErr, OnOk, unwrap_or};
 ghost use Rattle.ed_base.specs.declared.fault.Fault.TheVariants.{Memory};
 ghost use Rattle.ed_syntax.specs.PublicTypes.{command_value};
 ghost use Rattle.ed_syntax.specs.declared.request.Answer.{Answer};
 ghost use Rattle.ed_syntax.specs.Applied as applied;
-ghost use Rattle.ed_syntax.specs.Applied.{Done};
-ghost use Rattle.ed_syntax.specs.Runs.{loaded};
-ghost use Rattle.ed_commands.specs.Editors.{Steps, Applied, opening_value, failure_of};
+ghost use Rattle.ed_syntax.specs.Files.{loaded};
+ghost use Rattle.ed_syntax.specs.States.{opening};
+ghost use Rattle.ed_commands.specs.Editors.{Applied, Replies, opening_value, failure_of};
+ghost use Rattle.ed_commands.specs.declared.editor.Reply.TheVariants as reply;
 
 mod addressing;
 mod blocks;
-mod change;
 mod effects;
 mod entering;
 mod forms;
 mod lines;
+mod past;
 mod rearranging;
 mod searching;
 
-use change::Change;
 use ed_base::{Bytes, Fault};
 use ed_syntax::{Answer, Command, Pattern, Request};
 use line_store::LineStore;
-use lines::put_file;
+use lines::file_store;
+use past::{Before, Past};
 use std::alloc::Global;
 use std::marker::Model;
 
@@ -44,7 +45,7 @@ pub struct Editor<S: LineStore> {
     pattern: Option<Pattern>,
     name: Option<Bytes>,
     changed: bool,
-    change: Option<Change>,
+    past: Past,
     failed: Option<Fault>,
 }
 
@@ -54,7 +55,7 @@ impl<S: LineStore> Model for Editor<S> {
 
     ghost Value = { EditorValue };
 
-    ghost view = { λ e. record { state = record { lines = S.lines e.store; current = e.current; pattern = e.pattern; replacement = None; name = e.name; changed = e.changed; past = past_of e.change (S.lines e.store) }; failed = e.failed } };
+    ghost view = { λ e. record { state = record { lines = S.lines e.store; current = e.current; pattern = e.pattern; replacement = None; name = e.name; changed = e.changed; past = past_of e.past (S.lines e.store) }; failed = e.failed } };
 
     ghost invariant = { λ e. e.current ≤ length (S.lines e.store) };
 }
@@ -72,56 +73,64 @@ impl<S: LineStore> Editor<S> {
             pattern: None,
             name: None,
             changed: false,
-            change: None,
+            past: Past::nothing(alloc),
             failed: None,
         }
     }
 
-    /// Loads a file's bytes into an editor that was just made: its lines are the buffer, the last one is current, and the path is
+    /// Loads a file's bytes in place of all that it holds: their lines are the buffer, the last one current, and the path is
     /// remembered. The bytes are copied once.
     pub fn load(&mut self, bytes: &[u8], path: Bytes) -> Result<(), Fault>
-        requires opening { self.old ≡ opening_value }
-        ensures loaded { OnOk result (self.new.state ≡ loaded bytes.now path self.old.state) }
-        ensures memory { IfErr result (λ fault. fault ≡ Memory) }
+        ensures loaded { OnOk result (self.new.state ≡ loaded bytes.now path opening) }
+        ensures memory { self.old.failed ≡ None → IfErr result (λ fault. fault ≡ Memory) }
+        ensures unchanged { OnErr result (self.new.state ≡ self.old.state) }
         ensures failed { self.new.failed ≡ failure_of self.old.failed result }
+        ensures sticky { IfSome self.old.failed (λ fault. (result ≡ Err fault) × (self.new ≡ self.old)) }
     {
         match Bytes::from_slice(self.alloc, bytes) {
             Ok(bytes) => self.load_bytes(bytes, path),
-            Err(_) => self.fail_load(),
+            Err(_) => Err(self.fail(Fault::Memory)),
         }
     }
 
     /// Loads a file as `load` does. Its lines share these very bytes.
     pub fn load_bytes(&mut self, bytes: Bytes, path: Bytes) -> Result<(), Fault>
-        requires opening { self.old ≡ opening_value }
-        ensures loaded { OnOk result (self.new.state ≡ loaded bytes path self.old.state) }
-        ensures memory { IfErr result (λ fault. fault ≡ Memory) }
+        ensures loaded { OnOk result (self.new.state ≡ loaded bytes path opening) }
+        ensures memory { self.old.failed ≡ None → IfErr result (λ fault. fault ≡ Memory) }
+        ensures unchanged { OnErr result (self.new.state ≡ self.old.state) }
         ensures failed { self.new.failed ≡ failure_of self.old.failed result }
+        ensures sticky { IfSome self.old.failed (λ fault. (result ≡ Err fault) × (self.new ≡ self.old)) }
     {
-        match put_file(self.alloc, bytes, &mut self.store) {
-            Ok(()) => {
-                self.current = self.store.len();
-                self.name = Some(path);
-                Ok(())
-            }
-            Err(_) => self.fail_load(),
+        if let Some(first) = self.failed {
+            return Err(first);
         }
+        let Ok(store) = file_store::<S>(self.alloc, bytes) else {
+            return Err(self.fail(Fault::Memory));
+        };
+        self.current = store.len();
+        self.store = store;
+        self.pattern = None;
+        self.name = Some(path);
+        self.changed = false;
+        self.past = Past::nothing(self.alloc);
+        Ok(())
     }
 
-    // No memory was found to load a file.
-    fn fail_load(&mut self) -> Result<(), Fault>
-        ensures memory { result ≡ Err Memory }
-        ensures failed { self.new ≡ record self.old { failed = Some Memory } }
+    // It fails, unless it has failed before: the first fault stays.
+    fn fail(&mut self, fault: Fault) -> Fault
+        ensures first { result ≡ unwrap_or self.old.failed fault }
+        ensures failed { self.new ≡ record self.old { failed = Some result } }
     {
-        self.failed = Some(Fault::Memory);
-        Err(Fault::Memory)
+        let first = self.failed.unwrap_or(fault);
+        self.failed = Some(first);
+        first
     }
 
     /// Carries out a command (XCU ed, "Commands in ed"). No command asks for a file yet, so the answer isn't looked at. After an
     /// `Err` the editor has failed, and what else it holds isn't said.
     pub fn apply(&mut self, command: &Command, answer: Option<Answer>) -> Result<Reply, Fault>
         ensures exact { self.old.failed ≡ None →
-            Applied (applied.command self.old.state (command_value command.now) answer) result self.new.state }
+            Applied (applied.command self.old.state (command_value command.now) answer) result self.old.state self.new.state }
         ensures failed { self.new.failed ≡ failure_of self.old.failed result }
         ensures sticky { IfSome self.old.failed (λ fault. (result ≡ Err fault) × (self.new ≡ self.old)) }
     {
@@ -130,20 +139,21 @@ impl<S: LineStore> Editor<S> {
         }
         match self.perform(command) {
             Ok(output) => Ok(Reply::Done(output)),
-            Err(fault) => {
-                self.failed = Some(fault);
-                Err(fault)
-            }
+            Err(fault) => Err(self.fail(fault)),
         }
     }
 
     // The lines that a command is applied to, its effect there, and its suffix.
     fn perform(&mut self, command: &Command) -> Result<Bytes, Fault>
-        ensures exact { (given : Option Answer) →
-            Steps Done (applied.command self.old.state (command_value command.now) given) result self.new.state }
+        ensures exact { (given : Option Answer) → let effect = applied.command self.old.state (command_value command.now) given in
+            MatchResult result (λ output. IsOkAnd effect (Replies self.old.state self.new.state (reply.Done output)))
+            (λ fault. fault ≢ Memory → effect ≡ Err fault) }
         ensures failed { self.new.failed ≡ self.old.failed }
     {
-        let before = self.current;
+        let before = Before {
+            current: self.current,
+            listed: command.listed,
+        };
         let named = self.addressed(command)?;
         let output = self.effect(&command.verb, named, before)?;
         self.write_suffix(command.suffix, output)
@@ -177,6 +187,3 @@ impl<S: LineStore> Editor<S> {
         self.failed
     }
 }
-
-#[cfg(test)]
-mod tests;

@@ -2,5 +2,7 @@
 #![tactic(auto)]
 
 mod editor;
+mod substitution;
 
 pub use editor::{Editor, Reply};
+pub use substitution::substitute;

@@ -1,3 +1,3 @@
-mod Endings
+mod Correctness
 mod FourWords
 mod Taking

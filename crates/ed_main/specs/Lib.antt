@@ -1,3 +1,4 @@
+pub mod Correct
 pub mod Sources
 pub mod Words
 pub mod Outcomes

@@ -1,15 +1,20 @@
 -- What reading all of a source gives (our choice: a limit on how much is read).
-use Rattle.std.specs.Prelude.{ℕ, ◌<◌, ◌≤◌, List, length, Option, Result, Ok, Err}
+use Rattle.std.specs.Prelude.{ℕ, ◌+◌, ◌-◌, ◌^◌, ◌<◌, ◌≤◌, List, length, min, Option, Result, Ok, Err}
 use Rattle.std.specs.Io.KnownBytes.{Consumes, IsAtEnd}
 
--- by how much the count of failures rises
-abbrev pub failed_by : {E : Type 0} → Result ℕ E → ℕ
-failed_by (Ok n) = 0
-failed_by (Err e) = 1
+-- by how much a read raises the count of failures
+abbrev pub failures_of_read : {E : Type 0} → Result ℕ E → ℕ
+failures_of_read (Ok n) = 0
+failures_of_read (Err e) = 1
 
--- a reader as a source: the bytes that it has left, where it tells them, and how often it failed
+-- a count of reads, which stays at its greatest value
+abbrev pub counted : ℕ → ℕ
+counted n = min (n + 1) (2 ^ 64 - 1)
+
+-- a reader as a source: the bytes that it has left, where it tells them, how often it was read, and how often it failed
 pub record InValue : Type 0 where
   pub remaining : Option (List ℕ)
+  pub reads : ℕ
   pub failures : ℕ
 
 -- these are all the bytes that the source had, and not above the limit

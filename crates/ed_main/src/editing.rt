@@ -1,13 +1,13 @@
 //! One run of the program: its words, its script, its file, and the status that it ends with.
-ghost use Rattle.std.specs.Prelude.{◌≡◌, ◌≤◌, ◌⊎◌, ℕ, List, IfOk};
-ghost use Rattle.ed_main.specs.Outcomes.{HoldOnly, EndsOrBreaks, EndsSome};
+ghost use Rattle.std.specs.Prelude.{◌≡◌, ◌≤◌, IfOk};
+ghost use Rattle.ed_main.specs.Outcomes.{HoldOnly, CameTo};
 
 use crate::reading::{In, ReadFault, read_all};
+use crate::running::edit;
 use crate::words::{USAGE, file_of_words};
 use ed_base::{Bytes, Fault};
-use ed_session::{MemFiles, Out, Session, drive};
-use ed_syntax::{Options, read_script};
-use line_store::PlainStore;
+use ed_session::{MemFiles, Out};
+use ed_syntax::Options;
 use std::alloc::AllocError;
 use std::rt::{Env, Files};
 use std::{env, fs, io};
@@ -23,7 +23,6 @@ pub fn status_of_run<R>(rt: &R) -> u8
 where
     R: Env + Files + Input + Print + Eprint + AllocGlobal,
     ensures status { result ≤ 4 }
-    ensures ended { (result ≡ 4) ⊎ ((path : List ℕ) × EndsSome path result) }
 {
     let words = match env::args(rt) {
         Ok(words) => words.collect::<Vec<String>>(rt.alloc()),
@@ -33,7 +32,7 @@ where
     match words {
         Err(AllocError) => Fault::Memory.status(),
         Ok(words) => match file_of_words(words.as_slice()) {
-            Some(file) => edit(rt, file),
+            Some(file) => edit_file(rt, file),
             None => usage(rt),
         },
     }
@@ -47,11 +46,10 @@ fn usage(rt: &impl Eprint) -> u8
 }
 
 /// Reads the script and then the file, and runs one on the other.
-fn edit<R>(rt: &R, file: &str) -> u8
+fn edit_file<R>(rt: &R, file: &str) -> u8
 where
     R: Files + Input + Print + AllocGlobal,
     ensures status { result ≤ 3 }
-    ensures ended { EndsSome file.now result }
 {
     let script = match read_all(rt.alloc(), &mut In::new(rt.reader()), LIMIT) {
         Ok(script) => script,
@@ -65,26 +63,20 @@ where
 }
 
 /// Runs the script's bytes on the file. An `Err` comes before anything is written.
-fn run<R>(rt: &R, file: &str, bytes: Bytes) -> Result<u8, AllocError>
+fn run<R>(rt: &R, file: &str, script: Bytes) -> Result<u8, AllocError>
 where
     R: Files + Print + AllocGlobal,
     ensures status { IfOk result (λ status. status ≤ 3) }
-    ensures ended { IfOk result (λ status. EndsOrBreaks bytes file.now status) }
+    ensures came { IfOk result (λ status. CameTo script file.now status) }
 {
-    let alloc = rt.alloc();
-    let script = read_script(alloc, bytes.as_slice())?;
-    drop(bytes);
     let mut files = files_with(rt, file)?;
     let options = Options {
         silent: true,
         prompt: None,
-        path: Some(Bytes::from_slice(alloc, file.as_bytes())?),
+        path: Some(Bytes::from_slice(rt.alloc(), file.as_bytes())?),
     };
-    let mut session = Session::<PlainStore>::new(alloc, script, options)?;
-    match drive(&mut session, &mut files, &mut Out::new(io::writer(rt))) {
-        Ok(_) => Ok(0),
-        Err(fault) => Ok(fault.status()),
-    }
+    let mut output = Out::new(io::writer(rt));
+    Ok(edit(rt.alloc(), script, options, &mut files, &mut output))
 }
 
 /// The file in memory. One that is missing is left out; one that can't be read is refused when the run asks for it.

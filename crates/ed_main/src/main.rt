@@ -3,6 +3,7 @@
 
 mod editing;
 mod reading;
+mod running;
 mod words;
 
 use std::process::ExitCode;

@@ -33,35 +33,3 @@ fn names_file(word: &str) -> bool
         _ => true,
     }
 }
-
-#[cfg(test)]
-mod tests {
-    use super::*;
-    use std::test::Fail;
-
-    fn file_of(rt: &HostRuntime, words: &[&str]) -> Result<Option<usize>, Fail> {
-        let mut owned = Vec::new(rt.alloc());
-        for word in words {
-            owned.push(String::from_str(rt.alloc(), word)?)?;
-        }
-        Ok(file_of_words(owned.as_slice()).map(|file| file.len()))
-    }
-
-    #[test]
-    fn only_the_words_of_an_edit_have_a_file(rt: HostRuntime) -> Result<(), Fail> {
-        assert_eq!(rt; file_of(&rt, &["ed_main", "edit", "-s", "F"])?, Some(1));
-        let others: [&[&str]; 7] = [
-            &["ed_main"],
-            &["ed_main", "edit", "-s"],
-            &["ed_main", "edit", "F", "-s"],
-            &["ed_main", "edit", "-s", ""],
-            &["ed_main", "edit", "-s", "-F"],
-            &["ed_main", "edit", "-s", "-"],
-            &["ed_main", "edit", "-s", "F", "G"],
-        ];
-        for words in others {
-            assert_eq!(rt; file_of(&rt, words)?, None);
-        }
-        Ok(())
-    }
-}

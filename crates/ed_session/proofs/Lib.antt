@@ -1,11 +1,8 @@
-pub mod Asked
-pub mod Cases
-pub mod Causes
-pub mod Comes
-pub mod Driven
-pub mod Ended
-pub mod KeptLemmas
-pub mod Logs
-pub mod Performed
-pub mod Replies
+mod KeptLemmas
 pub mod Taken
+mod Stepping
+mod Logs
+pub mod Leading
+mod Advancing
+mod Causes
+mod Turning

@@ -11,8 +11,8 @@ use Rattle.ed_syntax.specs.declared.request.Request.TheVariants as request
 use Rattle.ed_session.specs.Drives.{Log, AllFit, added, fits}
 use Rattle.ed_session.specs.Turns.{Raises}
 
--- what is behind a longer log
-added_is : (old new : Log) (x : Log) → new ≡ old ++ x → added old new ≡ x
+-- what a longer log has more
+pub added_is : (old new : Log) (x : Log) → new ≡ old ++ x → added old new ≡ x
 added_is old new x e = rw e (drop-append-le (length old) old x (omega arith) ∙ ap (λ y. y ++ x) (drop-length old))
 
 pub added_none : (log : Log) → added log log ≡ []

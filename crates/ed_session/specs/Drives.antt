@@ -8,10 +8,11 @@ use Rattle.ed_syntax.specs.declared.request.Answer.TheVariants as answer
 use Rattle.ed_syntax.specs.declared.request.Request.{Request}
 use Rattle.ed_syntax.specs.declared.request.Request.TheVariants as request
 use Rattle.ed_syntax.specs.declared.options.Ending.{Ending}
-use Rattle.ed_syntax.specs.Progress.{Rest, Ends}
-use Rattle.ed_session.specs.Sessions.{SessionValue, Over, Lost}
-use Rattle.ed_session.specs.Sinks.{BeginsWith, GoesOnBehind, AppendsFront}
-use Rattle.ed_session.specs.Steps.{memory_report}
+use Rattle.ed_syntax.specs.Progress.{Progress, Ends, Event, after, output_of, asked_of, stop_of, RunsOut}
+use Rattle.ed_session.specs.declared.phase.Phase.TheVariants as phases
+use Rattle.ed_session.specs.Sessions.{SessionValue, rest, is_over}
+use Rattle.ed_session.specs.Calls.{written}
+use Rattle.ed_session.specs.Sinks.{GoesOnAfter}
 
 -- the requests to an outside with their answers, the oldest first
 abbrev pub Log : Type 0
@@ -33,60 +34,56 @@ answers log = map (λ entry. entry.1) log
 abbrev pub fits : Request → Answer → Bool
 fits (request.Read path) (answer.Bytes bytes) = true
 fits (request.Read path) answer.Missing = true
-fits (request.Read path) answer.Refused = false
-fits (request.Read path) answer.Done = false
-fits (request.Write path bytes) (answer.Bytes read) = false
-fits (request.Write path bytes) answer.Missing = false
-fits (request.Write path bytes) answer.Refused = false
 fits (request.Write path bytes) answer.Done = true
+fits asked given = false
 
 -- each answer of a log fits its request
 abbrev pub AllFit : Log → Type 0
 AllFit log = All (λ entry. fits entry.0 entry.1 ≡ true) log
 
--- the run of these answers has asked just these requests and has ended, and its output was written
-pub record Finished (left : Rest) (log : Log) (old new : Option (List ℕ)) (result : Result Ending Fault) : Type 0 where
-  pub asked : (left (answers log)).asked ≡ requests log
-  pub ended : (left (answers log)).stop ≡ Ends result
-  pub written : Appends old new (left (answers log)).output
+-- the run with these answers has asked just these requests and has ended, and its output was written
+pub record Finished (from : SessionValue) (log : Log) (old new : Option (List ℕ)) (result : Result Ending Fault) : Type 0 where
+  pub asked : asked_of (rest from (answers log)) ≡ requests log
+  pub ended : stop_of (rest from (answers log)) ≡ Ends result
+  pub wrote : Appends old new (from.pending ++ output_of (rest from (answers log)))
 
--- Memory ran out: a front of the run's output was written, and then the report in this mode, which the commands done left
--- (`ComesBy` of `Modes`).
-pub record RanOut (left : Rest) (log : Log) (help : Bool) (old new : Option (List ℕ)) : Type 0 where
-  pub asked : (left (answers log)).asked ≡ requests log
-  pub front : List ℕ
-  pub begins : BeginsWith (left (answers log)).output front
-  pub written : Appends old new (front ++ memory_report help)
+-- memory ran out at one of its steps, and the output of the run cut there was written
+pub record RanOut (from : SessionValue) (log : Log) (old new : Option (List ℕ)) : Type 0 where
+  pub running : is_over from.phase ≡ false
+  pub output : List ℕ
+  pub cut : RunsOut (rest from (answers log)) output (requests log)
+  pub wrote : Appends old new (from.pending ++ output)
 
--- the sink failed: it took a front of the run's output, which may break off with the report of want of memory, and not all of that
-pub record CutOff (left : Rest) (log : Log) (help : Bool) (old new : Option (List ℕ)) : Type 0 where
-  pub asked : (left (answers log)).asked ≡ requests log
-  pub front : List ℕ
-  pub begins : BeginsWith (left (answers log)).output front
+-- what a run writes in its first steps, in which just these requests are answered, and then has answered no more
+pub record Begun (run : Progress) (asked : List Request) (output : List ℕ) : Type 0 where
+  pub events : List Event
+  pub left : Progress
+  pub whole : run ≡ after events left
+  pub answered : asked_of run ≡ asked
+  pub wrote : written events ≡ output
+
+-- the sink failed: it took a front of what the run or the run cut has written by then, and not all of it
+pub record CutOff (from : SessionValue) (log : Log) (old new : Option (List ℕ)) : Type 0 where
+  pub output : List ℕ
+  pub run : Begun (rest from (answers log)) (requests log) output ⊎ RunsOut (rest from (answers log)) output (requests log)
   pub part : List ℕ
-  pub within : GoesOnBehind (front ++ memory_report help) part
-  pub written : Appends old new part
+  pub front : GoesOnAfter (from.pending ++ output) part
+  pub took : Appends old new part
 
--- How a run was driven, which left help mode on or off: to its end, or till memory ran out, or till the sink failed. Its
--- count of failures rose just where it failed.
-abbrev pub Drove : Rest → Log → Bool → Option (List ℕ) → Option (List ℕ) → ℕ → ℕ → Result Ending Fault → Type 0
-Drove left log help old new failed_before failed result =
-    (failed ≡ failed_before) × Finished left log old new result
-    ⊎ ((result ≡ Err Memory) × (failed ≡ failed_before) × RanOut left log help old new
-    ⊎ (result ≡ Err Output) × (failed_before < failed) × CutOff left log help old new)
+-- How a session was driven: to the end of its run, or till memory ran out, or till the sink failed. The sink's count of failures
+-- rose just where it failed.
+abbrev pub Drove : SessionValue → Log → Option (List ℕ) → Option (List ℕ) → ℕ → ℕ → Result Ending Fault → Type 0
+Drove from log old new failed_before failed result =
+    (failed ≡ failed_before) × Finished from log old new result
+    ⊎ ((result ≡ Err Memory) × (failed ≡ failed_before) × RanOut from log old new
+    ⊎ (result ≡ Err Output) × (failed_before < failed) × CutOff from log old new)
 
--- How a lost session was driven: nothing was asked, what it had to hand out was written and its fault came again; or the sink failed.
-pub record DroveLost (fault : Fault) (pending : List ℕ) (old_log new_log : Log) (old new : Option (List ℕ)) (failed_before failed : ℕ) (result : Result Ending Fault) : Type 0 where
-  pub asked : new_log ≡ old_log
-  pub ended :
-      (result ≡ Err fault) × (failed ≡ failed_before) × Appends old new pending
-      ⊎ (result ≡ Err Output) × (failed_before < failed) × AppendsFront old new pending
-
--- How a session is left: its end was told, or it is lost, and nothing is pending. So it asks and writes nothing more.
-pub data Closed : SessionValue → Result Ending Fault → Type 0 where
-  ended : (now : SessionValue) (result : Result Ending Fault) → now.phase ≡ Over result → now.told ≡ true → now.pending ≡ [] → Closed now result
-  lost : (now : SessionValue) (fault : Fault) → now.phase ≡ Lost fault → (now.told ≡ true) ⊎ (fault ≡ Output) → now.pending ≡ [] → Closed now (Err fault)
+-- How a session is left: over, with nothing pending. So, driven again, it asks and writes nothing and ends so again.
+pub record Closed (now : SessionValue) (result : Result Ending Fault) : Type 0 where
+  pub over : now.phase ≡ phases.Over result
+  pub pending : now.pending ≡ []
+  pub told : (now.told ≡ true) ⊎ (result ≡ Err Output)
 
 -- Where the fault of a file comes from: the outside refused a file in this call, or the run had failed by a file's answer before.
-abbrev pub FileRefused : Rest → ℕ → ℕ → Type 0
-FileRefused left failed_before failed = (failed_before < failed) ⊎ (((left []).stop ≡ Ends (Err File)) × ((left []).asked ≡ []))
+abbrev pub FileRefused : SessionValue → ℕ → ℕ → Type 0
+FileRefused from failed_before failed = (failed_before < failed) ⊎ (from.phase ≡ phases.Over (Err File))

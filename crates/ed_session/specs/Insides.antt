@@ -1,37 +1,25 @@
--- What a session keeps inside, and what is true of it at each of its stages.
-use Rattle.std.specs.Prelude.{ℕ, ◌≡◌, ◌≢◌, ◌≤◌, ◌⊎◌, Bool, true, false, not, List, [], ◌∷◌, Option, None, Ok, Err}
+-- What a session keeps inside, and what is true of it in each phase.
+use Rattle.std.specs.Prelude.{ℕ, ◌≡◌, ◌≢◌, ◌≤◌, ◌⊎◌, Bool, true, false, not, List, [], ◌∷◌, Option, Some, None, Ok}
 use Rattle.ed_base.specs.declared.fault.Fault.{Fault}
 use Rattle.ed_base.specs.declared.fault.Fault.TheVariants.{Memory}
+use Rattle.ed_syntax.specs.declared.request.Answer.{Answer}
+use Rattle.ed_syntax.specs.declared.request.Answer.TheVariants as answer
 use Rattle.ed_syntax.specs.declared.request.Request.{Request}
-use Rattle.ed_syntax.specs.Applied.{Wants, command}
+use Rattle.ed_syntax.specs.declared.request.Request.TheVariants as request
+use Rattle.ed_syntax.specs.Applied.{command}
 use Rattle.ed_syntax.specs.Commands as ed
-use Rattle.ed_syntax.specs.Commands.{Command, Verb}
+use Rattle.ed_syntax.specs.Commands.{Step, Verb}
+use Rattle.ed_syntax.specs.Effects.{Asks}
+use Rattle.ed_syntax.specs.Files.{loaded}
 use Rattle.ed_syntax.specs.Progress.{Present, report}
 use Rattle.ed_syntax.specs.States.{State, opening}
 use Rattle.ed_session.specs.declared.modes.Modes.{Modes}
-use Rattle.ed_session.specs.declared.stage.Stage.{Stage}
-use Rattle.ed_session.specs.declared.stage.Stage.TheVariants as stage
-use Rattle.ed_session.specs.Modes.{help_behind}
-use Rattle.ed_session.specs.Sessions.{Phase, Fresh, Between, Prompted, Waiting, Over, Lost}
-use Rattle.ed_session.specs.Steps.{memory_report, IsOwnEnd}
-
--- what a stage stands for
-abbrev pub phase_of : Stage → Phase
-phase_of (stage.Fresh path) = Fresh path
-phase_of stage.Between = Between
-phase_of stage.Prompted = Prompted
-phase_of stage.Waiting = Waiting
-phase_of (stage.Over result) = Over result
-phase_of (stage.Lost fault) = Lost fault
-
--- the run may still go on
-abbrev pub is_live : Stage → Bool
-is_live (stage.Fresh path) = true
-is_live stage.Between = true
-is_live stage.Prompted = true
-is_live stage.Waiting = true
-is_live (stage.Over result) = false
-is_live (stage.Lost fault) = false
+use Rattle.ed_session.specs.declared.session.Ask.{Ask}
+use Rattle.ed_session.specs.declared.session.Ask.TheVariants as ask
+use Rattle.ed_session.specs.declared.phase.Phase.{Phase}
+use Rattle.ed_session.specs.declared.phase.Phase.TheVariants as phases
+use Rattle.ed_session.specs.Sessions.{SessionValue, is_over, is_started, is_waiting}
+use Rattle.ed_session.specs.Calls.{GoesOn, Gives}
 
 -- what a run holds that is silent, as every run is so far
 abbrev pub silently : State → Modes → List ℕ → Present
@@ -42,44 +30,70 @@ abbrev pub quits_anyway : Verb → Bool
 quits_anyway ed.QuitAnyway = true
 quits_anyway verb = false
 
--- prompting behind a command: `P` turns it on or off
-abbrev pub prompting_behind : Verb → Bool → Bool
-prompting_behind ed.PromptMode prompting = not prompting
-prompting_behind verb prompting = prompting
+-- help mode after a command: `H` turns it on or off
+abbrev pub help_after : Verb → Bool → Bool
+help_after ed.HelpMode help = not help
+help_after verb help = help
 
--- what a run holds behind a command that is done, apart from the state
-abbrev pub turned : Verb → Present → Present
-turned verb m = record m { prompting = prompting_behind verb m.prompting; help = help_behind verb m.help }
+-- prompting after a command: `P` turns it on or off
+abbrev pub prompting_after : Verb → Bool → Bool
+prompting_after ed.PromptMode prompting = not prompting
+prompting_after verb prompting = prompting
 
--- How a fault ends a session: by itself with its report, or by want of memory with that one's.
-abbrev pub EndsBy : Fault → Bool → Stage → List ℕ → Type 0
-EndsBy fault help at written =
-    (fault ≢ Memory) × (at ≡ stage.Over (Err fault)) × (written ≡ report help fault)
-    ⊎ (at ≡ stage.Lost Memory) × (written ≡ memory_report help)
+-- A fault is reported: it or, where there was no memory for its report, that memory ran out.
+pub record Reported (help : Bool) (fault reported : Fault) (written : List ℕ) : Type 0 where
+  pub which : (fault ≢ Memory) × (reported ≡ fault) ⊎ (reported ≡ Memory)
+  pub wrote : written ≡ report help reported
 
--- both reports of want of memory, which aren't handed out
+-- what a step gives of some output, if there is any
+abbrev pub ask_of_output : List ℕ → Option Ask
+ask_of_output [] = None
+ask_of_output (byte ∷ bytes) = Some (ask.Output (byte ∷ bytes))
+
+-- what a step gives of a request
+abbrev pub ask_of_request : Request → Ask
+ask_of_request (request.Read path) = ask.Read path
+ask_of_request (request.Write path bytes) = ask.Write path bytes
+
+-- both reports that memory ran out, which aren't handed out
 pub record AreReady (brief full : List ℕ) : Type 0 where
-  pub without_text : brief ≡ memory_report false
-  pub with_text : full ≡ memory_report true
+  pub without_text : brief ≡ report false Memory
+  pub with_text : full ≡ report true Memory
 
--- the first command asks for a file, and leaves what the editor holds
-abbrev pub AsksFirst : State → List Command → Type 0
+-- the first command asks for a file
+abbrev pub AsksFirst : State → List Step → Type 0
 AsksFirst s [] = ⊥
-AsksFirst s (c ∷ commands) = (quits_anyway c.verb ≡ false) × ((request : Request) × (command s c None ≡ Ok (s, Wants request)))
+AsksFirst s (x ∷ steps) = (quits_anyway x.command.verb ≡ false) × ((request : Request) × (command s x.command None ≡ Ok (Asks request)))
 
--- what each stage keeps
-abbrev pub KeepsStage : Stage → State → List Command → List ℕ → Type 0
-KeepsStage (stage.Fresh path) s commands pending = (s ≡ opening) × (pending ≡ [])
-KeepsStage stage.Between s commands pending = Unit {0}
-KeepsStage stage.Prompted s commands pending = Unit {0}
-KeepsStage stage.Waiting s commands pending = AsksFirst s commands × (pending ≡ [])
-KeepsStage (stage.Over result) s commands pending = IsOwnEnd result
-KeepsStage (stage.Lost fault) s commands pending = Unit {0}
+-- what each phase keeps
+abbrev pub KeepsPhase : Phase → State → List Step → List ℕ → Type 0
+KeepsPhase (phases.Fresh path) s steps pending = (s ≡ opening) × (pending ≡ [])
+KeepsPhase phases.Waiting s steps pending = AsksFirst s steps × (pending ≡ [])
+KeepsPhase other s steps pending = Unit {0}
 
--- what every session keeps: while it is live its editor hasn't failed, and its reports aren't handed out
-pub record IsSound (at : Stage) (state : State) (failed : Option Fault) (count next : ℕ) (commands : List Command) (pending brief full : List ℕ) (told : Bool) : Type 0 where
+-- what an editor holds after the answer to the read of the start file
+abbrev pub state_loaded : (path : List ℕ) → Answer → Option State
+state_loaded path (answer.Bytes bytes) = Some (loaded bytes path opening)
+state_loaded path answer.Missing = Some (loaded [] path opening)
+state_loaded path other = None
+
+-- what every session keeps: till it is over its editor hasn't failed, and its reports aren't handed out
+pub record IsSound (at : Phase) (state : State) (failed : Option Fault) (count next : ℕ) (steps : List Step) (pending brief full : List ℕ) (told : Bool) : Type 0 where
   pub within : next ≤ count
-  pub works : is_live at ≡ true → failed ≡ None
-  pub can_report : is_live at ≡ true → AreReady brief full
-  pub keeps : KeepsStage at state commands pending
-  pub ended : told ≡ true → (is_live at ≡ false) × (pending ≡ [])
+  pub works : is_over at ≡ false → failed ≡ None
+  pub can_report : is_over at ≡ false → AreReady brief full
+  pub keeps : KeepsPhase at state steps pending
+  pub ended : told ≡ true → (is_over at ≡ true) × (pending ≡ [])
+
+-- the run has gone on without output
+pub record Advances (old new : SessionValue) : Type 0 where
+  pub same : GoesOn old [] [] [] new
+  pub idle : is_waiting new.phase ≡ false
+  pub started : is_started new.phase ≡ true
+  pub handed_out : new.pending ≡ []
+  pub untold : new.told ≡ false
+
+-- the run has gone on so, or what a step gives
+abbrev pub AdvancesOrGives : SessionValue → Option Ask → SessionValue → Type 0
+AdvancesOrGives old None new = Advances old new
+AdvancesOrGives old (Some asks) new = Gives old asks new

@@ -40,7 +40,7 @@ read_answer m path = elim (refuses_now m) [ true ↦ answer.Refused | false ↦ 
 abbrev pub write_answer : MemFiles → Answer
 write_answer m = elim (refuses_now m) [ true ↦ answer.Refused | false ↦ answer.Done ]
 
--- the files behind a write
+-- the files after a write
 abbrev pub files_written : MemFiles → List ℕ → List ℕ → Files
 files_written m path bytes = elim (refuses_now m) [ true ↦ files_of m | false ↦ (path, bytes) ∷ files_of m ]
 

@@ -1,7 +1,7 @@
 -- A sink with a room that is set aside at the start (our tool for runs in memory).
 use Rattle.std.specs.Prelude.{ℕ, ◌+◌, ◌-◌, ◌^◌, true, false, List, [], ◌++◌, length, take, min, nat_eq, Result, Ok, Err}
 use Rattle.ed_session.specs.declared.sink.SinkFault.{SinkFault}
-use Rattle.ed_session.specs.Sinks.{failed_by}
+use Rattle.ed_session.specs.Sinks.{failures_of_write}
 
 -- what it took, how many bytes it takes in all and at once, which of its writes fails (0: none), how many there were, and how many failed
 pub record MemSinkValue : Type 0 where
@@ -28,8 +28,8 @@ takes s bytes = elim (nat_eq (counted s.writes) s.refused) [ true ↦ 0 | false 
 abbrev pub write_answer : ℕ → Result ℕ SinkFault
 write_answer n = elim (nat_eq n 0) [ true ↦ Err (record {}) | false ↦ Ok n ]
 
--- the sink behind a write
+-- the sink after a write
 abbrev pub written : MemSinkValue → List ℕ → MemSinkValue
 written s bytes =
     let n = takes s bytes in
-    record s { taken = s.taken ++ take n bytes; writes = counted s.writes; failures = s.failures + failed_by {E = SinkFault} (Ok n) }
+    record s { taken = s.taken ++ take n bytes; writes = counted s.writes; failures = s.failures + failures_of_write {E = SinkFault} (Ok n) }

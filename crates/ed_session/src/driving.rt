@@ -1,9 +1,9 @@
 //! The loop that runs a session to its end.
-ghost use Rattle.std.specs.Prelude.{◌≡◌, ◌<◌, ◌≤◌, ◌-◌, ◌^◌, ◌++◌, Some, None, Err, true, false, IfSome};
-ghost use Rattle.ed_session.specs.Sessions.{rest, lost_by, awaited, is_started, is_waiting, Waiting};
-ghost use Rattle.ed_session.specs.Drives.{added, Drove, DroveLost, Closed, FileRefused};
-ghost use Rattle.ed_session.specs.Modes.{ComesBy};
-ghost use Rattle.ed_session.specs.Turns.{Performs, Begins};
+ghost use Rattle.std.specs.Prelude.{◌≡◌, ◌≢◌, ◌<◌, ◌≤◌, ◌-◌, ◌^◌, ◌++◌, [], ◌∷◌, false, Some, Err, IfOk, OnErr};
+ghost use Rattle.ed_session.specs.declared.phase.Phase.TheVariants as phases;
+ghost use Rattle.ed_session.specs.Sessions.{awaited};
+ghost use Rattle.ed_session.specs.Drives.{added, fits, Drove, Closed, FileRefused};
+ghost use Rattle.ed_session.specs.Turns.{Performs};
 ghost use Rattle.ed_session.specs.Work.{work};
 
 use crate::sink::give;
@@ -11,21 +11,32 @@ use crate::{Ask, Outside, Session, Sink};
 use ed_base::Fault;
 use ed_syntax::{Answer, Ending, Request};
 use line_store::LineStore;
+use std::alloc::AllocError;
+
+// Makes a request of the outside.
+fn ask<O: Outside>(outside: &mut O, request: &Request) -> Result<Answer, AllocError>
+    ensures logged { IfOk result (λ a. O.log outside.new ≡ O.log outside.old ++ (request.now, a) ∷ []) }
+    ensures unchanged { OnErr result
+        ((O.log outside.new ≡ O.log outside.old) × (O.failures outside.new ≡ O.failures outside.old)) }
+    ensures rises { O.failures outside.old ≤ O.failures outside.new }
+    ensures refused { IfOk result (λ a. fits request.now a ≡ false → O.failures outside.old < O.failures outside.new) }
+{
+    match request {
+        Request::Read(path) => outside.read(path.as_slice()),
+        Request::Write(path, bytes) => outside.write(path.as_slice(), bytes.as_slice()),
+    }
+}
 
 // Has the outside do what the session waits for, and gives it the answer.
 fn perform<S: LineStore, O: Outside>(session: &mut Session<S>, outside: &mut O, request: Request)
-    requires waiting { session.old.phase ≡ Waiting }
+    requires waiting { session.old.phase ≡ phases.Waiting }
     requires asked { awaited session.old ≡ Some request }
-    ensures done { Performs session.old request session.new
+    requires handed_out { session.old.pending ≡ [] }
+    ensures done { Performs session.old session.new
         (O.log outside.old) (O.log outside.new) (O.failures outside.old) (O.failures outside.new) }
-    ensures mode { ComesBy session.old session.new }
     ensures work { work session.new ≤ work session.old }
 {
-    let answered = match &request {
-        Request::Read(path) => outside.read(path.as_slice()),
-        Request::Write(path, bytes) => outside.write(path.as_slice(), bytes.as_slice()),
-    };
-    match answered {
+    match ask(outside, &request) {
         Ok(answer) => session.answer(answer),
         Err(_) => session.fail_memory(),
     }
@@ -33,9 +44,8 @@ fn perform<S: LineStore, O: Outside>(session: &mut Session<S>, outside: &mut O, 
 
 // Brings a session to where it can be stepped: one that is fresh gets its start file, one that waits its answer.
 fn begin<S: LineStore, O: Outside>(session: &mut Session<S>, outside: &mut O)
-    ensures begun { Begins session.old session.new
+    ensures begun { Performs session.old session.new
         (O.log outside.old) (O.log outside.new) (O.failures outside.old) (O.failures outside.new) }
-    ensures mode { ComesBy session.old session.new }
 {
     if session.waits() {
         match session.requested() {
@@ -67,29 +77,20 @@ pub fn drive<S: LineStore, O: Outside, W: Sink>(
 ) -> Result<Ending, Fault>
     requires count { W.failures sink.old < 2 ^ 64 - 1 }
 
-    // What was asked is added to the log, behind what it had.
+    // What was asked is added to the log, after what it had.
     ensures log { O.log outside.new ≡ O.log outside.old ++ added (O.log outside.old) (O.log outside.new) }
 
-    // The run of these answers has ended so and its output was written; or memory ran out; or the sink failed.
-    ensures run { lost_by session.old.phase ≡ None →
-        Drove (rest session.old) (added (O.log outside.old) (O.log outside.new)) session.new.present.help
+    // The run with these answers has ended so and its output was written; or memory ran out; or the sink failed.
+    ensures run { Drove session.old (added (O.log outside.old) (O.log outside.new))
         (W.taken sink.old) (W.taken sink.new) (W.failures sink.old) (W.failures sink.new) result }
-
-    // The report of want of memory is in the mode that the commands done before it left.
-    ensures mode { ComesBy session.old session.new }
-
-    // A lost session writes what it had to hand out, and ends by its fault again; or the sink failed.
-    ensures lost { IfSome (lost_by session.old.phase) (λ fault.
-        DroveLost fault session.old.pending (O.log outside.old) (O.log outside.new)
-        (W.taken sink.old) (W.taken sink.new) (W.failures sink.old) (W.failures sink.new) result) }
 
     // Driven again it asks and writes nothing, and ends so again.
     ensures closed { Closed session.new result }
 
     // Where the faults of files and of output come from.
-    ensures file_refused { lost_by session.old.phase ≡ None → result ≡ Err Fault.File →
-        FileRefused (rest session.old) (O.failures outside.old) (O.failures outside.new) }
-    ensures output_refused { lost_by session.old.phase ≡ None → result ≡ Err Fault.Output →
+    ensures file_refused { result ≡ Err Fault.File →
+        FileRefused session.old (O.failures outside.old) (O.failures outside.new) }
+    ensures output_refused { session.old.phase ≢ phases.Over (Err Fault.Output) → result ≡ Err Fault.Output →
         W.failures sink.old < W.failures sink.new }
 {
     begin(session, outside);
@@ -107,6 +108,3 @@ pub fn drive<S: LineStore, O: Outside, W: Sink>(
         }
     }
 }
-
-#[cfg(test)]
-mod tests;

@@ -2,7 +2,7 @@
 
 /// An answer of files in memory, whose bytes stand in the file that was read and aren't kept twice.
 #[derive(Clone, Copy, Drop)]
-pub(crate) enum Kept {
+pub(crate) enum KeptAnswer {
     /// The bytes of the file at this place, counted from the oldest file, which is at 1.
     File(usize),
     Missing,

@@ -8,10 +8,10 @@ mod mem_files;
 mod mem_sink;
 mod modes;
 mod outside;
+mod phase;
 mod reports;
 mod session;
 mod sink;
-mod stage;
 
 pub use driving::drive;
 pub use mem_files::MemFiles;

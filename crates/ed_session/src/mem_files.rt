@@ -5,7 +5,7 @@ ghost use Rattle.ed_syntax.specs.declared.request.Request.TheVariants as request
 ghost use Rattle.ed_session.specs.KeptAnswers.{AllWithin, place_of, answer_of, found};
 
 use crate::Outside;
-use crate::kept::Kept;
+use crate::kept::KeptAnswer;
 use ed_base::Bytes;
 use ed_syntax::{Answer, Request};
 use std::alloc::{AllocError, Global};
@@ -16,7 +16,7 @@ pub struct MemFiles {
     alloc: Global,
     // The latest first.
     files: Vec<(Bytes, Bytes)>,
-    log: Vec<(Request, Kept)>,
+    log: Vec<(Request, KeptAnswer)>,
     refused: u64,
     failures: usize,
     ghost few: { failures ≤ length log.items },
@@ -69,33 +69,33 @@ impl MemFiles {
     }
 
     // What the log keeps of the file at a path.
-    fn find(&self, path: &[u8]) -> Kept
+    fn find(&self, path: &[u8]) -> KeptAnswer
         ensures within { place_of result ≤ length (files_of self.now) }
         ensures value { answer_of (files_of self.now) result ≡ found (file_at path.now (files_of self.now)) }
     {
         let mut left = self.files.len();
         'files: for (name, _) in self.files.as_slice() {
             if name.as_slice() == path {
-                return Kept::File(left);
+                return KeptAnswer::File(left);
             }
             left -= 1;
         }
-        Kept::Missing
+        KeptAnswer::Missing
     }
 
     // The answer that is kept so.
-    fn tell(&self, kept: Kept) -> Result<Answer, AllocError>
+    fn tell(&self, kept: KeptAnswer) -> Result<Answer, AllocError>
         requires within { place_of kept ≤ length (files_of self.now) }
         ensures value { IfOk result (λ a. a ≡ answer_of (files_of self.now) kept) }
     {
         match kept {
-            Kept::File(place) => match self.files.get(self.files.len() - place) {
+            KeptAnswer::File(place) => match self.files.get(self.files.len() - place) {
                 Some((_, bytes)) => Ok(Answer::Bytes(bytes.try_copy()?)),
                 None => Ok(Answer::Missing),
             }
-            Kept::Missing => Ok(Answer::Missing),
-            Kept::Refused => Ok(Answer::Refused),
-            Kept::Done => Ok(Answer::Done),
+            KeptAnswer::Missing => Ok(Answer::Missing),
+            KeptAnswer::Refused => Ok(Answer::Refused),
+            KeptAnswer::Done => Ok(Answer::Done),
         }
     }
 }
@@ -130,13 +130,13 @@ impl Outside for MemFiles {
         self.log.reserve(1)?;
         let asked = Request::Read(Bytes::from_slice(self.alloc, path)?);
         let kept = if self.refuses() {
-            Kept::Refused
+            KeptAnswer::Refused
         } else {
             self.find(path)
         };
         let answer = self.tell(kept)?;
         self.log.push((asked, kept))?;
-        if matches!(kept, Kept::Refused) {
+        if matches!(kept, KeptAnswer::Refused) {
             self.failures += 1;
         }
         Ok(answer)
@@ -151,10 +151,11 @@ impl Outside for MemFiles {
         ensures refused { IfOk result (λ a. a ≡ answer.Refused → refusals self.old < refusals self.new) }
         ensures done_or_refused { IfOk result (λ a. (a ≡ answer.Done) ⊎ (a ≡ answer.Refused)) }
 
-        // Beside what any outside ensures: the answer, and the files behind it.
+        // Beside what any outside ensures: the answer, and the files after it.
         ensures value { IfOk result (λ a. a ≡ write_answer self.old) }
         ensures count { OnOk result (refusals self.new ≡ refusals_after self.old) }
         ensures written { OnOk result (files_of self.new ≡ files_written self.old path.now bytes.now) }
+        ensures kept { OnErr result (files_of self.new ≡ files_of self.old) }
         ensures refuses { refused_call self.new ≡ refused_call self.old }
     {
         self.log.reserve(1)?;
@@ -163,13 +164,14 @@ impl Outside for MemFiles {
             Bytes::from_slice(self.alloc, bytes)?,
         );
         if self.refuses() {
-            self.log.push((asked, Kept::Refused))?;
+            self.log.push((asked, KeptAnswer::Refused))?;
             self.failures += 1;
             return Ok(Answer::Refused);
         }
+        let name = Bytes::from_slice(self.alloc, path)?;
         let held = Bytes::from_slice(self.alloc, bytes)?;
-        self.add(path, held)?;
-        self.log.push((asked, Kept::Done))?;
+        self.files.insert(0, (name, held))?;
+        self.log.push((asked, KeptAnswer::Done))?;
         Ok(Answer::Done)
     }
 }

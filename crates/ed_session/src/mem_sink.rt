@@ -1,7 +1,7 @@
 //! A sink with a room that is set aside at the start.
 ghost use Rattle.std.specs.Prelude.{◌≡◌, ◌<◌, ◌≤◌, ◌+◌, ◌-◌, ◌^◌, Some, length, IfOk};
 ghost use Rattle.std.specs.Io.KnownBytes.{WriteAppends};
-ghost use Rattle.ed_session.specs.Sinks.{failed_by};
+ghost use Rattle.ed_session.specs.Sinks.{failures_of_write};
 ghost use Rattle.ed_session.specs.MemSinks.{empty_sink, takes, write_answer, written};
 
 use crate::{Sink, SinkFault};
@@ -80,9 +80,9 @@ impl Sink for MemSink {
 
         ensures within { IfOk result (λ n. n ≤ length piece.now) }
         ensures appended { WriteAppends (Some self.old.taken) (Some self.new.taken) result piece.now }
-        ensures rises { self.new.failures ≡ self.old.failures + failed_by result }
+        ensures rises { self.new.failures ≡ self.old.failures + failures_of_write result }
 
-        // Beside what any sink ensures: the bytes that it takes, and the sink behind the write.
+        // Beside what any sink ensures: the bytes that it takes, and the sink after the write.
         ensures exact { result ≡ write_answer (takes self.old piece.now) }
         ensures value { self.new ≡ written self.old piece.now }
     {

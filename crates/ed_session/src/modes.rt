@@ -1,8 +1,7 @@
 //! What a run has turned on.
 ghost use Rattle.std.specs.Prelude.{◌≡◌};
 ghost use Rattle.ed_syntax.specs.PublicTypes.{verb_value};
-ghost use Rattle.ed_session.specs.Insides.{prompting_behind};
-ghost use Rattle.ed_session.specs.Modes.{help_behind};
+ghost use Rattle.ed_session.specs.Insides.{prompting_after, help_after};
 
 use ed_syntax::Verb;
 
@@ -16,10 +15,10 @@ pub(crate) struct Modes {
 }
 
 impl Modes {
-    /// What is turned on behind a command that is done.
-    pub(crate) fn behind(self, verb: &Verb) -> Modes
-        ensures prompting { result.prompting ≡ prompting_behind (verb_value verb.now) self.prompting }
-        ensures help { result.help ≡ help_behind (verb_value verb.now) self.help }
+    /// What is turned on after a command that is done.
+    pub(crate) fn after(self, verb: &Verb) -> Modes
+        ensures prompting { result.prompting ≡ prompting_after (verb_value verb.now) self.prompting }
+        ensures help { result.help ≡ help_after (verb_value verb.now) self.help }
     {
         match verb {
             Verb::HelpMode => Modes {

@@ -1,15 +1,14 @@
 //! The reports of faults (XCU ed, "Consequences of Errors").
 ghost use Rattle.std.specs.Prelude.{◌≡◌, IfOk};
 ghost use Rattle.ed_syntax.specs.Progress.{report};
-ghost use Rattle.ed_session.specs.Insides.{AreReady, EndsBy};
-ghost use Rattle.ed_session.specs.Steps.{memory_report};
+ghost use Rattle.ed_base.specs.declared.fault.Fault.TheVariants.{Memory};
+ghost use Rattle.ed_session.specs.Insides.{AreReady, Reported};
 
-use crate::stage::Stage;
 use ed_base::{Bytes, Fault};
 use std::alloc::{AllocError, Global};
 use std::mem;
 
-/// The reports of want of memory, for which room is made beforehand. Only one report is ever handed out.
+/// The reports that memory ran out, for which room is made beforehand. Only one report is ever handed out.
 #[derive(Drop)]
 pub(crate) struct Reports {
     alloc: Global,
@@ -42,10 +41,10 @@ impl Reports {
         })
     }
 
-    /// That of want of memory. It takes none.
+    /// The report that memory ran out. It takes none.
     pub(crate) fn of_memory(&mut self, help: bool) -> Bytes
         requires ready { AreReady self.old.brief self.old.full }
-        ensures value { result ≡ memory_report help }
+        ensures value { result ≡ report help Memory }
     {
         let none = Bytes::new(self.alloc);
         if help {
@@ -55,17 +54,17 @@ impl Reports {
         }
     }
 
-    /// The stage of a session whose run this fault ends, and what is written of it.
-    pub(crate) fn ending(&mut self, help: bool, fault: Fault) -> (Stage, Bytes)
+    /// The report of a fault that ends a run, and that fault; where there is no memory for it, those of `Fault::Memory`.
+    pub(crate) fn ending(&mut self, help: bool, fault: Fault) -> (Fault, Bytes)
         requires ready { AreReady self.old.brief self.old.full }
-        ensures value { EndsBy fault help result.0 result.1 }
+        ensures value { Reported help fault result.0 result.1 }
     {
         match fault {
-            Fault::Memory => (Stage::Lost(Fault::Memory), self.of_memory(help)),
-            _ if !help => (Stage::Over(Err(fault)), self.of_memory(false)),
+            Fault::Memory => (Fault::Memory, self.of_memory(help)),
+            _ if !help => (fault, self.of_memory(false)),
             _ => match report_of(self.alloc, true, fault) {
-                Ok(written) => (Stage::Over(Err(fault)), written),
-                Err(_) => (Stage::Lost(Fault::Memory), self.of_memory(true)),
+                Ok(written) => (fault, written),
+                Err(_) => (Fault::Memory, self.of_memory(true)),
             },
         }
     }

@@ -1,11 +1,14 @@
 //! A run that stops for its output and its files.
-ghost use Rattle.std.specs.Prelude.{◌≡◌, ◌≢◌, ◌<◌, ◌≤◌, List, [], Option, Some, None, true, false, IfOk, IfSome, IfNone, IsSome};
+ghost use Rattle.std.specs.Prelude.{◌≡◌, ◌≢◌, ◌≤◌, List, [], Some, None, true, false, IfOk, IfErr, OnOk, IfSome, IfNone, IsSome};
+ghost use Rattle.ed_base.specs.declared.fault.Fault.TheVariants.{File, Memory};
+ghost use Rattle.ed_commands.specs.Editors.{opening_value};
+ghost use Rattle.ed_session.specs.Insides.{state_loaded};
 
 mod advancing;
 
 use crate::modes::Modes;
+use crate::phase::Phase;
 use crate::reports::Reports;
-use crate::stage::Stage;
 use ed_base::{Bytes, Fault};
 use ed_commands::{Editor, Reply};
 use ed_syntax::{Answer, Command, Ending, Options, Request, Script};
@@ -29,7 +32,7 @@ pub enum Ask {
 
 /// A run of a script that is asked for its next step, and stops where it wants a file or has output.
 ///
-/// A start, step or answer that finds no memory loses the session to `Fault::Memory`, behind its report.
+/// A start, step or answer that finds no memory ends the run by `Fault::Memory`, after its report.
 #[derive(Drop)]
 pub struct Session<S: LineStore> {
     alloc: Global,
@@ -44,39 +47,53 @@ pub struct Session<S: LineStore> {
     // Output that wasn't handed out.
     pending: Bytes,
     reports: Reports,
-    stage: Stage,
+    phase: Phase,
     told: bool,
 }
 
 impl<S: LineStore> Model for Session<S> {
-    ghost use Rattle.std.specs.Prelude.{drop, map, vec_len};
-    ghost use Rattle.ed_syntax.specs.PublicTypes.{command_value};
+    ghost use Rattle.std.specs.Prelude.{drop, vec_len};
+    ghost use Rattle.ed_syntax.specs.PublicTypes.{steps_value};
     ghost use Rattle.ed_session.specs.Sessions.{SessionValue};
 
     ghost Value = { SessionValue };
 
-    ghost use Rattle.ed_session.specs.Insides.{IsSound, phase_of, silently};
+    ghost use Rattle.ed_session.specs.Insides.{IsSound, silently};
 
     ghost view = { λ s. record {
-      phase = phase_of s.stage;
+      phase = s.phase;
       present = silently s.editor.state s.modes s.prompt;
-      commands = map command_value (drop s.next s.commands.items);
+      steps = steps_value (drop s.next s.commands.items);
       fault = s.fault;
       pending = s.pending;
       told = s.told;
     } };
 
-    ghost invariant = { λ s. IsSound s.stage s.editor.state s.editor.failed (vec_len s.commands) s.next
-        (map command_value (drop s.next s.commands.items)) s.pending s.reports.brief s.reports.full s.told };
+    ghost invariant = { λ s. IsSound s.phase s.editor.state s.editor.failed (vec_len s.commands) s.next
+        (steps_value (drop s.next s.commands.items)) s.pending s.reports.brief s.reports.full s.told };
+}
+
+// Loads what was answered of the start file into an editor that was just made.
+fn load<S: LineStore>(editor: &mut Editor<S>, answer: Answer, path: Bytes) -> Result<(), Fault>
+    requires opening { editor.old ≡ opening_value }
+    ensures loaded { OnOk result (state_loaded path answer ≡ Some editor.new.state) }
+    ensures fault { IfErr result (λ fault. fault ≢ Memory → (fault ≡ File) × (state_loaded path answer ≡ None)) }
+    ensures failed { OnOk result (editor.new.failed ≡ None) }
+{
+    match answer {
+        Answer::Bytes(bytes) => editor.load_bytes(bytes, path),
+        Answer::Missing => editor.load(b"", path),
+        Answer::Refused | Answer::Done => Err(Fault::File),
+    }
 }
 
 impl<S: LineStore> Session<S> {
-    ghost use Rattle.ed_syntax.specs.PublicTypes.{script_value};
+    ghost use Rattle.ed_syntax.specs.PublicScript.{script_value};
     ghost use Rattle.ed_syntax.specs.Runs.{run};
     ghost use Rattle.ed_syntax.specs.declared.request.Answer.{Answer};
-    ghost use Rattle.ed_session.specs.Modes.{ComesBy, StaysAt};
-    ghost use Rattle.ed_session.specs.Sessions.{made, lost_by, is_waiting, is_started, rest, awaited, path_of, may_go_on, Waiting};
-    ghost use Rattle.ed_session.specs.Steps.{Answers, Starts, BreaksOff, Steps, StepBreaks, LostSteps, Tells, IsEnded, LosesOutput};
+    ghost use Rattle.ed_session.specs.declared.phase.Phase.TheVariants as phases;
+    ghost use Rattle.ed_session.specs.Sessions.{made, is_waiting, is_started, is_over, rest, awaited, path_of};
+    ghost use Rattle.ed_session.specs.Calls.{Answers, Starts, BreaksOff, Gives, IsEnded, LosesOutput};
     ghost use Rattle.ed_session.specs.Work.{work, Works};
 
     /// A session of this script that hasn't started.
@@ -113,32 +130,33 @@ impl<S: LineStore> Session<S> {
             prompt,
             pending: Bytes::new(alloc),
             reports,
-            stage: Stage::Fresh(path),
+            phase: Phase::Fresh(path),
             told: false,
         })
     }
 
-    /// It has been given its start file, or none. Also a session that was lost counts as started.
+    /// It has been given its start file, or none. A session whose run is over counts as started.
     pub fn started(&self) -> bool
         ensures value { result ≡ is_started self.now.phase }
     {
-        !matches!(&self.stage, Stage::Fresh(_))
+        !matches!(&self.phase, Phase::Fresh(_))
     }
 
     /// It waits for the answer to a request.
     pub fn waits(&self) -> bool
         ensures value { result ≡ is_waiting self.now.phase }
     {
-        matches!(&self.stage, Stage::Waiting)
+        matches!(&self.phase, Phase::Waiting)
     }
 
     // The path of the start file, till the session starts.
     pub(crate) fn start_path(&self) -> Option<&[u8]>
         ensures given { IfSome result (λ path. path_of self.now.phase ≡ Some path.now) }
         ensures without { IfNone result (path_of self.now.phase ≡ None) }
+        ensures handed_out { is_started self.now.phase ≡ false → self.now.pending ≡ [] }
     {
-        match &self.stage {
-            Stage::Fresh(Some(path)) => Some(path.as_slice()),
+        match &self.phase {
+            Phase::Fresh(Some(path)) => Some(path.as_slice()),
             _ => None,
         }
     }
@@ -148,26 +166,18 @@ impl<S: LineStore> Session<S> {
     /// file's bytes ends the run by `Fault::File`.
     pub fn start(&mut self, answer: Answer)
         requires fresh { is_started self.old.phase ≡ false }
-        ensures given { lost_by self.new.phase ≡ None →
-            Starts (path_of self.old.phase) self.old answer self.new }
-        ensures broke { lost_by self.new.phase ≢ None → BreaksOff self.new }
-        ensures mode { StaysAt self.old self.new }
+        ensures given { Starts (path_of self.old.phase) self.old answer self.new }
         ensures started { is_started self.new.phase ≡ true }
         ensures idle { is_waiting self.new.phase ≡ false }
         ensures untold { self.new.told ≡ false }
         ensures work { work self.new ≤ work self.old }
     {
-        let Stage::Fresh(Some(path)) = mem::replace(&mut self.stage, Stage::Between) else {
+        let Phase::Fresh(Some(path)) = mem::replace(&mut self.phase, Phase::Between) else {
             return;
         };
-        let loaded = match answer {
-            Answer::Bytes(bytes) => self.editor.load_bytes(bytes, path),
-            Answer::Missing => self.editor.load(b"", path),
-            Answer::Refused | Answer::Done => Err(Fault::File),
-        };
-        if let Err(fault) = loaded {
-            let (stage, report) = self.reports.ending(self.modes.help, fault);
-            self.stage = stage;
+        if let Err(fault) = load(&mut self.editor, answer, path) {
+            let (fault, report) = self.reports.ending(self.modes.help, fault);
+            self.phase = Phase::Over(Err(fault));
             self.pending = report;
         }
     }
@@ -176,51 +186,40 @@ impl<S: LineStore> Session<S> {
     pub fn step(&mut self) -> Ask
         requires started { is_started self.old.phase ≡ true }
         requires idle { is_waiting self.old.phase ≡ false }
-        ensures given { lost_by self.old.phase ≡ None → lost_by self.new.phase ≡ None →
-            Steps self.old result self.new }
-        ensures broke { lost_by self.old.phase ≡ None → lost_by self.new.phase ≢ None →
-            StepBreaks result self.new }
-        ensures mode { ComesBy self.old self.new }
-        ensures lost { IfSome (lost_by self.old.phase) (λ fault. LostSteps fault self.old result self.new) }
+        ensures given { Gives self.old result self.new }
         ensures started { is_started self.new.phase ≡ true }
-        ensures told { Tells result self.new }
         ensures same_end { self.old.told ≡ true → IsEnded result × (self.new ≡ self.old) }
         ensures work { Works self.old result self.new }
     {
-        'commands: while self.pending.is_empty()
-            && matches!(&self.stage, Stage::Between | Stage::Prompted)
-        {
-            match self.advance() {
-                Some(Request::Read(path)) => return Ask::Read(path),
-                Some(Request::Write(path, bytes)) => return Ask::Write(path, bytes),
-                None => {}
+        'steps: loop {
+            if !self.pending.is_empty() {
+                return Ask::Output(mem::replace(&mut self.pending, Bytes::new(self.alloc)));
             }
-        }
-        if !self.pending.is_empty() {
-            return Ask::Output(mem::replace(&mut self.pending, Bytes::new(self.alloc)));
-        }
-        self.told = true;
-        match &self.stage {
-            Stage::Over(result) => Ask::Ended(*result),
-            Stage::Lost(fault) => Ask::Ended(Err(*fault)),
-            Stage::Fresh(_) | Stage::Between | Stage::Prompted | Stage::Waiting => unreachable!(),
+            if let Phase::Over(result) = &self.phase {
+                let result = *result;
+                self.told = true;
+                return Ask::Ended(result);
+            }
+            if let Some(asks) = self.advance() {
+                return asks;
+            }
         }
     }
 
-    // The request that is awaited. A session that has no memory to tell it is lost.
+    // The request that is awaited. Where there is no memory to tell it, the run is over.
     pub(crate) fn requested(&mut self) -> Option<Request>
-        requires waiting { self.old.phase ≡ Waiting }
+        requires waiting { self.old.phase ≡ phases.Waiting }
         ensures value { IfSome result (λ request.
             (awaited self.old ≡ Some request) × (self.new ≡ self.old)) }
-        ensures broke { IfNone result (BreaksOff self.new) }
-        ensures mode { StaysAt self.old self.new }
+        ensures broke { IfNone result (BreaksOff self.old [] [] [] self.new) }
+        ensures handed_out { self.old.pending ≡ [] }
         ensures work { work self.new ≤ work self.old }
     {
         match self.editor.apply(&self.commands[self.next], None) {
             Ok(Reply::Wants(request)) => Some(request),
             Ok(Reply::Done(_)) => unreachable!(),
             Err(_) => {
-                self.stage = Stage::Lost(Fault::Memory);
+                self.phase = Phase::Over(Err(Fault::Memory));
                 self.pending = self.reports.of_memory(self.modes.help);
                 None
             }
@@ -229,12 +228,9 @@ impl<S: LineStore> Session<S> {
 
     /// Takes the answer to what the session waits for. One that doesn't fit its request counts as `Answer::Refused`.
     pub fn answer(&mut self, answer: Answer)
-        requires waiting { self.old.phase ≡ Waiting }
+        requires waiting { self.old.phase ≡ phases.Waiting }
         ensures awaited { IsSome (awaited self.old) }
-        ensures given { lost_by self.new.phase ≡ None →
-            IfSome (awaited self.old) (λ request. Answers self.old request answer self.new) }
-        ensures broke { lost_by self.new.phase ≢ None → BreaksOff self.new × StaysAt self.old self.new }
-        ensures mode { ComesBy self.old self.new }
+        ensures given { IfSome (awaited self.old) (λ request. Answers self.old request answer self.new) }
         ensures idle { is_waiting self.new.phase ≡ false }
         ensures started { is_started self.new.phase ≡ true }
         ensures untold { self.new.told ≡ false }
@@ -242,46 +238,45 @@ impl<S: LineStore> Session<S> {
     {
         match self.editor.apply(&self.commands[self.next], Some(answer)) {
             Ok(Reply::Done(output)) => {
-                self.modes = self.modes.behind(&self.commands[self.next].verb);
+                self.modes = self.modes.after(&self.commands[self.next].verb);
                 self.next += 1;
                 self.pending = output;
-                self.stage = Stage::Between;
+                self.phase = Phase::Between;
             }
             Ok(Reply::Wants(_)) => {
-                let (stage, report) = self.reports.ending(self.modes.help, Fault::File);
-                self.stage = stage;
+                let (fault, report) = self.reports.ending(self.modes.help, Fault::File);
+                self.phase = Phase::Over(Err(fault));
                 self.pending = report;
             }
             Err(fault) => {
-                let (stage, report) = self.reports.ending(self.modes.help, fault);
-                self.stage = stage;
+                let (fault, report) = self.reports.ending(self.modes.help, fault);
+                self.phase = Phase::Over(Err(fault));
                 self.pending = report;
             }
         }
     }
 
-    // Loses the session because there was no memory, here or outside.
+    // Ends the run because there was no memory outside.
     pub(crate) fn fail_memory(&mut self)
-        requires unended { may_go_on self.old.phase ≡ true }
-        ensures broke { BreaksOff self.new }
-        ensures mode { StaysAt self.old self.new }
+        requires running { is_over self.old.phase ≡ false }
+        requires handed_out { self.old.pending ≡ [] }
+        ensures broke { BreaksOff self.old [] [] [] self.new }
         ensures untold { self.new.told ≡ false }
         ensures work { work self.new ≤ work self.old }
     {
-        self.stage = Stage::Lost(Fault::Memory);
+        self.phase = Phase::Over(Err(Fault::Memory));
         self.pending = self.reports.of_memory(self.modes.help);
     }
 
     /// Makes `Fault::Output` the end of a session that hasn't answered `Ended`; of one that has, nothing changes.
     pub fn fail_output(&mut self)
-        ensures ended { self.old.told ≡ false → LosesOutput self.old self.new }
+        ensures ended { self.old.told ≡ false → LosesOutput self.new }
         ensures unchanged { self.old.told ≡ true → self.new ≡ self.old }
-        ensures mode { StaysAt self.old self.new }
     {
         if self.told {
             return;
         }
-        self.stage = Stage::Lost(Fault::Output);
+        self.phase = Phase::Over(Err(Fault::Output));
         self.pending = Bytes::new(self.alloc);
     }
 }

@@ -1,7 +1,7 @@
 //! Where a run's output goes.
 ghost use Rattle.std.specs.Prelude.{◌≡◌, ◌<◌, ◌≤◌, ◌+◌, ◌-◌, ◌^◌, ℕ, List, Option, true, false, IsTrue, take, length, IfOk};
 ghost use Rattle.std.specs.Io.KnownBytes.{Appends, WriteAppends};
-ghost use Rattle.ed_session.specs.Sinks.{failed_by, AppendsFront};
+ghost use Rattle.ed_session.specs.Sinks.{failures_of_write, AppendsFront};
 
 use std::io;
 use std::marker::Model;
@@ -27,7 +27,7 @@ pub trait Sink {
         ensures appended { WriteAppends (taken self.old) (taken self.new) result piece.now }
 
         // The count rises just where nothing is taken: at an `Err` and at 0.
-        ensures rises { failures self.new ≡ failures self.old + failed_by result };
+        ensures rises { failures self.new ≡ failures self.old + failures_of_write result };
 }
 
 /// A writer as a sink.

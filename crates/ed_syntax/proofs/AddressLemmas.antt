@@ -1,15 +1,16 @@
 -- Addresses: what is read is spelled so, and what is spelled so is read.
-use Rattle.std.proofs.Common.{◌≡◌, ◌≢◌, ℕ, ◌+◌, ◌-◌, ◌<◌, ◌&&◌, ◌||◌, ℤ, true, nat_eq, nat_le, List, [], ◌∷◌, length, Option, Some, None, refl, sym, ap, ◌∙◌, ⊎_elim, subst, arith}
+use Rattle.std.proofs.Common.{◌≡◌, ◌≢◌, ℕ, ◌+◌, ◌-◌, ◌<◌, ◌&&◌, ◌||◌, ℤ, true, nat_eq, nat_le, List, [], ◌∷◌, length, drop, Option, Some, None, refl, sym, ap, ◌∙◌, ⊎_elim, subst, arith}
 use Rattle.std.specs.Prelude.{IsTrue, IsFalse}
 use Rattle.std.proofs.lemmas.Bool.{eqb-true, leb-true, le-leb, and_parts, and_from, or_parts, or_cases, false≢true}
 use Rattle.ed_base.specs.Buffer.{letter_of}
 use Rattle.ed_syntax.specs.Characters.{dollar_sign, apostrophe, plus_sign, hyphen, full_stop, slash, question_mark, backslash, letter_a, is_digit, is_sign, begins_address, begins}
 use Rattle.ed_syntax.specs.Commands.{Base, Number, Current, Last, Marked, Forward, Backward, Address}
+use Rattle.ed_syntax.specs.Quoting.{SpellsPattern, SpellsClosing}
 use Rattle.ed_syntax.specs.Addressing.{SpellsBase, SpellsOffsets, SpellsAddress}
 use Rattle.ed_syntax.specs.Tokens.{Parsed, ◌>>=◌, number, letter, pattern_at, offsets, base, with_offsets, address}
 use Rattle.ed_syntax.proofs.StepLemmas.{Some-same, none_some, bind-some, chosen, either}
 use Rattle.ed_syntax.proofs.NumberLemmas.{number-sound, number-complete, number-first}
-use Rattle.ed_syntax.proofs.QuotingLemmas.{pattern_at-sound, pattern_at-complete}
+use Rattle.ed_syntax.proofs.QuotingLemmas.{pattern_at-sound, pattern_at-complete, pattern-closing, closing-complete}
 use Rattle.ed_syntax.proofs.OffsetLemmas.{offsets-sound, offsets-complete}
 
 -- a letter's byte
@@ -64,6 +65,15 @@ with_part text part of spells r is =
     let found = bind-some part (λ r. Some (Some (of r.0), r.1)) r is in
     known text found.0.1 (Some (of found.0.0)) (given found.0.1 (of found.0.0) (spells found.0.0 found.0.1 found.1)) r found.2
 
+-- one with a pattern
+with_pattern : (text : List ℕ) (delimiter : ℕ) (bs : List ℕ) (of : Option (List ℕ) → Base) →
+    ((found : Option (List ℕ)) (more : List ℕ) → SpellsPattern delimiter bs more found → SpellsClosing delimiter more (drop 1 more) → SpellsBase text (drop 1 more) (of found)) →
+    BaseRead text (pattern_at delimiter bs >>= λ r. Some (Some (of r.0), drop 1 r.1))
+with_pattern text delimiter bs of spells r is =
+    let found = bind-some (pattern_at delimiter bs) (λ r. Some (Some (of r.0), drop 1 r.1)) r is in
+    let spelled = pattern_at-sound delimiter bs found.0 found.1 in
+    known text (drop 1 found.0.1) (Some (of found.0.0)) (given (drop 1 found.0.1) (of found.0.0) (spells found.0.0 found.0.1 spelled (pattern-closing delimiter spelled))) r found.2
+
 -- one at this byte
 at_byte : (b code : ℕ) (bs : List ℕ) (read : Parsed (Option Base)) → nat_eq b code ≡ true → BaseRead (code ∷ bs) read → BaseRead (b ∷ bs) read
 at_byte b code bs read same is = subst (λ b. BaseRead (b ∷ bs) read) (sym (eqb-true b code same)) is
@@ -87,9 +97,9 @@ base-sound (b ∷ bs) =
     (λ no_dollar. either P (nat_eq b apostrophe) _ _
     (λ mark. at_byte b apostrophe bs _ mark (marked-read bs))
     (λ no_mark. either P (nat_eq b slash) _ _
-    (λ forward. at_byte b slash bs _ forward (with_part (slash ∷ bs) (pattern_at slash bs) Forward (λ p rest is. SpellsBase.forward bs rest p (pattern_at-sound slash bs (p, rest) is))))
+    (λ forward. at_byte b slash bs _ forward (with_pattern (slash ∷ bs) slash bs Forward (λ p more is closes. SpellsBase.forward bs more (drop 1 more) p is closes)))
     (λ no_forward. either P (nat_eq b question_mark) _ _
-    (λ backward. at_byte b question_mark bs _ backward (with_part (question_mark ∷ bs) (pattern_at question_mark bs) Backward (λ p rest is. SpellsBase.backward bs rest p (pattern_at-sound question_mark bs (p, rest) is))))
+    (λ backward. at_byte b question_mark bs _ backward (with_pattern (question_mark ∷ bs) question_mark bs Backward (λ p more is closes. SpellsBase.backward bs more (drop 1 more) p is closes)))
     (λ no_backward. either P (is_sign b) _ _
     (λ sign. known (b ∷ bs) (b ∷ bs) (Some Current) (signed sign))
     (λ no_sign. known (b ∷ bs) (b ∷ bs) None (nothing (rw (no_digit, no_stop, no_dollar, no_mark, no_forward, no_backward, no_sign, begins_address) refl)))))))))
@@ -128,16 +138,25 @@ base-last rest = refl
 base-marked : (text : List ℕ) → base (apostrophe ∷ text) ≡ (letter text >>= λ r. Some (Some (Marked r.0), r.1))
 base-marked text = refl
 
-base-forward : (text : List ℕ) → base (slash ∷ text) ≡ (pattern_at slash text >>= λ r. Some (Some (Forward r.0), r.1))
+base-forward : (text : List ℕ) → base (slash ∷ text) ≡ (pattern_at slash text >>= λ r. Some (Some (Forward r.0), drop 1 r.1))
 base-forward text = refl
 
-base-backward : (text : List ℕ) → base (question_mark ∷ text) ≡ (pattern_at question_mark text >>= λ r. Some (Some (Backward r.0), r.1))
+base-backward : (text : List ℕ) → base (question_mark ∷ text) ≡ (pattern_at question_mark text >>= λ r. Some (Some (Backward r.0), drop 1 r.1))
 base-backward text = refl
 
 -- what is read of a part makes a base
 part-complete : {A : Type 0} (of : A → Base) (text rest : List ℕ) (part : Parsed A) (found : A) → base text ≡ (part >>= λ r. Some (Some (of r.0), r.1)) → part ≡ Some (found, rest) →
     base text ≡ Some (Some (of found), rest)
 part-complete {A} of text rest part found is read = is ∙ ap (λ (o : Parsed A). o >>= λ r. Some (Some (of r.0), r.1)) read
+
+-- what is read of a pattern makes a base
+pattern-complete : (of : Option (List ℕ) → Base) (delimiter : ℕ) (text inside more rest : List ℕ) (found : Option (List ℕ)) →
+    base text ≡ (pattern_at delimiter inside >>= λ r. Some (Some (of r.0), drop 1 r.1)) → pattern_at delimiter inside ≡ Some (found, more) → SpellsClosing delimiter more rest →
+    base text ≡ Some (Some (of found), rest)
+pattern-complete of delimiter text inside more rest found is read closes =
+    is
+    ∙ ap (λ (o : Parsed (Option (List ℕ))). o >>= λ r. Some (Some (of r.0), drop 1 r.1)) read
+    ∙ ap (λ rest. Some (Some (of found), rest)) (closing-complete delimiter closes)
 
 slash_plain : slash ≢ backslash
 slash_plain same = cc
@@ -152,10 +171,10 @@ base-complete (SpellsBase.current rest) = base-current rest
 base-complete (SpellsBase.last rest) = base-last rest
 base-complete (SpellsBase.marked l rest small) =
     part-complete Marked (apostrophe ∷ (letter_a + l) ∷ rest) rest (letter ((letter_a + l) ∷ rest)) l (base-marked ((letter_a + l) ∷ rest)) (letter-complete l rest small)
-base-complete (SpellsBase.forward text rest pattern is) =
-    part-complete Forward (slash ∷ text) rest (pattern_at slash text) pattern (base-forward text) (pattern_at-complete slash is slash_plain)
-base-complete (SpellsBase.backward text rest pattern is) =
-    part-complete Backward (question_mark ∷ text) rest (pattern_at question_mark text) pattern (base-backward text) (pattern_at-complete question_mark is question_mark_plain)
+base-complete (SpellsBase.forward text more rest pattern is closes) =
+    pattern-complete Forward slash (slash ∷ text) text more rest pattern (base-forward text) (pattern_at-complete slash is slash_plain) closes
+base-complete (SpellsBase.backward text more rest pattern is closes) =
+    pattern-complete Backward question_mark (question_mark ∷ text) text more rest pattern (base-backward text) (pattern_at-complete question_mark is question_mark_plain) closes
 
 -- an address that is read is spelled so
 abbrev AddressRead : List ℕ → Parsed (Option Address) → Type 0

@@ -3,7 +3,8 @@ use Rattle.std.specs.Prelude.{◌≡◌, refl, [], ◌∷◌, ◌++◌, codes}
 use Rattle.std.specs.Fmt.{digits}
 use Rattle.bre_parse.specs.Tree as tree
 use Rattle.ed_base.specs.declared.fault.Fault.TheVariants as fault
-use Rattle.ed_syntax.proofs.RunRows.{edited, ends, fails, letters, repeated}
+use Rattle.ed_syntax.proofs.Worked.{edited, ends, fails}
+use Rattle.ed_syntax.proofs.RunRows.{letters, repeated}
 
 -- blanks
 
@@ -105,8 +106,8 @@ semicolon_with_second_alone = refl
 relative_first_has_its_value_twice : edited letters (codes "1p\n+;p\nQ\n") ≡ ends (codes "a\nb\n") 3
 relative_first_has_its_value_twice = refl
 
-relative_first_is_valued_twice : edited letters (codes "2p\n+,p\n2p\n-,p\nQ\n") ≡ ends (codes "b\nc\nb\na\n") 3
-relative_first_is_valued_twice = refl
+relative_first_is_evaluated_twice : edited letters (codes "2p\n+,p\n2p\n-,p\nQ\n") ≡ ends (codes "b\nc\nb\na\n") 3
+relative_first_is_evaluated_twice = refl
 
 relative_pair : edited letters (codes "2p\n-,+p\nQ\n") ≡ ends (codes "b\na\nb\nc\n") 3
 relative_pair = refl
@@ -132,8 +133,8 @@ text_behind_line_zero_and_semicolon = refl
 range_from_a_search_at_line_zero : edited repeated (codes "0;/a/p\n") ≡ fails (codes "?\n") fault.Address
 range_from_a_search_at_line_zero = refl
 
-dropped_first_of_semicolon_is_valued : edited letters (codes "9;1=\n") ≡ fails (codes "?\n") fault.Address
-dropped_first_of_semicolon_is_valued = refl
+dropped_first_of_semicolon_is_evaluated : edited letters (codes "9;1=\n") ≡ fails (codes "?\n") fault.Address
+dropped_first_of_semicolon_is_evaluated = refl
 
 no_separator_twice : edited letters (codes "1;,p\n") ≡ fails (codes "?\n") fault.Syntax
 no_separator_twice = refl

@@ -24,7 +24,7 @@ end_front (SpellsEnd.collating_symbol byte rest) = (left_square_bracket ∷ peri
 element_front : {text rest : List ℕ} {ranges : Ranges} → SpellsElement text rest ranges → Front text rest
 element_front (SpellsElement.single text rest byte is no_range) = end_front is
 element_front (SpellsElement.range text behind rest low high from open_end to order) = joined (end_front from) (joined (hyphen ∷ [], refl) (end_front to))
-element_front (SpellsElement.equivalence_class byte rest other no_range) =
+element_front (SpellsElement.equivalence_class byte rest no_range) =
     (left_square_bracket ∷ equals_sign ∷ byte ∷ equals_sign ∷ right_square_bracket ∷ [], refl)
 element_front (SpellsElement.character_class name rest ranges known no_range) = (
   left_square_bracket ∷ colon ∷ (name ++ colon ∷ right_square_bracket ∷ []),

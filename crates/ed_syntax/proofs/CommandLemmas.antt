@@ -1,15 +1,16 @@
 -- Commands: what is read is spelled so, and what is spelled so is read.
-use Rattle.std.proofs.Common.{◌≡◌, ℕ, ◌+◌, true, false, List, [], ◌∷◌, ◌++◌, length, Option, Some, refl, sym, ap, ◌∙◌, subst, arith, append_assoc}
+use Rattle.std.proofs.Common.{◌≡◌, ℕ, ◌+◌, Bool, true, false, List, [], ◌∷◌, ◌++◌, length, Option, Some, refl, sym, ap, ◌∙◌, subst, arith, append_assoc}
 use Rattle.ed_base.specs.Lines.{newline, IsLine, AreLines, lines_of, bytes_of}
 use Rattle.ed_base.proofs.LineLemmas.{lines_of-whole}
+use Rattle.std.proofs.lemmas.Bool.{lt-ltb}
 use Rattle.std.proofs.lemmas.List.Elements.{All-cons, All-head, All-tail}
 use Rattle.ed_syntax.specs.Commands as ed
 use Rattle.ed_syntax.specs.Characters.{equals_sign, capital_h, capital_p, capital_q, letter_a, letter_c, letter_d, letter_h, letter_i, letter_j, letter_m, letter_t}
-use Rattle.ed_syntax.specs.Commands.{Addresses, Form, Verb, Command}
-use Rattle.ed_syntax.specs.Verbs.{taking, takes_any, may_have, takes_suffix}
-use Rattle.ed_syntax.specs.Spellings.{SpellsText, SpellsVerb, Spells}
+use Rattle.ed_syntax.specs.Commands.{Addresses, Form, Verb, Command, Step, alone}
+use Rattle.ed_syntax.specs.Verbs.{Takes, takes, takes_any, may_have, marks_by_letter}
+use Rattle.ed_syntax.specs.Spellings.{SpellsText, SpellsVerb, SpellsCommand, Spells}
 use Rattle.ed_syntax.specs.Tokens.{◌>>=◌}
-use Rattle.ed_syntax.specs.Reading.{Heading, text, with_text, finished, heading, command_at}
+use Rattle.ed_syntax.specs.Reading.{Heading, text, entering, with_text, finished, heading, command_at, step_at}
 use Rattle.ed_syntax.proofs.StepLemmas.{Some-same, bind-some}
 use Rattle.ed_syntax.proofs.VerbLemmas.{PlainVerb, SpellsLetter}
 use Rattle.ed_syntax.proofs.SuffixLemmas.{suffix-same}
@@ -99,103 +100,154 @@ verb-complete (SpellsVerb.help_mode more rest) lines are same = plain_read capit
 verb-complete (SpellsVerb.prompt_mode more rest) lines are same = plain_read capital_p more ed.PromptMode lines rest are same PlainVerb.prompt_mode refl
 verb-complete (SpellsVerb.quit_anyway more rest) lines are same = plain_read capital_q more ed.QuitAnyway lines rest are same PlainVerb.quit_anyway refl
 
--- a text changes nothing about which addresses may stand before its command
-taking-text : (verb : Verb) (later : List (List ℕ)) → taking (with_text verb later).0 ≡ taking verb
-taking-text (ed.Append entered) later = refl
-taking-text (ed.Change entered) later = refl
-taking-text ed.Delete later = refl
-taking-text (ed.Insert entered) later = refl
-taking-text ed.Join later = refl
-taking-text (ed.Mark letter) later = refl
-taking-text (ed.Move target) later = refl
-taking-text (ed.Copy target) later = refl
-taking-text ed.LineNumber later = refl
-taking-text ed.Null later = refl
-taking-text (ed.Write form) later = refl
-taking-text ed.Help later = refl
-taking-text ed.HelpMode later = refl
-taking-text ed.PromptMode later = refl
-taking-text ed.QuitAnyway later = refl
+-- a text changes nothing of what its command takes
+takes-entering : (entered : List (List ℕ)) (verb : Verb) → takes (entering entered verb) ≡ takes verb
+takes-entering entered (ed.Append _) = refl
+takes-entering entered (ed.Change _) = refl
+takes-entering entered (ed.Insert _) = refl
+takes-entering entered _ = refl
+
+takes-text : (verb : Verb) (later : List (List ℕ)) → takes (with_text verb later).0 ≡ takes verb
+takes-text verb later =
+    elim (takes verb).text as (λ t. takes (let r : Verb × List (List ℕ) = elim t [ true ↦ (entering (text later).0 verb, (text later).1) | false ↦ (verb, later) ] in r.0) ≡ takes verb) [
+      | true ↦ takes-entering (text later).0 verb
+      | false ↦ refl
+    ]
 
 may_have-text : (given : Addresses) (verb : Verb) (later : List (List ℕ)) → may_have given (with_text verb later).0 ≡ may_have given verb
 may_have-text ed.Without verb later = refl
-may_have-text (ed.One a) verb later = ap takes_any (taking-text verb later)
-may_have-text (ed.Comma a b) verb later = ap takes_any (taking-text verb later)
-may_have-text (ed.Semicolon a b) verb later = ap takes_any (taking-text verb later)
+may_have-text (ed.One a) verb later = ap (λ (t : Takes). takes_any t.taking) (takes-text verb later)
+may_have-text (ed.Comma a b) verb later = ap (λ (t : Takes). takes_any t.taking) (takes-text verb later)
+may_have-text (ed.Semicolon a b) verb later = ap (λ (t : Takes). takes_any t.taking) (takes-text verb later)
 
--- nor about whether a suffix may follow
-takes_suffix-text : (verb : Verb) (later : List (List ℕ)) → takes_suffix (with_text verb later).0 ≡ takes_suffix verb
-takes_suffix-text (ed.Append entered) later = refl
-takes_suffix-text (ed.Change entered) later = refl
-takes_suffix-text ed.Delete later = refl
-takes_suffix-text (ed.Insert entered) later = refl
-takes_suffix-text ed.Join later = refl
-takes_suffix-text (ed.Mark letter) later = refl
-takes_suffix-text (ed.Move target) later = refl
-takes_suffix-text (ed.Copy target) later = refl
-takes_suffix-text ed.LineNumber later = refl
-takes_suffix-text ed.Null later = refl
-takes_suffix-text (ed.Write form) later = refl
-takes_suffix-text ed.Help later = refl
-takes_suffix-text ed.HelpMode later = refl
-takes_suffix-text ed.PromptMode later = refl
-takes_suffix-text ed.QuitAnyway later = refl
+suffix-text : (verb : Verb) (later : List (List ℕ)) → (takes (with_text verb later).0).suffix ≡ (takes verb).suffix
+suffix-text verb later = ap (λ (t : Takes). t.suffix) (takes-text verb later)
 
--- a command that was read from lines: its bytes, and as many lines as they are
-pub record ReadsCommand (lines : List (List ℕ)) (r : Command × List (List ℕ)) : Type 0 where
+-- a letter that is read as a mark is one
+plain-letter : {b : ℕ} {verb : Verb} → PlainVerb b verb → marks_by_letter verb ≡ true
+plain-letter PlainVerb.append = refl
+plain-letter PlainVerb.change = refl
+plain-letter PlainVerb.insert = refl
+plain-letter PlainVerb.delete = refl
+plain-letter PlainVerb.join = refl
+plain-letter PlainVerb.line_number = refl
+plain-letter (PlainVerb.write b form is) = refl
+plain-letter PlainVerb.help = refl
+plain-letter PlainVerb.help_mode = refl
+plain-letter PlainVerb.prompt_mode = refl
+plain-letter PlainVerb.quit_anyway = refl
+
+spelled-letter : {own more : List ℕ} {verb : Verb} → SpellsLetter own more verb → marks_by_letter verb ≡ true
+spelled-letter SpellsLetter.null = refl
+spelled-letter (SpellsLetter.plain b more verb is) = plain-letter is
+spelled-letter (SpellsLetter.mark letter more small) = lt-ltb letter 26 small
+spelled-letter (SpellsLetter.move own more target is) = refl
+spelled-letter (SpellsLetter.copy own more target is) = refl
+
+letter-entering : (entered : List (List ℕ)) (verb : Verb) → marks_by_letter (entering entered verb) ≡ marks_by_letter verb
+letter-entering entered (ed.Append _) = refl
+letter-entering entered (ed.Change _) = refl
+letter-entering entered (ed.Insert _) = refl
+letter-entering entered _ = refl
+
+letter-text : (verb : Verb) (later : List (List ℕ)) → marks_by_letter (with_text verb later).0 ≡ marks_by_letter verb
+letter-text verb later =
+    elim (takes verb).text as (λ t. marks_by_letter (let r : Verb × List (List ℕ) = elim t [ true ↦ (entering (text later).0 verb, (text later).1) | false ↦ (verb, later) ] in r.0) ≡ marks_by_letter verb) [
+      | true ↦ letter-entering (text later).0 verb
+      | false ↦ refl
+    ]
+
+pub command_at-letter : (listed : Bool) (line : List ℕ) (later : List (List ℕ)) (r : Command × List (List ℕ)) → command_at listed line later ≡ Some r → marks_by_letter r.0.verb ≡ true
+command_at-letter listed line later r is =
+    let h = bind-some (heading line) (λ h. Some (finished listed h later)) r is in
+    ap (λ (r : Command × List (List ℕ)). marks_by_letter r.0.verb) (sym (Some-same (finished listed h.0 later) r h.2))
+    ∙ letter-text h.0.verb later
+    ∙ spelled-letter (heading-sound line h.0 h.1).letter
+
+-- what was read from lines: its bytes, and as many lines as they are
+pub record ReadsFirst {A : Type 0} (Spells : List ℕ → List ℕ → A → Type 0) (lines : List (List ℕ)) (r : A × List (List ℕ)) : Type 0 where
   pub bytes : List ℕ
   pub split : bytes_of lines ≡ bytes ++ bytes_of r.1
   pub spells : Spells bytes (bytes_of r.1) r.0
   pub counted : length (lines_of bytes) + length r.1 ≡ length lines
   pub are : AreLines r.1
 
-finished-sound : (line : List ℕ) (later : List (List ℕ)) (h : Heading) → IsLine line → AreLines later → SpellsHeading line h → ReadsCommand (line ∷ later) (finished h later)
-finished-sound line later h is_line are is =
+finished-sound : (listed : Bool) (line : List ℕ) (later : List (List ℕ)) (h : Heading) → IsLine line → AreLines later → SpellsHeading line h →
+    ReadsFirst (SpellsCommand listed) (line ∷ later) (finished listed h later)
+finished-sound listed line later h is_line are is =
     let text = verb-sound is.letter later are in
     let verb = (with_text h.verb later).0 in
     let left = bytes_of (with_text h.verb later).1 in
     record {
       bytes = line ++ newline ∷ text.bytes;
       split = ap (λ bs. line ++ newline ∷ bs) text.split ∙ sym (append_assoc line (newline ∷ text.bytes) left);
-      spells = Spells.command line is.own is.more text.bytes left h.addresses verb h.suffix is_line is.given text.spells (may_have-text h.addresses h.verb later ∙ is.allowed)
-          (suffix-same is.end verb (takes_suffix-text h.verb later));
+      spells = SpellsCommand.command line is.own is.more text.bytes left h.addresses verb h.suffix is_line is.given text.spells (may_have-text h.addresses h.verb later ∙ is.allowed)
+          (suffix-same is.end verb (suffix-text h.verb later));
       counted = ap (λ ls. length ls + length (with_text h.verb later).1) (lines_of-whole line text.bytes is_line) ∙ omega (arith, text.counted);
       are = text.are;
     }
 
 -- a command that is read is spelled so
-pub command-sound : (line : List ℕ) (later : List (List ℕ)) (r : Command × List (List ℕ)) → AreLines (line ∷ later) → command_at line later ≡ Some r → ReadsCommand (line ∷ later) r
-command-sound line later r are is =
-    let h = bind-some (heading line) (λ h. Some (finished h later)) r is in
-    subst (ReadsCommand (line ∷ later)) (Some-same (finished h.0 later) r h.2)
-    (finished-sound line later h.0 (All-head IsLine line later are) (All-tail IsLine line later are) (heading-sound line h.0 h.1))
+pub command-sound : (listed : Bool) (line : List ℕ) (later : List (List ℕ)) (r : Command × List (List ℕ)) → AreLines (line ∷ later) → command_at listed line later ≡ Some r →
+    ReadsFirst (SpellsCommand listed) (line ∷ later) r
+command-sound listed line later r are is =
+    let h = bind-some (heading line) (λ h. Some (finished listed h later)) r is in
+    subst (ReadsFirst (SpellsCommand listed) (line ∷ later)) (Some-same (finished listed h.0 later) r h.2)
+    (finished-sound listed line later h.0 (All-head IsLine line later are) (All-tail IsLine line later are) (heading-sound line h.0 h.1))
 
--- a command that is spelled so: the lines from its own on, and what is read there
-pub record CommandRead (lines : List (List ℕ)) (rest : List ℕ) (c : Command) : Type 0 where
+-- a step that is read is spelled so
+pub step-sound : (line : List ℕ) (later : List (List ℕ)) (r : Step × List (List ℕ)) → AreLines (line ∷ later) → step_at line later ≡ Some r → ReadsFirst Spells (line ∷ later) r
+step-sound line later r are is =
+    let c = bind-some (command_at false line later) (λ c. Some (alone c.0, c.1)) r is in
+    let read = command-sound false line later c.0 are c.1 in
+    subst (ReadsFirst Spells (line ∷ later)) (Some-same (alone c.0.0, c.0.1) r c.2) (record {
+      bytes = read.bytes;
+      split = read.split;
+      spells = Spells.single read.bytes (bytes_of c.0.1) c.0.0 read.spells;
+      counted = read.counted;
+      are = read.are;
+    })
+
+-- what is spelled so: the lines from its own on, and what is read there
+pub record FirstRead {A : Type 0} (read_at : List ℕ → List (List ℕ) → Option (A × List (List ℕ))) (lines : List (List ℕ)) (rest : List ℕ) (x : A) : Type 0 where
   pub line : List ℕ
   pub later : List (List ℕ)
   pub split : lines ≡ line ∷ later
   pub are : AreLines (line ∷ later)
   pub left : LeftLines rest
-  pub read : command_at line later ≡ Some (c, left.lines)
+  pub read : read_at line later ≡ Some (x, left.lines)
 
-abbrev command_with : Addresses → Option Form → Verb × List (List ℕ) → Command × List (List ℕ)
-command_with given suffix r = (record { addresses = given; verb = r.0; suffix = suffix; listed = false }, r.1)
+abbrev command_with : Bool → Addresses → Option Form → Verb × List (List ℕ) → Command × List (List ℕ)
+command_with listed given suffix r = (record { addresses = given; verb = r.0; suffix = suffix; listed = listed }, r.1)
 
 -- a command that is spelled so is read
-pub command-complete : {bytes rest : List ℕ} {c : Command} → Spells bytes rest c → (lines : List (List ℕ)) → AreLines lines → bytes ++ rest ≡ bytes_of lines → CommandRead lines rest c
-command-complete (Spells.command line own more text rest given verb suffix is_line addresses is allowed end) lines are same =
+pub command-complete : (listed : Bool) {bytes rest : List ℕ} {c : Command} → SpellsCommand listed bytes rest c → (lines : List (List ℕ)) → AreLines lines → bytes ++ rest ≡ bytes_of lines →
+    FirstRead (command_at listed) lines rest c
+command-complete listed (SpellsCommand.command line own more text rest given verb suffix is_line addresses is allowed end) lines are same =
     let first = first_line line (text ++ rest) lines is_line are (sym (append_assoc line (newline ∷ text) rest) ∙ same) in
     let behind = verb-complete is first.later first.are first.behind in
     let fits : may_have given behind.entered ≡ true = sym (may_have-text given behind.entered first.later) ∙ ap (λ r. may_have given r.0) behind.read ∙ allowed in
-    let takes : takes_suffix behind.entered ≡ takes_suffix verb = sym (takes_suffix-text behind.entered first.later) ∙ ap (λ r. takes_suffix r.0) behind.read in
+    let suffixed : (takes behind.entered).suffix ≡ (takes verb).suffix = sym (suffix-text behind.entered first.later) ∙ ap (λ r. (takes r.0).suffix) behind.read in
     let h : Heading = record { addresses = given; verb = behind.entered; suffix = suffix } in
-    let spells : SpellsHeading line h = record { own = own; more = more; given = addresses; letter = behind.letter_is; allowed = fits; end = suffix-same end behind.entered takes } in
+    let spells : SpellsHeading line h = record { own = own; more = more; given = addresses; letter = behind.letter_is; allowed = fits; end = suffix-same end behind.entered suffixed } in
     record {
       line = line;
       later = first.later;
       split = first.split;
       are = All-cons IsLine line first.later is_line first.are;
       left = behind.left;
-      read = ap (λ (o : Option Heading). o >>= λ h. Some (finished h first.later)) (heading-complete line h spells) ∙ ap (λ r. Some (command_with given suffix r)) behind.read;
+      read = ap (λ (o : Option Heading). o >>= λ h. Some (finished listed h first.later)) (heading-complete line h spells) ∙ ap (λ r. Some (command_with listed given suffix r)) behind.read;
+    }
+
+-- a step that is spelled so is read
+pub step-complete : {bytes rest : List ℕ} {x : Step} → Spells bytes rest x → (lines : List (List ℕ)) → AreLines lines → bytes ++ rest ≡ bytes_of lines → FirstRead step_at lines rest x
+step-complete (Spells.single bytes rest c is) lines are same =
+    let found = command-complete false is lines are same in
+    record {
+      line = found.line;
+      later = found.later;
+      split = found.split;
+      are = found.are;
+      left = found.left;
+      read = ap (λ (o : Option (Command × List (List ℕ))). o >>= λ r. Some (alone r.0, r.1)) found.read;
     }

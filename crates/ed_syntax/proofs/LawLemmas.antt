@@ -1,101 +1,155 @@
 -- Scripts: what is read is spelled so, and what is spelled so is read.
-use Rattle.std.proofs.Common.{◌≡◌, ℕ, zero, suc, ◌+◌, ◌-◌, ◌≤◌, List, [], ◌∷◌, ◌++◌, length, Option, Some, None, refl, sym, ap, ◌∙◌, subst, arith}
-use Rattle.std.proofs.lemmas.List.{append_cancel_right}
+use Rattle.std.proofs.Common.{◌≡◌, ◌≢◌, ℕ, zero, suc, ◌+◌, ◌-◌, ◌≤◌, List, [], ◌∷◌, ◌++◌, length, Option, Some, None, refl, sym, ap, ◌∙◌, subst, arith, append-nil}
 use Rattle.ed_base.specs.Lines.{AreLines, lines_of, bytes_of}
-use Rattle.ed_base.proofs.LineLemmas.{HoldsLines-lines, HoldsLines-lines_of}
-use Rattle.ed_syntax.specs.Commands.{Command, Script}
+use Rattle.ed_base.proofs.LineLemmas.{HoldsLines-lines, HoldsLines-lines_of, lines_of-bytes_of}
+use Rattle.ed_syntax.specs.Commands.{Step, Script}
 use Rattle.ed_syntax.specs.Spellings as spelled
-use Rattle.ed_syntax.specs.Spellings.{Spells, SpellsCommands, SpellsWhatIsRead, ReadsWhatIsSpelled}
-use Rattle.ed_syntax.specs.Reading.{command_at, script, script_of, followed}
+use Rattle.ed_syntax.specs.Spellings.{Spells, SpellsEach, SpellsSteps, SpellsWhatIsRead, ReadsWhatIsSpelled, line_at_rest}
+use Rattle.ed_syntax.specs.Reading.{step_at, script, script_of, followed}
 use Rattle.ed_syntax.proofs.StepLemmas.{none_some}
-use Rattle.ed_syntax.proofs.TextLemmas.{no_lines}
-use Rattle.ed_syntax.proofs.CommandLemmas.{CommandRead, command-sound, command-complete}
-use Rattle.ed_syntax.proofs.ScriptLemmas.{from_command, command_at-later}
+use Rattle.ed_syntax.proofs.TextLemmas.{LeftLines, no_lines}
+use Rattle.ed_syntax.proofs.CommandLemmas.{step-sound, step-complete}
+use Rattle.ed_syntax.proofs.ScriptLemmas.{all_before, from_step, step_at-later, script-next}
 
--- lines spell this script
-abbrev SpellsLines : ℕ → List (List ℕ) → Script → Type 0
-SpellsLines number lines s = SpellsCommands number (bytes_of lines) s.commands s.fault
+-- no front of these lines spells a step
+abbrev Stuck : List (List ℕ) → Type 0
+Stuck lines = (bytes rest : List ℕ) (x : Step) → bytes_of lines ≡ bytes ++ rest → Spells bytes rest x → ⊥
+
+-- lines spell this script, where the first of them has this number
+data SpellsLines (number : ℕ) (lines : List (List ℕ)) : Script → Type 0 where
+  whole : (xs : List Step) → SpellsEach Spells (bytes_of lines) [] xs → SpellsLines number lines (record { steps = xs; fault = None })
+  stuck : (left : List (List ℕ)) (xs : List Step) → SpellsEach Spells (bytes_of lines) (bytes_of left) xs → AreLines left → length left ≤ length lines → left ≢ [] → Stuck left →
+      SpellsLines number lines (record { steps = xs; fault = Some (number + (length lines - length left)) })
 
 -- what is read in front of lines
-abbrev read_first : List (List ℕ) → Option (Command × List (List ℕ))
+abbrev read_first : List (List ℕ) → Option (Step × List (List ℕ))
 read_first [] = None
-read_first (line ∷ later) = command_at line later
+read_first (line ∷ later) = step_at line later
 
--- where no command can be read, no front of the lines spells one
-no_front : (line : List ℕ) (later : List (List ℕ)) → AreLines (line ∷ later) → command_at line later ≡ None →
-    (bytes rest : List ℕ) (c : Command) → bytes_of (line ∷ later) ≡ bytes ++ rest → Spells bytes rest c → ⊥
-no_front line later are none bytes rest c split is =
-    let found = command-complete is (line ∷ later) are (sym split) in
+-- where no step can be read, no front of the lines spells one
+no_front : (line : List ℕ) (later : List (List ℕ)) → AreLines (line ∷ later) → step_at line later ≡ None → Stuck (line ∷ later)
+no_front line later are none bytes rest x split is =
+    let found = step-complete is (line ∷ later) are (sym split) in
     none_some (sym none ∙ ap read_first found.split ∙ found.read)
 
--- a command that was read, and lines behind it that spell a script
-next_spelled : (n number : ℕ) (line : List ℕ) (later : List (List ℕ)) → AreLines (line ∷ later) → length later ≤ n →
+-- a step before lines that spell a script
+spelled_next : (number next : ℕ) (lines rest : List (List ℕ)) (bytes : List ℕ) (x : Step) (s : Script) → bytes_of lines ≡ bytes ++ bytes_of rest → Spells bytes (bytes_of rest) x →
+    length rest ≤ length lines → next ≡ number + (length lines - length rest) → SpellsLines next rest s → SpellsLines number lines (followed x s)
+spelled_next number next lines rest bytes x s split is shorter counted (whole xs each) =
+    whole (x ∷ xs) (subst (λ text. SpellsEach Spells text [] (x ∷ xs)) (sym split) (spelled.next bytes (bytes_of rest) [] x xs is each))
+spelled_next number next lines rest bytes x s split is shorter counted (stuck left xs each are short some refused) =
+    let same : number + (length lines - length left) ≡ next + (length rest - length left) = omega (arith, counted, shorter, short) in
+    subst (λ n. SpellsLines number lines (record { steps = x ∷ xs; fault = Some n })) same
+    (stuck left (x ∷ xs) (subst (λ text. SpellsEach Spells text (bytes_of left) (x ∷ xs)) (sym split) (spelled.next bytes (bytes_of rest) (bytes_of left) x xs is each))
+    are (omega (arith, short, shorter)) some refused)
+
+-- a step that is read, and lines behind it that spell a script
+step_spelled : (n number : ℕ) (line : List ℕ) (later : List (List ℕ)) → AreLines (line ∷ later) → length later ≤ n →
     ((next : ℕ) (rest : List (List ℕ)) → AreLines rest → length rest ≤ n → SpellsLines next rest (script n next rest)) →
-    (o : Option (Command × List (List ℕ))) → command_at line later ≡ o → SpellsLines number (line ∷ later) (from_command n number later o)
-next_spelled n number line later are enough behind None is =
-    spelled.stuck number (bytes_of (line ∷ later)) (λ empty. let none : line ∷ later ≡ [] = no_lines (line ∷ later) (sym empty) in cc) (no_front line later are is)
-next_spelled n number line later are enough behind (Some r) is =
-    let read = command-sound line later r are is in
-    let short = command_at-later line later r is in
+    (o : Option (Step × List (List ℕ))) → step_at line later ≡ o → SpellsLines number (line ∷ later) (from_step n number later o)
+step_spelled n number line later are enough behind None is =
+    let same : number + (length (line ∷ later) - length (line ∷ later)) ≡ number = omega arith in
+    subst (λ n. SpellsLines number (line ∷ later) (record { steps = []; fault = Some n })) same
+    (stuck (line ∷ later) [] (spelled.over (bytes_of (line ∷ later))) are (omega arith) (λ same. cc) (no_front line later are is))
+step_spelled n number line later are enough behind (Some r) is =
+    let read = step-sound line later r are is in
+    let short = step_at-later line later r is in
     let next = number + (suc (length later) - length r.1) in
-    let same : next ≡ number + length (lines_of read.bytes) = omega (arith, read.counted) in
-    let rest : Script = script n next r.1 in
-    let spells : SpellsCommands (number + length (lines_of read.bytes)) (bytes_of r.1) rest.commands rest.fault =
-    subst (λ number. SpellsCommands number (bytes_of r.1) rest.commands rest.fault) same (behind next r.1 read.are (omega (arith, short, enough))) in
-    subst (λ bytes. SpellsCommands number bytes (r.0 ∷ rest.commands) rest.fault) (sym read.split) (spelled.next number read.bytes (bytes_of r.1) r.0 rest.commands rest.fault read.spells spells)
+    spelled_next number next (line ∷ later) r.1 read.bytes r.0 (script n next r.1) read.split read.spells (omega (arith, short)) refl
+    (behind next r.1 read.are (omega (arith, short, enough)))
 
 -- a script that is read is spelled so
 script-sound : (n number : ℕ) (lines : List (List ℕ)) → AreLines lines → length lines ≤ n → SpellsLines number lines (script n number lines)
-script-sound n number [] are enough = spelled.over number
+script-sound n number [] are enough = whole [] (spelled.over [])
 script-sound zero number (line ∷ later) are enough = absurd (omega (arith, enough))
 script-sound (suc n) number (line ∷ later) are enough =
-    next_spelled n number line later are (omega (arith, enough)) (λ next rest rest_are rest_enough. script-sound n next rest rest_are rest_enough) (command_at line later) refl
+    step_spelled n number line later are (omega (arith, enough)) (λ next rest rest_are rest_enough. script-sound n next rest rest_are rest_enough) (step_at line later) refl
 
--- as many lines as a command's bytes are
-counted_lines : (bytes rest : List ℕ) (c : Command) (lines : List (List ℕ)) (found : CommandRead lines rest c) → bytes ++ rest ≡ bytes_of lines → length (lines_of bytes) + length found.left.lines ≡ suc (length found.later)
-counted_lines bytes rest c lines found same =
-    let read = command-sound found.line found.later (c, found.left.lines) found.are found.read in
-    let split : bytes ++ bytes_of found.left.lines ≡ read.bytes ++ bytes_of found.left.lines =
-    ap (λ rest. bytes ++ rest) (sym found.left.split) ∙ same ∙ ap bytes_of found.split ∙ read.split in
-    ap (λ bs. length (lines_of bs) + length found.left.lines) (append_cancel_right bytes read.bytes (bytes_of found.left.lines) split) ∙ read.counted
+-- the line with which a rest begins
+rest_number : (lines left : List (List ℕ)) → AreLines lines → AreLines left → line_at_rest (bytes_of lines) (bytes_of left) ≡ 1 + (length lines - length left)
+rest_number lines left are left_are =
+    ap (λ ls. length ls - length (lines_of (bytes_of left)) + 1) (lines_of-bytes_of lines are)
+    ∙ ap (λ ls. length lines - length ls + 1) (lines_of-bytes_of left left_are)
+    ∙ omega arith
 
--- a script that ends at lines that spell no command
-stuck_read : (n number : ℕ) (line : List ℕ) (later : List (List ℕ)) → AreLines (line ∷ later) →
-    ((bytes rest : List ℕ) (c : Command) → bytes_of (line ∷ later) ≡ bytes ++ rest → Spells bytes rest c → ⊥) →
-    (o : Option (Command × List (List ℕ))) → command_at line later ≡ o → from_command n number later o ≡ record { commands = []; fault = Some number }
-stuck_read n number line later are refused None is = refl
-stuck_read n number line later are refused (Some r) is =
-    let read = command-sound line later r are is in
+-- a text that isn't nothing
+some_bytes : (left : List (List ℕ)) → left ≢ [] → bytes_of left ≢ []
+some_bytes left some same = some (no_lines left (sym same))
+
+-- lines from the first on spell their script
+from_first : (lines : List (List ℕ)) (s : Script) → AreLines lines → SpellsLines 1 lines s → SpellsSteps (bytes_of lines) s
+from_first lines s are (whole xs each) = spelled.whole (bytes_of lines) xs each
+from_first lines s are (stuck left xs each left_are short some refused) =
+    subst (λ n. SpellsSteps (bytes_of lines) (record { steps = xs; fault = Some n })) (rest_number lines left are left_are)
+    (spelled.stuck (bytes_of lines) (bytes_of left) xs each (some_bytes left some) refused)
+
+-- steps that are spelled so are read, and the rest begins with a line
+record StepsRead (number : ℕ) (lines : List (List ℕ)) (rest : List ℕ) (xs : List Step) : Type 0 where
+  left : LeftLines rest
+  shorter : length left.lines ≤ length lines
+  read : script (length lines) number lines ≡ all_before xs (script (length left.lines) (number + (length lines - length left.lines)) left.lines)
+
+each-complete : {text rest : List ℕ} {xs : List Step} → SpellsEach Spells text rest xs → (number : ℕ) (lines : List (List ℕ)) → AreLines lines → text ≡ bytes_of lines → StepsRead number lines rest xs
+each-complete (spelled.over rest) number lines are same =
+    let here : number ≡ number + (length lines - length lines) = omega arith in
+    record { left = record { lines = lines; split = same; are = are }; shorter = omega arith; read = ap (λ n. script (length lines) n lines) here }
+each-complete (spelled.next bytes more rest x xs is each) number lines are same =
+    let found = step-complete is lines are same in
+    let middle = found.left.lines in
+    let short = step_at-later found.line found.later (x, middle) found.read in
+    let size : length lines ≡ suc (length found.later) = ap length found.split in
+    let next = number + (length lines - length middle) in
+    let later = each-complete each next middle found.left.are found.left.split in
+    let left = later.left.lines in
+    let counted : next + length middle ≡ number + suc (length found.later) = omega (arith, size, short) in
+    let on : next + (length middle - length left) ≡ number + (length lines - length left) = omega (arith, size, short, later.shorter) in
+    record {
+      left = later.left;
+      shorter = omega (arith, size, short, later.shorter);
+      read = ap (λ lines. script (length lines) number lines) found.split
+          ∙ script-next found.line found.later middle x number next found.read counted
+          ∙ ap (followed x) (later.read ∙ ap (λ n. all_before xs (script (length left) n left)) on);
+    }
+
+-- nothing is left
+none_left : (number : ℕ) (left : List (List ℕ)) (xs : List Step) → left ≡ [] → all_before xs (script (length left) number left) ≡ record { steps = xs; fault = None }
+none_left number left xs none = ap (λ left. all_before xs (script (length left) number left)) none ∙ ap (λ xs. record { steps = xs; fault = None }) (append-nil xs)
+
+-- lines that spell no step are left
+stuck_step : (number n : ℕ) (line : List ℕ) (later : List (List ℕ)) → AreLines (line ∷ later) → Stuck (line ∷ later) → (o : Option (Step × List (List ℕ))) → step_at line later ≡ o →
+    from_step n number later o ≡ record { steps = []; fault = Some number }
+stuck_step number n line later are refused None is = refl
+stuck_step number n line later are refused (Some r) is =
+    let read = step-sound line later r are is in
     absurd (refused read.bytes (bytes_of r.1) r.0 read.split read.spells)
 
+stuck_left : (number : ℕ) (left : List (List ℕ)) → AreLines left → left ≢ [] → Stuck left → script (length left) number left ≡ record { steps = []; fault = Some number }
+stuck_left number [] are some refused = absurd (some refl)
+stuck_left number (line ∷ later) are some refused = stuck_step number (length later) line later are refused (step_at line later) refl
+
 -- a script that is spelled so is read
-script-complete : {number : ℕ} {all : List ℕ} {cs : List Command} {bad : Option ℕ} → SpellsCommands number all cs bad →
-    (n : ℕ) (lines : List (List ℕ)) → AreLines lines → all ≡ bytes_of lines → length lines ≤ n → script n number lines ≡ record { commands = cs; fault = bad }
-script-complete (spelled.over number) n lines are same enough = ap (script n number) (no_lines lines same)
-script-complete (spelled.next number bytes rest c cs bad is behind) zero lines are same enough =
-    let found = command-complete is lines are same in
-    absurd (omega (arith, enough, ap length found.split))
-script-complete (spelled.next number bytes rest c cs bad is behind) (suc n) lines are same enough =
-    let found = command-complete is lines are same in
-    let left = found.left.lines in
-    let counted = counted_lines bytes rest c lines found same in
-    let next : number + (suc (length found.later) - length left) ≡ number + length (lines_of bytes) = omega (arith, counted) in
-    let shorter = command_at-later found.line found.later (c, left) found.read in
-    ap (script (suc n) number) found.split
-    ∙ ap (from_command n number found.later) found.read
-    ∙ ap (λ number. followed c (script n number left)) next
-    ∙ ap (followed c) (script-complete behind n left found.left.are found.left.split (omega (arith, enough, ap length found.split, shorter)))
-script-complete (spelled.stuck number all some refused) n [] are same enough = absurd (some same)
-script-complete (spelled.stuck number all some refused) zero (line ∷ later) are same enough = absurd (omega (arith, enough))
-script-complete (spelled.stuck number all some refused) (suc n) (line ∷ later) are same enough =
-    stuck_read n number line later are (λ bytes rest c split is. refused bytes rest c (same ∙ split) is) (command_at line later) refl
+script-complete : {text : List ℕ} {s : Script} → SpellsSteps text s → (lines : List (List ℕ)) → AreLines lines → text ≡ bytes_of lines → script (length lines) 1 lines ≡ s
+script-complete (spelled.whole text xs each) lines are same =
+    let read = each-complete each 1 lines are same in
+    read.read ∙ none_left (1 + (length lines - length read.left.lines)) read.left.lines xs (no_lines read.left.lines read.left.split)
+script-complete (spelled.stuck text rest xs each some refused) lines are same =
+    let read = each-complete each 1 lines are same in
+    let left = read.left.lines in
+    let number = 1 + (length lines - length left) in
+    let there : number ≡ line_at_rest text rest =
+    sym (rest_number lines left are read.left.are) ∙ ap (λ text. line_at_rest text (bytes_of left)) (sym same) ∙ ap (line_at_rest text) (sym read.left.split) in
+    read.read
+    ∙ ap (all_before xs) (stuck_left number left read.left.are (λ none. some (read.left.split ∙ ap bytes_of none)) (λ bytes more x split. refused bytes more x (read.left.split ∙ split)))
+    ∙ ap (λ steps. record { steps = steps; fault = Some number }) (append-nil xs)
+    ∙ ap (λ n. record { steps = xs; fault = Some n }) there
 
 -- the lines of bytes are lines
 are_lines : (bytes : List ℕ) → AreLines (lines_of bytes)
 are_lines bytes = HoldsLines-lines (HoldsLines-lines_of bytes)
 
 pub what_is_read : SpellsWhatIsRead script_of
-what_is_read bytes = script-sound (length (lines_of bytes)) 1 (lines_of bytes) (are_lines bytes) (omega arith)
+what_is_read bytes =
+    from_first (lines_of bytes) (script_of bytes) (are_lines bytes) (script-sound (length (lines_of bytes)) 1 (lines_of bytes) (are_lines bytes) (omega arith))
 
 pub what_is_spelled : ReadsWhatIsSpelled script_of
-what_is_spelled bytes s is = script-complete is (length (lines_of bytes)) (lines_of bytes) (are_lines bytes) refl (omega arith)
+what_is_spelled bytes s is = script-complete is (lines_of bytes) (are_lines bytes) refl

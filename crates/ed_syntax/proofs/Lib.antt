@@ -1,7 +1,16 @@
+pub mod Worked
 pub mod RunRows
 mod AddressRows
 mod ScriptRows
+mod CutRows
+pub mod CutLemmas
+mod SubstitutionRows
 pub mod StepLemmas
+pub mod FaultSteps
+pub mod MarkLemmas
+pub mod CommandSteps
+pub mod FaultLemmas
+pub mod RunLemmas
 pub mod ScriptLemmas
 pub mod BlankLemmas
 pub mod NumberLemmas

@@ -1,5 +1,5 @@
 -- Patterns between delimiters: what is read is spelled so, and what is spelled so is read.
-use Rattle.std.proofs.Common.{◌≡◌, ◌≢◌, ℕ, zero, suc, ◌-◌, ◌≤◌, nat_eq, List, [], ◌∷◌, ◌++◌, length, take, Option, Some, None, Result, Ok, Err, refl, sym, ap, ◌∙◌, subst, arith}
+use Rattle.std.proofs.Common.{◌≡◌, ◌≢◌, ℕ, zero, suc, ◌-◌, ◌≤◌, nat_eq, List, [], ◌∷◌, ◌++◌, length, take, drop, Option, Some, None, Result, Ok, Err, refl, sym, ap, ◌∙◌, subst, arith}
 use Rattle.std.proofs.lemmas.Bool.{eqb-true, eqb-false, eq-eqb, ne_eqb}
 use Rattle.std.proofs.lemmas.List.{length-append}
 use Rattle.bre_parse.specs.Tree.{Tree}
@@ -10,7 +10,7 @@ use Rattle.bre_parse.specs.declared.fault.BreFault.{BreFault}
 use Rattle.bre_parse.proofs.SpelledItems.{pattern_spelled}
 use Rattle.bre_parse.proofs.ReadItems.{pattern_read}
 use Rattle.ed_syntax.specs.Characters.{backslash, left_square_bracket}
-use Rattle.ed_syntax.specs.Quoting.{as_itself, SpellsQuoted, SpellsPattern}
+use Rattle.ed_syntax.specs.Quoting.{as_itself, SpellsQuoted, SpellsPattern, SpellsClosing}
 use Rattle.ed_syntax.specs.Tokens.{Parsed, ◌>>=◌, after_bytes, unescaped, quoted, pattern_of, pattern_at}
 use Rattle.ed_syntax.proofs.StepLemmas.{Some-same, none_some, bind-some, chosen, either}
 use Rattle.ed_syntax.proofs.BracketLemmas.{bracket_front, take_front, bracket-sound, bracket-complete}
@@ -77,9 +77,9 @@ quoted-sound (suc most) delimiter (b ∷ bs) short =
     let Q = QuotedSpelled delimiter (b ∷ bs) in
     let ordinary = after_bytes (b ∷ []) (quoted most delimiter bs) in
     let opened = chosen (nat_eq b left_square_bracket) (bracketed most delimiter b bs) ordinary in
-    either Q (nat_eq b delimiter) (Some ([], bs)) (chosen (nat_eq b backslash) (behind_backslash most delimiter bs) opened)
-    (λ closes r is. subst (λ (r : List ℕ × List ℕ). SpellsQuoted delimiter (b ∷ bs) r.1 r.0) (Some-same ([], bs) r is)
-    (subst (λ b. SpellsQuoted delimiter (b ∷ bs) bs []) (sym (eqb-true b delimiter closes)) (SpellsQuoted.closed bs)))
+    either Q (nat_eq b delimiter) (Some ([], b ∷ bs)) (chosen (nat_eq b backslash) (behind_backslash most delimiter bs) opened)
+    (λ closes r is. subst (λ (r : List ℕ × List ℕ). SpellsQuoted delimiter (b ∷ bs) r.1 r.0) (Some-same ([], b ∷ bs) r is)
+    (subst (λ b. SpellsQuoted delimiter (b ∷ bs) (b ∷ bs) []) (sym (eqb-true b delimiter closes)) (SpellsQuoted.closed bs)))
     (λ no_end. either Q (nat_eq b backslash) (behind_backslash most delimiter bs) opened
     (λ escapes. subst (λ b. QuotedSpelled delimiter (b ∷ bs) (behind_backslash most delimiter bs)) (sym (eqb-true b backslash escapes)) (backslash-sound most delimiter bs later))
     (λ no_escape. either Q (nat_eq b left_square_bracket) (bracketed most delimiter b bs) ordinary
@@ -155,3 +155,21 @@ pattern_at-complete delimiter (SpellsPattern.remembered text rest is) plain =
 pattern_at-complete delimiter (SpellsPattern.given text rest bytes tree some is spells) plain =
     ap (λ (o : Parsed (List ℕ)). o >>= λ q. pattern_of q.0 >>= λ p. Some (p, q.1)) (quoted-complete delimiter is plain (length text) (omega arith))
     ∙ ap (λ (o : Option (Option (List ℕ))). o >>= λ p. Some (p, rest)) (given_read bytes tree some (pattern_read bytes tree spells))
+
+-- behind a pattern stands its closing delimiter or the line's end
+quoted-closing : (delimiter : ℕ) {text rest bytes : List ℕ} → SpellsQuoted delimiter text rest bytes → SpellsClosing delimiter rest (drop 1 rest)
+quoted-closing delimiter (SpellsQuoted.closed rest) = SpellsClosing.closed rest
+quoted-closing delimiter SpellsQuoted.left_open = SpellsClosing.left_open
+quoted-closing delimiter (SpellsQuoted.ordinary byte text rest bytes no_end no_escape no_bracket is) = quoted-closing delimiter is
+quoted-closing delimiter (SpellsQuoted.delimiter_itself text rest bytes is) = quoted-closing delimiter is
+quoted-closing delimiter (SpellsQuoted.escaped byte text rest bytes other is) = quoted-closing delimiter is
+quoted-closing delimiter (SpellsQuoted.bracket inside text rest bytes set other expression is) = quoted-closing delimiter is
+
+pub pattern-closing : (delimiter : ℕ) {text rest : List ℕ} {found : Option (List ℕ)} → SpellsPattern delimiter text rest found → SpellsClosing delimiter rest (drop 1 rest)
+pattern-closing delimiter (SpellsPattern.remembered text rest is) = quoted-closing delimiter is
+pattern-closing delimiter (SpellsPattern.given text rest bytes tree some is spells) = quoted-closing delimiter is
+
+-- what stands behind that
+pub closing-complete : (delimiter : ℕ) {text rest : List ℕ} → SpellsClosing delimiter text rest → drop 1 text ≡ rest
+closing-complete delimiter (SpellsClosing.closed rest) = refl
+closing-complete delimiter SpellsClosing.left_open = refl

@@ -1,29 +1,11 @@
 -- Worked runs, computed from the bytes of script and file; the outputs are those that the standard says.
-use Rattle.std.specs.Prelude.{◌≡◌, refl, ℕ, Bool, true, false, List, [], ◌∷◌, ◌++◌, Option, Some, None, Ok, Err, codes, replicate}
+use Rattle.std.specs.Prelude.{◌≡◌, refl, ℕ, true, false, List, [], ◌∷◌, ◌++◌, Some, None, Ok, codes, replicate}
 use Rattle.std.specs.Fmt.{digits}
 use Rattle.bre_parse.specs.Tree as tree
-use Rattle.ed_base.specs.declared.fault.Fault.{Fault}
 use Rattle.ed_base.specs.declared.fault.Fault.TheVariants as fault
-use Rattle.ed_syntax.specs.declared.options.Options.{Options}
 use Rattle.ed_syntax.specs.declared.request.Answer.TheVariants as answer
-use Rattle.ed_syntax.specs.declared.request.Request.TheVariants as request
-use Rattle.ed_syntax.specs.Reading.{script_of}
-use Rattle.ed_syntax.specs.Progress.{Progress, Ends}
-use Rattle.ed_syntax.specs.Runs.{run}
-
-abbrev pub options : Bool → Option (List ℕ) → Options
-options silent prompt = record { silent = silent; prompt = prompt; path = Some (codes "F") }
-
--- a silent run of a script on a file
-abbrev pub edited : List ℕ → List ℕ → Progress
-edited file script = run (script_of script) (options true None) (answer.Bytes file ∷ [])
-
--- a run that read its file, wrote this output, and ended with so many lines or by a fault
-abbrev pub ends : List ℕ → ℕ → Progress
-ends output lines = record { output = output; asked = request.Read (codes "F") ∷ []; stop = Ends (Ok (record { lines = lines })) }
-
-abbrev pub fails : List ℕ → Fault → Progress
-fails output f = record { output = output; asked = request.Read (codes "F") ∷ []; stop = Ends (Err f) }
+use Rattle.ed_syntax.specs.Progress.{Ends}
+use Rattle.ed_syntax.proofs.Worked.{options, ran, edited, ends, fails}
 
 abbrev pub letters : List ℕ
 letters = codes "a\nb\nc\n"
@@ -122,7 +104,7 @@ no_line_zero = refl
 no_range_from_zero : edited letters (codes "0,2d\n") ≡ fails (codes "?\n") fault.Address
 no_range_from_zero = refl
 
--- `a` takes the last address alone, but the first is valued too
+-- `a` takes the last address alone, but the first is evaluated too
 first_address_out_of_range : edited letters (codes "9,1a\nx\n.\n") ≡ fails (codes "?\n") fault.Address
 first_address_out_of_range = refl
 
@@ -184,26 +166,26 @@ last_line_without_newline = refl
 
 -- counts, prompts, and the answers to the start
 
-count_of_bytes_read : run (script_of (codes "Q\n")) (options false None) (answer.Bytes letters ∷ []) ≡ ends (codes "6\n") 3
+count_of_bytes_read : ran (codes "Q\n") (options false None) (answer.Bytes letters ∷ []) ≡ ends (codes "6\n") 3
 unfolding digits
 count_of_bytes_read = refl
 
-prompt_before_each_command : run (script_of (codes "1p\nQ\n")) (options true (Some (codes "> "))) (answer.Bytes letters ∷ []) ≡ ends (codes "> a\n> ") 3
+prompt_before_each_command : ran (codes "1p\nQ\n") (options true (Some (codes "> "))) (answer.Bytes letters ∷ []) ≡ ends (codes "> a\n> ") 3
 prompt_before_each_command = refl
 
-prompt_before_end : run (script_of (codes "a\nx\n")) (options true (Some (codes "> "))) (answer.Bytes [] ∷ []) ≡ fails (codes "> > ?\n") fault.Unsaved
+prompt_before_end : ran (codes "a\nx\n") (options true (Some (codes "> "))) (answer.Bytes [] ∷ []) ≡ fails (codes "> > ?\n") fault.Unsaved
 prompt_before_end = refl
 
-prompt_before_unreadable : run (script_of (codes "z\n")) (options true (Some (codes "> "))) (answer.Bytes [] ∷ []) ≡ fails (codes "> ?\n") fault.Syntax
+prompt_before_unreadable : ran (codes "z\n") (options true (Some (codes "> "))) (answer.Bytes [] ∷ []) ≡ fails (codes "> ?\n") fault.Syntax
 prompt_before_unreadable = refl
 
-missing_file : run (script_of (codes "a\nx\n.\n,p\nQ\n")) (options true None) (answer.Missing ∷ []) ≡ ends (codes "x\n") 1
+missing_file : ran (codes "a\nx\n.\n,p\nQ\n") (options true None) (answer.Missing ∷ []) ≡ ends (codes "x\n") 1
 missing_file = refl
 
-refused_file : run (script_of (codes ",p\n")) (options true (Some (codes "> "))) (answer.Refused ∷ []) ≡ fails (codes "?\n") fault.File
+refused_file : ran (codes ",p\n") (options true (Some (codes "> "))) (answer.Refused ∷ []) ≡ fails (codes "?\n") fault.File
 refused_file = refl
 
-no_file : run (script_of (codes "a\nx\n.\n,p\nQ\n")) (record { silent = true; prompt = None; path = None }) []
+no_file : ran (codes "a\nx\n.\n,p\nQ\n") (record { silent = true; prompt = None; path = None }) []
     ≡ record { output = codes "x\n"; asked = []; stop = Ends (Ok (record { lines = 1 })) }
 no_file = refl
 
@@ -234,8 +216,8 @@ last_of_two_in_any_order : edited letters (codes "3,1=\nQ\n") ≡ ends (codes "1
 unfolding digits
 last_of_two_in_any_order = refl
 
-dropped_first_is_valued : edited letters (codes "9,1=\n") ≡ fails (codes "?\n") fault.Address
-dropped_first_is_valued = refl
+dropped_first_is_evaluated : edited letters (codes "9,1=\n") ≡ fails (codes "?\n") fault.Address
+dropped_first_is_evaluated = refl
 
 line_zero_is_current : edited letters (codes "0;1=\nQ\n") ≡ ends (codes "1\n") 3
 unfolding digits
@@ -468,18 +450,18 @@ no_target = refl
 
 -- help mode and prompting
 
-help_and_prompt : run (script_of (codes "1n\nH\nx\n")) (options true (Some (codes "> "))) (answer.Bytes (codes "a\nb\n") ∷ [])
+help_and_prompt : ran (codes "1n\nH\nx\n") (options true (Some (codes "> "))) (answer.Bytes (codes "a\nb\n") ∷ [])
     ≡ fails (codes "> 1\ta\n> > ?\ninvalid command\n") fault.Syntax
 unfolding digits
 help_and_prompt = refl
 
-prompting_turned_on : run (script_of (codes "P\n")) (options true None) (answer.Bytes letters ∷ []) ≡ ends (codes "*") 3
+prompting_turned_on : ran (codes "P\n") (options true None) (answer.Bytes letters ∷ []) ≡ ends (codes "*") 3
 prompting_turned_on = refl
 
-prompting_turned_off : run (script_of (codes "P\n1p\nP\n1p\n")) (options true (Some (codes "> "))) (answer.Bytes letters ∷ []) ≡ ends (codes "> a\n> a\n> ") 3
+prompting_turned_off : ran (codes "P\n1p\nP\n1p\n") (options true (Some (codes "> "))) (answer.Bytes letters ∷ []) ≡ ends (codes "> a\n> a\n> ") 3
 prompting_turned_off = refl
 
-empty_prompt : run (script_of (codes "1p\nP\nP\n")) (options true (Some [])) (answer.Bytes letters ∷ []) ≡ ends (codes "a\n") 3
+empty_prompt : ran (codes "1p\nP\nP\n") (options true (Some [])) (answer.Bytes letters ∷ []) ≡ ends (codes "a\n") 3
 empty_prompt = refl
 
 suffix_before_help_mode : edited [] (codes "Hp\n") ≡ fails (codes "?\n") fault.Address

@@ -1,13 +1,17 @@
 -- The script of the lines that are left, one command at a time.
-use Rattle.std.proofs.Common.{◌≡◌, ℕ, zero, suc, ◌+◌, ◌-◌, ◌≤◌, true, false, List, [], ◌∷◌, ◌++◌, length, Option, Some, None, refl, sym, ap, ◌∙◌, subst, arith, append_assoc}
-use Rattle.ed_syntax.specs.Commands as ed
-use Rattle.ed_syntax.specs.Commands.{Verb, Command, Script}
+use Rattle.std.proofs.Common.{◌≡◌, ℕ, zero, suc, ◌+◌, ◌-◌, ◌≤◌, Bool, true, false, List, [], ◌∷◌, ◌++◌, length, Option, Some, None, refl, sym, ap, ◌∙◌, subst, arith, append_assoc}
+use Rattle.std.specs.List.{list_all}
+use Rattle.std.proofs.lemmas.Bool.{and_from}
+use Rattle.std.proofs.lemmas.List.Folds.{list_all-append}
+use Rattle.ed_syntax.specs.Commands.{Verb, Command, Step, Script, alone}
+use Rattle.ed_syntax.specs.Verbs.{takes, is_step}
 use Rattle.ed_syntax.specs.Tokens.{◌>>=◌}
-use Rattle.ed_syntax.specs.Reading.{Heading, is_dot, text, with_text, finished, heading, command_at, script, followed}
+use Rattle.ed_syntax.specs.Reading.{Heading, is_dot, text, entering, with_text, finished, heading, command_at, step_at, script, followed}
+use Rattle.ed_syntax.proofs.StepLemmas.{Some-same, bind-some}
 
--- commands before a script
-abbrev pub all_before : List Command → Script → Script
-all_before cs s = record { commands = cs ++ s.commands; fault = s.fault }
+-- steps before a script
+abbrev pub all_before : List Step → Script → Script
+all_before xs s = record { steps = xs ++ s.steps; fault = s.fault }
 
 -- no lines stand behind a text but those that stood behind its command
 pub text-later : (lines : List (List ℕ)) → length (text lines).1 ≤ length lines
@@ -20,76 +24,84 @@ text-later (line ∷ lines) =
 
 -- the same of a command's verb
 pub with_text-later : (verb : Verb) (later : List (List ℕ)) → length (with_text verb later).1 ≤ length later
-with_text-later (ed.Append entered) later = text-later later
-with_text-later (ed.Change entered) later = text-later later
-with_text-later ed.Delete later = omega arith
-with_text-later (ed.Insert entered) later = text-later later
-with_text-later ed.Join later = omega arith
-with_text-later (ed.Mark letter) later = omega arith
-with_text-later (ed.Move target) later = omega arith
-with_text-later (ed.Copy target) later = omega arith
-with_text-later ed.LineNumber later = omega arith
-with_text-later ed.Null later = omega arith
-with_text-later (ed.Write form) later = omega arith
-with_text-later ed.Help later = omega arith
-with_text-later ed.HelpMode later = omega arith
-with_text-later ed.PromptMode later = omega arith
-with_text-later ed.QuitAnyway later = omega arith
+with_text-later verb later =
+    elim (takes verb).text as (λ t. length (let r : Verb × List (List ℕ) = elim t [ true ↦ (entering (text later).0 verb, (text later).1) | false ↦ (verb, later) ] in r.1) ≤ length later) [
+      | true ↦ text-later later
+      | false ↦ omega arith
+    ]
 
 -- the same of a command
-command_behind-later : (o : Option Heading) (later : List (List ℕ)) (r : Command × List (List ℕ)) → (o >>= λ h. Some (finished h later)) ≡ Some r → length r.1 ≤ length later
-command_behind-later None later r is = cc
-command_behind-later (Some h) later r is =
-    let same : finished h later ≡ r = cc in
+command_behind-later : (listed : Bool) (o : Option Heading) (later : List (List ℕ)) (r : Command × List (List ℕ)) → (o >>= λ h. Some (finished listed h later)) ≡ Some r → length r.1 ≤ length later
+command_behind-later listed None later r is = cc
+command_behind-later listed (Some h) later r is =
+    let same : finished listed h later ≡ r = cc in
     let P : Command × List (List ℕ) → Type 0 = λ r. length r.1 ≤ length later in
     subst P same (with_text-later h.verb later)
 
-pub command_at-later : (line : List ℕ) (later : List (List ℕ)) (r : Command × List (List ℕ)) → command_at line later ≡ Some r → length r.1 ≤ length later
-command_at-later line later r is = command_behind-later (heading line) later r is
+command_at-later : (listed : Bool) (line : List ℕ) (later : List (List ℕ)) (r : Command × List (List ℕ)) → command_at listed line later ≡ Some r → length r.1 ≤ length later
+command_at-later listed line later r is = command_behind-later listed (heading line) later r is
 
--- the script from a command on
-abbrev pub from_command : ℕ → ℕ → List (List ℕ) → Option (Command × List (List ℕ)) → Script
-from_command n number later None = record { commands = []; fault = Some number }
-from_command n number later (Some r) = followed r.0 (script n (number + (suc (length later) - length r.1)) r.1)
+-- the same of a step
+pub step_at-later : (line : List ℕ) (later : List (List ℕ)) (r : Step × List (List ℕ)) → step_at line later ≡ Some r → length r.1 ≤ length later
+step_at-later line later r is =
+    let c = bind-some (command_at false line later) (λ c. Some (alone c.0, c.1)) r is in
+    let P : Step × List (List ℕ) → Type 0 = λ r. length r.1 ≤ length later in
+    subst P (Some-same (alone c.0.0, c.0.1) r c.2) (command_at-later false line later c.0 c.1)
 
--- at one command the greatest number of commands doesn't matter, if it doesn't behind it
+-- the script from a step on
+abbrev pub from_step : ℕ → ℕ → List (List ℕ) → Option (Step × List (List ℕ)) → Script
+from_step n number later None = record { steps = []; fault = Some number }
+from_step n number later (Some r) = followed r.0 (script n (number + (suc (length later) - length r.1)) r.1)
+
+-- at one step the greatest number of steps doesn't matter, if it doesn't behind it
 from_enough : (k j number : ℕ) (line : List ℕ) (later : List (List ℕ)) →
     ((next : ℕ) (rest : List (List ℕ)) → length rest ≤ length later → script k next rest ≡ script j next rest) →
-    (o : Option (Command × List (List ℕ))) → command_at line later ≡ o → from_command k number later o ≡ from_command j number later o
+    (o : Option (Step × List (List ℕ))) → step_at line later ≡ o → from_step k number later o ≡ from_step j number later o
 from_enough k j number line later same None is = refl
 from_enough k j number line later same (Some r) is =
-    ap (followed r.0) (same (number + (suc (length later) - length r.1)) r.1 (command_at-later line later r is))
+    ap (followed r.0) (same (number + (suc (length later) - length r.1)) r.1 (step_at-later line later r is))
 
--- from where it reaches no more commands than lines, the greatest number of commands doesn't matter
-pub script-enough : (k j number : ℕ) (lines : List (List ℕ)) → length lines ≤ k → length lines ≤ j → script k number lines ≡ script j number lines
+-- from where it reaches no more steps than lines, the greatest number of steps doesn't matter
+script-enough : (k j number : ℕ) (lines : List (List ℕ)) → length lines ≤ k → length lines ≤ j → script k number lines ≡ script j number lines
 script-enough k j number [] in_k in_j = refl
 script-enough zero j number (line ∷ later) in_k in_j = absurd (omega (arith, in_k))
 script-enough (suc k) zero number (line ∷ later) in_k in_j = absurd (omega (arith, in_j))
 script-enough (suc k) (suc j) number (line ∷ later) in_k in_j =
     from_enough k j number line later
     (λ next rest shorter. script-enough k j next rest (omega (arith, in_k, shorter)) (omega (arith, in_j, shorter)))
-    (command_at line later) refl
+    (step_at line later) refl
 
--- a command, and the script behind it
-pub script-next : (line : List ℕ) (later rest : List (List ℕ)) (c : Command) (number next : ℕ) → command_at line later ≡ Some (c, rest) → next + length rest ≡ number + suc (length later) →
-    script (length (line ∷ later)) number (line ∷ later) ≡ followed c (script (length rest) next rest)
-script-next line later rest c number next is counted =
-    let shorter : length rest ≤ length later = command_at-later line later (c, rest) is in
+-- a step, and the script behind it
+pub script-next : (line : List ℕ) (later rest : List (List ℕ)) (x : Step) (number next : ℕ) → step_at line later ≡ Some (x, rest) → next + length rest ≡ number + suc (length later) →
+    script (length (line ∷ later)) number (line ∷ later) ≡ followed x (script (length rest) next rest)
+script-next line later rest x number next is counted =
+    let shorter : length rest ≤ length later = step_at-later line later (x, rest) is in
     let same : number + (suc (length later) - length rest) ≡ next = omega arith in
-    ap (from_command (length later) number later) is
-    ∙ ap (followed c) (script-enough (length later) (length rest) (number + (suc (length later) - length rest)) rest shorter (omega arith) ∙ ap (λ n. script (length rest) n rest) same)
+    ap (from_step (length later) number later) is
+    ∙ ap (followed x) (script-enough (length later) (length rest) (number + (suc (length later) - length rest)) rest shorter (omega arith) ∙ ap (λ n. script (length rest) n rest) same)
 
--- a command that can't be read
-pub script-stuck : (line : List ℕ) (later : List (List ℕ)) (number : ℕ) → command_at line later ≡ None →
-    script (length (line ∷ later)) number (line ∷ later) ≡ record { commands = []; fault = Some number }
-script-stuck line later number is = ap (from_command (length later) number later) is
+-- a step that can't be read
+pub script-stuck : (line : List ℕ) (later : List (List ℕ)) (number : ℕ) → step_at line later ≡ None →
+    script (length (line ∷ later)) number (line ∷ later) ≡ record { steps = []; fault = Some number }
+script-stuck line later number is = ap (from_step (length later) number later) is
 
--- one command more
-pub all_before-next : (before : List Command) (line : List ℕ) (later lines rest : List (List ℕ)) (c : Command) (number next : ℕ) →
-    lines ≡ line ∷ later → command_at line later ≡ Some (c, rest) → next + length rest ≡ number + length lines →
-    all_before (before ++ c ∷ []) (script (length rest) next rest) ≡ all_before before (script (length lines) number lines)
-all_before-next before line later lines rest c number next split is counted =
+-- one step more
+pub all_before-next : (before : List Step) (line : List ℕ) (later lines rest : List (List ℕ)) (x : Step) (number next : ℕ) →
+    lines ≡ line ∷ later → step_at line later ≡ Some (x, rest) → next + length rest ≡ number + length lines →
+    all_before (before ++ x ∷ []) (script (length rest) next rest) ≡ all_before before (script (length lines) number lines)
+all_before-next before line later lines rest x number next split is counted =
     let behind = script (length rest) next rest in
     let all : next + length rest ≡ number + suc (length later) = counted ∙ ap (λ ls. number + length ls) split in
-    ap (λ cs. record { commands = cs; fault = behind.fault }) (append_assoc before (c ∷ []) behind.commands)
-    ∙ ap (all_before before) (sym (script-next line later rest c number next is all) ∙ ap (λ ls. script (length ls) number ls) (sym split))
+    ap (λ xs. record { steps = xs; fault = behind.fault }) (append_assoc before (x ∷ []) behind.steps)
+    ∙ ap (all_before before) (sym (script-next line later rest x number next is all) ∙ ap (λ ls. script (length ls) number ls) (sym split))
+
+-- what is read outside of lists isn't listed
+pub command_at-listed : (listed : Bool) (line : List ℕ) (later : List (List ℕ)) (r : Command × List (List ℕ)) → command_at listed line later ≡ Some r → r.0.listed ≡ listed
+command_at-listed listed line later r is =
+    let h = bind-some (heading line) (λ h. Some (finished listed h later)) r is in
+    ap (λ (r : Command × List (List ℕ)). r.0.listed) (sym (Some-same (finished listed h.0 later) r h.2))
+
+-- one step more of a script
+pub steps-more : (xs : List Step) (x : Step) → list_all is_step xs ≡ true → is_step x ≡ true → list_all is_step (xs ++ x ∷ []) ≡ true
+steps-more xs x all one =
+    list_all-append is_step xs (x ∷ []) ∙ and_from (list_all is_step xs) (list_all is_step (x ∷ [])) all (and_from (is_step x) true one refl)

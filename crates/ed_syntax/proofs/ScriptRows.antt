@@ -1,6 +1,6 @@
 -- Worked scripts, computed from their bytes.
-use Rattle.std.specs.Prelude.{◌≡◌, refl, ℕ, pos, false, List, [], ◌∷◌, Some, None, codes}
-use Rattle.ed_syntax.specs.Commands.{Number, Current, Last, Forward, Addresses, Without, One, Comma, Form, Plain, Numbered, Unambiguous, Verb, Append, Change, Delete, Insert, Mark, Move, Copy, Write, HelpMode, QuitAnyway, Command, Script, at_base}
+use Rattle.std.specs.Prelude.{◌≡◌, refl, ℕ, map, pos, false, List, [], ◌∷◌, Some, None, codes}
+use Rattle.ed_syntax.specs.Commands.{Number, Current, Last, Forward, Addresses, Without, One, Comma, Form, Plain, Numbered, Unambiguous, Verb, Append, Change, Delete, Insert, Mark, Move, Copy, Write, HelpMode, QuitAnyway, Command, Script, alone, at_base}
 use Rattle.ed_syntax.specs.Reading.{script_of}
 
 abbrev command : Addresses → Verb → Command
@@ -10,10 +10,10 @@ abbrev with_suffix : Addresses → Verb → Form → Command
 with_suffix given verb suffix = record { addresses = given; verb = verb; suffix = Some suffix; listed = false }
 
 abbrev whole : List Command → Script
-whole commands = record { commands = commands; fault = None }
+whole commands = record { steps = map alone commands; fault = None }
 
 abbrev faulty : List Command → ℕ → Script
-faulty commands line = record { commands = commands; fault = Some line }
+faulty commands line = record { steps = map alone commands; fault = Some line }
 
 no_script : script_of [] ≡ whole []
 no_script = refl

@@ -6,7 +6,7 @@ use Rattle.std.proofs.lemmas.List.Elements.{All-nil, All-cons, All-head, All-tai
 use Rattle.ed_syntax.specs.Characters.{letter_l, letter_n, letter_p, is_blank}
 use Rattle.ed_syntax.specs.Commands as ed
 use Rattle.ed_syntax.specs.Commands.{Form, Verb}
-use Rattle.ed_syntax.specs.Verbs.{takes_suffix}
+use Rattle.ed_syntax.specs.Verbs.{takes}
 use Rattle.ed_syntax.specs.Addressing.{Blanks}
 use Rattle.ed_syntax.specs.Spellings.{SpellsForm, SpellsSuffix}
 use Rattle.ed_syntax.specs.Reading.{form_of, is_over, suffix_at}
@@ -49,7 +49,7 @@ form_of-blank b is = ⊎_elim (λ space. ap form_of (eqb-true b 32 space)) (λ t
 
 -- the end of a line that isn't over, from its first byte's form on
 abbrev suffix_from : Verb → ℕ → List ℕ → Option Form → Option (Option Form)
-suffix_from verb b bs (Some form) = chosen (takes_suffix verb && is_over bs) (Some (Some form)) None
+suffix_from verb b bs (Some form) = chosen ((takes verb).suffix && is_over bs) (Some (Some form)) None
 suffix_from verb b bs None = chosen (is_over (b ∷ bs)) (Some None) None
 
 suffix_at-from : (verb : Verb) (b : ℕ) (bs : List ℕ) (o : Option Form) → form_of b ≡ o → suffix_at verb (b ∷ bs) ≡ suffix_from verb b bs o
@@ -62,9 +62,9 @@ SuffixRead verb bytes read = (suffix : Option Form) → read ≡ Some suffix →
 
 suffix_from-sound : (verb : Verb) (b : ℕ) (bs : List ℕ) (o : Option Form) → form_of b ≡ o → SuffixRead verb (b ∷ bs) (suffix_from verb b bs o)
 suffix_from-sound verb b bs (Some form) is =
-    either (SuffixRead verb (b ∷ bs)) (takes_suffix verb && is_over bs) (Some (Some form)) None
+    either (SuffixRead verb (b ∷ bs)) ((takes verb).suffix && is_over bs) (Some (Some form)) None
     (λ both suffix same.
-    let parts = and_parts (takes_suffix verb) (is_over bs) both in
+    let parts = and_parts (takes verb).suffix (is_over bs) both in
     subst (SpellsSuffix verb (b ∷ bs)) (Some-same (Some form) suffix same) (SpellsSuffix.given b bs form parts.0 (form_of-sound b form is) (is_over-blanks bs parts.1)))
     (λ not_both suffix same. absurd (none_some same))
 suffix_from-sound verb b bs None is =
@@ -82,11 +82,11 @@ pub suffix_at-complete : {verb : Verb} {bytes : List ℕ} {suffix : Option Form}
 suffix_at-complete (SpellsSuffix.none [] are) = refl
 suffix_at-complete {verb} (SpellsSuffix.none (b ∷ bs) are) =
     suffix_at-from verb b bs None (form_of-blank b (All-head IsBlank b bs are)) ∙ ap (λ t. chosen t (Some None) None) (blanks-is_over (b ∷ bs) are)
-suffix_at-complete {verb} (SpellsSuffix.given letter blanks form takes is are) =
+suffix_at-complete {verb} (SpellsSuffix.given letter blanks form may is are) =
     suffix_at-from verb letter blanks (Some form) (form_of-complete is)
-    ∙ ap (λ t. chosen t (Some (Some form)) None) (and_from (takes_suffix verb) (is_over blanks) takes (blanks-is_over blanks are))
+    ∙ ap (λ t. chosen t (Some (Some form)) None) (and_from (takes verb).suffix (is_over blanks) may (blanks-is_over blanks are))
 
 -- two commands that both take a suffix, or both none, are followed by the same
-pub suffix-same : {verb : Verb} {bytes : List ℕ} {suffix : Option Form} → SpellsSuffix verb bytes suffix → (other : Verb) → takes_suffix other ≡ takes_suffix verb → SpellsSuffix other bytes suffix
+pub suffix-same : {verb : Verb} {bytes : List ℕ} {suffix : Option Form} → SpellsSuffix verb bytes suffix → (other : Verb) → (takes other).suffix ≡ (takes verb).suffix → SpellsSuffix other bytes suffix
 suffix-same (SpellsSuffix.none blanks are) other same = SpellsSuffix.none blanks are
-suffix-same (SpellsSuffix.given letter blanks form takes is are) other same = SpellsSuffix.given letter blanks form (same ∙ takes) is are
+suffix-same (SpellsSuffix.given letter blanks form may is are) other same = SpellsSuffix.given letter blanks form (same ∙ may) is are

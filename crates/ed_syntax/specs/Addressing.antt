@@ -3,7 +3,7 @@
 use Rattle.std.specs.Prelude.{ℕ, ◌+◌, ◌<◌, ◌≤◌, ◌≡◌, ℤ, pos, ◌+ℤ◌, neg_ℤ, List, ◌∷◌, ◌++◌, length, All, Option, Some, None, IsTrue, IsFalse}
 use Rattle.ed_syntax.specs.Characters.{dollar_sign, apostrophe, plus_sign, comma_byte, hyphen, full_stop, slash, semicolon_byte, question_mark, letter_a, is_blank, is_digit, is_sign, is_separator, begins_address, begins, behind_blanks, value_of}
 use Rattle.ed_syntax.specs.Commands.{Base, Number, Current, Last, Marked, Forward, Backward, Address, Addresses, Without, One, Comma, Semicolon, at_base}
-use Rattle.ed_syntax.specs.Quoting.{SpellsPattern}
+use Rattle.ed_syntax.specs.Quoting.{SpellsPattern, SpellsClosing}
 
 -- spaces and tabs
 abbrev pub Blanks : List ℕ → Type 0
@@ -20,9 +20,10 @@ pub data SpellsBase : (text rest : List ℕ) → Base → Type 0 where
   current : (rest : List ℕ) → SpellsBase (full_stop ∷ rest) rest Current
   last : (rest : List ℕ) → SpellsBase (dollar_sign ∷ rest) rest Last
   marked : (letter : ℕ) (rest : List ℕ) → letter < 26 → SpellsBase (apostrophe ∷ (letter_a + letter) ∷ rest) rest (Marked letter)
-  forward : (text rest : List ℕ) (pattern : Option (List ℕ)) → SpellsPattern slash text rest pattern → SpellsBase (slash ∷ text) rest (Forward pattern)
-  backward : (text rest : List ℕ) (pattern : Option (List ℕ)) → SpellsPattern question_mark text rest pattern →
-      SpellsBase (question_mark ∷ text) rest (Backward pattern)
+  forward : (text more rest : List ℕ) (pattern : Option (List ℕ)) → SpellsPattern slash text more pattern → SpellsClosing slash more rest →
+      SpellsBase (slash ∷ text) rest (Forward pattern)
+  backward : (text more rest : List ℕ) (pattern : Option (List ℕ)) → SpellsPattern question_mark text more pattern →
+      SpellsClosing question_mark more rest → SpellsBase (question_mark ∷ text) rest (Backward pattern)
 
 -- how many lines an offset goes behind its sign: a number that follows directly, or 1
 pub data SpellsDistance : (text rest : List ℕ) → ℕ → Type 0 where

@@ -1,5 +1,5 @@
 -- The commands of a script (XCU ed, "Addresses in ed", "Commands in ed").
-use Rattle.std.specs.Prelude.{ℕ, ℤ, pos, Bool, List, Option}
+use Rattle.std.specs.Prelude.{ℕ, ℤ, pos, Bool, List, [], Option}
 
 -- Where an address begins: a line's number, the current line, the last line, a line with a mark, or the next line forward or
 -- backward that a pattern matches. Letters count from 0, which is `a`; a pattern is its text, and none is the remembered one.
@@ -59,7 +59,16 @@ pub record Command : Type 0 where
   pub suffix : Option Form
   pub listed : Bool
 
--- a script: its commands up to the first that can't be read, and the line on which that one begins, counted from 1
+-- a step of a script: a command, and the list that a global command has; all others have none
+pub record Step : Type 0 where
+  pub command : Command
+  pub list : List Command
+
+-- a command without a list
+abbrev pub alone : Command → Step
+alone c = record { command = c; list = [] }
+
+-- a script: its steps up to the first that can't be read, and the line on which that one begins, counted from 1
 pub record Script : Type 0 where
-  pub commands : List Command
+  pub steps : List Step
   pub fault : Option ℕ

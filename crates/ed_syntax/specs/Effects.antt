@@ -3,18 +3,25 @@ use Rattle.std.specs.Prelude.{ℕ, ◌+◌, ◌-◌, Bool, true, false, ◌&&◌
 use Rattle.std.specs.List.{concat}
 use Rattle.ed_base.specs.Buffer.{Line, plain_line, texts, marked_at}
 use Rattle.ed_base.specs.Lines.{newline}
+use Rattle.ed_base.specs.Parts.{between, replaced, inserted}
 use Rattle.ed_base.specs.declared.fault.Fault.{Fault}
 use Rattle.ed_base.specs.declared.fault.Fault.TheVariants as fault
+use Rattle.ed_syntax.specs.declared.request.Request.{Request}
 use Rattle.ed_syntax.specs.Commands.{Form}
-use Rattle.ed_syntax.specs.States.{State, last, between, replaced, inserted}
+use Rattle.ed_syntax.specs.States.{State, last}
 use Rattle.ed_syntax.specs.Forms.{lines_written}
 use Rattle.ed_syntax.specs.Ranges.{Span}
 
--- the state behind a command, what it wrote, and whether it changed the buffer
+-- the state after a command, what it wrote, and whether it changed the buffer
 pub record Outcome : Type 0 where
   pub state : State
   pub output : List ℕ
   pub alters : Bool
+
+-- an outcome, or a file that is asked for first
+pub data Effect : Type 0 where
+  Makes : Outcome → Effect
+  Asks : Request → Effect
 
 -- the buffer was changed
 abbrev pub altered : List Line → ℕ → State → Outcome

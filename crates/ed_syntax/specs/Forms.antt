@@ -2,9 +2,9 @@
 use Rattle.std.specs.Prelude.{ℕ, ◌+◌, ◌/◌, ◌%◌, true, false, ◌&&◌, List, [], ◌∷◌, ◌++◌, length, decimal, nat_eq, nat_le}
 use Rattle.ed_base.specs.Buffer.{Line}
 use Rattle.ed_base.specs.Lines.{newline}
+use Rattle.ed_base.specs.Parts.{between}
 use Rattle.ed_syntax.specs.Characters.{dollar_sign, backslash}
 use Rattle.ed_syntax.specs.Commands.{Form, Plain, Numbered, Unambiguous}
-use Rattle.ed_syntax.specs.States.{between}
 
 -- three octal digits
 abbrev pub octal : ℕ → List ℕ

@@ -9,12 +9,17 @@ pub mod Verbs
 pub mod Values
 pub mod Ranges
 pub mod Forms
+pub mod Substitution
 pub mod Effects
+pub mod Files
 pub mod Applied
 pub mod Progress
 pub mod Runs
+-- what the laws on all commands and runs say
+pub mod Laws
 -- what the public types stand for
 pub mod PublicTypes
+pub mod PublicScript
 -- the reader's own words, tied to the spellings by a law
 pub mod Tokens
 pub mod Reading

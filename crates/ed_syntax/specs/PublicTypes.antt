@@ -1,5 +1,5 @@
 -- What the public types stand for: the same values as plain data, apart from where they lie in memory.
-use Rattle.std.specs.Prelude.{map, Option, Some, None}
+use Rattle.std.specs.Prelude.{List, map, option_map, Option, Some, None}
 use Rattle.ed_syntax.specs.Commands as ed
 use Rattle.ed_syntax.specs.declared.command.Base.{Base}
 use Rattle.ed_syntax.specs.declared.command.Base.TheVariants as base
@@ -11,7 +11,11 @@ use Rattle.ed_syntax.specs.declared.command.Form.TheVariants as form
 use Rattle.ed_syntax.specs.declared.command.Verb.{Verb}
 use Rattle.ed_syntax.specs.declared.command.Verb.TheVariants as verb
 use Rattle.ed_syntax.specs.declared.command.Command.{Command}
-use Rattle.ed_syntax.specs.declared.command.Script.{Script}
+use Rattle.ed_syntax.specs.declared.verbs.DefaultAddresses.{DefaultAddresses}
+use Rattle.ed_syntax.specs.declared.verbs.DefaultAddresses.TheVariants as default
+use Rattle.ed_syntax.specs.declared.verbs.Takes.{Takes}
+use Rattle.ed_syntax.specs.Verbs as verbs
+use Rattle.ed_syntax.specs.Verbs.{here, next}
 
 -- where an address begins
 abbrev pub base_value : Base → ed.Base
@@ -76,6 +80,29 @@ command_value c = record {
   listed = c.listed;
 }
 
--- a script
-abbrev pub script_value : Script → ed.Script
-script_value s = record { commands = map command_value s.commands.items; fault = s.fault }
+-- a command as a step of a script: none that stands today has a list
+abbrev pub step_value : Command → ed.Step
+step_value c = ed.alone (command_value c)
+
+-- commands one after another, as steps
+abbrev pub steps_value : List Command → List ed.Step
+steps_value commands = map step_value commands
+
+-- what stands for the addresses where none is given
+abbrev pub default_value : DefaultAddresses → ed.Addresses
+default_value default.Without = ed.Without
+default_value default.Current = ed.One here
+default_value default.Next = ed.One next
+default_value default.Last = ed.One (ed.at_base ed.Last)
+default_value default.CurrentTwice = ed.Comma here here
+default_value default.CurrentAndNext = ed.Comma here next
+
+-- what a command takes
+abbrev pub takes_value : Takes → verbs.Takes
+takes_value t = record {
+  default = default_value t.default;
+  taking = t.taking;
+  text = t.text;
+  target = option_map (λ target. address_value target.now) t.target;
+  suffix = t.suffix;
+}

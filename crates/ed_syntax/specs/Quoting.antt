@@ -14,10 +14,10 @@ is_special b = nat_eq b 36 || nat_eq b 42 || nat_eq b 46 || nat_eq b 91 || nat_e
 abbrev pub as_itself : (delimiter : ℕ) → List ℕ
 as_itself delimiter = elim (is_special delimiter) [ true ↦ backslash ∷ delimiter ∷ [] | false ↦ delimiter ∷ [] ]
 
--- The bytes of a pattern up to the next delimiter that is outside a bracket expression and not behind a backslash. The closing
--- delimiter may be left out at the line's end. A backslash and the delimiter are the delimiter as itself.
+-- The bytes of a pattern up to the next delimiter that is outside a bracket expression and not behind a backslash, with which the
+-- rest begins, or up to the line's end. A backslash and the delimiter are the delimiter as itself.
 pub data SpellsQuoted (delimiter : ℕ) : (text rest : List ℕ) → (bytes : List ℕ) → Type 0 where
-  closed : (rest : List ℕ) → SpellsQuoted delimiter (delimiter ∷ rest) rest []
+  closed : (rest : List ℕ) → SpellsQuoted delimiter (delimiter ∷ rest) (delimiter ∷ rest) []
   left_open : SpellsQuoted delimiter [] [] []
   ordinary : (byte : ℕ) (text rest bytes : List ℕ) → byte ≢ delimiter → byte ≢ backslash → byte ≢ left_square_bracket →
       SpellsQuoted delimiter text rest bytes → SpellsQuoted delimiter (byte ∷ text) rest (byte ∷ bytes)
@@ -34,3 +34,8 @@ pub data SpellsPattern (delimiter : ℕ) : (text rest : List ℕ) → Option (Li
   remembered : (text rest : List ℕ) → SpellsQuoted delimiter text rest [] → SpellsPattern delimiter text rest None
   given : (text rest bytes : List ℕ) (tree : Tree) → bytes ≢ [] → SpellsQuoted delimiter text rest bytes → bre.Spells bytes tree →
       SpellsPattern delimiter text rest (Some bytes)
+
+-- The closing delimiter, or the line's end in its place.
+pub data SpellsClosing (delimiter : ℕ) : (text rest : List ℕ) → Type 0 where
+  closed : (rest : List ℕ) → SpellsClosing delimiter (delimiter ∷ rest) rest
+  left_open : SpellsClosing delimiter [] []

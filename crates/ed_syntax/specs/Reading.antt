@@ -3,8 +3,8 @@ use Rattle.std.specs.Prelude.{ℕ, zero, suc, ◌+◌, ◌-◌, Bool, true, fals
 use Rattle.std.specs.List.{list_all}
 use Rattle.ed_base.specs.Lines.{lines_of}
 use Rattle.ed_syntax.specs.Commands as ed
-use Rattle.ed_syntax.specs.Commands.{Address, Addresses, Form, Verb, Command, Script}
-use Rattle.ed_syntax.specs.Verbs.{may_have, takes_suffix}
+use Rattle.ed_syntax.specs.Commands.{Address, Addresses, Form, Verb, Command, Step, Script, alone}
+use Rattle.ed_syntax.specs.Verbs.{may_have, takes}
 use Rattle.ed_syntax.specs.Characters.{equals_sign, capital_h, capital_p, capital_q, letter_a, letter_c, letter_d, letter_h, letter_i, letter_j, letter_k, letter_l, letter_m, letter_n, letter_p, letter_t, is_blank, behind_blanks}
 use Rattle.ed_syntax.specs.Tokens.{Parsed, ◌>>=◌, letter, address, addresses}
 
@@ -70,7 +70,7 @@ abbrev pub suffix_at : Verb → List ℕ → Option (Option Form)
 suffix_at verb [] = Some None
 suffix_at verb (b ∷ bs) =
     elim (form_of b) [
-      | Some form ↦ elim (takes_suffix verb && is_over bs) [ true ↦ Some (Some form) | false ↦ None ]
+      | Some form ↦ elim ((takes verb).suffix && is_over bs) [ true ↦ Some (Some form) | false ↦ None ]
       | None ↦ elim (is_over (b ∷ bs)) [ true ↦ Some None | false ↦ None ]
     ]
 
@@ -112,46 +112,43 @@ abbrev pub text : List (List ℕ) → List (List ℕ) × List (List ℕ)
 text [] = ([], [])
 text (line ∷ lines) = elim (is_dot line) [ true ↦ ([], lines) | false ↦ let r = text lines in (line ∷ r.0, r.1) ]
 
--- the text of `a`, `c` and `i` stands on the lines behind them
+-- the verb with this text
+abbrev pub entering : List (List ℕ) → Verb → Verb
+entering text (ed.Append _) = ed.Append text
+entering text (ed.Change _) = ed.Change text
+entering text (ed.Insert _) = ed.Insert text
+entering text verb = verb
+
+-- a verb with its text, if it takes one, from the lines behind its own, and the lines behind that
 abbrev pub with_text : Verb → List (List ℕ) → Verb × List (List ℕ)
-with_text (ed.Append entered) later = let r = text later in (ed.Append r.0, r.1)
-with_text (ed.Change entered) later = let r = text later in (ed.Change r.0, r.1)
-with_text ed.Delete later = (ed.Delete, later)
-with_text (ed.Insert entered) later = let r = text later in (ed.Insert r.0, r.1)
-with_text ed.Join later = (ed.Join, later)
-with_text (ed.Mark letter) later = (ed.Mark letter, later)
-with_text (ed.Move target) later = (ed.Move target, later)
-with_text (ed.Copy target) later = (ed.Copy target, later)
-with_text ed.LineNumber later = (ed.LineNumber, later)
-with_text ed.Null later = (ed.Null, later)
-with_text (ed.Write form) later = (ed.Write form, later)
-with_text ed.Help later = (ed.Help, later)
-with_text ed.HelpMode later = (ed.HelpMode, later)
-with_text ed.PromptMode later = (ed.PromptMode, later)
-with_text ed.QuitAnyway later = (ed.QuitAnyway, later)
+with_text verb later = elim (takes verb).text [ true ↦ let r = text later in (entering r.0 verb, r.1) | false ↦ (verb, later) ]
 
 -- the command of a heading, and the lines behind it
-abbrev pub finished : Heading → List (List ℕ) → Command × List (List ℕ)
-finished h later =
+abbrev pub finished : (listed : Bool) → Heading → List (List ℕ) → Command × List (List ℕ)
+finished listed h later =
     let r = with_text h.verb later in
-    (record { addresses = h.addresses; verb = r.0; suffix = h.suffix; listed = false }, r.1)
+    (record { addresses = h.addresses; verb = r.0; suffix = h.suffix; listed = listed }, r.1)
 
--- the command that begins on this line, and the lines behind it
-abbrev pub command_at : List ℕ → List (List ℕ) → Option (Command × List (List ℕ))
-command_at line later = heading line >>= λ h. Some (finished h later)
+-- the command that begins on this line, in a list or outside, and the lines behind it
+abbrev pub command_at : (listed : Bool) → List ℕ → List (List ℕ) → Option (Command × List (List ℕ))
+command_at listed line later = heading line >>= λ h. Some (finished listed h later)
 
--- a command before a script
-abbrev pub followed : Command → Script → Script
-followed c script = record { commands = c ∷ script.commands; fault = script.fault }
+-- the step that begins on this line, and the lines behind it
+abbrev pub step_at : List ℕ → List (List ℕ) → Option (Step × List (List ℕ))
+step_at line later = command_at false line later >>= λ r. Some (alone r.0, r.1)
 
--- The script of these lines, the first of which has this number; at most so many commands, which no script reaches.
-abbrev pub script : ℕ → ℕ → List (List ℕ) → Script
-script n number [] = record { commands = []; fault = None }
-script zero number (line ∷ later) = record { commands = []; fault = Some number }
-script (suc n) number (line ∷ later) =
-    elim (command_at line later) [
-      | None ↦ record { commands = []; fault = Some number }
-      | Some r ↦ followed r.0 (script n (number + (suc (length later) - length r.1)) r.1)
+-- a step before a script
+abbrev pub followed : Step → Script → Script
+followed x script = record { steps = x ∷ script.steps; fault = script.fault }
+
+-- The script of these lines, the first of which has this number; at most so many steps, which no script reaches.
+abbrev pub script : (most number : ℕ) → List (List ℕ) → Script
+script most number [] = record { steps = []; fault = None }
+script zero number (line ∷ later) = record { steps = []; fault = Some number }
+script (suc most) number (line ∷ later) =
+    elim (step_at line later) [
+      | None ↦ record { steps = []; fault = Some number }
+      | Some r ↦ followed r.0 (script most (number + (suc (length later) - length r.1)) r.1)
     ]
 
 -- the script that bytes spell

@@ -1,10 +1,10 @@
 -- Which bytes spell a command, and which a script (XCU ed, "Commands in ed").
-use Rattle.std.specs.Prelude.{ℕ, ◌+◌, ◌<◌, ◌≡◌, ◌≢◌, false, List, [], ◌∷◌, ◌++◌, length, Option, Some, None, IsTrue}
+use Rattle.std.specs.Prelude.{ℕ, ◌+◌, ◌-◌, ◌<◌, ◌≡◌, ◌≢◌, Bool, false, List, [], ◌∷◌, ◌++◌, length, Option, Some, None, IsTrue}
 use Rattle.ed_base.specs.Lines.{newline, IsLine, lines_of, bytes_of}
 use Rattle.ed_syntax.specs.Characters.{full_stop, equals_sign, capital_h, capital_p, capital_q, letter_a, letter_c, letter_d, letter_h, letter_i, letter_j, letter_k, letter_l, letter_m, letter_n, letter_p, letter_t, behind_blanks}
 use Rattle.ed_syntax.specs.Commands as ed
-use Rattle.ed_syntax.specs.Commands.{Address, Addresses, Form, Verb, Command, Script}
-use Rattle.ed_syntax.specs.Verbs.{may_have, takes_suffix}
+use Rattle.ed_syntax.specs.Commands.{Address, Addresses, Form, Verb, Command, Step, Script, alone}
+use Rattle.ed_syntax.specs.Verbs.{may_have, takes}
 use Rattle.ed_syntax.specs.Addressing.{Blanks, SpellsAddress, SpellsAddresses}
 
 -- Whole lines that are a text, up to a line that is `.` or to the end of the script, and what follows.
@@ -23,7 +23,7 @@ pub data SpellsForm : ℕ → Form → Type 0 where
 -- The end of a command's own line: a suffix, if the command takes one, and blanks.
 pub data SpellsSuffix (verb : Verb) : List ℕ → Option Form → Type 0 where
   none : (blanks : List ℕ) → Blanks blanks → SpellsSuffix verb blanks None
-  given : (letter : ℕ) (blanks : List ℕ) (form : Form) → IsTrue (takes_suffix verb) → SpellsForm letter form → Blanks blanks →
+  given : (letter : ℕ) (blanks : List ℕ) (form : Form) → IsTrue (takes verb).suffix → SpellsForm letter form → Blanks blanks →
       SpellsSuffix verb (letter ∷ blanks) (Some form)
 
 -- What stands behind the addresses on a command's own line, a letter with its parameters or nothing, and what stands behind that;
@@ -50,23 +50,37 @@ pub data SpellsVerb : (own more text rest : List ℕ) → Verb → Type 0 where
   prompt_mode : (more rest : List ℕ) → SpellsVerb (capital_p ∷ more) more [] rest ed.PromptMode
   quit_anyway : (more rest : List ℕ) → SpellsVerb (capital_q ∷ more) more [] rest ed.QuitAnyway
 
--- Whole lines that spell a command, and the lines that follow: a line with addresses, a letter and a suffix, and a text.
-pub data Spells : List ℕ → List ℕ → Command → Type 0 where
+-- Whole lines that spell a command, in a list or outside, and the lines that follow: a line with addresses, a letter and a suffix, and a
+-- text.
+pub data SpellsCommand (listed : Bool) : List ℕ → List ℕ → Command → Type 0 where
   command : (line own more text rest : List ℕ) (given : Addresses) (verb : Verb) (suffix : Option Form) → IsLine line →
       SpellsAddresses line own given → SpellsVerb own more text rest verb → IsTrue (may_have given verb) → SpellsSuffix verb more suffix →
-      Spells (line ++ newline ∷ text) rest (record { addresses = given; verb = verb; suffix = suffix; listed = false })
+      SpellsCommand listed (line ++ newline ∷ text) rest (record { addresses = given; verb = verb; suffix = suffix; listed = listed })
 
--- Whole lines, the first of which has this number: commands to the end, or to a rest no front of which spells a command.
-pub data SpellsCommands : ℕ → List ℕ → List Command → Option ℕ → Type 0 where
-  over : (number : ℕ) → SpellsCommands number [] [] None
-  next : (number : ℕ) (bytes rest : List ℕ) (c : Command) (cs : List Command) (bad : Option ℕ) → Spells bytes rest c →
-      SpellsCommands (number + length (lines_of bytes)) rest cs bad → SpellsCommands number (bytes ++ rest) (c ∷ cs) bad
-  stuck : (number : ℕ) (all : List ℕ) → all ≢ [] → ((bytes rest : List ℕ) (c : Command) → all ≡ bytes ++ rest → Spells bytes rest c → ⊥) →
-      SpellsCommands number all [] (Some number)
+-- Whole lines that spell a step of a script, and the lines that follow.
+pub data Spells : List ℕ → List ℕ → Step → Type 0 where
+  single : (bytes rest : List ℕ) (c : Command) → SpellsCommand false bytes rest c → Spells bytes rest (alone c)
+
+-- Whole lines that begin with things of a kind, one after another, each with all that follows for its rest; and what follows the last.
+pub data SpellsEach {A : Type 0} (Spells : List ℕ → List ℕ → A → Type 0) : (text rest : List ℕ) → List A → Type 0 where
+  over : (rest : List ℕ) → SpellsEach Spells rest rest []
+  next : (bytes more rest : List ℕ) (x : A) (xs : List A) → Spells bytes more x → SpellsEach Spells more rest xs →
+      SpellsEach Spells (bytes ++ more) rest (x ∷ xs)
+
+-- the number of the line with which the rest of a text begins
+abbrev pub line_at_rest : (text rest : List ℕ) → ℕ
+line_at_rest text rest = length (lines_of text) - length (lines_of rest) + 1
+
+-- Whole lines: steps to the end, or to a rest no front of which spells a step.
+pub data SpellsSteps : List ℕ → Script → Type 0 where
+  whole : (text : List ℕ) (xs : List Step) → SpellsEach Spells text [] xs → SpellsSteps text (record { steps = xs; fault = None })
+  stuck : (text rest : List ℕ) (xs : List Step) → SpellsEach Spells text rest xs → rest ≢ [] →
+      ((bytes more : List ℕ) (x : Step) → rest ≡ bytes ++ more → Spells bytes more x → ⊥) →
+      SpellsSteps text (record { steps = xs; fault = Some (line_at_rest text rest) })
 
 -- bytes spell a script; a last line without its newline is read as if it had one
 abbrev pub SpellsScript : List ℕ → Script → Type 0
-SpellsScript bytes script = SpellsCommands 1 (bytes_of (lines_of bytes)) script.commands script.fault
+SpellsScript bytes script = SpellsSteps (bytes_of (lines_of bytes)) script
 
 -- what is read is spelled so
 abbrev pub SpellsWhatIsRead : (List ℕ → Script) → Type 0

@@ -1,13 +1,7 @@
 -- What an editor holds (XCU ed, "Extended Description").
-use Rattle.std.specs.Prelude.{ℕ, ◌-◌, Bool, false, List, [], ◌++◌, length, take, drop, Option, None}
+use Rattle.std.specs.Prelude.{ℕ, Bool, false, List, [], length, Option, None}
 use Rattle.ed_base.specs.Buffer.{Line}
-
--- a part of a replacement: a byte, the match (`&`), a group (counted from 0), or a place where the line is split
-pub data Part : Type 0 where
-  Literal : (byte : ℕ) → Part
-  Match : Part
-  Group : (group : ℕ) → Part
-  Split : Part
+use Rattle.ed_syntax.specs.declared.replacement.Part.{Part}
 
 -- what undo keeps of the buffer: its lines with their marks, and the current line
 pub record Kept : Type 0 where
@@ -41,15 +35,3 @@ last s = length s.lines
 -- the buffer as undo keeps it
 abbrev pub kept : State → Kept
 kept s = record { lines = s.lines; current = s.current }
-
--- the lines from a to b
-abbrev pub between : {A : Type 0} → ℕ → ℕ → List A → List A
-between a b xs = drop (a - 1) (take b xs)
-
--- other lines in place of those from a to b
-abbrev pub replaced : {A : Type 0} → ℕ → ℕ → List A → List A → List A
-replaced a b new xs = take (a - 1) xs ++ (new ++ drop b xs)
-
--- other lines behind line a
-abbrev pub inserted : {A : Type 0} → ℕ → List A → List A → List A
-inserted a new xs = take a xs ++ (new ++ drop a xs)

@@ -38,13 +38,14 @@ after_bytes front read = read >>= λ r. Some (front ++ r.0, r.1)
 abbrev pub unescaped : (delimiter byte : ℕ) → List ℕ
 unescaped delimiter byte = elim (nat_eq byte delimiter) [ true ↦ as_itself delimiter | false ↦ backslash ∷ byte ∷ [] ]
 
--- The bytes of a pattern up to its delimiter or the line's end. At most so many steps, which no text reaches.
+-- The bytes of a pattern up to its delimiter, with which the rest begins, or to the line's end. At most so many steps, which no text
+-- reaches.
 abbrev pub quoted : (most : ℕ) → (delimiter : ℕ) → List ℕ → Parsed (List ℕ)
 quoted most delimiter [] = Some ([], [])
 quoted zero delimiter (b ∷ bs) = None
 quoted (suc most) delimiter (b ∷ bs) =
     elim (nat_eq b delimiter) [
-      | true ↦ Some ([], bs)
+      | true ↦ Some ([], b ∷ bs)
       | false ↦ elim (nat_eq b backslash) [
         | true ↦ elim bs [ [] ↦ None | c ∷ cs ↦ after_bytes (unescaped delimiter c) (quoted most delimiter cs) ]
         | false ↦ elim (nat_eq b left_square_bracket) [
@@ -59,7 +60,7 @@ abbrev pub pattern_of : List ℕ → Option (Option (List ℕ))
 pattern_of [] = Some None
 pattern_of (b ∷ bs) = elim (pattern (b ∷ bs)) [ Ok tree ↦ Some (Some (b ∷ bs)) | Err fault ↦ None ]
 
--- a pattern behind its delimiter
+-- a pattern behind its delimiter, and the rest from its closing delimiter on
 abbrev pub pattern_at : (delimiter : ℕ) → List ℕ → Parsed (Option (List ℕ))
 pattern_at delimiter bs = quoted (length bs) delimiter bs >>= λ q. pattern_of q.0 >>= λ p. Some (p, q.1)
 
@@ -99,9 +100,9 @@ base (b ∷ bs) =
           | false ↦ elim (nat_eq b apostrophe) [
             | true ↦ letter bs >>= λ r. Some (Some (Marked r.0), r.1)
             | false ↦ elim (nat_eq b slash) [
-              | true ↦ pattern_at slash bs >>= λ r. Some (Some (Forward r.0), r.1)
+              | true ↦ pattern_at slash bs >>= λ r. Some (Some (Forward r.0), drop 1 r.1)
               | false ↦ elim (nat_eq b question_mark) [
-                | true ↦ pattern_at question_mark bs >>= λ r. Some (Some (Backward r.0), r.1)
+                | true ↦ pattern_at question_mark bs >>= λ r. Some (Some (Backward r.0), drop 1 r.1)
                 | false ↦ elim (is_sign b) [ true ↦ Some (Some Current, b ∷ bs) | false ↦ Some (None, b ∷ bs) ]
               ]
             ]

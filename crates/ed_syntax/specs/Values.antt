@@ -81,21 +81,21 @@ within s (negsuc n) = Err fault.Address
 abbrev pub value : Address → State → Result ℕ Fault
 value a s = base_number a.base s >> λ n. within s (pos n +ℤ a.offset)
 
--- the state once an address was valued
-abbrev pub valued : Address → State → State
-valued a s = record s { pattern = remembered a.base s }
+-- the state once an address was evaluated
+abbrev pub evaluated : Address → State → State
+evaluated a s = record s { pattern = remembered a.base s }
 
--- the state behind a `;`, where the first address's value is the current line
+-- the state after a `;`, where the first address's value is the current line
 abbrev pub moved : ℕ → State → State
 moved n s = record s { current = n }
 
--- the values of the addresses before a command, first to last, and the state once they were valued
+-- the values of the addresses before a command, first to last, and the state once they were evaluated
 abbrev pub values : Addresses → State → Result (State × List ℕ) Fault
 values Without s = Ok (s, [])
-values (One a) s = value a s >> λ n. Ok (valued a s, n ∷ [])
-values (Comma a b) s = value a s >> λ n. value b (valued a s) >> λ m. Ok (valued b (valued a s), n ∷ m ∷ [])
-values (Semicolon a None) s = value a s >> λ n. Ok (moved n (valued a s), n ∷ n ∷ [])
+values (One a) s = value a s >> λ n. Ok (evaluated a s, n ∷ [])
+values (Comma a b) s = value a s >> λ n. value b (evaluated a s) >> λ m. Ok (evaluated b (evaluated a s), n ∷ m ∷ [])
+values (Semicolon a None) s = value a s >> λ n. Ok (moved n (evaluated a s), n ∷ n ∷ [])
 values (Semicolon a (Some b)) s =
     value a s >> λ n.
-    let behind = moved n (valued a s) in
-    value b behind >> λ m. Ok (valued b behind, n ∷ m ∷ [])
+    let after = moved n (evaluated a s) in
+    value b after >> λ m. Ok (evaluated b after, n ∷ m ∷ [])

@@ -7,7 +7,7 @@ ghost use Rattle.ed_syntax.specs.Commands as ed;
 ghost use Rattle.ed_syntax.specs.ReadParts.{optional_base};
 
 use crate::offsets::offsets;
-use crate::quoting::{Parsed, pattern_at};
+use crate::quoting::{Parsed, behind_closing, pattern_at};
 use crate::tokens::{behind_blanks, letter, number};
 use crate::{Address, Addresses, Base};
 use std::alloc::{AllocError, Global};
@@ -118,11 +118,11 @@ fn base(alloc: Global, bytes: &[u8]) -> Parsed<'_, Option<Base>>
             None => return Ok(None),
         },
         [b'/', rest @ ..] => match pattern_at(alloc, b'/', rest)? {
-            Some((pattern, rest)) => (Base::Forward(pattern), rest),
+            Some((pattern, rest)) => (Base::Forward(pattern), behind_closing(rest)),
             None => return Ok(None),
         },
         [b'?', rest @ ..] => match pattern_at(alloc, b'?', rest)? {
-            Some((pattern, rest)) => (Base::Backward(pattern), rest),
+            Some((pattern, rest)) => (Base::Backward(pattern), behind_closing(rest)),
             None => return Ok(None),
         },
         [b'+' | b'-', ..] => (Base::Current, bytes),

@@ -98,14 +98,6 @@ pub struct Command {
     pub listed: bool,
 }
 
-/// A script: its commands up to the first that can't be read.
-#[derive(Debug, Drop)]
-pub struct Script {
-    pub commands: Vec<Command>,
-    /// The line on which the first command begins that can't be read, counted from 1.
-    pub fault: Option<usize>,
-}
-
 impl Base {
     /// An equal base.
     pub fn try_copy(&self) -> Result<Base, AllocError>

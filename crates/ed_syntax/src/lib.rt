@@ -3,25 +3,29 @@
 
 mod addresses;
 mod command;
-#[cfg(test)]
-mod line_command_tests;
+mod laws;
 mod offsets;
 mod options;
 mod pattern;
 mod quoting;
 mod reading;
+mod replacement;
 mod request;
+mod script;
 mod script_lines;
 mod spelling;
-#[cfg(test)]
-mod tests;
 mod tokens;
 mod verbs;
 
-pub use command::{Address, Addresses, Base, Command, Form, Script, Verb};
+pub use command::{Address, Addresses, Base, Command, Form, Verb};
+pub use laws::{
+    commands_keep_marks, cut_runs_write_a_front, listed_commands_leave_undo, runs_end_for_a_cause,
+};
 pub use options::{Ending, Options};
 pub use pattern::Pattern;
 pub use reading::read_script;
+pub use replacement::{Part, Replacement, Which};
 pub use request::{Answer, Request};
+pub use script::Script;
 pub use spelling::scripts_are_read_as_spelled;
-pub use verbs::Taking;
+pub use verbs::{DefaultAddresses, Takes, Taking};

@@ -14,7 +14,6 @@ use std::marker::Model;
 /// A basic regular expression with its text (XBD 9.3). Contracts see the text alone: it has one tree.
 #[derive(Drop)]
 pub struct Pattern {
-    alloc: Global,
     text: Bytes,
     bre: Bre,
 }
@@ -39,7 +38,7 @@ impl Pattern {
         ensures first_fault { IfErr result (λ fault. fault ≢ Memory → pattern text ≡ Err fault) }
     {
         let bre = Bre::read(alloc, text.as_slice())?;
-        Ok(Pattern { alloc, text, bre })
+        Ok(Pattern { text, bre })
     }
 
     /// Its text, without delimiters.
@@ -61,9 +60,8 @@ impl Pattern {
         ensures value { IfOk result (λ copy. copy ≡ self.now) }
     {
         Ok(Pattern {
-            alloc: self.alloc,
             text: self.text.try_copy()?,
-            bre: self.bre.try_copy(self.alloc)?,
+            bre: self.bre.try_copy()?,
         })
     }
 }

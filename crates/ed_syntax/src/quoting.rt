@@ -1,5 +1,5 @@
 //! Patterns between delimiters.
-ghost use Rattle.std.specs.Prelude.{◌≡◌, ◌++◌, length, MatchOption, Some, None, IfOk, OnOk};
+ghost use Rattle.std.specs.Prelude.{◌≡◌, ◌++◌, drop, length, MatchOption, Some, None, IfOk, OnOk};
 ghost use Rattle.ed_syntax.specs.Tokens.{unescaped, quoted, pattern_of, pattern_at};
 
 use crate::Pattern;
@@ -11,7 +11,8 @@ use std::alloc::{AllocError, Global};
 /// What was read from the front of a line, and the bytes behind it. `None` where it can't be read.
 pub type Parsed<'a, T> = Result<Option<(T, &'a [u8])>, AllocError>;
 
-/// The pattern behind a delimiter, up to the next one or to the line's end. Nothing is the remembered pattern, `None`.
+/// The pattern behind a delimiter, up to the next one, with which the rest begins, or to the line's end. Nothing is the remembered
+/// pattern, `None`.
 pub fn pattern_at(alloc: Global, delimiter: u8, bytes: &[u8]) -> Parsed<'_, Option<Pattern>>
     ensures value { IfOk result (λ read. MatchOption read (pattern_at delimiter bytes.now ≡ None)
         (λ (p, rest). pattern_at delimiter bytes.now ≡ Some (p, rest.now))) }
@@ -22,6 +23,16 @@ pub fn pattern_at(alloc: Global, delimiter: u8, bytes: &[u8]) -> Parsed<'_, Opti
             None => Ok(None),
         },
         None => Ok(None),
+    }
+}
+
+/// The bytes behind the closing delimiter, which may be left out at the line's end.
+pub fn behind_closing(bytes: &[u8]) -> &[u8]
+    ensures value { result.now ≡ drop 1 bytes.now }
+{
+    match bytes {
+        [_, rest @ ..] => rest,
+        [] => bytes,
     }
 }
 
@@ -48,7 +59,7 @@ fn quoted(alloc: Global, delimiter: u8, bytes: &[u8]) -> Parsed<'_, Bytes>
     let mut left = bytes;
     'bytes: while let [byte, rest @ ..] = left {
         if *byte == delimiter {
-            return Ok(Some((text, rest)));
+            return Ok(Some((text, left)));
         }
         left = match *byte {
             b'\\' => match rest {

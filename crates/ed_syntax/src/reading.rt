@@ -1,8 +1,9 @@
 //! Reads a script: its commands up to the first that can't be read.
-ghost use Rattle.std.specs.Prelude.{◌≡◌, ◌+◌, ◌≤◌, length, Option, Some, None, option_map, IfOk, MatchOption};
+ghost use Rattle.std.specs.Prelude.{◌≡◌, ◌+◌, ◌≤◌, false, length, Option, Some, None, option_map, IfOk, MatchOption};
 ghost use Rattle.ed_syntax.specs.Verbs.{may_have};
 ghost use Rattle.ed_syntax.specs.Reading.{beside_letter, plain_verbs, target, verb_at, form_of, suffix_at, is_over, heading, heading_behind, with_text, command_at, script_of};
-ghost use Rattle.ed_syntax.specs.PublicTypes.{address_value, addresses_value, suffix_value, verb_value, script_value};
+ghost use Rattle.ed_syntax.specs.PublicTypes.{address_value, addresses_value, suffix_value, verb_value};
+ghost use Rattle.ed_syntax.specs.PublicScript.{script_value};
 ghost use Rattle.ed_syntax.specs.ReadParts.{optional_verb, optional_own_line, command_behind};
 
 use crate::addresses::{address, addresses};
@@ -51,7 +52,7 @@ fn read_command(
     line: &[u8],
     later: &mut ScriptLines<'_>,
 ) -> Result<Option<Command>, AllocError>
-    ensures value { IfOk result (λ c. command_behind c later.new.lines ≡ command_at line.now later.old.lines) }
+    ensures value { IfOk result (λ c. command_behind c later.new.lines ≡ command_at false line.now later.old.lines) }
     ensures number { later.new.number + length later.new.lines ≡ later.old.number + length later.old.lines }
     ensures later { length later.new.lines ≤ length later.old.lines }
 {
@@ -80,10 +81,14 @@ fn with_text(alloc: Global, verb: Verb, later: &mut ScriptLines<'_>) -> Result<V
     ensures number { later.new.number + length later.new.lines ≡ later.old.number + length later.old.lines }
     ensures later { length later.new.lines ≤ length later.old.lines }
 {
+    if !verb.takes().text {
+        return Ok(verb);
+    }
+    let text = later.read_text(alloc)?;
     match verb {
-        Verb::Append(_) => Ok(Verb::Append(later.read_text(alloc)?)),
-        Verb::Change(_) => Ok(Verb::Change(later.read_text(alloc)?)),
-        Verb::Insert(_) => Ok(Verb::Insert(later.read_text(alloc)?)),
+        Verb::Append(_) => Ok(Verb::Append(text)),
+        Verb::Change(_) => Ok(Verb::Change(text)),
+        Verb::Insert(_) => Ok(Verb::Insert(text)),
         without_text => Ok(without_text),
     }
 }
@@ -191,7 +196,7 @@ fn suffix_at(verb: &Verb, bytes: &[u8]) -> Option<Option<Form>>
     ensures value { option_map suffix_value result ≡ suffix_at (verb_value verb.now) bytes.now }
 {
     match bytes {
-        [letter @ (b'l' | b'n' | b'p'), rest @ ..] if verb.takes_suffix() && is_over(rest) => {
+        [letter @ (b'l' | b'n' | b'p'), rest @ ..] if verb.takes().suffix && is_over(rest) => {
             Some(form_of(*letter))
         }
         _ if is_over(bytes) => Some(None),
@@ -215,7 +220,7 @@ fn form_of(letter: u8) -> Option<Form>
 fn may_have(given: &Addresses, verb: &Verb) -> bool
     ensures value { result ≡ may_have (addresses_value given.now) (verb_value verb.now) }
 {
-    matches!(given, Addresses::Without) || verb.taking() != Taking::NoAddress
+    matches!(given, Addresses::Without) || verb.takes().taking != Taking::NoAddress
 }
 
 // Nothing but blanks is left of the line.

@@ -1,7 +1,8 @@
 //! What each command takes: the table that the reader, the editor and the rules of the verifier ask.
-ghost use Rattle.std.specs.Prelude.{◌≡◌, option_map};
-ghost use Rattle.ed_syntax.specs.PublicTypes.{address_value, addresses_value, verb_value};
-ghost use Rattle.ed_syntax.specs.Verbs.{taking, here, next, default, has_text, target_of, takes_suffix};
+ghost use Rattle.std.specs.Prelude.{◌≡◌, true, false, Some, None};
+ghost use Rattle.ed_syntax.specs.Commands.{Last, at_base};
+ghost use Rattle.ed_syntax.specs.PublicTypes.{address_value, addresses_value, verb_value, default_value, takes_value};
+ghost use Rattle.ed_syntax.specs.Verbs.{here, next, takes};
 
 use crate::{Address, Addresses, Base, Verb};
 
@@ -20,6 +21,35 @@ pub enum Taking {
     Lines,
     /// Two, the first not behind the second; 0 is a fault. One given stands for both.
     Range,
+}
+
+/// What stands for the addresses where none is given.
+#[derive(Clone, Copy, Debug, PartialEq, Eq)]
+pub enum DefaultAddresses {
+    Without,
+    /// `.`
+    Current,
+    /// `.+1`
+    Next,
+    /// `$`
+    Last,
+    /// `.,.`
+    CurrentTwice,
+    /// `.,.+1`
+    CurrentAndNext,
+}
+
+/// What a command takes.
+#[derive(Clone, Copy, Debug)]
+pub struct Takes<'a> {
+    pub default: DefaultAddresses,
+    pub taking: Taking,
+    /// The lines of a text follow the command's own line.
+    pub text: bool,
+    /// The address behind which lines are moved or copied.
+    pub target: Option<&'a Address>,
+    /// A suffix may follow.
+    pub suffix: bool,
 }
 
 // The current line.
@@ -42,63 +72,90 @@ fn next() -> Address
     }
 }
 
+// The last line.
+fn last() -> Address
+    ensures value { address_value result ≡ at_base Last }
+{
+    Address {
+        base: Base::Last,
+        offset: 0,
+    }
+}
+
+impl DefaultAddresses {
+    /// These addresses.
+    pub fn addresses(self) -> Addresses
+        ensures value { addresses_value result ≡ default_value self }
+    {
+        match self {
+            DefaultAddresses::Without => Addresses::Without,
+            DefaultAddresses::Current => Addresses::One(here()),
+            DefaultAddresses::Next => Addresses::One(next()),
+            DefaultAddresses::Last => Addresses::One(last()),
+            DefaultAddresses::CurrentTwice => Addresses::Comma(here(), here()),
+            DefaultAddresses::CurrentAndNext => Addresses::Comma(here(), next()),
+        }
+    }
+}
+
+// What a command takes that has neither text nor target, and that a suffix may follow.
+fn row<'a>(default: DefaultAddresses, taking: Taking) -> Takes<'a>
+    ensures value { takes_value result ≡ record {
+      default = default_value default;
+      taking = taking;
+      text = false;
+      target = None;
+      suffix = true;
+    } }
+{
+    Takes {
+        default,
+        taking,
+        text: false,
+        target: None,
+        suffix: true,
+    }
+}
+
 impl Verb {
-    /// How many addresses the command takes.
-    pub fn taking(&self) -> Taking
-        ensures value { result ≡ taking (verb_value self.now) }
+    /// What the command takes.
+    pub fn takes(&self) -> Takes<'_>
+        ensures value { takes_value result ≡ takes (verb_value self.now) }
     {
         match self {
-            Verb::Append(_) | Verb::LineNumber => Taking::Place,
-            Verb::Insert(_) => Taking::FirstPlace,
-            Verb::Mark(_) | Verb::Null => Taking::OneLine,
-            Verb::Change(_) => Taking::Lines,
-            Verb::Delete | Verb::Join | Verb::Move(_) | Verb::Copy(_) | Verb::Write(_) => {
-                Taking::Range
-            }
-            Verb::Help | Verb::HelpMode | Verb::PromptMode | Verb::QuitAnyway => Taking::NoAddress,
+            Verb::Append(_) => Takes {
+                text: true,
+                ..row(DefaultAddresses::Current, Taking::Place)
+            },
+            Verb::Change(_) => Takes {
+                text: true,
+                ..row(DefaultAddresses::CurrentTwice, Taking::Lines)
+            },
+            Verb::Delete => row(DefaultAddresses::CurrentTwice, Taking::Range),
+            Verb::Insert(_) => Takes {
+                text: true,
+                ..row(DefaultAddresses::Current, Taking::FirstPlace)
+            },
+            Verb::Join => row(DefaultAddresses::CurrentAndNext, Taking::Range),
+            Verb::Mark(_) => row(DefaultAddresses::Current, Taking::OneLine),
+            Verb::Move(to) | Verb::Copy(to) => Takes {
+                target: Some(to),
+                ..row(DefaultAddresses::CurrentTwice, Taking::Range)
+            },
+            Verb::LineNumber => row(DefaultAddresses::Last, Taking::Place),
+            Verb::Null => Takes {
+                suffix: false,
+                ..row(DefaultAddresses::Next, Taking::OneLine)
+            },
+            Verb::Write(_) => row(DefaultAddresses::CurrentTwice, Taking::Range),
+            Verb::Help | Verb::HelpMode | Verb::PromptMode => row(
+                DefaultAddresses::Without,
+                Taking::NoAddress,
+            ),
+            Verb::QuitAnyway => Takes {
+                suffix: false,
+                ..row(DefaultAddresses::Without, Taking::NoAddress)
+            },
         }
-    }
-
-    /// What stands for the addresses where none is given.
-    pub fn default_addresses(&self) -> Addresses
-        ensures value { addresses_value result ≡ default (verb_value self.now) }
-    {
-        match self {
-            Verb::Append(_) | Verb::Insert(_) | Verb::Mark(_) => Addresses::One(here()),
-            Verb::Change(_) | Verb::Delete | Verb::Move(_) | Verb::Copy(_) | Verb::Write(_) => {
-                Addresses::Comma(here(), here())
-            }
-            Verb::Join => Addresses::Comma(here(), next()),
-            Verb::LineNumber => Addresses::One(Address {
-                base: Base::Last,
-                offset: 0,
-            }),
-            Verb::Null => Addresses::One(next()),
-            Verb::Help | Verb::HelpMode | Verb::PromptMode | Verb::QuitAnyway => Addresses::Without,
-        }
-    }
-
-    /// Whether the lines of a text follow the command's own line.
-    pub fn has_text(&self) -> bool
-        ensures value { result ≡ has_text (verb_value self.now) }
-    {
-        matches!(self, Verb::Append(_) | Verb::Change(_) | Verb::Insert(_))
-    }
-
-    /// The address behind which lines are moved or copied.
-    pub fn target(&self) -> Option<&Address>
-        ensures value { option_map (λ target. address_value target.now) result ≡ target_of (verb_value self.now) }
-    {
-        match self {
-            Verb::Move(target) | Verb::Copy(target) => Some(target),
-            _ => None,
-        }
-    }
-
-    /// Whether a suffix may follow.
-    pub fn takes_suffix(&self) -> bool
-        ensures value { result ≡ takes_suffix (verb_value self.now) }
-    {
-        !matches!(self, Verb::Null | Verb::QuitAnyway)
     }
 }

@@ -1,16 +1,17 @@
 //! The values of addresses, and the lines that a command is applied to (XCU ed, "Addresses in ed").
-ghost use Rattle.std.specs.Prelude.{◌≡◌, ◌≤◌, pos, ◌+ℤ◌, IfOk};
-ghost use Rattle.ed_syntax.specs.PublicTypes.{address_value, addresses_value, base_value, command_value, verb_value};
+ghost use Rattle.std.specs.Prelude.{◌≡◌, ◌≢◌, ◌≤◌, pos, ◌+ℤ◌, IfErr, IfOk};
+ghost use Rattle.ed_base.specs.declared.fault.Fault.TheVariants.{Memory};
+ghost use Rattle.ed_syntax.specs.PublicTypes.{address_value, addresses_value, base_value, command_value, default_value, verb_value};
 ghost use Rattle.ed_syntax.specs.States.{last};
-ghost use Rattle.ed_syntax.specs.Values.{value, valued, values, base_number, remembered, within};
-ghost use Rattle.ed_syntax.specs.Verbs.{taking, target_of};
-ghost use Rattle.ed_syntax.specs.Applied.{targeted};
+ghost use Rattle.ed_syntax.specs.Values.{value, evaluated, values, base_number, remembered, within};
+ghost use Rattle.ed_syntax.specs.Verbs.{given_or, takes};
+ghost use Rattle.ed_syntax.specs.Applied.{placed, targeted};
 ghost use Rattle.ed_syntax.specs.Ranges.{last_of_two, spanned};
-ghost use Rattle.ed_commands.specs.Editors.{Steps, Valued, SameButPattern, Fits, lines_of_command, list_of_values, value_of_addressed, value_of_span, values_of_command, with_pattern};
+ghost use Rattle.ed_commands.specs.Editors.{Fits, SameButPattern, Steps, Tells, TellsLine, list_of_values, placed_value, span_value, with_pattern};
 
 use crate::editor::Editor;
 use ed_base::Fault;
-use ed_syntax::{Address, Addresses, Base, Command, Taking, Verb};
+use ed_syntax::{Address, Addresses, Base, Command, DefaultAddresses, Taking, Verb};
 use line_store::LineStore;
 
 /// The values of the addresses before a command, in order.
@@ -38,7 +39,8 @@ pub struct Addressed {
 // The lines that these values name to a command that takes so many, in a buffer of so many lines.
 fn spanned(taking: Taking, lines: usize, values: Values) -> Result<Span, Fault>
     requires within { last_of_two (list_of_values values) ≤ lines }
-    ensures exact { spanned taking lines (list_of_values values) ≡ value_of_span result }
+    ensures exact { Tells span_value (spanned taking lines (list_of_values values)) result }
+    ensures memory { IfErr result (λ fault. fault ≢ Memory) }
     ensures fits { IfOk result (λ span. Fits taking span lines) }
 {
     let (first, last) = match values {
@@ -70,7 +72,7 @@ fn spanned(taking: Taking, lines: usize, values: Values) -> Result<Span, Fault>
 impl<S: LineStore> Editor<S> {
     // The line that a base stands for. It may lie behind the last one.
     fn base_line(&mut self, base: &Base) -> Result<usize, Fault>
-        ensures exact { Valued (base_number (base_value base.now) self.old.state)
+        ensures exact { TellsLine (base_number (base_value base.now) self.old.state)
             (with_pattern (remembered (base_value base.now) self.old.state) self.old.state) result self.new.state }
         ensures unchanged { SameButPattern self.old self.new }
     {
@@ -104,8 +106,8 @@ impl<S: LineStore> Editor<S> {
     /// The line that an address names, counted from 1. A search remembers its pattern, whether or not it finds a line;
     /// nothing else changes, and the editor doesn't fail by a fault of the address.
     pub fn value_of(&mut self, address: &Address) -> Result<usize, Fault>
-        ensures exact { Valued (value (address_value address.now) self.old.state)
-            (valued (address_value address.now) self.old.state) result self.new.state }
+        ensures exact { TellsLine (value (address_value address.now) self.old.state)
+            (evaluated (address_value address.now) self.old.state) result self.new.state }
         ensures unchanged { SameButPattern self.old self.new }
         ensures within { IfOk result (λ line. line ≤ last self.new.state) }
     {
@@ -143,42 +145,48 @@ impl<S: LineStore> Editor<S> {
     }
 
     // The values of the addresses that are given before a command, or of those that stand for none.
-    fn given_values(&mut self, command: &Command) -> Result<Values, Fault>
-        ensures exact { Steps list_of_values (values_of_command (command_value command.now) self.old.state) result self.new.state }
+    fn given_values(
+        &mut self,
+        given: &Addresses,
+        default: DefaultAddresses,
+    ) -> Result<Values, Fault>
+        ensures exact { Steps list_of_values (values (given_or (addresses_value given.now) (default_value default)) self.old.state)
+            result self.new.state }
         ensures within { IfOk result (λ values. last_of_two (list_of_values values) ≤ last self.new.state) }
         ensures lines { self.new.state.lines ≡ self.old.state.lines }
         ensures failed { self.new.failed ≡ self.old.failed }
     {
-        match &command.addresses {
-            Addresses::Without => self.values(&command.verb.default_addresses()),
+        match given {
+            Addresses::Without => self.values(&default.addresses()),
             given => self.values(given),
         }
     }
 
     // The value of a command's target, or 0 where it has none.
     fn target(&mut self, verb: &Verb) -> Result<usize, Fault>
-        ensures exact { Steps (λ line. line) (targeted (target_of (verb_value verb.now)) self.old.state) result self.new.state }
+        ensures exact { Steps (λ line. line) (targeted (takes (verb_value verb.now)).target self.old.state) result self.new.state }
         ensures within { IfOk result (λ line. line ≤ last self.new.state) }
         ensures lines { self.new.state.lines ≡ self.old.state.lines }
         ensures failed { self.new.failed ≡ self.old.failed }
     {
-        match verb.target() {
+        match verb.takes().target {
             Some(target) => self.value_of(target),
             None => Ok(0),
         }
     }
 
-    /// What a command is applied to. All its addresses are valued before their order is looked at.
+    /// What a command is applied to. All its addresses are evaluated before their order is looked at.
     pub(crate) fn addressed(&mut self, command: &Command) -> Result<Addressed, Fault>
-        ensures exact { Steps value_of_addressed (lines_of_command (command_value command.now) self.old.state) result self.new.state }
-        ensures fits { IfOk result (λ addressed. Fits (taking (verb_value command.now.verb)) addressed.span (last self.new.state)) }
+        ensures exact { Tells (placed_value self.new.state) (placed (command_value command.now) self.old.state) result }
+        ensures fits { IfOk result (λ addressed. Fits (takes (verb_value command.now.verb)).taking addressed.span (last self.new.state)) }
         ensures target { IfOk result (λ addressed. addressed.target ≤ last self.new.state) }
         ensures lines { self.new.state.lines ≡ self.old.state.lines }
         ensures failed { self.new.failed ≡ self.old.failed }
     {
-        let values = self.given_values(command)?;
+        let takes = command.verb.takes();
+        let values = self.given_values(&command.addresses, takes.default)?;
         let target = self.target(&command.verb)?;
-        let span = spanned(command.verb.taking(), self.store.len(), values)?;
+        let span = spanned(takes.taking, self.store.len(), values)?;
         Ok(Addressed { span, target })
     }
 }

@@ -1,14 +1,13 @@
 //! Blocks of lines of a store: made, exchanged, carried to another place. A block is the lines behind line `from` up to line `to`.
 ghost use Rattle.std.specs.Prelude.{◌≡◌, ◌≢◌, ◌+◌, ◌-◌, ◌^◌, ◌<◌, ◌≤◌, [], length, map, min, max, insert, remove, slice_index_or, IfOk, IfErr, OnOk, OnErr, MatchResult};
 ghost use Rattle.std.specs.List.{concat};
-ghost use Rattle.ed_base.specs.declared.fault.Fault.TheVariants.{Memory};
 ghost use Rattle.ed_base.specs.Lines.{lines_of};
 ghost use Rattle.ed_base.specs.Buffer.{plain_line, texts};
-ghost use Rattle.ed_syntax.specs.States.{inserted};
-ghost use Rattle.ed_commands.specs.Editors.{AreNew, block, exchanged, carried, place_beside, span_value};
+ghost use Rattle.ed_base.specs.Parts.{block, carried, exchanged, inserted};
+ghost use Rattle.ed_commands.specs.Editors.{AreNew, place_beside, span_value};
 
 use crate::editor::addressing::Span;
-use ed_base::{Bytes, Fault, Text, join_lines, written_lines_are_read_back};
+use ed_base::{Bytes, Text, join_lines, written_lines_are_read_back};
 use line_store::{FileLines, Line, LineStore};
 use std::alloc::{AllocError, Global};
 
@@ -146,32 +145,26 @@ fn put_lines<S: LineStore>(lines: Vec<Line>, at: usize, store: &mut S)
     }
 }
 
-/// Carries the lines of a span behind line `target`, with their letters, and tells the line of the others behind which they
-/// stand then. After an `Err` the store is as before.
-pub fn carry<S: LineStore>(span: Span, target: usize, store: &mut S) -> Result<usize, Fault>
+/// Carries the lines of a span behind line `target`, which is none of them, with their letters, and tells the line of the
+/// others behind which they stand then. After an `Err` the store is as before.
+pub fn carry<S: LineStore>(span: Span, target: usize, store: &mut S) -> Result<usize, AllocError>
     requires first { 1 ≤ span.first }
     requires order { span.first ≤ span.last }
     requires last { span.last ≤ length (S.lines store.old) }
     requires target { target ≤ length (S.lines store.old) }
-    ensures exact { MatchResult result
-        (λ place. (place_beside (span_value span) target ≡ Ok place)
-        × (S.lines store.new ≡ carried (span.first - 1) span.last place (S.lines store.old)))
-        (λ fault. fault ≢ Memory → place_beside (span_value span) target ≡ Err fault) }
-    ensures destination { IfErr (place_beside (span_value span) target) (λ fault. result ≡ Err fault) }
+    requires beside { span.first ≤ target → span.last < target }
+    ensures place { IfOk result (λ place. place_beside (span_value span) target ≡ Ok place) }
+    ensures carried { IfOk result (λ place. S.lines store.new ≡ carried (span.first - 1) span.last place (S.lines store.old)) }
     ensures within { IfOk result (λ place. place + (span.last - (span.first - 1)) ≤ max span.last target) }
     ensures unchanged { OnErr result (S.lines store.new ≡ S.lines store.old) }
 {
     let from = span.first - 1;
     let count = span.last - from;
+    store.reserve(count)?;
     if target <= from {
-        store.reserve(count)?;
         carry_up(from, span.last, target, store);
         return Ok(target);
     }
-    if target <= span.last {
-        return Err(Fault::Destination);
-    }
-    store.reserve(count)?;
     carry_down(from, span.last, target, store);
     Ok(target - count)
 }

@@ -4,33 +4,33 @@ ghost use Rattle.ed_base.specs.declared.fault.Fault.TheVariants.{Memory};
 ghost use Rattle.ed_syntax.specs.declared.request.Answer.{Answer};
 ghost use Rattle.ed_syntax.specs.PublicTypes.{form_value, suffix_value, verb_value};
 ghost use Rattle.ed_syntax.specs.States.{last};
-ghost use Rattle.ed_syntax.specs.Verbs.{taking};
+ghost use Rattle.ed_syntax.specs.Verbs.{takes};
 ghost use Rattle.ed_syntax.specs.Effects as effect;
-ghost use Rattle.ed_syntax.specs.Applied.{effect_of, settled};
-ghost use Rattle.ed_commands.specs.Editors.{Fits, Leaves, kept_at, span_value, suffixed};
+ghost use Rattle.ed_syntax.specs.Applied.{effect_of};
+ghost use Rattle.ed_commands.specs.Editors.{Fits, Leaves, left_by, span_value, suffixed};
 
 use crate::editor::Editor;
 use crate::editor::addressing::{Addressed, Span};
 use crate::editor::blocks::new_lines;
 use crate::editor::lines::write_lines;
+use crate::editor::past::Before;
 use ed_base::{Bytes, Fault, Letter, Text, push_number};
 use ed_syntax::{Form, Verb};
 use line_store::LineStore;
 use std::alloc::AllocError;
 
 impl<S: LineStore> Editor<S> {
-    /// Does what a command does at the lines that its addresses name, and tells what it wrote before its suffix. The line
-    /// `before` was current before the addresses were valued: undo would make it so again.
+    /// Does what a command does at the lines that its addresses name, and tells what it wrote before its suffix.
     pub(crate) fn effect(
         &mut self,
         verb: &Verb,
         named: Addressed,
-        before: usize,
+        before: Before,
     ) -> Result<Bytes, Fault>
-        requires fits { Fits (taking (verb_value verb.now)) named.span (last self.old.state) }
+        requires fits { Fits (takes (verb_value verb.now)).taking named.span (last self.old.state) }
         requires target { named.target ≤ last self.old.state }
-        ensures exact { (given : Option Answer) → let effect = effect_of (verb_value verb.now) (span_value named.span) named.target self.old.state given in
-            MatchResult result (λ output. IsOkAnd effect (Leaves (kept_at before self.old.state) self.new.state output))
+        ensures exact { (given : Option Answer) → let effect = effect_of (verb_value verb.now) before.listed (span_value named.span) named.target self.old.state given in
+            MatchResult result (λ output. IsOkAnd effect (Leaves before self.old.state self.new.state output))
             (λ fault. fault ≢ Memory → effect ≡ Err fault) }
         ensures failed { self.new.failed ≡ self.old.failed }
     {
@@ -53,10 +53,10 @@ impl<S: LineStore> Editor<S> {
     }
 
     // `a`: the text goes behind the first line of the span.
-    fn append(&mut self, text: &Text, span: Span, before: usize) -> Result<(), AllocError>
+    fn append(&mut self, text: &Text, span: Span, before: Before) -> Result<(), AllocError>
         requires place { span.first ≤ last self.old.state }
         ensures exact { OnOk result
-            (self.new.state ≡ settled (kept_at before self.old.state) (effect.append text.now (span_value span) self.old.state)) }
+            (self.new.state ≡ left_by before self.old.state (effect.append text.now (span_value span) self.old.state)) }
         ensures failed { self.new.failed ≡ self.old.failed }
     {
         let lines = new_lines(self.alloc, text)?;
@@ -64,12 +64,12 @@ impl<S: LineStore> Editor<S> {
     }
 
     /// `d`: the lines of the span go out, into what undo keeps.
-    pub(crate) fn delete(&mut self, span: Span, before: usize) -> Result<(), AllocError>
+    pub(crate) fn delete(&mut self, span: Span, before: Before) -> Result<(), AllocError>
         requires first { 1 ≤ span.first }
         requires order { span.first ≤ span.last }
         requires last { span.last ≤ last self.old.state }
         ensures exact { OnOk result
-            (self.new.state ≡ settled (kept_at before self.old.state) (effect.delete (span_value span) self.old.state)) }
+            (self.new.state ≡ left_by before self.old.state (effect.delete (span_value span) self.old.state)) }
         ensures failed { self.new.failed ≡ self.old.failed }
     {
         self.replace(span.first - 1, span.last, Vec::new(self.alloc), before)?;

@@ -1,52 +1,50 @@
 //! Lines that come into the buffer, and those in whose place they come: `c` and `i`, and what they share with other commands.
 ghost use Rattle.std.specs.Prelude.{◌≡◌, ◌+◌, ◌≤◌, length, OnOk};
 ghost use Rattle.ed_base.specs.Buffer.{texts};
+ghost use Rattle.ed_base.specs.Parts.{exchanged};
 ghost use Rattle.ed_syntax.specs.States.{last};
 ghost use Rattle.ed_syntax.specs.Effects as effect;
 ghost use Rattle.ed_syntax.specs.Effects.{altered, entered};
-ghost use Rattle.ed_syntax.specs.Applied.{settled};
-ghost use Rattle.ed_commands.specs.Editors.{AreNew, exchanged, kept_at, span_value};
+ghost use Rattle.ed_commands.specs.Editors.{AreNew, left_by, span_value};
 
 use crate::editor::Editor;
 use crate::editor::addressing::Span;
 use crate::editor::blocks::{exchange, new_lines};
-use crate::editor::change::{Change, Kind};
+use crate::editor::past::{Before, Change};
 use ed_base::Text;
 use line_store::{Line, LineStore, Marks};
 use std::alloc::AllocError;
 
 impl<S: LineStore> Editor<S> {
     /// Puts new lines in place of those behind line `from` up to line `to`, which undo keeps. The last new line is current or,
-    /// without any, the line in front of them. Undo would make the line `before` current again.
+    /// without any, the line in front of them.
     pub(crate) fn replace(
         &mut self,
         from: usize,
         to: usize,
         lines: Vec<Line>,
-        before: usize,
+        before: Before,
     ) -> Result<(), AllocError>
         requires order { from ≤ to }
         requires last { to ≤ last self.old.state }
         requires new { AreNew lines.items }
-        ensures exact { OnOk result (self.new.state ≡ settled (kept_at before self.old.state)
+        ensures exact { OnOk result (self.new.state ≡ left_by before self.old.state
             (altered (exchanged from to lines.items self.old.state.lines) (from + length lines.items) self.old.state)) }
         ensures failed { self.new.failed ≡ self.old.failed }
     {
+        self.past.reserve()?;
         let marks = Marks::of(&self.store);
         let entered = lines.len();
         let behind = self.store.len() - to;
         let removed = exchange(self.alloc, from, to, lines, &mut self.store)?;
         self.current = self.store.len() - behind;
         self.changed = true;
-        self.change = Some(Change {
-            kind: Kind::Replaced {
-                from,
-                entered,
-                removed,
-            },
-            current: before,
-            marks,
-        });
+        let change = Change::Replaced {
+            from,
+            entered,
+            removed,
+        };
+        self.past.keep(before, marks, change);
         Ok(())
     }
 
@@ -55,12 +53,12 @@ impl<S: LineStore> Editor<S> {
         &mut self,
         place: usize,
         lines: Vec<Line>,
-        before: usize,
+        before: Before,
     ) -> Result<(), AllocError>
         requires place { place ≤ last self.old.state }
         requires new { AreNew lines.items }
         ensures exact { OnOk result
-            (self.new.state ≡ settled (kept_at before self.old.state) (entered place (texts lines.items) self.old.state)) }
+            (self.new.state ≡ left_by before self.old.state (entered place (texts lines.items) self.old.state)) }
         ensures failed { self.new.failed ≡ self.old.failed }
     {
         if lines.is_empty() {
@@ -75,12 +73,12 @@ impl<S: LineStore> Editor<S> {
         &mut self,
         text: &Text,
         span: Span,
-        before: usize,
+        before: Before,
     ) -> Result<(), AllocError>
         requires first { 1 ≤ span.first }
         requires place { span.first ≤ last self.old.state + 1 }
         ensures exact { OnOk result
-            (self.new.state ≡ settled (kept_at before self.old.state) (effect.insert text.now (span_value span) self.old.state)) }
+            (self.new.state ≡ left_by before self.old.state (effect.insert text.now (span_value span) self.old.state)) }
         ensures failed { self.new.failed ≡ self.old.failed }
     {
         if text.is_empty() {
@@ -96,13 +94,13 @@ impl<S: LineStore> Editor<S> {
         &mut self,
         text: &Text,
         span: Span,
-        before: usize,
+        before: Before,
     ) -> Result<(), AllocError>
         requires first { 1 ≤ span.first }
         requires order { span.first ≤ span.last }
         requires last { span.last ≤ last self.old.state }
         ensures exact { OnOk result
-            (self.new.state ≡ settled (kept_at before self.old.state) (effect.change text.now (span_value span) self.old.state)) }
+            (self.new.state ≡ left_by before self.old.state (effect.change text.now (span_value span) self.old.state)) }
         ensures failed { self.new.failed ≡ self.old.failed }
     {
         if text.is_empty() {

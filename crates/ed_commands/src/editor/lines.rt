@@ -1,5 +1,5 @@
 //! Lines of a store: written, and put from a file.
-ghost use Rattle.std.specs.Prelude.{◌≡◌, ◌-◌, ◌^◌, ◌≤◌, ◌++◌, length, map, min, OnOk};
+ghost use Rattle.std.specs.Prelude.{◌≡◌, ◌-◌, ◌^◌, ◌≤◌, ◌++◌, length, map, min, IfOk, OnOk};
 ghost use Rattle.ed_base.specs.Lines.{lines_of};
 ghost use Rattle.ed_base.specs.Buffer.{plain_line};
 ghost use Rattle.ed_syntax.specs.PublicTypes.{form_value};
@@ -45,6 +45,15 @@ fn plain_size<S: LineStore>(span: Span, store: &S) -> usize
         size = size.saturating_add(store.text(i).len()).saturating_add(1);
     }
     size
+}
+
+/// A store of the lines of a file's bytes, which they share.
+pub fn file_store<S: LineStore>(alloc: Global, bytes: Bytes) -> Result<S, AllocError>
+    ensures value { IfOk result (λ store. S.lines store ≡ map plain_line (lines_of bytes)) }
+{
+    let mut store = S::empty(alloc)?;
+    put_file(alloc, bytes, &mut store)?;
+    Ok(store)
 }
 
 /// Puts the lines of a file's bytes, which they share, behind all others.

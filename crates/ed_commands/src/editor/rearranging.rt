@@ -3,25 +3,24 @@ ghost use Rattle.std.specs.Prelude.{◌≡◌, ◌≢◌, ◌≤◌, IfErr, IsOk
 ghost use Rattle.ed_base.specs.declared.fault.Fault.TheVariants.{Memory};
 ghost use Rattle.ed_syntax.specs.States.{last};
 ghost use Rattle.ed_syntax.specs.Effects as effect;
-ghost use Rattle.ed_syntax.specs.Applied.{settled};
-ghost use Rattle.ed_commands.specs.Editors.{kept_at, span_value};
+ghost use Rattle.ed_commands.specs.Editors.{left_by, span_value};
 
 use crate::editor::Editor;
 use crate::editor::addressing::Span;
 use crate::editor::blocks::{carry, copy_block, join_block};
-use crate::editor::change::{Change, Kind};
+use crate::editor::past::{Before, Change};
 use ed_base::Fault;
 use line_store::{LineStore, Marks};
 use std::alloc::AllocError;
 
 impl<S: LineStore> Editor<S> {
     /// `j`: the lines of the span become one. A single line stays as it is.
-    pub(crate) fn join(&mut self, span: Span, before: usize) -> Result<(), AllocError>
+    pub(crate) fn join(&mut self, span: Span, before: Before) -> Result<(), AllocError>
         requires first { 1 ≤ span.first }
         requires order { span.first ≤ span.last }
         requires last { span.last ≤ last self.old.state }
         ensures exact { OnOk result
-            (self.new.state ≡ settled (kept_at before self.old.state) (effect.join (span_value span) self.old.state)) }
+            (self.new.state ≡ left_by before self.old.state (effect.join (span_value span) self.old.state)) }
         ensures failed { self.new.failed ≡ self.old.failed }
     {
         if span.first == span.last {
@@ -38,7 +37,7 @@ impl<S: LineStore> Editor<S> {
         &mut self,
         span: Span,
         target: usize,
-        before: usize,
+        before: Before,
     ) -> Result<(), Fault>
         requires first { 1 ≤ span.first }
         requires order { span.first ≤ span.last }
@@ -46,26 +45,27 @@ impl<S: LineStore> Editor<S> {
         requires target { target ≤ last self.old.state }
         ensures exact { MatchResult result
             (λ _. IsOkAnd (effect.move (span_value span) target self.old.state)
-            (λ outcome. self.new.state ≡ settled (kept_at before self.old.state) outcome))
+            (λ outcome. self.new.state ≡ left_by before self.old.state outcome))
             (λ fault. fault ≢ Memory → effect.move (span_value span) target self.old.state ≡ Err fault) }
         ensures destination { IfErr (effect.move (span_value span) target self.old.state) (λ fault. result ≡ Err fault) }
         ensures unchanged { OnErr result (self.new ≡ self.old) }
         ensures failed { self.new.failed ≡ self.old.failed }
     {
+        if span.first <= target && target <= span.last {
+            return Err(Fault::Destination);
+        }
+        self.past.reserve()?;
         let marks = Marks::of(&self.store);
         let place = carry(span, target, &mut self.store)?;
         let from = span.first - 1;
         self.current = place + (span.last - from);
         self.changed = true;
-        self.change = Some(Change {
-            kind: Kind::Moved {
-                from,
-                to: span.last,
-                place,
-            },
-            current: before,
-            marks,
-        });
+        let change = Change::Moved {
+            from,
+            to: span.last,
+            place,
+        };
+        self.past.keep(before, marks, change);
         Ok(())
     }
 
@@ -74,14 +74,14 @@ impl<S: LineStore> Editor<S> {
         &mut self,
         span: Span,
         target: usize,
-        before: usize,
+        before: Before,
     ) -> Result<(), AllocError>
         requires first { 1 ≤ span.first }
         requires order { span.first ≤ span.last }
         requires last { span.last ≤ last self.old.state }
         requires target { target ≤ last self.old.state }
         ensures exact { OnOk result
-            (self.new.state ≡ settled (kept_at before self.old.state) (effect.copy (span_value span) target self.old.state)) }
+            (self.new.state ≡ left_by before self.old.state (effect.copy (span_value span) target self.old.state)) }
         ensures failed { self.new.failed ≡ self.old.failed }
     {
         let copies = copy_block(self.alloc, span.first - 1, span.last, &self.store)?;

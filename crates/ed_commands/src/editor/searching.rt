@@ -2,7 +2,7 @@
 ghost use Rattle.std.specs.Prelude.{◌≡◌, ◌+◌, ◌-◌, ◌≤◌, length, reverse, find, IfOk, OnErr, OnOk};
 ghost use Rattle.ed_base.specs.Buffer.{Line};
 ghost use Rattle.ed_syntax.specs.Values.{count_from, lines_backward, lines_forward, matches_line, searched, sought};
-ghost use Rattle.ed_commands.specs.Editors.{Valued, SameButPattern, with_pattern};
+ghost use Rattle.ed_commands.specs.Editors.{TellsLine, SameButPattern, with_pattern};
 
 use crate::editor::Editor;
 use bre_match::matches;
@@ -71,7 +71,7 @@ impl<S: LineStore> Editor<S> {
     /// `/RE/`: the next line that matches, from the one behind the current line on, and at the end of the buffer round to
     /// the current line.
     pub(crate) fn search_forward(&mut self, own: &Option<Pattern>) -> Result<usize, Fault>
-        ensures exact { Valued (searched (sought own.now self.old.state) (lines_forward self.old.state) self.old.state)
+        ensures exact { TellsLine (searched (sought own.now self.old.state) (lines_forward self.old.state) self.old.state)
             (with_pattern (sought own.now self.old.state) self.old.state) result self.new.state }
         ensures unchanged { SameButPattern self.old self.new }
     {
@@ -90,7 +90,7 @@ impl<S: LineStore> Editor<S> {
     /// `?RE?`: the line before that matches, from the one in front of the current line on, and at the beginning of the
     /// buffer round to the current line.
     pub(crate) fn search_backward(&mut self, own: &Option<Pattern>) -> Result<usize, Fault>
-        ensures exact { Valued (searched (sought own.now self.old.state) (lines_backward self.old.state) self.old.state)
+        ensures exact { TellsLine (searched (sought own.now self.old.state) (lines_backward self.old.state) self.old.state)
             (with_pattern (sought own.now self.old.state) self.old.state) result self.new.state }
         ensures unchanged { SameButPattern self.old self.new }
     {

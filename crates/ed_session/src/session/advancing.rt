@@ -1,14 +1,18 @@
 //! How a session goes on: by a prompt, by a command, or by the end of its script.
-ghost use Rattle.std.specs.Prelude.{◌≡◌, ◌≢◌, ◌<◌, [], None, true};
+ghost use Rattle.std.specs.Prelude.{◌≡◌, ◌≢◌, ◌<◌, List, [], true, false};
+ghost use Rattle.ed_base.specs.declared.fault.Fault.TheVariants.{Memory};
+ghost use Rattle.ed_syntax.specs.declared.request.Answer.{Answer};
+ghost use Rattle.ed_syntax.specs.Progress.{failing};
 ghost use Rattle.ed_syntax.specs.PublicTypes.{verb_value};
-ghost use Rattle.ed_session.specs.Insides.{quits_anyway};
-ghost use Rattle.ed_session.specs.Sessions.{is_at_command, Between, Prompted};
-ghost use Rattle.ed_session.specs.Advances.{Advances, AdvancesBy};
+ghost use Rattle.ed_session.specs.declared.phase.Phase.TheVariants as phases;
+ghost use Rattle.ed_session.specs.Calls.{Gives};
+ghost use Rattle.ed_session.specs.Insides.{AdvancesOrGives, ask_of_output, ask_of_request, quits_anyway};
+ghost use Rattle.ed_session.specs.Sessions.{is_over, is_started, is_waiting, rest};
 ghost use Rattle.ed_session.specs.Work.{work};
 
-use crate::session::Session;
-use crate::stage::Stage;
-use ed_base::Fault;
+use crate::phase::Phase;
+use crate::session::{Ask, Session};
+use ed_base::{Bytes, Fault};
 use ed_commands::Reply;
 use ed_syntax::{Ending, Request, Verb};
 use line_store::LineStore;
@@ -20,97 +24,134 @@ fn ends_run(verb: &Verb) -> bool
     matches!(verb, Verb::QuitAnyway)
 }
 
+// Some output, if there is any.
+fn output(bytes: Bytes) -> Option<Ask>
+    ensures value { result ≡ ask_of_output bytes }
+{
+    if bytes.is_empty() {
+        None
+    } else {
+        Some(Ask::Output(bytes))
+    }
+}
+
+// A request as a step gives it.
+fn asking(request: Request) -> Ask
+    ensures value { result ≡ ask_of_request request }
+{
+    match request {
+        Request::Read(path) => Ask::Read(path),
+        Request::Write(path, bytes) => Ask::Write(path, bytes),
+    }
+}
+
 impl<S: LineStore> Session<S> {
-    /// Writes the prompt where prompting is on, and goes on till there is output, a request or an end.
-    pub(crate) fn advance(&mut self) -> Option<Request>
-        requires at_command { is_at_command self.old.phase ≡ true }
+    /// Writes the prompt where prompting is on, or does the next command, or finds the end. `None` where that gave nothing.
+    pub(crate) fn advance(&mut self) -> Option<Ask>
+        requires running { is_over self.old.phase ≡ false }
+        requires started { is_started self.old.phase ≡ true }
+        requires idle { is_waiting self.old.phase ≡ false }
         requires handed_out { self.old.pending ≡ [] }
-        ensures given { AdvancesBy self.old result self.new }
+        ensures given { AdvancesOrGives self.old result self.new }
+        ensures started { is_started self.new.phase ≡ true }
         ensures work { work self.new < work self.old }
     {
-        if matches!(&self.stage, Stage::Between) {
-            self.write_prompt();
-            return None;
+        if matches!(&self.phase, Phase::Between) {
+            return self.write_prompt();
         }
         if self.next == self.commands.len() {
-            self.end();
-            return None;
+            return self.end();
         }
         self.command()
     }
 
     // Where prompting is on, the prompt comes before the next command and before the end is found.
-    fn write_prompt(&mut self)
-        requires between { self.old.phase ≡ Between }
+    fn write_prompt(&mut self) -> Option<Ask>
+        requires between { self.old.phase ≡ phases.Between }
         requires handed_out { self.old.pending ≡ [] }
-        ensures given { Advances self.old self.new }
+        ensures given { AdvancesOrGives self.old result self.new }
+        ensures started { is_started self.new.phase ≡ true }
         ensures work { work self.new < work self.old }
     {
-        self.stage = Stage::Prompted;
         if !self.modes.prompting {
-            return;
+            self.phase = Phase::Prompted;
+            return None;
         }
         match self.prompt.try_copy() {
-            Ok(prompt) => self.pending = prompt,
-            Err(_) => self.fail_memory(),
+            Ok(prompt) => {
+                self.phase = Phase::Prompted;
+                output(prompt)
+            }
+            Err(_) => Some(self.report(Fault::Memory)),
         }
+    }
+
+    // Ends the run by a fault, with its report.
+    fn report(&mut self, fault: Fault) -> Ask
+        requires running { is_over self.old.phase ≡ false }
+        requires handed_out { self.old.pending ≡ [] }
+        ensures given { (fault ≢ Memory → (answers : List Answer) → rest self.old answers ≡ failing self.old.present fault) →
+            Gives self.old result self.new }
+        ensures started { is_started self.new.phase ≡ true }
+        ensures work { work self.new < work self.old }
+    {
+        let (fault, report) = self.reports.ending(self.modes.help, fault);
+        self.phase = Phase::Over(Err(fault));
+        Ask::Output(report)
     }
 
     // The end of the script, or of what could be read of it.
-    fn end(&mut self)
-        requires prompted { self.old.phase ≡ Prompted }
+    fn end(&mut self) -> Option<Ask>
+        requires prompted { self.old.phase ≡ phases.Prompted }
         requires handed_out { self.old.pending ≡ [] }
-        requires none_left { self.old.commands ≡ [] }
-        ensures given { Advances self.old self.new }
+        requires none_left { self.old.steps ≡ [] }
+        ensures given { AdvancesOrGives self.old result self.new }
+        ensures started { is_started self.new.phase ≡ true }
         ensures work { work self.new < work self.old }
     {
-        let fault = if self.fault.is_some() {
-            Fault::Syntax
-        } else if self.editor.changed() {
-            Fault::Unsaved
-        } else {
-            self.stage = Stage::Over(Ok(Ending {
-                lines: self.editor.lines().len(),
-            }));
-            return;
-        };
-        let (stage, report) = self.reports.ending(self.modes.help, fault);
-        self.stage = stage;
-        self.pending = report;
+        if self.fault.is_some() {
+            return Some(self.report(Fault::Syntax));
+        }
+        if self.editor.changed() {
+            return Some(self.report(Fault::Unsaved));
+        }
+        self.phase = Phase::Over(Ok(Ending {
+            lines: self.editor.lines().len(),
+        }));
+        None
     }
 
-    // Does the next command and keeps its output, or finds what it asks for.
-    fn command(&mut self) -> Option<Request>
-        requires prompted { self.old.phase ≡ Prompted }
+    // Does the next command, or finds what it asks for.
+    fn command(&mut self) -> Option<Ask>
+        requires prompted { self.old.phase ≡ phases.Prompted }
         requires handed_out { self.old.pending ≡ [] }
-        requires left { self.old.commands ≢ [] }
-        ensures given { AdvancesBy self.old result self.new }
+        requires left { self.old.steps ≢ [] }
+        ensures given { AdvancesOrGives self.old result self.new }
+        ensures started { is_started self.new.phase ≡ true }
         ensures work { work self.new < work self.old }
     {
         let command = &self.commands[self.next];
         if ends_run(&command.verb) {
-            self.stage = Stage::Over(Ok(Ending {
+            self.phase = Phase::Over(Ok(Ending {
                 lines: self.editor.lines().len(),
             }));
             return None;
         }
         match self.editor.apply(command, None) {
-            Ok(Reply::Done(output)) => {
-                self.modes = self.modes.behind(&command.verb);
+            Ok(Reply::Done(written)) => {
+                self.modes = self.modes.after(&command.verb);
                 self.next += 1;
-                self.stage = Stage::Between;
-                self.pending = output;
-                None
+                self.phase = Phase::Between;
+                output(written)
             }
             Ok(Reply::Wants(request)) => {
-                self.stage = Stage::Waiting;
-                Some(request)
+                self.phase = Phase::Waiting;
+                Some(asking(request))
             }
             Err(fault) => {
-                let (stage, report) = self.reports.ending(self.modes.help, fault);
-                self.stage = stage;
-                self.pending = report;
-                None
+                let (fault, report) = self.reports.ending(self.modes.help, fault);
+                self.phase = Phase::Over(Err(fault));
+                Some(Ask::Output(report))
             }
         }
     }

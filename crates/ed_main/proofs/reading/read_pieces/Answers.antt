@@ -5,4 +5,4 @@ use Rattle.ed_main.proofs.reading.read_pieces.Goals as goal
 pub returns-in_err-extend_from_slice-in-Ok-clause-taken :
     goal.returns-in_err-extend_from_slice-in-Ok-clause-taken
 returns-in_err-extend_from_slice-in-Ok-clause-taken g c =
-    takes_more _ _ _ _ _ _ _ c.reads.invariant.consumed c.in-Ok.ensures.bytes.0 (search rules)
+    takes_more _ _ _ _ _ _ _ c.reads.invariant.consumed c.in-Ok.ensures.consumed.0 (search rules)

@@ -6,6 +6,7 @@ abbrev pub invariant-reads : goal.invariant-reads
 invariant-reads g l = record {
   fits : length l.bytes ≤ l.limit;
   consumed : Consumes (g.S.Source.remaining l.fn.source) (g.S.Source.remaining l.source) l.bytes;
+  reads : g.S.Source.reads l.source ≤ g.S.Source.reads l.fn.source + length l.bytes;
   failures : g.S.Source.failures l.source ≡ g.S.Source.failures l.fn.source;
 }
 

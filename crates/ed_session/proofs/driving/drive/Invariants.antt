@@ -1,10 +1,8 @@
--- The run was driven so far, or a lost session stays as it was.
-use Rattle.std.proofs.Common.{◌≡◌, ◌≤◌, ◌++◌, None, Some, true, false}
-use Rattle.ed_base.specs.declared.fault.Fault.{Fault}
-use Rattle.ed_session.specs.Modes.{ComesBy}
-use Rattle.ed_session.specs.Sessions.{rest, is_waiting, is_started, lost_by}
+-- The run was driven so far.
+use Rattle.std.proofs.Common.{◌≡◌, ◌≤◌, ◌++◌, true, false}
+use Rattle.ed_session.specs.Sessions.{is_waiting, is_started}
 use Rattle.ed_session.specs.Drives.{added}
-use Rattle.ed_session.specs.Turns.{Driven, DrivenLost, Raises}
+use Rattle.ed_session.specs.Turns.{Driven, Raises}
 use Rattle.ed_session.specs.Work.{work}
 use Rattle.ed_session.proofs.driving.drive.Given as goal
 
@@ -15,9 +13,7 @@ invariant-turns g l =
     let more = added (logged l.fn.outside) (logged l.outside) in
     record {
       log : logged l.outside ≡ logged l.fn.outside ++ more;
-      driven : lost_by l.fn.session.phase ≡ None → Driven (rest l.fn.session) more (g.W.Sink.taken l.fn.sink) (g.W.Sink.taken l.sink) l.session;
-      mode : ComesBy l.fn.session l.session;
-      lost : (fault : Fault) → lost_by l.fn.session.phase ≡ Some fault → DrivenLost l.fn.session l.session (logged l.fn.outside) (logged l.outside) (g.W.Sink.taken l.fn.sink) (g.W.Sink.taken l.sink);
+      driven : Driven l.fn.session more (g.W.Sink.taken l.fn.sink) (g.W.Sink.taken l.sink) l.session;
       raises : Raises more (refusals l.fn.outside) (refusals l.outside);
       rises : refusals l.fn.outside ≤ refusals l.outside;
       idle : is_waiting l.session.phase ≡ false;

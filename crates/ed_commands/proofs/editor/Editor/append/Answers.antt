@@ -3,8 +3,7 @@ use Rattle.std.proofs.Common.{◌≡◌, subst}
 use Rattle.std.specs.Prelude.{OnOk}
 use Rattle.ed_base.specs.Buffer.{texts}
 use Rattle.ed_syntax.specs.Effects.{entered}
-use Rattle.ed_syntax.specs.Applied.{settled}
-use Rattle.ed_commands.specs.Editors.{kept_at}
+use Rattle.ed_commands.specs.Editors.{left_by}
 use Rattle.ed_commands.proofs.Changes.{made-new, texts-made}
 use Rattle.ed_commands.proofs.editor.Editor.append.Goals as goal
 
@@ -16,4 +15,4 @@ returns-clause-exact g c =
     let before = c.args.self.now.state in
     let same : texts c.in_ok-lines.lines.items ≡ c.args.text.now =
     texts-made c.in_ok-lines.lines.items c.args.text.now c.in_ok-lines.ensures.value in
-    subst (λ t. OnOk c.enter.result (c.enter.new.self.state ≡ settled (kept_at c.args.before before) (entered c.args.span.first t before))) same c.enter.ensures.exact
+    subst (λ t. OnOk c.enter.result (c.enter.new.self.state ≡ left_by c.args.before before (entered c.args.span.first t before))) same c.enter.ensures.exact

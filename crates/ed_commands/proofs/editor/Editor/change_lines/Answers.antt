@@ -3,8 +3,8 @@ use Rattle.std.proofs.Common.{◌≡◌, ◌+◌, ◌-◌, ◌∙◌, ap, sym, s
 use Rattle.std.specs.Prelude.{OnOk}
 use Rattle.ed_syntax.specs.Effects as effect
 use Rattle.ed_syntax.specs.Effects.{altered}
-use Rattle.ed_syntax.specs.Applied.{settled}
-use Rattle.ed_commands.specs.Editors.{exchanged, kept_at, span_value}
+use Rattle.ed_base.specs.Parts.{exchanged}
+use Rattle.ed_commands.specs.Editors.{left_by, span_value}
 use Rattle.ed_commands.proofs.Changes.{made-new, changed-some}
 use Rattle.ed_commands.proofs.editor.Editor.change_lines.Goals as goal
 
@@ -21,4 +21,4 @@ returns-clause-exact g c =
     let same : altered (exchanged from to made before.lines) (from + length made) before ≡ effect.change text (span_value c.args.span) before =
     ap (λ t. altered (exchanged from to t before.lines) (from + length t) before) (c.in_ok-lines.ensures.value)
     ∙ sym (changed-some text (span_value c.args.span) before (λ none. cc (c.is_empty.ensures.value.1 none, c.if-is_empty.false))) in
-    subst (λ t. OnOk c.replace.result (c.replace.new.self.state ≡ settled (kept_at c.args.before before) t)) same c.replace.ensures.exact
+    subst (λ t. OnOk c.replace.result (c.replace.new.self.state ≡ left_by c.args.before before t)) same c.replace.ensures.exact

@@ -3,8 +3,8 @@ use Rattle.std.proofs.Common.{◌≡◌, ◌-◌, ◌∙◌, ap, subst}
 use Rattle.std.specs.Prelude.{OnOk}
 use Rattle.ed_base.specs.Buffer.{texts}
 use Rattle.ed_syntax.specs.Effects.{entered}
-use Rattle.ed_syntax.specs.Applied.{settled}
-use Rattle.ed_commands.specs.Editors.{block, kept_at}
+use Rattle.ed_base.specs.Parts.{block}
+use Rattle.ed_commands.specs.Editors.{left_by}
 use Rattle.ed_commands.proofs.Changes.{made-new, texts-made}
 use Rattle.ed_commands.proofs.editor.Editor.copy.Goals as goal
 
@@ -20,4 +20,4 @@ returns-clause-exact g c =
     let same : texts c.in_ok-copies.copies.items ≡ texts (block from to before.lines) =
     texts-made c.in_ok-copies.copies.items (texts (block from to lines)) c.in_ok-copies.ensures.value
     ∙ ap (λ v. texts (block from to v.state.lines)) c.self.view_is in
-    subst (λ t. OnOk c.enter.result (c.enter.new.self.state ≡ settled (kept_at c.args.before before) (entered c.args.target t before))) same c.enter.ensures.exact
+    subst (λ t. OnOk c.enter.result (c.enter.new.self.state ≡ left_by c.args.before before (entered c.args.target t before))) same c.enter.ensures.exact

@@ -1,12 +1,12 @@
 -- The lines are carried, and what undo keeps carries them back.
-use Rattle.std.proofs.Common.{◌≡◌, ◌≤◌, ◌+◌, ◌-◌, true, ◌∙◌, refl, sym, ap, subst, arith, length}
+use Rattle.std.proofs.Common.{◌≡◌, ◌≤◌, ◌+◌, ◌-◌, ◌∙◌, true, refl, sym, ap, subst, arith, length}
 use Rattle.std.specs.Prelude.{IsOkAnd}
-use Rattle.line_store.specs.Marks.{lettered}
-use Rattle.ed_syntax.specs.States.{State, Was}
+use Rattle.ed_base.specs.Parts.{carried}
 use Rattle.ed_syntax.specs.Effects.{altered}
-use Rattle.ed_syntax.specs.Applied.{settled}
-use Rattle.ed_commands.specs.Editors.{carried, kept_at}
-use Rattle.ed_commands.proofs.Changes.{moving, moved-to}
+use Rattle.ed_commands.specs.Editors.{left_by}
+use Rattle.ed_commands.specs.declared.editor.past.Change.TheVariants as change
+use Rattle.ed_commands.proofs.Blocks.{carried-back}
+use Rattle.ed_commands.proofs.Changes.{changing, moved-to}
 use Rattle.ed_commands.proofs.Held.{held}
 use Rattle.ed_commands.proofs.editor.Editor.move_lines.Goals as goal
 
@@ -14,7 +14,7 @@ pub returns-clause-exact : goal.returns-clause-exact
 returns-clause-exact g c =
     let e = c.self.inside in
     let lines = g.S.LineStore.lines e.store in
-    let s = held lines e.current e.pattern e.name e.changed e.change in
+    let s = held lines e.current e.pattern e.name e.changed e.past in
     let old = c.args.self.now.state in
     let is : s ≡ old = ap (λ v. v.state) c.self.view_is in
     let a = c.args.span.first in
@@ -25,13 +25,11 @@ returns-clause-exact g c =
     let within : to ≤ length lines = omega (arith, c.requires.last, ap (λ t. length t.lines) is) in
     let room : place + (to - from) ≤ length lines =
     omega (arith, c.in_ok-place.ensures.within, c.requires.last, c.requires.target, ap (λ t. length t.lines) is) in
-    let now : State = record s {
-      lines = after;
-      current = place + (to - from);
-      changed = true;
-      past = Was (record { lines = lettered c.of-marks.result 0 (carried place (place + (to - from)) from after); current = c.args.before });
-    } in
-    subst (λ r. IsOkAnd r (λ outcome. now ≡ settled (kept_at c.args.before old) outcome))
-    (sym (moved-to a to c.args.target place old c.requires.first c.requires.order c.requires.last c.in_ok-place.ensures.exact.0))
-    (moving s from to place c.args.before (place + (to - from)) after c.of-marks.result (omega arith) within room c.in_ok-place.ensures.exact.1 c.of-marks.ensures.own refl
-    ∙ ap (λ t. settled (kept_at c.args.before t) (altered (carried from to place t.lines) (place + (to - from)) t)) is)
+    let back : carried place (place + (to - from)) from after ≡ lines =
+    rw c.in_ok-place.ensures.carried (carried-back from to place lines (omega arith) within room) in
+    let now = held after (place + (to - from)) e.pattern e.name true c.keep.new.self in
+    subst (λ r. IsOkAnd r (λ outcome. now ≡ left_by c.args.before old outcome))
+    (sym (moved-to a to c.args.target place old c.requires.first c.requires.order c.requires.last c.in_ok-place.ensures.place))
+    (changing s c.reserve.new.self c.keep.new.self c.args.before (change.Moved from to place) (place + (to - from)) (place + (to - from)) after (carried from to place lines) c.of-marks.result
+    back c.in_ok-place.ensures.carried refl c.of-marks.ensures.own (sym (c.reserve.ensures.unchanged lines)) (c.keep.ensures.kept after)
+    ∙ ap (λ t. left_by c.args.before t (altered (carried from to place t.lines) (place + (to - from)) t)) is)

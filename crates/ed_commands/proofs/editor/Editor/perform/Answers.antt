@@ -1,10 +1,10 @@
 -- A command whose lines can't be named is refused, one whose effect meets a fault fails by it, and another replies what its effect
 -- and its suffix tell.
-use Rattle.std.proofs.Common.{ap}
+use Rattle.std.proofs.Common.{ap, refl}
 use Rattle.std.proofs.lemmas.Result.{err_from_is_err_and}
 use Rattle.ed_syntax.specs.PublicTypes.{command_value}
-use Rattle.ed_commands.specs.Editors.{span_value}
-use Rattle.ed_commands.proofs.Commanding.{refused, failed, told}
+use Rattle.ed_commands.specs.Editors.{placed_value}
+use Rattle.ed_commands.proofs.Commanding.{refused, failed, done}
 use Rattle.ed_commands.proofs.editor.Editor.perform.Goals as goal
 
 pub returns-in_err-named-clause-exact : goal.returns-in_err-named-clause-exact
@@ -15,13 +15,13 @@ returns-in_err-named-clause-exact g c = λ given.
 pub returns-in_err-output-clause-exact : goal.returns-in_err-output-clause-exact
 returns-in_err-output-clause-exact g c = λ given.
     let p = err_from_is_err_and c.from_residual-in_err-output.result c.from_residual-in_err-output.ensures.1 in
-    rw (p.1, p.2) (λ other. failed c.args.self.now.state c.addressed.new.self.state (command_value c.args.command.now)
-    (span_value c.in_ok-named.named.span) c.in_ok-named.named.target given _ c.in_ok-named.ensures.exact (c.in_err-output.ensures.exact given other))
+    rw (p.1, p.2) (λ other. failed c.args.self.now.state (command_value c.args.command.now)
+    (placed_value c.addressed.new.self.state c.in_ok-named.named) given _ c.in_ok-named.ensures.exact (c.in_err-output.ensures.exact given other))
 
 pub returns-clause-exact : goal.returns-clause-exact
 returns-clause-exact g c = λ given.
-    told c.args.self.now.state c.addressed.new.self.state c.effect.new.self.state (command_value c.args.command.now)
-    (span_value c.in_ok-named.named.span) c.in_ok-named.named.target
-    c.self.inside.current given c.in_ok-output.output c.write_suffix.result
-    c.in_ok-named.ensures.lines (ap (λ v. v.state.current) c.self.view_is)
+    done c.args.self.now.state c.effect.new.self.state (command_value c.args.command.now)
+    (placed_value c.addressed.new.self.state c.in_ok-named.named)
+    (record { current = c.self.inside.current; listed = c.args.command.now.listed }) given c.in_ok-output.output c.write_suffix.result
+    c.in_ok-named.ensures.lines (ap (λ v. v.state.current) c.self.view_is) refl
     c.in_ok-named.ensures.exact (c.in_ok-output.ensures.exact given) c.write_suffix.ensures.exact

@@ -1,10 +1,11 @@
 -- The lines are exchanged, and what undo keeps brings the others back.
-use Rattle.std.proofs.Common.{◌≡◌, ◌+◌, ◌≤◌, ◌∙◌, ap, arith, length}
+use Rattle.std.proofs.Common.{◌≡◌, ◌+◌, ◌≤◌, ◌∙◌, ap, arith, length, sym}
+use Rattle.ed_base.specs.Parts.{exchanged}
 use Rattle.ed_syntax.specs.Effects.{altered}
-use Rattle.ed_syntax.specs.Applied.{settled}
-use Rattle.ed_commands.specs.Editors.{exchanged, kept_at}
-use Rattle.ed_commands.proofs.Blocks.{length-other}
-use Rattle.ed_commands.proofs.Changes.{exchanging}
+use Rattle.ed_commands.specs.Editors.{left_by}
+use Rattle.ed_commands.specs.declared.editor.past.Change.TheVariants as change
+use Rattle.ed_commands.proofs.Blocks.{length-exchanged, put-back}
+use Rattle.ed_commands.proofs.Changes.{changing}
 use Rattle.ed_commands.proofs.Held.{held}
 use Rattle.ed_commands.proofs.editor.Editor.replace.Goals as goal
 
@@ -12,13 +13,20 @@ pub returns-clause-exact : goal.returns-clause-exact
 returns-clause-exact g c =
     let e = c.self.inside in
     let lines = g.S.LineStore.lines e.store in
-    let s = held lines e.current e.pattern e.name e.changed e.change in
+    let s = held lines e.current e.pattern e.name e.changed e.past in
     let is : s ≡ c.args.self.now.state = ap (λ v. v.state) c.self.view_is in
     let from = c.args.from in
     let to = c.args.to in
     let new = c.args.lines.items in
+    let entered = c.len-entered.result in
+    let removed = c.in_ok-removed.removed in
+    let after = g.S.LineStore.lines c.exchange.new.store in
     let within : to ≤ length lines = omega (arith, c.requires.last, ap (λ t. length t.lines) is) in
-    exchanging s from to c.args.before _ c.len-entered.result (g.S.LineStore.lines c.exchange.new.store) new c.in_ok-removed.removed.items c.of-marks.result
-    c.requires.order within c.in_ok-removed.ensures.put c.in_ok-removed.ensures.taken c.of-marks.ensures.own (omega (arith, c.args.lines.ok.0, c.len-entered.ensures))
-    (omega (arith, ap length c.in_ok-removed.ensures.put, length-other from to new lines c.requires.order within, c.len.ensures.value, c.len-2.ensures.value))
-    ∙ ap (λ t. settled (kept_at c.args.before t) (altered (exchanged from to new t.lines) (from + length new) t)) is
+    let counted : length new ≡ entered = omega (arith, c.args.lines.ok.0, c.len-entered.ensures) in
+    let back : exchanged from (from + entered) removed.items after ≡ lines =
+    rw (c.in_ok-removed.ensures.put, c.in_ok-removed.ensures.taken) (put-back from to entered new lines c.requires.order within counted) in
+    changing s c.reserve.new.self c.keep.new.self c.args.before (change.Replaced from entered removed) _ (from + length new) after (exchanged from to new lines) c.of-marks.result
+    back c.in_ok-removed.ensures.put
+    (omega (arith, ap length c.in_ok-removed.ensures.put, length-exchanged from to new lines c.requires.order within, c.len.ensures.value, c.len-2.ensures.value))
+    c.of-marks.ensures.own (sym (c.reserve.ensures.unchanged lines)) (c.keep.ensures.kept after)
+    ∙ ap (λ t. left_by c.args.before t (altered (exchanged from to new t.lines) (from + length new) t)) is

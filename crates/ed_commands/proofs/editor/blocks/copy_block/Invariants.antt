@@ -2,7 +2,7 @@
 use Rattle.std.proofs.Common.{◌≡◌}
 use Rattle.ed_base.specs.Buffer.{texts}
 use Rattle.ed_base.specs.Lines.{AreLines, bytes_of}
-use Rattle.ed_commands.specs.Editors.{block}
+use Rattle.ed_base.specs.Parts.{block}
 use Rattle.ed_commands.proofs.editor.blocks.copy_block.Given as goal
 
 abbrev pub invariant-loop-i : goal.invariant-loop-i

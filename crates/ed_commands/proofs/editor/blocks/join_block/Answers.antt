@@ -4,13 +4,13 @@ use Rattle.std.specs.List.{concat}
 use Rattle.std.proofs.lemmas.List.Elements.{All-append, All-same}
 use Rattle.ed_base.specs.Lines.{newline}
 use Rattle.ed_base.specs.Buffer.{texts}
-use Rattle.ed_commands.proofs.Blocks.{part-none, joined-more}
+use Rattle.ed_commands.proofs.Blocks.{block-none, joined-more}
 use Rattle.ed_commands.proofs.editor.blocks.join_block.Goals as goal
 
 pub loop-i-init : goal.loop-i-init
 loop-i-init g c = record {
   joined = c.reserve.ensures.unchanged ∙ c.new-bytes.ensures.value
-      ∙ sym (ap (λ t. concat (texts t)) (part-none c.args.from (g.S.LineStore.lines c.args.store.now)));
+      ∙ sym (ap (λ t. concat (texts t)) (block-none c.args.from (g.S.LineStore.lines c.args.store.now)));
   line = All-same (λ byte. byte ≢ newline) c.reserve.new.self [] (c.reserve.ensures.unchanged ∙ c.new-bytes.ensures.value) (λ k d h e. absurd (omega arith));
 }
 

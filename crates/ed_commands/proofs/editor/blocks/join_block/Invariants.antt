@@ -3,7 +3,7 @@ use Rattle.std.proofs.Common.{◌≡◌}
 use Rattle.std.specs.List.{concat}
 use Rattle.ed_base.specs.Buffer.{texts}
 use Rattle.ed_base.specs.Lines.{IsLine}
-use Rattle.ed_commands.specs.Editors.{block}
+use Rattle.ed_base.specs.Parts.{block}
 use Rattle.ed_commands.proofs.editor.blocks.join_block.Given as goal
 
 abbrev pub invariant-loop-i : goal.invariant-loop-i

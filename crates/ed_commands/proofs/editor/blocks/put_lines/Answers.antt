@@ -4,7 +4,7 @@ use Rattle.std.proofs.lemmas.Iterator.Adapters.{YieldsList-from_vec}
 use Rattle.std.proofs.lemmas.Iterator.Consumers.{YieldsList-turn, YieldsList-end}
 use Rattle.std.proofs.lemmas.List.{length-take-le, length_push}
 use Rattle.std.proofs.lemmas.List.Edits.{length-insert}
-use Rattle.ed_syntax.specs.States.{inserted}
+use Rattle.ed_base.specs.Parts.{inserted}
 use Rattle.line_store.proofs.Own.{plain_shares_none}
 use Rattle.ed_commands.proofs.Changes.{new-one}
 use Rattle.ed_commands.proofs.Ranges.{insert-between}

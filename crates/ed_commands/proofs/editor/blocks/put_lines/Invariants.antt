@@ -1,6 +1,6 @@
 -- As many lines are put as the loop has passed.
 use Rattle.std.proofs.Common.{◌≡◌, ◌≤◌, ◌+◌, length}
-use Rattle.ed_syntax.specs.States.{inserted}
+use Rattle.ed_base.specs.Parts.{inserted}
 use Rattle.ed_commands.proofs.editor.blocks.put_lines.Given as goal
 
 abbrev pub invariant-loop-line : goal.invariant-loop-line

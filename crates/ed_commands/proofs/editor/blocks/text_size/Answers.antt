@@ -3,12 +3,12 @@ use Rattle.std.proofs.Common.{ap, arith, length}
 use Rattle.std.specs.List.{concat}
 use Rattle.std.proofs.lemmas.List.{length-append}
 use Rattle.ed_base.specs.Buffer.{texts}
-use Rattle.ed_commands.specs.Editors.{block}
-use Rattle.ed_commands.proofs.Blocks.{part-none, joined-more}
+use Rattle.ed_base.specs.Parts.{block}
+use Rattle.ed_commands.proofs.Blocks.{block-none, joined-more}
 use Rattle.ed_commands.proofs.editor.blocks.text_size.Goals as goal
 
 pub loop-i-init : goal.loop-i-init
-loop-i-init g c = omega (arith, ap (λ t. length (concat (texts t))) (part-none c.args.from (g.S.LineStore.lines c.args.store.now)))
+loop-i-init g c = omega (arith, ap (λ t. length (concat (texts t))) (block-none c.args.from (g.S.LineStore.lines c.args.store.now)))
 
 pub loop-i-preserved : goal.loop-i-preserved
 loop-i-preserved g c =

@@ -2,7 +2,7 @@
 use Rattle.std.proofs.Common.{◌≡◌, ◌-◌, ◌^◌, min, length}
 use Rattle.std.specs.List.{concat}
 use Rattle.ed_base.specs.Buffer.{texts}
-use Rattle.ed_commands.specs.Editors.{block}
+use Rattle.ed_base.specs.Parts.{block}
 use Rattle.ed_commands.proofs.editor.blocks.text_size.Given as goal
 
 abbrev pub invariant-loop-i : goal.invariant-loop-i

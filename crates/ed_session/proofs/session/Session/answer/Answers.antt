@@ -1,20 +1,21 @@
-use Rattle.std.proofs.Common.{ap, ◌∙◌}
-use Rattle.ed_syntax.specs.PublicTypes.{command_value}
-use Rattle.ed_session.proofs.Comes.{comes_one}
-use Rattle.ed_session.proofs.Ended.{waiting_keeps, asks_no_first, asks_some, left_below, left_next}
+use Rattle.std.proofs.Common.{◌∙◌, ap, refl, inr}
+use Rattle.ed_base.specs.declared.fault.Fault.TheVariants.{File}
+use Rattle.ed_syntax.specs.PublicTypes.{step_value}
+use Rattle.ed_session.specs.Sessions.{is_over}
+use Rattle.ed_session.proofs.Advancing.{waiting_keeps, asks_some, asks_it, awaits_it, answers_fail, if_awaited, wants_is, left_next, left_below}
 use Rattle.ed_session.proofs.session.Session.answer.Goals as goal
 
-pub invariant_of-self-in-Err : goal.invariant_of-self-in-Err
-invariant_of-self-in-Err g c =
-    let waits = ap (λ v. v.phase) c.self.view_is ∙ c.requires.waiting in
-    absurd (asks_no_first _ _ (waiting_keeps c.self.inside.stage _ _ _ waits c.self.invariant.keeps).0)
-
-pub returns-in-Ok-Done-clause-mode : goal.returns-in-Ok-Done-clause-mode
-returns-in-Ok-Done-clause-mode g c =
+pub returns-in-Ok-Wants-clause-given : goal.returns-in-Ok-Wants-clause-given
+returns-in-Ok-Wants-clause-given g c =
     let i = c.self.inside in
-    let x = c.index-in-Ok-Done.result.now in
-    let waits = ap (λ v. v.phase) c.self.view_is ∙ c.requires.waiting in
-    let asks = (waiting_keeps i.stage _ _ _ waits c.self.invariant.keeps).0 in
-    comes_one c.args.self.now _ _ (command_value x) c.self.view_is
-    (left_next i.commands.items i.next x (left_below i.commands.items i.next (asks_some _ _ asks)) c.index-in-Ok-Done.ensures)
-    c.behind-self-inside.ensures.help
+    let v = c.self.view_is in
+    let at = ap (λ u. u.phase) v ∙ c.requires.waiting in
+    let keeps = waiting_keeps i.phase _ _ _ at c.self.invariant.keeps in
+    let x = c.index.result.now in
+    let left = left_next i.commands.items i.next x (left_below i.commands.items i.next (asks_some _ _ keeps.0)) c.index.ensures in
+    let first = asks_it i.editor.state _ _ (step_value x) keeps.0 left in
+    let exact = rw c.in-Ok-Wants.field-0-is at c.in-Ok-Wants.ensures.exact in
+    let asks = wants_is _ _ _ c.in-Ok-Wants.field-0-0 (exact (c.self.invariant.works (ap is_over at))) in
+    if_awaited _ _ first.1.0 c.args.answer _ v (awaits_it _ (step_value x) _ first.1.0 keeps.1 left first.0 at first.1.1)
+    (answers_fail _ (step_value x) _ first.1.0 keeps.1 left first.0 at first.1.1 c.args.answer _ File _ _ c.ending-fault.ensures.value
+    (λ h. inr (refl, (c.in-Ok-Wants.field-0-0, asks.0))) refl refl refl)

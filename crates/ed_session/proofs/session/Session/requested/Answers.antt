@@ -1,28 +1,34 @@
-use Rattle.std.proofs.Common.{sym, ap, ◌∙◌}
-use Rattle.ed_syntax.specs.PublicTypes.{command_value}
-use Rattle.ed_session.proofs.Ended.{waiting_live, waiting_keeps, asks_no_first, asks_some, asks_again, left_below, left_next}
+use Rattle.std.proofs.Common.{◌≡◌, ◌∙◌, ap, subst, Some}
+use Rattle.ed_syntax.specs.PublicTypes.{step_value}
+use Rattle.ed_session.specs.Sessions.{is_over, awaited}
+use Rattle.ed_session.proofs.Advancing.{waiting_keeps, asks_some, asks_it, awaits_it, wants_is, left_next, left_below}
 use Rattle.ed_session.proofs.session.Session.requested.Goals as goal
 
 pub invariant_of-self : goal.invariant_of-self
 invariant_of-self g c =
     let i = c.self.inside in
-    let x = c.index.result.now in
-    let waits = ap (λ v. v.phase) c.self.view_is ∙ c.requires.waiting in
-    let keeps = waiting_keeps i.stage _ _ _ waits c.self.invariant.keeps in
-    let works = c.self.invariant.works (waiting_live i.stage waits) in
+    let v = c.self.view_is in
+    let at = ap (λ u. u.phase) v ∙ c.requires.waiting in
+    let works = c.self.invariant.works (ap is_over at) in
     let exact = rw c.in-Ok-Wants.field-0-is at c.in-Ok-Wants.ensures.exact in
-    let same = asks_again i.editor.state c.apply.new.self.state _ _ (command_value x) c.in-Ok-Wants.request keeps.0
-    (left_next i.commands.items i.next x (left_below i.commands.items i.next (asks_some _ _ keeps.0)) c.index.ensures) (exact works) in
+    let asks = wants_is _ _ _ c.in-Ok-Wants.request (exact works) in
     record {
       within = c.self.invariant.within;
       works = λ live. rw works at c.in-Ok-Wants.ensures.failed;
       can_report = c.self.invariant.can_report;
-      keeps = rw (sym same) c.self.invariant.keeps;
+      keeps = rw asks.1 c.self.invariant.keeps;
       ended = c.self.invariant.ended;
     }
 
 pub returns-in-Ok-Wants-clause-value : goal.returns-in-Ok-Wants-clause-value
 returns-in-Ok-Wants-clause-value g c =
     let i = c.self.inside in
-    let waits = ap (λ v. v.phase) c.self.view_is ∙ c.requires.waiting in
-    absurd (asks_no_first _ _ (waiting_keeps i.stage _ _ _ waits c.self.invariant.keeps).0)
+    let v = c.self.view_is in
+    let at = ap (λ u. u.phase) v ∙ c.requires.waiting in
+    let keeps = waiting_keeps i.phase _ _ _ at c.self.invariant.keeps in
+    let x = c.index.result.now in
+    let left = left_next i.commands.items i.next x (left_below i.commands.items i.next (asks_some _ _ keeps.0)) c.index.ensures in
+    let first = asks_it i.editor.state _ _ (step_value x) keeps.0 left in
+    let exact = rw c.in-Ok-Wants.field-0-is at c.in-Ok-Wants.ensures.exact in
+    let asks = wants_is _ _ _ c.in-Ok-Wants.request (exact (c.self.invariant.works (ap is_over at))) in
+    (subst (λ u. awaited u ≡ Some c.in-Ok-Wants.request) v (awaits_it _ (step_value x) _ c.in-Ok-Wants.request keeps.1 left first.0 at asks.0), rw asks.1 v)

@@ -1,11 +1,27 @@
-use Rattle.std.proofs.Common.{refl, ap, ◌∙◌, sym}
-use Rattle.ed_session.proofs.Ended.{between_live, advances_prompted, is_false}
+use Rattle.std.proofs.Common.{◌∙◌, ap, sym, refl}
+use Rattle.ed_session.specs.Sessions.{is_over}
+use Rattle.ed_session.proofs.Advancing.{advances_by, prompt_skipped, prompt_written, is_false}
 use Rattle.ed_session.proofs.session.Session.write_prompt.Goals as goal
+
+pub returns-then-not-self-clause-given : goal.returns-then-not-self-clause-given
+returns-then-not-self-clause-given g c =
+    let v = c.self.view_is in
+    let untold = is_false c.self.inside.told (λ h. let n = (c.self.invariant.ended h).0 in let r = ap (λ u. is_over u.phase) v ∙ ap is_over c.requires.between in cc) in
+    record {
+      same = prompt_skipped c.args.self.now _ c.requires.between c.requires.handed_out (ap (λ u. u.present.prompting) (sym v) ∙ c.if-not-self.true) refl
+          (ap (λ u. u.pending) v ∙ c.requires.handed_out) (ap (λ u. u.present) v) (ap (λ u. u.steps) v) (ap (λ u. u.fault) v);
+      idle = refl;
+      started = refl;
+      handed_out = ap (λ u. u.pending) v ∙ c.requires.handed_out;
+      untold = untold;
+    }
 
 pub returns-in-Ok-clause-given : goal.returns-in-Ok-clause-given
 returns-in-Ok-clause-given g c =
-    let i = c.self.inside in
-    let is = c.self.view_is in
-    let untold = is_false i.told (λ h. let n = (c.self.invariant.ended h).0 in let l = between_live i.stage (ap (λ v. v.phase) is ∙ c.requires.between) in cc) in
-    advances_prompted c.args.self.now _ c.requires.between c.requires.handed_out (ap (λ v. v.present.prompting) (sym is) ∙ c.if-not-self.false) refl (c.in-Ok.ensures.value ∙ ap (λ v. v.present.prompt) is)
-    (ap (λ v. v.present) is) (ap (λ v. v.commands) is) (ap (λ v. v.fault) is) untold
+    let v = c.self.view_is in
+    let untold = is_false c.self.inside.told (λ h. let n = (c.self.invariant.ended h).0 in let r = ap (λ u. is_over u.phase) v ∙ ap is_over c.requires.between in cc) in
+    let pending = ap (λ u. u.pending) v ∙ c.requires.handed_out in
+    rw c.output.ensures.value (advances_by c.args.self.now _ c.in-Ok.prompt
+    (prompt_written c.args.self.now _ c.in-Ok.prompt c.requires.between c.requires.handed_out (ap (λ u. u.present.prompting) (sym v) ∙ c.if-not-self.false)
+    (c.in-Ok.ensures.value ∙ ap (λ u. u.present.prompt) v) refl pending (ap (λ u. u.present) v) (ap (λ u. u.steps) v) (ap (λ u. u.fault) v))
+    refl refl pending untold)

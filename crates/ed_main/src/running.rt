@@ -1,0 +1,106 @@
+//! One run of a script, over any files and any sink.
+ghost use Rattle.std.specs.Prelude.{◌≡◌, ◌<◌, ◌≤◌, ◌-◌, ◌^◌, ◌++◌, List, [], true, IfOk};
+ghost use Rattle.ed_syntax.specs.Reading.{script_of};
+ghost use Rattle.ed_syntax.specs.Runs.{run};
+ghost use Rattle.ed_syntax.specs.declared.request.Answer.{Answer};
+ghost use Rattle.ed_session.specs.Drives.{added};
+ghost use Rattle.ed_session.specs.Sessions.{rest};
+ghost use Rattle.ed_main.specs.Correct.{Correct, status_at};
+
+use ed_base::{Bytes, Fault};
+use ed_session::{Outside, Session, Sink, drive};
+use ed_syntax::{Ending, Options, read_script};
+use line_store::PlainStore;
+use std::alloc::{AllocError, Global};
+
+/// Runs the script that these bytes spell, and gives its exit status.
+pub fn edit<O: Outside, W: Sink>(
+    alloc: Global,
+    script: Bytes,
+    options: Options,
+    outside: &mut O,
+    sink: &mut W,
+) -> u8
+    requires silent { options.silent ≡ true }
+    requires count { W.failures sink.old < 2 ^ 64 - 1 }
+
+    // What was asked is added to the log; all else is what the run of the script says.
+    ensures log { O.log outside.new ≡ O.log outside.old ++ added (O.log outside.old) (O.log outside.new) }
+    ensures correct { Correct script options (added (O.log outside.old) (O.log outside.new))
+        (W.taken sink.old) (W.taken sink.new) result }
+
+    ensures status { result ≤ 3 }
+{
+    match session_of(alloc, script, options) {
+        Ok(mut session) => status_of_end(drive(&mut session, outside, sink)),
+        Err(AllocError) => Fault::Memory.status(),
+    }
+}
+
+// A session of the script that these bytes spell.
+fn session_of(
+    alloc: Global,
+    bytes: Bytes,
+    options: Options,
+) -> Result<Session<PlainStore>, AllocError>
+    requires silent { options.silent ≡ true }
+    ensures rest { IfOk result (λ s. (answers : List Answer) → rest s answers ≡ run (script_of bytes) options answers) }
+    ensures pending { IfOk result (λ s. s.pending ≡ []) }
+{
+    let script = read_script(alloc, bytes.as_slice())?;
+    Session::new(alloc, script, options)
+}
+
+fn status_of_end(ended: Result<Ending, Fault>) -> u8
+    ensures value { result ≡ status_at ended }
+    ensures status { result ≤ 3 }
+{
+    match ended {
+        Ok(_) => 0,
+        Err(fault) => fault.status(),
+    }
+}
+
+#[cfg(test)]
+mod tests {
+    use super::*;
+    use ed_session::{MemFiles, MemSink};
+    use std::test::Fail;
+
+    /// A run on the file `F`, whose first call may be refused.
+    struct Row {
+        script: &'static [u8],
+        refused: u64,
+        output: &'static [u8],
+        status: u8,
+    }
+
+    #[rattlefmt::skip]
+    const ROWS: [Row; 4] = [
+        Row { script: b"2d\n,p\nQ\n", refused: 0, output: b"a\nc\n", status: 0 },
+        Row { script: b"2d\n,p\n", refused: 0, output: b"a\nc\n?\n", status: 1 },
+        Row { script: b"H\n4p\n", refused: 0, output: b"?\ninvalid address\n", status: 1 },
+        Row { script: b",p\nQ\n", refused: 1, output: b"?\n", status: 3 },
+    ];
+
+    #[test]
+    fn a_script_is_run_on_files_in_memory(rt: HostRuntime) -> Result<(), Fail> {
+        for row in &ROWS {
+            let alloc = rt.alloc();
+            let mut files = MemFiles::new(alloc);
+            files.add(b"F", Bytes::from_slice(alloc, b"a\nb\nc\n")?)?;
+            files.refuse(row.refused);
+            let mut sink = MemSink::new(alloc, 64, 2)?;
+            let options = Options {
+                silent: true,
+                prompt: None,
+                path: Some(Bytes::from_slice(alloc, b"F")?),
+            };
+            let script = Bytes::from_slice(alloc, row.script)?;
+            let status = edit(alloc, script, options, &mut files, &mut sink);
+            assert_eq!(rt; (row.script, status), (row.script, row.status));
+            assert_eq!(rt; (row.script, sink.taken()), (row.script, row.output));
+        }
+        Ok(())
+    }
+}

@@ -1,0 +1,159 @@
+-- What a step of the script, its prompt and its end do to a run, whatever they are.
+use Rattle.std.proofs.Common.{◌≡◌, ℕ, zero, List, [], ◌∷◌, Bool, true, false, Option, Some, None, Result, Ok, Err, refl, sym, append-nil}
+use Rattle.ed_base.specs.declared.fault.Fault.{Fault}
+use Rattle.ed_base.specs.declared.fault.Fault.TheVariants as fault
+use Rattle.ed_syntax.specs.declared.request.Answer.{Answer}
+use Rattle.ed_syntax.specs.declared.request.Answer.TheVariants as answer
+use Rattle.ed_syntax.specs.declared.request.Request.{Request}
+use Rattle.ed_syntax.specs.Applied.{command}
+use Rattle.ed_syntax.specs.Commands as ed
+use Rattle.ed_syntax.specs.Commands.{Step, Verb}
+use Rattle.ed_syntax.specs.Effects.{Effect, Makes, Asks}
+use Rattle.ed_syntax.specs.Progress.{Present, Progress, Writes, Hears, cut, broken_off, report, failing, ending, asked_of, RunsOut}
+use Rattle.ed_syntax.specs.Runs.{Further, answered, asking, one, step_by, step, steps, unprompted, prompted, at_end, start, started}
+use Rattle.ed_session.specs.declared.phase.Phase.{Phase}
+use Rattle.ed_session.specs.declared.phase.Phase.TheVariants as phases
+use Rattle.ed_session.specs.Insides.{quits_anyway}
+use Rattle.ed_session.specs.Sessions.{SessionValue, rest, rest_at, is_over}
+
+-- a step ends the run, or its command is asked and answered
+pub data StepIs (x : Step) (m : Present) (go : Further) (answers : List Answer) : Progress → Type 0 where
+  quits : StepIs x m go answers (ending m)
+  goes : StepIs x m go answers (one x.command m go answers)
+
+verb_is : (verb : Verb) (x : Step) (m : Present) (go : Further) (answers : List Answer) → StepIs x m go answers (step_by verb x m go answers)
+verb_is ed.QuitAnyway x m go answers = quits
+verb_is verb x m go answers = goes
+
+pub step_is : (x : Step) (m : Present) (go : Further) (answers : List Answer) → StepIs x m go answers (step x m go answers)
+step_is x m go answers = verb_is x.command.verb x m go answers
+
+verb_one : (verb : Verb) (x : Step) (m : Present) (go : Further) (answers : List Answer) → quits_anyway verb ≡ false → step_by verb x m go answers ≡ one x.command m go answers
+verb_one ed.QuitAnyway x m go answers h = cc
+verb_one verb x m go answers h = refl
+
+-- a command that doesn't end the run is one that is asked and answered
+pub step_one : (x : Step) (m : Present) (go : Further) (answers : List Answer) → quits_anyway x.command.verb ≡ false → step x m go answers ≡ one x.command m go answers
+step_one x m go answers h = verb_one x.command.verb x m go answers h
+
+-- the steps that are left are those after the prompt
+pub steps_prompted : (xs : List Step) (bad : Option ℕ) (m : Present) (answers : List Answer) → steps xs bad m answers ≡ prompted m (unprompted xs bad m answers)
+steps_prompted [] bad m answers = refl
+steps_prompted (x ∷ xs) bad m answers = refl
+
+-- a run is at a step, in a help mode, at which memory may run out
+abbrev pub Opens : Bool → Progress → Type 0
+Opens help p = cut zero zero p ≡ broken_off help [] fault.Memory
+
+at_end_opens : (bad : Option ℕ) (m : Present) → Opens m.help (at_end bad m)
+at_end_opens None m = elim m.state.changed as (λ b. Opens m.help (elim b [ true ↦ failing m fault.Unsaved | false ↦ ending m ])) [ true ↦ refl | false ↦ refl ]
+at_end_opens (Some line) m = refl
+
+pub answered_opens : (m : Present) (counted : List ℕ) (x : Result Effect Fault) (go : Further) (answers : List Answer) → Opens m.help (answered m counted x go answers)
+answered_opens m counted (Err f) go answers = refl
+answered_opens m counted (Ok (Makes o)) go answers = refl
+answered_opens m counted (Ok (Asks r)) go answers = refl
+
+asking_opens : (m : Present) (x : Result Effect Fault) (again : Answer → Result Effect Fault) (go : Further) (answers : List Answer) → Opens m.help (asking m x again go answers)
+asking_opens m (Err f) again go answers = refl
+asking_opens m (Ok (Makes o)) again go answers = refl
+asking_opens m (Ok (Asks r)) again go [] = refl
+asking_opens m (Ok (Asks r)) again go (a ∷ answers) = refl
+
+step_is_opens : (x : Step) (m : Present) (go : Further) (answers : List Answer) (p : Progress) → StepIs x m go answers p → Opens m.help p
+step_is_opens x m go answers p quits = refl
+step_is_opens x m go answers p goes = asking_opens m (command m.state x.command None) _ _ answers
+
+unprompted_opens : (xs : List Step) (bad : Option ℕ) (m : Present) (answers : List Answer) → Opens m.help (unprompted xs bad m answers)
+unprompted_opens [] bad m answers = at_end_opens bad m
+unprompted_opens (x ∷ xs) bad m answers = step_is_opens x m _ answers _ (step_is x m _ answers)
+
+prompted_opens : (m : Present) (p : Progress) → Opens m.help p → Opens m.help (prompted m p)
+prompted_opens m p h = elim m.prompting as (λ b. Opens m.help (elim b [ true ↦ Writes m.help m.prompt p | false ↦ p ])) [ true ↦ refl | false ↦ h ]
+
+steps_open : (xs : List Step) (bad : Option ℕ) (m : Present) (answers : List Answer) → Opens m.help (steps xs bad m answers)
+steps_open xs bad m answers = rw (steps_prompted xs bad m answers) (prompted_opens m _ (unprompted_opens xs bad m answers))
+
+pub started_opens : (path : List ℕ) (a : Answer) (m : Present) (xs : List Step) (bad : Option ℕ) (answers : List Answer) → Opens m.help (started path a m (steps xs bad) answers)
+started_opens path (answer.Bytes bytes) m xs bad answers = refl
+started_opens path answer.Missing m xs bad answers = steps_open xs bad _ answers
+started_opens path answer.Refused m xs bad answers = refl
+started_opens path answer.Done m xs bad answers = refl
+
+start_opens : (path : Option (List ℕ)) (m : Present) (xs : List Step) (bad : Option ℕ) (answers : List Answer) → Opens m.help (start path m (steps xs bad) answers)
+start_opens None m xs bad answers = steps_open xs bad m answers
+start_opens (Some path) m xs bad [] = refl
+start_opens (Some path) m xs bad (a ∷ answers) = refl
+
+at_opens : (p : Phase) (v : SessionValue) (answers : List Answer) → is_over p ≡ false → Opens v.present.help (rest_at p v answers)
+at_opens (phases.Fresh path) v answers h = start_opens path v.present v.steps v.fault answers
+at_opens phases.Between v answers h = steps_open v.steps v.fault v.present answers
+at_opens phases.Prompted v answers h = unprompted_opens v.steps v.fault v.present answers
+at_opens phases.Waiting v answers h = unprompted_opens v.steps v.fault v.present answers
+at_opens (phases.Over result) v answers h = cc
+
+-- memory may run out in a session that isn't over
+pub rest_opens : (v : SessionValue) (answers : List Answer) → is_over v.phase ≡ false → Opens v.present.help (rest v answers)
+rest_opens v answers h = at_opens v.phase v answers h
+
+-- where it does, the report alone is written
+pub runs_out : (help : Bool) (p : Progress) → Opens help p → RunsOut p (report help fault.Memory) []
+runs_out help p e = record {
+  steps = zero;
+  bytes = zero;
+  lost = rw e refl;
+  written = rw e (sym (append-nil (report help fault.Memory)));
+  answered = rw e refl;
+}
+
+-- the same after an answer
+pub hears_and_runs_out : (help mode : Bool) (r : Request) (p : Progress) → Opens help p → RunsOut (Hears mode r p) (report help fault.Memory) (r ∷ [])
+hears_and_runs_out help mode r p e = record {
+  steps = 1;
+  bytes = zero;
+  lost = rw e refl;
+  written = rw e (sym (append-nil (report help fault.Memory)));
+  answered = rw e refl;
+}
+
+-- without an answer nothing has been asked and answered
+abbrev Quiet : Further → Type 0
+Quiet go = (m : Present) → asked_of (go m []) ≡ []
+
+at_end_quiet : (bad : Option ℕ) (m : Present) → asked_of (at_end bad m) ≡ []
+at_end_quiet None m = elim m.state.changed as (λ b. asked_of (elim b [ true ↦ failing m fault.Unsaved | false ↦ ending m ]) ≡ []) [ true ↦ refl | false ↦ refl ]
+at_end_quiet (Some line) m = refl
+
+asking_quiet : (m : Present) (x : Result Effect Fault) (again : Answer → Result Effect Fault) (go : Further) → Quiet go → asked_of (asking m x again go []) ≡ []
+asking_quiet m (Err f) again go h = refl
+asking_quiet m (Ok (Makes o)) again go h = h _
+asking_quiet m (Ok (Asks r)) again go h = refl
+
+step_quiet : (x : Step) (m : Present) (go : Further) (p : Progress) → Quiet go → StepIs x m go [] p → asked_of p ≡ []
+step_quiet x m go p h quits = refl
+step_quiet x m go p h goes = asking_quiet m (command m.state x.command None) _ _ (λ t. h _)
+
+prompted_quiet : (m : Present) (p : Progress) → asked_of p ≡ [] → asked_of (prompted m p) ≡ []
+prompted_quiet m p h = elim m.prompting as (λ b. asked_of (elim b [ true ↦ Writes m.help m.prompt p | false ↦ p ]) ≡ []) [ true ↦ h | false ↦ h ]
+
+steps_quiet : (xs : List Step) (bad : Option ℕ) → Quiet (steps xs bad)
+steps_quiet [] bad m = prompted_quiet m (at_end bad m) (at_end_quiet bad m)
+steps_quiet (x ∷ xs) bad m = prompted_quiet m _ (step_quiet x m _ _ (λ t. steps_quiet xs bad t) (step_is x m _ []))
+
+unprompted_quiet : (xs : List Step) (bad : Option ℕ) → Quiet (unprompted xs bad)
+unprompted_quiet [] bad m = at_end_quiet bad m
+unprompted_quiet (x ∷ xs) bad m = step_quiet x m _ _ (λ t. steps_quiet xs bad t) (step_is x m _ [])
+
+start_quiet : (path : Option (List ℕ)) (m : Present) (go : Further) → Quiet go → asked_of (start path m go []) ≡ []
+start_quiet None m go h = h m
+start_quiet (Some path) m go h = refl
+
+at_quiet : (p : Phase) (v : SessionValue) → asked_of (rest_at p v []) ≡ []
+at_quiet (phases.Fresh path) v = start_quiet path v.present _ (steps_quiet v.steps v.fault)
+at_quiet phases.Between v = steps_quiet v.steps v.fault v.present
+at_quiet phases.Prompted v = unprompted_quiet v.steps v.fault v.present
+at_quiet phases.Waiting v = unprompted_quiet v.steps v.fault v.present
+at_quiet (phases.Over result) v = refl
+
+pub rest_quiet : (v : SessionValue) → asked_of (rest v []) ≡ []
+rest_quiet v = at_quiet v.phase v

@@ -1,0 +1,176 @@
+-- How a run is driven on by one turn.
+use Rattle.std.proofs.Common.{◌≡◌, ℕ, ◌≤◌, ◌<◌, List, [], ◌∷◌, ◌++◌, true, false, Option, Some, None, Result, Err, refl, sym, ap, ◌∙◌, subst, ◌⊎◌, inl, inr, append_assoc, append-nil, arith}
+use Rattle.std.specs.Io.KnownBytes.{Appends}
+use Rattle.std.proofs.lemmas.List.{map-append}
+use Rattle.std.proofs.lemmas.List.Elements.{All-append, All-nil}
+use Rattle.ed_base.specs.declared.fault.Fault.{Fault}
+use Rattle.ed_base.specs.declared.fault.Fault.TheVariants.{Memory}
+use Rattle.ed_syntax.specs.declared.options.Ending.{Ending}
+use Rattle.ed_syntax.specs.declared.request.Answer.{Answer}
+use Rattle.ed_syntax.specs.declared.request.Request.{Request}
+use Rattle.ed_syntax.specs.declared.request.Request.TheVariants as request
+use Rattle.ed_syntax.specs.Progress.{Stops, Ends, after, output_of, asked_of, stop_of, RunsOut}
+use Rattle.ed_session.specs.declared.phase.Phase.TheVariants as phases
+use Rattle.ed_session.specs.Sessions.{SessionValue, rest, is_waiting, is_started, path_of}
+use Rattle.ed_session.specs.Sinks.{AppendsFront}
+use Rattle.ed_session.specs.Calls.{written, heard, GoesOn, BreaksOff, Leads, Answers, Starts, HandsOut, TellsEnd}
+use Rattle.ed_session.specs.Drives.{Log, added, requests, answers, fits, AllFit, Finished, RanOut, CutOff}
+use Rattle.ed_session.specs.Turns.{Raises, Performs, Driven}
+use Rattle.ed_session.proofs.Leading.{leads_more, leads_on, output_after, asked_after, stop_after}
+use Rattle.ed_session.proofs.Logs.{added_is, added_none, added_more, log_none, log_more, raises_more}
+use Rattle.ed_session.proofs.Stepping.{rest_quiet}
+use Rattle.ed_session.proofs.Taken.{Appends-more, some-more}
+
+requests_more : (a b : Log) → requests (a ++ b) ≡ requests a ++ requests b
+requests_more a b = map-append (λ (entry : Request × Answer). entry.0) a b
+
+answers_more : (a b : Log) → answers (a ++ b) ≡ answers a ++ answers b
+answers_more a b = map-append (λ (entry : Request × Answer). entry.1) a b
+
+-- a request was answered
+pub performs_answered : (old new : SessionValue) (r : Request) (a : Answer) (l1 l2 : Log) (before now : ℕ) → l2 ≡ l1 ++ (r, a) ∷ [] → Answers old r a new
+    → (fits r a ≡ false → before < now) → before ≤ now → is_waiting new.phase ≡ false → is_started new.phase ≡ true → Performs old new l1 l2 before now
+performs_answered old new r a l1 l2 before now logged given raises rises idle begun =
+    let is : added l1 l2 ≡ (r, a) ∷ [] = added_is l1 l2 ((r, a) ∷ []) logged in
+    record {
+      log = logged ∙ ap (λ x. l1 ++ x) (sym is);
+      leads = subst (λ x. Leads old (answers x) [] (requests x) new) (sym is) given;
+      raises = subst (λ x. Raises x before now) (sym is) (raises_more [] r a before before now (omega arith) (inl (All-nil (λ (entry : Request × Answer). fits entry.0 entry.1 ≡ true))) raises rises);
+      rises = rises;
+      idle = idle;
+      started = begun;
+    }
+
+-- nothing was answered
+pub performs_alone : (old new : SessionValue) (l1 l2 : Log) (before now : ℕ) → l2 ≡ l1 → before ≤ now → Leads old [] [] [] new
+    → is_waiting new.phase ≡ false → is_started new.phase ≡ true → Performs old new l1 l2 before now
+performs_alone old new l1 l2 before now same rises leads idle begun =
+    let is : added l1 l2 ≡ [] = rw same (added_none l1) in
+    record {
+      log = log_none l1 l2 same;
+      leads = subst (λ x. Leads old (answers x) [] (requests x) new) (sym is) leads;
+      raises = subst (λ x. Raises x before now) (sym is) (inl (All-nil (λ (entry : Request × Answer). fits entry.0 entry.1 ≡ true)));
+      rises = rises;
+      idle = idle;
+      started = begun;
+    }
+
+pub starts_at : (path : List ℕ) (old : SessionValue) (a : Answer) (new : SessionValue) → path_of old.phase ≡ Some path → Starts (path_of old.phase) old a new → Answers old (request.Read path) a new
+starts_at path old a new e x = subst (λ p. Starts p old a new) e x
+
+pub starts_empty : (old : SessionValue) (a : Answer) (new : SessionValue) → path_of old.phase ≡ None → Starts (path_of old.phase) old a new → GoesOn old [] [] [] new
+starts_empty old a new e x = subst (λ p. Starts p old a new) e x
+
+-- some output was written
+pub driven_output : (from s t : SessionValue) (log : Log) (bytes : List ℕ) (old mid new : Option (List ℕ)) → Driven from log old mid s → HandsOut s bytes t → Appends mid new bytes
+    → Driven from log old new t
+driven_output from s t log bytes old mid new d h more = record {
+  output = d.output ++ bytes;
+  wrote = Appends-more old mid new d.output bytes d.wrote more;
+  leads = leads_on from s t (answers log) d.output bytes (requests log) d.leads h.leads;
+}
+
+module _ (from s u t : SessionValue) (l0 l1 l2 : Log) (now after_it : ℕ) (e : l1 ≡ l0 ++ added l0 l1) (p : Performs u t l1 l2 now after_it) where
+  all : added l0 l2 ≡ added l0 l1 ++ added l1 l2
+  all = added_more l0 l1 l2 (added l1 l2) e p.log
+
+  pub performed_log : l2 ≡ l0 ++ added l0 l2
+  performed_log = log_more l0 l1 l2 (added l1 l2) e p.log
+
+  -- what was asked for was done
+  pub driven_performs : (old mid : Option (List ℕ)) → Driven from (added l0 l1) old mid s → GoesOn s [] [] [] u → Driven from (added l0 l2) old mid t
+  driven_performs old mid d goes =
+      let here : Leads from (answers (added l0 l1)) (d.output ++ []) (requests (added l0 l1)) u = leads_on from s u (answers (added l0 l1)) d.output [] (requests (added l0 l1)) d.leads (inl goes) in
+      let there = leads_more from u t (answers (added l0 l1)) (answers (added l1 l2)) (d.output ++ []) [] (requests (added l0 l1)) (requests (added l1 l2)) here p.leads in
+      record {
+        output = d.output;
+        wrote = d.wrote;
+        leads =
+            subst (λ x. Leads from (answers x) d.output (requests x) t) (sym all)
+            (subst (λ x. Leads from x d.output (requests (added l0 l1 ++ added l1 l2)) t) (sym (answers_more (added l0 l1) (added l1 l2)))
+            (subst (λ x. Leads from (answers (added l0 l1) ++ answers (added l1 l2)) d.output x t) (sym (requests_more (added l0 l1) (added l1 l2)))
+            (subst (λ x. Leads from (answers (added l0 l1) ++ answers (added l1 l2)) x (requests (added l0 l1) ++ requests (added l1 l2)) t) (append-nil (d.output ++ []) ∙ append-nil d.output) there)));
+      }
+
+  pub performed_raises : (before : ℕ) → before ≤ now → Raises (added l0 l1) before now → Raises (added l0 l2) before after_it
+  performed_raises before below (inr rise) = let h = p.rises in inr (omega arith)
+  performed_raises before below (inl fit) =
+      elim p.raises [
+        | inl more ↦ inl (subst (λ x. AllFit x) (sym all) (All-append (λ (entry : Request × Answer). fits entry.0 entry.1 ≡ true) (added l0 l1) (added l1 l2) fit more))
+        | inr rise ↦ inr (omega arith)
+      ]
+
+rest_over : (v : SessionValue) (result : Result Ending Fault) → v.phase ≡ phases.Over result → rest v [] ≡ Stops v.present.help (Ends result)
+rest_over v result e = rw e refl
+
+-- all answers are those of the log
+none_left : (from : SessionValue) (log : Log) → rest from (answers log ++ []) ≡ rest from (answers log)
+none_left from log = ap (rest from) (append-nil (answers log))
+
+ended : (from t : SessionValue) (log : Log) (output : List ℕ) (old new : Option (List ℕ)) (result : Result Ending Fault) → GoesOn from (answers log) output (requests log) t
+    → Appends old new output → t.phase ≡ phases.Over result → t.pending ≡ [] → Finished from log old new result
+ended from t log output old new result x wrote over none =
+    let at : rest from (answers log) ≡ after x.events (Stops t.present.help (Ends result)) = sym (none_left from log) ∙ x.same [] ∙ ap (after x.events) (rest_over t result over) in
+    record {
+      asked = ap asked_of at ∙ asked_after x.events (Stops t.present.help (Ends result)) ∙ append-nil (heard x.events) ∙ x.answered;
+      ended = ap stop_of at ∙ stop_after x.events (Stops t.present.help (Ends result));
+      wrote = subst (λ o. Appends old new o)
+          (sym (append-nil output) ∙ ap (λ p. output ++ p) (sym none) ∙ sym x.handed_out
+          ∙ ap (λ o. from.pending ++ o) (sym (ap output_of at ∙ output_after x.events (Stops t.present.help (Ends result)) ∙ append-nil (written x.events)))) wrote;
+    }
+
+cut_there : (from t : SessionValue) (log : Log) (output : List ℕ) (old new : Option (List ℕ)) → BreaksOff from (answers log) output (requests log) t
+    → Appends old new output → t.pending ≡ [] → RanOut from log old new
+cut_there from t log output old new x wrote none = record {
+  running = x.running;
+  output = x.written;
+  cut = subst (λ p. RunsOut p x.written (requests log)) (none_left from log) (x.cut []);
+  wrote = subst (λ o. Appends old new o) (sym (append-nil output) ∙ ap (λ p. output ++ p) (sym none) ∙ sym x.handed_out) wrote;
+}
+
+over_same : (v : SessionValue) (result : Result Ending Fault) (f : Fault) → v.phase ≡ phases.Over result → v.phase ≡ phases.Over (Err f) → result ≡ Err f
+over_same v result f a b = let e : phases.Over result ≡ phases.Over (Err f) = sym a ∙ b in cc
+
+-- the run has ended, or memory ran out
+pub driven_ends : (from s t : SessionValue) (log : Log) (old new : Option (List ℕ)) (result : Result Ending Fault) → Driven from log old new s → TellsEnd s result t
+    → Finished from log old new result ⊎ ((result ≡ Err Memory) × RanOut from log old new)
+driven_ends from s t log old new result d h =
+    elim (leads_on from s t (answers log) d.output [] (requests log) d.leads (inl h.same)) [
+      | inl x ↦ inl (ended from t log (d.output ++ []) old new result x (subst (λ o. Appends old new o) (sym (append-nil d.output)) d.wrote) h.over h.handed_out)
+      | inr x ↦ inr (over_same t result Memory h.over x.over, cut_there from t log (d.output ++ []) old new x (subst (λ o. Appends old new o) (sym (append-nil d.output)) d.wrote) h.handed_out)
+    ]
+
+-- a part of what was to be written
+cut_part : (output bytes part more whole pending : List ℕ) → bytes ≡ part ++ more → whole ≡ (output ++ bytes) ++ pending → whole ≡ (output ++ part) ++ (more ++ pending)
+cut_part output bytes part more whole pending e f =
+    f ∙ ap (λ x. (output ++ x) ++ pending) e ∙ ap (λ x. x ++ pending) (sym (append_assoc output part more)) ∙ append_assoc (output ++ part) more pending
+
+-- the sink failed at some of these bytes
+pub driven_cut_off : (from s t : SessionValue) (log : Log) (bytes : List ℕ) (old mid new : Option (List ℕ)) → Driven from log old mid s → HandsOut s bytes t → AppendsFront mid new bytes
+    → CutOff from log old new
+driven_cut_off from s t log bytes old mid new d h part =
+    let took = Appends-more old mid new d.output part.0 d.wrote part.2 in
+    elim (leads_on from s t (answers log) d.output bytes (requests log) d.leads h.leads) [
+      | inl x ↦
+          let at : rest from (answers log) ≡ after x.events (rest t []) = sym (none_left from log) ∙ x.same [] in
+          record {
+            output = written x.events;
+            run = inl (record {
+              events = x.events;
+              left = rest t [];
+              whole = at;
+              answered = ap asked_of at ∙ asked_after x.events (rest t []) ∙ ap (λ r. heard x.events ++ r) (rest_quiet t) ∙ append-nil (heard x.events) ∙ x.answered;
+              wrote = refl;
+            });
+            part = d.output ++ part.0;
+            front = (part.1.0 ++ t.pending, cut_part d.output bytes part.0 part.1.0 (from.pending ++ written x.events) t.pending part.1.1 x.handed_out, some-more part.1.0 t.pending part.1.2);
+            took = took;
+          }
+      | inr x ↦ record {
+        output = x.written;
+        run = inr (subst (λ p. RunsOut p x.written (requests log)) (none_left from log) (x.cut []));
+        part = d.output ++ part.0;
+        front = (part.1.0 ++ t.pending, cut_part d.output bytes part.0 part.1.0 (from.pending ++ x.written) t.pending part.1.1 x.handed_out, some-more part.1.0 t.pending part.1.2);
+        took = took;
+      }
+    ]

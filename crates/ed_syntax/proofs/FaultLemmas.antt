@@ -1,0 +1,152 @@
+-- The faults of a command: neither memory nor output is lost, and no file is refused.
+use Rattle.std.proofs.Common.{◌≡◌, ℕ, zero, suc, ◌+◌, ℤ, pos, negsuc, ◌+ℤ◌, Bool, true, false, ◌&&◌, nat_le, List, [], ◌∷◌, Option, Some, None, find, Result, Ok, Err, refl}
+use Rattle.ed_base.specs.Buffer.{marked_place}
+use Rattle.ed_base.specs.declared.fault.Fault.{Fault}
+use Rattle.ed_base.specs.declared.fault.Fault.TheVariants as fault
+use Rattle.ed_syntax.specs.declared.request.Answer.{Answer}
+use Rattle.ed_syntax.specs.declared.request.Request.{Request}
+use Rattle.ed_syntax.specs.declared.verbs.Taking.{Taking}
+use Rattle.ed_syntax.specs.declared.verbs.Taking.TheVariants as many
+use Rattle.ed_syntax.specs.Commands as ed
+use Rattle.ed_syntax.specs.Commands.{Base, Address, Addresses, Form, Verb, Command}
+use Rattle.ed_syntax.specs.Verbs.{takes, given_or}
+use Rattle.ed_syntax.specs.States.{State, last}
+use Rattle.ed_syntax.specs.Values.{◌>>◌, sought, searched, matches_line, line_at, lines_forward, lines_backward, base_number, within, value, evaluated, moved, values}
+use Rattle.ed_syntax.specs.Ranges.{Span, span, spanned, first_of_two, last_of_two, not_before, single}
+use Rattle.ed_syntax.specs.Forms.{lines_written}
+use Rattle.ed_syntax.specs.Effects as effect
+use Rattle.ed_syntax.specs.Effects.{Outcome, Effect, Makes, Asks}
+use Rattle.ed_syntax.specs.Applied.{placed, targeted, effect_of, suffix_written, completed, command}
+use Rattle.ed_syntax.proofs.StepLemmas.{either}
+use Rattle.ed_syntax.proofs.FaultSteps.{Gives, Meets, gives, meets, meets-none, bind-gives, bind-any, bind-meets, ok_or-meets}
+
+-- a fault that a command may have of its own
+abbrev pub is_own : Fault → Bool
+is_own fault.Memory = false
+is_own fault.Output = false
+is_own fault.File = false
+is_own _ = true
+
+abbrev pub Own : Fault → Type 0
+Own f = is_own f ≡ true
+
+-- a step without a fault
+fine : {A : Type 0} (x : A) → Meets Own (Ok x)
+fine x = meets-none Own x
+
+searched-own : (text : Option (List ℕ)) (order : List ℕ) (s : State) → Meets Own (searched text order s)
+searched-own None order s = meets Own fault.Pattern refl
+searched-own (Some text) order s = ok_or-meets Own (find (matches_line text s.lines) order) fault.NoMatch refl
+
+line_at-own : (place : Option ℕ) → Meets Own (line_at place)
+line_at-own None = meets Own fault.Mark refl
+line_at-own (Some place) = fine (place + 1)
+
+base-own : (base : Base) (s : State) → Meets Own (base_number base s)
+base-own (ed.Number n) s = fine n
+base-own ed.Current s = fine s.current
+base-own ed.Last s = fine (last s)
+base-own (ed.Marked letter) s = line_at-own (marked_place letter s.lines)
+base-own (ed.Forward pattern) s = searched-own (sought pattern s) (lines_forward s) s
+base-own (ed.Backward pattern) s = searched-own (sought pattern s) (lines_backward s) s
+
+within-own : (s : State) (n : ℤ) → Meets Own (within s n)
+within-own s (pos n) = either (Meets Own) (nat_le n (last s)) _ _ (λ inside. fine n) (λ outside. meets Own fault.Address refl)
+within-own s (negsuc n) = meets Own fault.Address refl
+
+value-own : (a : Address) (s : State) → Meets Own (value a s)
+value-own a s = bind-meets Own (base_number a.base s) _ (base-own a.base s) (λ n. within-own s (pos n +ℤ a.offset))
+
+values-own : (a : Addresses) (s : State) → Meets Own (values a s)
+values-own ed.Without s = fine (s, [])
+values-own (ed.One a) s = bind-meets Own (value a s) _ (value-own a s) (λ n. fine (evaluated a s, n ∷ []))
+values-own (ed.Comma a b) s =
+    bind-meets Own (value a s) _ (value-own a s) (λ n.
+    bind-meets Own (value b (evaluated a s)) _ (value-own b (evaluated a s)) (λ m. fine (evaluated b (evaluated a s), n ∷ m ∷ [])))
+values-own (ed.Semicolon a None) s = bind-meets Own (value a s) _ (value-own a s) (λ n. fine (moved n (evaluated a s), n ∷ n ∷ []))
+values-own (ed.Semicolon a (Some b)) s =
+    bind-meets Own (value a s) _ (value-own a s) (λ n.
+    let t = moved n (evaluated a s) in
+    bind-meets Own (value b t) _ (value-own b t) (λ m. fine (evaluated b t, n ∷ m ∷ [])))
+
+targeted-own : (a : Option Address) (s : State) → Meets Own (targeted a s)
+targeted-own None s = fine (s, 0)
+targeted-own (Some a) s = bind-meets Own (value a s) _ (value-own a s) (λ n. fine (evaluated a s, n))
+
+-- a span, or the fault of an address
+spanned-if : (test : Bool) (x : Span) (other : Result Span Fault) → Meets Own other → Meets Own (elim test [ true ↦ Ok x | false ↦ other ])
+spanned-if true x other is = fine x
+spanned-if false x other is = is
+
+spanned-own : (t : Taking) (last : ℕ) (values : List ℕ) → Meets Own (spanned t last values)
+spanned-own many.NoAddress last values = fine (span 0 0)
+spanned-own many.Place last values = fine (span (last_of_two values) (last_of_two values))
+spanned-own many.FirstPlace last values = fine (span (not_before (last_of_two values)) (not_before (last_of_two values)))
+spanned-own many.OneLine last values = single-own (last_of_two values)
+  where
+    single-own : (n : ℕ) → Meets Own (single n)
+    single-own zero = meets Own fault.Address refl
+    single-own (suc n) = fine (span (suc n) (suc n))
+spanned-own many.Lines last values =
+    spanned-if (nat_le (first_of_two values) (last_of_two values) && nat_le (not_before (last_of_two values)) last) (span (not_before (first_of_two values)) (not_before (last_of_two values))) (Err fault.Address)
+    (meets Own fault.Address refl)
+spanned-own many.Range last values =
+    let a = first_of_two values in
+    let b = last_of_two values in
+    either (Meets Own) (nat_le 1 a) _ _ (λ some. spanned-if (nat_le a b) (span a b) (Err fault.Address) (meets Own fault.Address refl)) (λ none. meets Own fault.Address refl)
+
+placed-own : (c : Command) (s : State) → Meets Own (placed c s)
+placed-own c s =
+    bind-meets Own (values (given_or c.addresses (takes c.verb).default) s) _ (values-own (given_or c.addresses (takes c.verb).default) s) (λ v.
+    bind-meets Own (targeted (takes c.verb).target v.0) _ (targeted-own (takes c.verb).target v.0) (λ t.
+    bind-meets Own (spanned (takes c.verb).taking (last s) v.1) _ (spanned-own (takes c.verb).taking (last s) v.1) (λ x. fine (record { state = t.0; span = x; target = t.1 }))))
+
+move-own : (x : Span) (target : ℕ) (s : State) → Meets Own (effect.move x target s >> λ o. Ok (Makes o))
+move-own x target s =
+    either (λ (r : Result Outcome Fault). Meets Own (r >> λ o. Ok (Makes o))) (nat_le x.first target && nat_le target x.last) _ _
+    (λ inside. meets Own fault.Destination refl) (λ outside. fine _)
+
+effect_of-own : (verb : Verb) (listed : Bool) (x : Span) (target : ℕ) (s : State) (given : Option Answer) → Meets Own (effect_of verb listed x target s given)
+effect_of-own (ed.Move to) listed x target s given = move-own x target s
+effect_of-own _ listed x target s given = fine _
+
+-- line 0 isn't written
+written-own : {A : Type 0} (n : ℕ) (written : A) → Meets {A = A} Own (elim n [ zero ↦ Err fault.Address | suc k ↦ Ok written ])
+written-own zero written = meets Own fault.Address refl
+written-own (suc k) written = fine written
+
+suffix-own : (suffix : Option Form) (s : State) → Meets Own (suffix_written suffix s)
+suffix-own None s = fine []
+suffix-own (Some form) s = written-own s.current (lines_written form s.current s.current s.lines)
+
+completed-own : (c : Command) (s : State) (e : Effect) → Meets Own (completed c s e)
+completed-own c s (Asks r) = fine (Asks r)
+completed-own c s (Makes o) = bind-meets Own (suffix_written c.suffix o.state) _ (suffix-own c.suffix o.state) (λ more. fine _)
+
+pub command-own : (s : State) (c : Command) (given : Option Answer) → Meets Own (command s c given)
+command-own s c given =
+    bind-meets Own (placed c s) _ (placed-own c s) (λ p.
+    bind-meets Own (effect_of c.verb c.listed p.span p.target p.state given) _ (effect_of-own c.verb c.listed p.span p.target p.state given) (λ e. completed-own c s e))
+
+-- it asks for no file
+abbrev pub IsMade : Effect → Type 0
+IsMade e = (r : Request) → e ≡ Asks r → ⊥
+
+made : (o : Outcome) → Gives IsMade (Ok (Makes o))
+made o = gives IsMade (Makes o) (λ r same. cc)
+
+move-made : (x : Span) (target : ℕ) (s : State) → Gives IsMade (effect.move x target s >> λ o. Ok (Makes o))
+move-made x target s = bind-any IsMade (effect.move x target s) _ (λ o. made o)
+
+effect_of-made : (verb : Verb) (listed : Bool) (x : Span) (target : ℕ) (s : State) (given : Option Answer) → Gives IsMade (effect_of verb listed x target s given)
+effect_of-made (ed.Move to) listed x target s given = move-made x target s
+effect_of-made _ listed x target s given = made _
+
+completed-made : (c : Command) (s : State) (e : Effect) → IsMade e → Gives IsMade (completed c s e)
+completed-made c s (Asks r) is = absurd (is r refl)
+completed-made c s (Makes o) is = bind-any IsMade (suffix_written c.suffix o.state) _ (λ more. made _)
+
+pub command-made : (s : State) (c : Command) (given : Option Answer) → Gives IsMade (command s c given)
+command-made s c given =
+    bind-any IsMade (placed c s) _ (λ p.
+    bind-gives IsMade IsMade (effect_of c.verb c.listed p.span p.target p.state given) _ (effect_of-made c.verb c.listed p.span p.target p.state given) (λ e is. completed-made c s e is))

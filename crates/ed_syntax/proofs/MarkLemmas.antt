@@ -1,0 +1,55 @@
+-- What the commands make of lines in which each letter marks at most one line.
+use Rattle.std.proofs.Common.{◌≡◌, ℕ, ◌+◌, ◌≤◌, cond, List, [], ◌∷◌, ◌++◌, map, take, drop, length, sym, ap, ◌∙◌, arith}
+use Rattle.std.specs.Prelude.{count_by}
+use Rattle.std.proofs.lemmas.List.Sums.{sum_by-append}
+use Rattle.std.proofs.lemmas.List.Elements.{All-append, All-take, All-drop}
+use Rattle.ed_base.specs.Buffer.{Line, plain_line, has_letter, marked_at, KnowLetters}
+use Rattle.ed_base.specs.Parts.{block, exchanged, carried}
+use Rattle.ed_base.proofs.Letters.{once-counts, counts-once, plain-known, plain-uncounted, marked_at-once, marked_at-known}
+use Rattle.ed_base.proofs.PartLemmas.{whole}
+use Rattle.ed_syntax.specs.Laws.{WellMarked}
+
+-- how many of these lines a letter marks
+abbrev marked_by : ℕ → List Line → ℕ
+marked_by letter lines = count_by (has_letter letter) lines
+
+marked_by-append : (letter : ℕ) (xs ys : List Line) → marked_by letter (xs ++ ys) ≡ marked_by letter xs + marked_by letter ys
+marked_by-append letter = sum_by-append (λ (line : Line). cond (has_letter letter line) 1 0)
+
+marked_by-whole : (letter a b : ℕ) (xs : List Line) → a ≤ b → marked_by letter (take a xs) + (marked_by letter (block a b xs) + marked_by letter (drop b xs)) ≡ marked_by letter xs
+marked_by-whole letter a b xs h =
+    ap (λ n. marked_by letter (take a xs) + n) (sym (marked_by-append letter (block a b xs) (drop b xs)))
+    ∙ sym (marked_by-append letter (take a xs) (block a b xs ++ drop b xs))
+    ∙ ap (marked_by letter) (whole a b xs h)
+
+marked_by-exchanged : (letter a b : ℕ) (new xs : List Line) → a ≤ b → marked_by letter (exchanged a b new xs) + marked_by letter (block a b xs) ≡ marked_by letter xs + marked_by letter new
+marked_by-exchanged letter a b new xs h =
+    omega (arith, marked_by-whole letter a b xs h, marked_by-append letter (take a xs) (new ++ drop b xs), marked_by-append letter new (drop b xs))
+
+-- of a line it is known of each letter whether it marks it
+abbrev Knows : Line → Type 0
+Knows line = length line.letters ≡ 26
+
+known-exchanged : (a b : ℕ) (new xs : List Line) → KnowLetters new → KnowLetters xs → KnowLetters (exchanged a b new xs)
+known-exchanged a b new xs n h = All-append Knows (take a xs) (new ++ drop b xs) (All-take Knows a xs h) (All-append Knows new (drop b xs) n (All-drop Knows b xs h))
+
+few : {lines : List Line} → WellMarked lines → (letter : ℕ) → marked_by letter lines ≤ 1
+few {lines} marked = once-counts lines marked.once
+
+pub well-exchanged : (a b : ℕ) (texts : List (List ℕ)) (xs : List Line) → a ≤ b → WellMarked xs → WellMarked (exchanged a b (map plain_line texts) xs)
+well-exchanged a b texts xs h marked = record {
+  known = known-exchanged a b (map plain_line texts) xs (plain-known texts) marked.known;
+  once = counts-once (exchanged a b (map plain_line texts) xs) (λ letter. omega (arith, marked_by-exchanged letter a b (map plain_line texts) xs h, plain-uncounted texts letter, few marked letter));
+}
+
+pub well-carried : (a b place : ℕ) (xs : List Line) → a ≤ b → WellMarked xs → WellMarked (carried a b place xs)
+well-carried a b place xs h marked =
+    let left = exchanged a b [] xs in
+    let none : (letter : ℕ) → ◌≡◌ {A = ℕ} (marked_by letter []) 0 = plain-uncounted [] in
+    record {
+      known = known-exchanged place place (block a b xs) left (All-drop Knows a (take b xs) (All-take Knows b xs marked.known)) (known-exchanged a b [] xs (plain-known []) marked.known);
+      once = counts-once (carried a b place xs) (λ letter. omega (arith, marked_by-exchanged letter place place (block a b xs) left (omega arith), marked_by-exchanged letter a b [] xs h, none letter, few marked letter));
+    }
+
+pub well-marked_at : (place letter : ℕ) (xs : List Line) → WellMarked xs → WellMarked (marked_at place letter xs)
+well-marked_at place letter xs marked = record { known = marked_at-known place letter xs marked.known; once = marked_at-once place letter xs marked.once }

@@ -1,0 +1,5 @@
+use Rattle.ed_syntax.proofs.CommandSteps.{lists_leave_undo}
+use Rattle.ed_syntax.proofs.laws.listed_commands_leave_undo.Goals as goal
+
+pub returns : goal.returns
+returns c = record { undo = lists_leave_undo }

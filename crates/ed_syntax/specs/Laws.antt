@@ -1,0 +1,55 @@
+-- What holds of every command and of every run.
+use Rattle.std.specs.Prelude.{◌≡◌, Bool, true, false, List, [], ◌∷◌, Option, Ok, Err, IsTrue, IsFalse}
+use Rattle.ed_base.specs.Buffer.{Line, KnowLetters, AtMostOnce}
+use Rattle.ed_base.specs.declared.fault.Fault.{Fault}
+use Rattle.ed_base.specs.declared.fault.Fault.TheVariants as fault
+use Rattle.ed_syntax.specs.declared.request.Answer.{Answer}
+use Rattle.ed_syntax.specs.declared.request.Answer.TheVariants as answer
+use Rattle.ed_syntax.specs.declared.request.Request.{Request}
+use Rattle.ed_syntax.specs.declared.request.Request.TheVariants as request
+use Rattle.ed_syntax.specs.declared.options.Options.{Options}
+use Rattle.ed_syntax.specs.Commands.{Command, Script}
+use Rattle.ed_syntax.specs.Verbs.{is_listed}
+use Rattle.ed_syntax.specs.States.{State, Kept, Was}
+use Rattle.ed_syntax.specs.Effects.{Outcome, Makes}
+use Rattle.ed_syntax.specs.Applied.{command}
+use Rattle.ed_syntax.specs.Progress.{Ends, asked_of, stop_of}
+use Rattle.ed_syntax.specs.Runs.{run}
+
+-- a command of a list leaves what undo keeps as it is: the end of the global sets it
+abbrev pub ListsLeaveUndo : Type 0
+ListsLeaveUndo = (s : State) (c : Command) (given : Option Answer) (o : Outcome) → command s c given ≡ Ok (Makes o) → IsTrue (is_listed c) → o.state.past ≡ s.past
+
+-- of each line it is known of all letters whether they mark it, and each letter marks at most one line
+pub record WellMarked (lines : List Line) : Type 0 where
+  pub known : KnowLetters lines
+  pub once : AtMostOnce lines
+
+-- so it is in the buffer, and in what undo would bring back
+pub record MarksHold (s : State) : Type 0 where
+  pub buffer : WellMarked s.lines
+  pub past : (before : Kept) → s.past ≡ Was before → WellMarked before.lines
+
+-- a command keeps it so
+abbrev pub CommandsKeepMarks : Type 0
+CommandsKeepMarks = (s : State) (c : Command) (given : Option Answer) (o : Outcome) → command s c given ≡ Ok (Makes o) → MarksHold s → MarksHold o.state
+
+-- no run ends by this fault
+abbrev pub NeverEndsBy : Fault → Type 0
+NeverEndsBy f = (script : Script) (o : Options) (answers : List Answer) → stop_of (run script o answers) ≡ Ends (Err f) → ⊥
+
+-- an answer serves a request: the bytes of a file to be read, or that a file was written
+abbrev pub serves : Request → Answer → Bool
+serves (request.Read path) (answer.Bytes bytes) = true
+serves (request.Write path bytes) answer.Done = true
+serves r a = false
+
+-- the last of these requests was answered, and not served
+pub data LastUnserved : List Request → List Answer → Type 0 where
+  last : (r : Request) (a : Answer) (later : List Answer) → IsFalse (serves r a) → LastUnserved (r ∷ []) (a ∷ later)
+  next : (r : Request) (a : Answer) (asked : List Request) (answers : List Answer) → LastUnserved asked answers → LastUnserved (r ∷ asked) (a ∷ answers)
+
+-- where a run ends by a file, an answer is the cause
+abbrev pub FilesHaveACause : Type 0
+FilesHaveACause = (script : Script) (o : Options) (answers : List Answer) → stop_of (run script o answers) ≡ Ends (Err fault.File) →
+    LastUnserved (asked_of (run script o answers)) answers

@@ -1,0 +1,28 @@
+//! What holds of all commands and of all runs.
+ghost use Rattle.ed_base.specs.declared.fault.Fault.TheVariants as fault;
+ghost use Rattle.ed_syntax.specs.Laws.{ListsLeaveUndo, CommandsKeepMarks, NeverEndsBy, FilesHaveACause};
+ghost use Rattle.ed_syntax.specs.Progress.{CutsToAFront, CutsAfter};
+
+/// A command of a list leaves what undo keeps as it is.
+pub fn listed_commands_leave_undo()
+    ensures undo { ListsLeaveUndo }
+{}
+
+/// Where each letter marks at most one line, and of each line all letters are known, it is so after a command.
+pub fn commands_keep_marks()
+    ensures marks { CommandsKeepMarks }
+{}
+
+/// A run that is cut where memory ran out wrote a front of its output and the report; cut after some of its steps, it is cut in what
+/// was left of it.
+pub fn cut_runs_write_a_front()
+    ensures front { CutsToAFront }
+    ensures after { CutsAfter }
+{}
+
+/// No run ends by memory or output that was lost, and one that ends by a file had an answer that wasn't what it asked for.
+pub fn runs_end_for_a_cause()
+    ensures memory { NeverEndsBy fault.Memory }
+    ensures output { NeverEndsBy fault.Output }
+    ensures file { FilesHaveACause }
+{}

@@ -1,0 +1,78 @@
+//! Replacements, and the matches that they take the place of.
+ghost use Rattle.std.specs.Prelude.{◌≡◌, ◌++◌, ◌∷◌, [], IfOk, OnOk, OnErr};
+
+use std::alloc::{AllocError, Global};
+use std::marker::Model;
+
+/// A part of a replacement (XCU ed, "Substitute Command").
+#[derive(Clone, Copy, Debug, PartialEq, Eq)]
+pub enum Part {
+    /// A byte as itself.
+    Literal(u8),
+    /// `&`: the match.
+    Match,
+    /// `\1` to `\9`: what a group matched, nothing where it isn't set. Groups count from 0, which is `\1`.
+    Group(u8),
+    /// A place where the line is split.
+    Split,
+}
+
+/// Which of the matches on a line are replaced.
+#[derive(Clone, Copy, Debug, PartialEq, Eq)]
+pub enum Which {
+    First,
+    /// The match of this number, counted from 1; 0 stands for 1.
+    Nth(u32),
+    All,
+}
+
+/// What comes in the place of a match, part by part.
+#[derive(Debug, Drop)]
+pub struct Replacement {
+    parts: Vec<Part>,
+}
+
+impl Model for Replacement {
+    ghost use Rattle.std.specs.Prelude.{List};
+    ghost use Rattle.ed_syntax.specs.declared.replacement.Part.{Part};
+
+    ghost Value = { List Part };
+
+    ghost view = { λ r. r.parts.items };
+}
+
+impl Replacement {
+    /// A replacement without parts, which leaves nothing of a match. It takes no memory.
+    pub fn new(alloc: Global) -> Self
+        ensures value { result ≡ [] }
+    {
+        Replacement {
+            parts: Vec::new(alloc),
+        }
+    }
+
+    /// Its parts in order.
+    pub fn parts(&self) -> &[Part]
+        ensures value { result.now ≡ self.now }
+    {
+        self.parts.as_slice()
+    }
+
+    /// Appends a part.
+    pub fn push(&mut self, part: Part) -> Result<(), AllocError>
+        ensures appended { OnOk result (self.new ≡ self.old ++ part ∷ []) }
+        ensures unchanged { OnErr result (self.new ≡ self.old) }
+    {
+        self.parts.push(part)?;
+        Ok(())
+    }
+
+    /// An equal replacement, made by the same allocator.
+    pub fn try_copy(&self) -> Result<Self, AllocError>
+        ensures value { IfOk result (λ copy. copy ≡ self.now) }
+    {
+        Ok(Replacement {
+            parts: Vec::from_slice(*self.parts.allocator(), self.parts())?,
+        })
+    }
+}

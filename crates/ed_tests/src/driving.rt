@@ -1,0 +1,78 @@
+//! Drives a script over files and a sink in memory, which refuse what a test asks them to.
+use ed_base::{Bytes, Fault};
+use ed_session::{MemFiles, MemSink, Session, drive};
+use ed_syntax::{Ending, Options, read_script};
+use line_store::PlainStore;
+use std::alloc::{AllocError, Global};
+
+/// A run on the file `F`: its script, the file's bytes, its prompt, and how files and output are refused (0: not at all).
+#[derive(Clone, Copy)]
+pub struct Case<'a> {
+    pub script: &'a [u8],
+    pub file: Option<&'a [u8]>,
+    pub prompt: Option<&'a [u8]>,
+    pub refused_call: u64,
+    pub room: usize,
+    pub piece: usize,
+    pub refused_write: u64,
+}
+
+/// A run in which nothing is refused, and whose output is taken in pieces of up to 64 bytes.
+pub const UNREFUSED: Case<'static> = Case {
+    script: b"",
+    file: None,
+    prompt: None,
+    refused_call: 0,
+    room: 256,
+    piece: 64,
+    refused_write: 0,
+};
+
+pub const ABC: Option<&[u8]> = Some(b"a\nb\nc\n");
+
+pub const ARROW: Option<&[u8]> = Some(b"> ");
+
+pub fn session_of(
+    alloc: Global,
+    script: &[u8],
+    prompt: Option<Bytes>,
+    path: Option<Bytes>,
+) -> Result<Session<PlainStore>, AllocError> {
+    let script = read_script(alloc, script)?;
+    Session::new(
+        alloc,
+        script,
+        Options {
+            silent: true,
+            prompt,
+            path,
+        },
+    )
+}
+
+/// How many lines the buffer had where the run ended well.
+pub fn lines(end: Result<Ending, Fault>) -> Result<usize, Fault> {
+    match end {
+        Ok(ending) => Ok(ending.lines),
+        Err(fault) => Err(fault),
+    }
+}
+
+/// How the case ends, and what its sink took.
+pub fn run(alloc: Global, case: Case<'_>) -> Result<(Result<usize, Fault>, MemSink), AllocError> {
+    let mut files = MemFiles::new(alloc);
+    if let Some(bytes) = case.file {
+        files.add(b"F", Bytes::from_slice(alloc, bytes)?)?;
+    }
+    files.refuse(case.refused_call);
+    let mut sink = MemSink::new(alloc, case.room, case.piece)?;
+    sink.refuse(case.refused_write);
+    let prompt = match case.prompt {
+        Some(prompt) => Some(Bytes::from_slice(alloc, prompt)?),
+        None => None,
+    };
+    let path = Bytes::from_slice(alloc, b"F")?;
+    let mut session = session_of(alloc, case.script, prompt, Some(path))?;
+    let end = drive(&mut session, &mut files, &mut sink);
+    Ok((lines(end), sink))
+}

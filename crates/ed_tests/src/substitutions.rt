@@ -1,0 +1,92 @@
+//! Substitution on one line: what becomes of it, and that a call that is out of memory gives no other answer.
+use bre_parse::Bre;
+use ed_base::Text;
+use ed_commands::substitute;
+use ed_syntax::{Part, Replacement, Which};
+use std::alloc::{AllocError, Global};
+use std::test::Fail;
+
+struct Row {
+    pattern: &'static [u8],
+    parts: &'static [Part],
+    which: Which,
+    line: &'static [u8],
+    /// None where nothing is replaced.
+    lines: Option<&'static [&'static [u8]]>,
+}
+
+const HYPHEN: &[Part] = &[Part::Literal(b'-')];
+
+const LETTER: &[Part] = &[Part::Literal(b'x')];
+
+// XCU ed, "Substitute Command"; the answers were worked by hand, and are those of GNU ed and sed.
+#[rattlefmt::skip]
+const ROWS: [Row; 12] = [
+    Row { pattern: b"x*", parts: HYPHEN, which: Which::All, line: b"abc", lines: Some(&[b"-a-b-c-"]) },
+    Row { pattern: b"x*", parts: HYPHEN, which: Which::All, line: b"baxc", lines: Some(&[b"-b-a-c-"]) },
+    Row { pattern: b"b*", parts: LETTER, which: Which::Nth(2), line: b"abb", lines: Some(&[b"ax"]) },
+    Row { pattern: b"X", parts: HYPHEN, which: Which::First, line: b"aXbXc", lines: Some(&[b"a-bXc"]) },
+    Row { pattern: b"X", parts: HYPHEN, which: Which::Nth(2), line: b"aXbXc", lines: Some(&[b"aXb-c"]) },
+    Row { pattern: b"X", parts: HYPHEN, which: Which::Nth(3), line: b"aXbXc", lines: None },
+    Row { pattern: b"\\(a*\\)*", parts: &[Part::Literal(b'x'), Part::Group(0)], which: Which::All, line: b"baac", lines: Some(&[b"xbxaacx"]) },
+    Row { pattern: b"\\(b\\)\\(x\\)*", parts: &[Part::Literal(b'['), Part::Group(1), Part::Literal(b']')], which: Which::First, line: b"ab", lines: Some(&[b"a[]"]) },
+    Row { pattern: b"\\(ab*\\)\\1", parts: &[Part::Literal(b'<'), Part::Match, Part::Literal(b'>')], which: Which::First, line: b"abbabbb", lines: Some(&[b"<abbabb>b"]) },
+    Row { pattern: b",", parts: &[Part::Split], which: Which::All, line: b"a,b,c", lines: Some(&[b"a", b"b", b"c"]) },
+    Row { pattern: b"$", parts: LETTER, which: Which::First, line: b"", lines: Some(&[b"x"]) },
+    Row { pattern: b"z", parts: HYPHEN, which: Which::All, line: b"abc", lines: None },
+];
+
+// What becomes of a line where the matches of this pattern are replaced.
+fn replaced(alloc: Global, row: &Row) -> Result<Option<Text>, AllocError> {
+    let Ok(pattern) = Bre::read(alloc, row.pattern) else {
+        return Err(AllocError);
+    };
+    let mut replacement = Replacement::new(alloc);
+    for part in row.parts {
+        replacement.push(*part)?;
+    }
+    substitute(alloc, &pattern, &replacement, row.which, row.line)
+}
+
+fn are_lines(made: &Option<Text>, lines: Option<&[&[u8]]>) -> bool {
+    match (made, lines) {
+        (None, None) => true,
+        (Some(made), Some(lines)) => {
+            made.len() == lines.len()
+                && made
+                    .as_slice()
+                    .iter()
+                    .zip(lines)
+                    .all(|(line, expected)| line.as_slice() == *expected)
+        }
+        _ => false,
+    }
+}
+
+#[test]
+fn a_line_becomes_what_the_standard_says(rt: HostRuntime) -> Result<(), Fail> {
+    for row in &ROWS {
+        let made = replaced(rt.alloc(), row)?;
+        assert!(rt;
+            are_lines(&made, row.lines),
+            "{:?} on {:?}: {:?}",
+            row.pattern,
+            row.line,
+            made
+        );
+    }
+    Ok(())
+}
+
+// With each allocation refused in turn, there is no answer or the right one.
+#[test]
+fn being_out_of_memory_is_no_other_answer(rt: HostRuntime) {
+    for row in [&ROWS[1], &ROWS[6], &ROWS[9]] {
+        let made = replaced(rt.alloc(), row);
+        assert!(rt;
+            made.is_err() || made.is_ok_and(|made| are_lines(&made, row.lines)),
+            "{:?}",
+            row.pattern
+        );
+    }
+}
