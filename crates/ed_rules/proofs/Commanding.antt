@@ -1,0 +1,413 @@
+-- One command: addresses, what it takes, what it does, its end, one after another on both sides.
+use Rattle.std.proofs.Common.{◌≡◌, ◌<◌, ◌≤◌, ◌+◌, ℕ, zero, suc, pos, negsuc, Bool, true, false, List, [], length, Option, None, Some, Result, Ok, Err, arith, refl, ◌∙◌, sym, ap, subst, ◌&&◌, nat_lt, max}
+use Rattle.std.proofs.lemmas.Int.{ints}
+use Rattle.std.proofs.lemmas.Bool.{le-leb}
+use Rattle.ed_base.specs.declared.fault.Fault.{Fault}
+use Rattle.ed_base.specs.declared.fault.Fault.TheVariants as fault
+use Rattle.ed_base.specs.Buffer.{Line, KnowLetters, AtMostOnce}
+use Rattle.zones.specs.Zone.{Bounds, Numbers, bound, updated}
+use Rattle.zones.specs.Steps.{after_set, after_guard}
+use Rattle.ed_syntax.specs.declared.verbs.Taking.{Taking}
+use Rattle.ed_syntax.specs.declared.verbs.Taking.TheVariants as many
+use Rattle.ed_syntax.specs.declared.request.Answer.{Answer}
+use Rattle.ed_syntax.specs.Commands as ed
+use Rattle.ed_syntax.specs.Commands.{Address, Addresses, Without, One, Comma, Semicolon, Verb, Form, Command}
+use Rattle.ed_syntax.specs.States as editor
+use Rattle.ed_syntax.specs.States.{kept}
+use Rattle.ed_syntax.specs.Verbs.{takes, given_or}
+use Rattle.ed_syntax.specs.Values.{◌>>◌, value, values}
+use Rattle.ed_syntax.specs.Values as concrete
+use Rattle.zones.specs.Bound.{negative_of}
+use Rattle.ed_syntax.specs.Ranges.{Span, span, first_of_two, last_of_two, spanned, ordered, single, from_first}
+use Rattle.ed_syntax.specs.Effects as effects
+use Rattle.ed_syntax.specs.Effects.{Effect, Makes, Asks}
+use Rattle.ed_syntax.specs.Applied.{Placed, making, completed, targeted, effect_of, command}
+use Rattle.ed_rules.specs.declared.state.State.{State}
+use Rattle.ed_rules.specs.Lines.{lifted_range, joined, joined_given, marked, copied_lines}
+use Rattle.ed_rules.specs.Addresses as addresses
+use Rattle.ed_rules.specs.StandsFor.{StandsBy, AreLettered}
+use Rattle.ed_rules.specs.Move.{moved_lines}
+use Rattle.ed_rules.specs.Soundness.{Agrees}
+use Rattle.ed_rules.proofs.Standing.{Stands, StandsBy-temporary, StandsBy-current, StandsBy-guarded, Reads-temporary}
+use Rattle.ed_rules.proofs.Addressing.{Valued, valued-sound, Names, NamesOf, Addressed, AddressedIn, command_addressed}
+use Rattle.ed_rules.proofs.Spans.{Spans, Ranges}
+use Rattle.ed_rules.proofs.Effects.{append-follows, delete-follows, insert-follows, change-follows, join-follows, join-one, copy-follows, mark-follows, move-follows}
+use Rattle.std.proofs.lemmas.Bool.{ltb-true}
+use Rattle.ed_rules.proofs.Lifting.{Holds-lifted}
+use Rattle.ed_rules.proofs.Finishing.{Final, Follows, finish-sound}
+use Rattle.zones.specs.Known.{known}
+use Rattle.ed_rules.specs.Pieces.{ended, with_zone, modified, replaced, lifted}
+use Rattle.ed_rules.specs.Addresses.{copied, addressed, standing, last_given, evaluated, ranged}
+use Rattle.ed_rules.specs.Rules.{taken, effect, suffixed, step, fault_of}
+use Rattle.ed_rules.specs.Lines.{appended, put_before, copied_after}
+use Rattle.zones.proofs.Known.{known-true}
+use Rattle.ed_rules.proofs.Basics.{chain, and-both, Agrees-bind, Agrees-ok, Agrees-map, Agrees-needing, Agrees-need_then}
+
+-- an address is there
+abbrev IsGiven : Addresses → Type 0
+IsGiven Without = ⊥
+IsGiven (One a) = Unit {0}
+IsGiven (Comma a b) = Unit {0}
+IsGiven (Semicolon a b) = Unit {0}
+
+names-given : (a : Addresses) → IsGiven a → (vs : List ℕ) (lines : List Line) (v : Numbers) → NamesOf a vs lines v → Names ⊥ vs lines v
+names-given Without g vs lines v n = absurd g
+names-given (One a) g vs lines v n = record { first_is = n.first_is; last_is = n.last_is; first_in = n.first_in; last_in = n.last_in; same = λ z. absurd z }
+names-given (Comma a b) g vs lines v n = n
+names-given (Semicolon a b) g vs lines v n = n
+
+-- the last of two addresses in place of the first
+last_for_both : (t : State) (p : editor.State × List ℕ) (v : Numbers) → StandsBy t p.0 v → Names ⊥ p.1 p.0.lines v →
+    Spans (copied 3 4 t) p.0 (span (last_of_two p.1) (last_of_two p.1))
+last_for_both t p v st n =
+    let l = n.last_is in
+    record {
+      numbers = updated v 3 (pos (last_of_two p.1));
+      stands = StandsBy-temporary t p.0 v 3 4 (pos 0) (pos (last_of_two p.1)) (omega arith) (omega arith) (omega arith) (omega (arith, ints)) st;
+      first_is = refl;
+      last_is = n.last_is;
+      first_in = n.last_in;
+      last_in = n.last_in;
+    }
+
+-- what a command of one address takes
+last_given-spans : (a : Addresses) → IsGiven a → (t : State) (p : editor.State × List ℕ) → Addressed (NamesOf a) t p →
+    Spans (last_given a t) p.0 (span (last_of_two p.1) (last_of_two p.1))
+last_given-spans Without g t p h = absurd g
+last_given-spans (One a) g t p h = record {
+  numbers = h.numbers;
+  stands = h.stands;
+  first_is = h.names.first_is ∙ ap pos (h.names.same tt);
+  last_is = h.names.last_is;
+  first_in = h.names.last_in;
+  last_in = h.names.last_in;
+}
+last_given-spans (Comma a b) g t p h = last_for_both t p h.numbers h.stands h.names
+last_given-spans (Semicolon a b) g t p h = last_for_both t p h.numbers h.stands h.names
+
+ordered-is : (a b : ℕ) → 1 ≤ a → a ≤ b → ordered a b ≡ Ok (span a b)
+ordered-is a b h k = rw (le-leb 1 a h, ordered) (rw (le-leb a b k) refl)
+
+single-is : (n : ℕ) → 1 ≤ n → single n ≡ Ok (span n n)
+single-is zero h = absurd (omega arith)
+single-is (suc n) h = refl
+
+abbrev InRange : editor.State → State → Span → Type 0
+InRange e u x = Ranges u e x
+
+-- a range, and what else is said of the same numbers
+abbrev RangeWith : (Numbers → Type 0) → editor.State → State → Span → Type 0
+RangeWith E e u x = (r : Ranges u e x) × E r.spans.numbers
+
+range-with : (E : Numbers → Type 0) (t : State) (e : editor.State) (vs : List ℕ) (v : Numbers) (count : ℕ) → StandsBy t e v → Names ⊥ vs e.lines v → E v →
+    Agrees (RangeWith E e) (ranged t) (spanned many.Range count vs)
+range-with E t e vs v count st n extra =
+    Agrees-needing (RangeWith E e) _ fault.Address t (spanned many.Range count vs) (λ k.
+    let three = and-both (known t.zone 0 3 (negsuc 0) && known t.zone 3 4 (pos 0)) (known t.zone 4 2 (pos 0)) k in
+    let two = and-both (known t.zone 0 3 (negsuc 0)) (known t.zone 3 4 (pos 0)) three.0 in
+    let k1 = known-true t.zone v 0 3 (negsuc 0) two.0 (omega arith) (omega arith) st.buffer.holds in
+    let k2 = known-true t.zone v 3 4 (pos 0) two.1 (omega arith) (omega arith) st.buffer.holds in
+    let f = n.first_is in
+    let l = n.last_is in
+    let z = st.buffer.reads.zero_is in
+    let from : 1 ≤ first_of_two vs = omega (arith, ints) in
+    let order : first_of_two vs ≤ last_of_two vs = omega (arith, ints) in
+    Agrees-ok (RangeWith E e) t (span (first_of_two vs) (last_of_two vs)) (spanned many.Range count vs) (ordered-is (first_of_two vs) (last_of_two vs) from order) (
+      record {
+        spans = record { numbers = v; stands = st; first_is = f; last_is = l; first_in = n.first_in; last_in = n.last_in };
+        from = from;
+        order = order;
+      },
+      extra,
+    ))
+
+abbrev Nothing_more : Numbers → Type 0
+Nothing_more v = Unit {0}
+
+range-sound : (a : Addresses) → IsGiven a → (t : State) (p : editor.State × List ℕ) (count : ℕ) → Addressed (NamesOf a) t p →
+    Agrees (RangeWith Nothing_more p.0) (ranged t) (spanned many.Range count p.1)
+range-sound a g t p count h =
+    range-with Nothing_more t p.0 p.1 h.numbers count h.stands (names-given a g p.1 p.0.lines h.numbers h.names) tt
+
+abbrev AtLine : editor.State → State → Span → Type 0
+AtLine e u x = Ranges u e x × (x.first ≡ x.last)
+
+one_line-sound : (given a : Addresses) → IsGiven a → (t : State) (p : editor.State × List ℕ) (count : ℕ) → Addressed (NamesOf a) t p →
+    Agrees (AtLine p.0) (taken many.OneLine given a t) (spanned many.OneLine count p.1)
+one_line-sound given a g t p count h =
+    let u : State = last_given a t in
+    let n : ℕ = last_of_two p.1 in
+    let r : Spans u p.0 (span n n) = last_given-spans a g t p h in
+    Agrees-needing (AtLine p.0) (known u.zone 0 3 (negsuc 0)) fault.Address u (spanned many.OneLine count p.1) (λ k.
+    let k1 = known-true u.zone r.numbers 0 3 (negsuc 0) k (omega arith) (omega arith) r.stands.buffer.holds in
+    let f = r.first_is in
+    let z = r.stands.buffer.reads.zero_is in
+    let from : 1 ≤ n = omega (arith, ints) in
+    Agrees-ok (AtLine p.0) u (span n n) (spanned many.OneLine count p.1) (single-is n from) (record { spans = r; from = from; order = omega arith }, refl))
+
+-- which addresses a command's phases after them may meet
+abbrev Suits : Taking → Addresses → Type 0
+Suits many.NoAddress a = Unit {0}
+Suits many.Place a = IsGiven a
+Suits many.FirstPlace a = IsGiven a
+Suits many.OneLine a = IsGiven a
+Suits many.Lines a = IsGiven a
+Suits many.Range a = IsGiven a
+
+given_or-given : (a d : Addresses) → IsGiven d → IsGiven (given_or a d)
+given_or-given Without d h = h
+given_or-given (One a) d h = tt
+given_or-given (Comma a b) d h = tt
+given_or-given (Semicolon a b) d h = tt
+
+suits : (verb : Verb) → Suits (takes verb).taking (standing (takes verb).default)
+suits (ed.Append text) = tt
+suits (ed.Change text) = tt
+suits ed.Delete = tt
+suits (ed.Insert text) = tt
+suits ed.Join = tt
+suits (ed.Mark letter) = tt
+suits (ed.Move to) = tt
+suits (ed.Copy to) = tt
+suits ed.LineNumber = tt
+suits ed.Null = tt
+suits (ed.Write form) = tt
+suits ed.Help = tt
+suits ed.HelpMode = tt
+suits ed.PromptMode = tt
+suits ed.QuitAnyway = tt
+
+-- 0 stands for 1, for `i`
+abbrev FirstPlaces : editor.State → State → Span → Type 0
+FirstPlaces e u x = (v : Numbers) × StandsBy u e v × (v 3 ≡ pos x.first) × (1 ≤ x.first) × (x.first ≤ length e.lines + 1)
+
+StandsBy-lifted : (s : State) (e : editor.State) (v : Numbers) (x n : ℕ) → 3 ≤ x → x < 6 → v x ≡ pos n → (1 ≤ length e.lines → n ≤ length e.lines) → StandsBy s e v →
+    StandsBy (with_zone (lifted x s.zone) s) e (updated v x (pos (max 1 n)))
+StandsBy-lifted s e v x n lo hi vx inside st = record {
+  buffer = record {
+    holds = Holds-lifted x n (length e.lines) s.zone v lo hi st.buffer.holds st.buffer.reads.zero_is st.buffer.reads.last_is vx inside;
+    reads = Reads-temporary s.marks e.lines e.current v x (pos (max 1 n)) lo hi st.buffer.reads;
+    inside = st.buffer.inside;
+  };
+  remembered = st.remembered;
+  changed = st.changed;
+  past = st.past;
+}
+
+first_place-sound : (given a : Addresses) → IsGiven a → (t : State) (p : editor.State × List ℕ) (count : ℕ) → Addressed (NamesOf a) t p →
+    Agrees (FirstPlaces p.0) (taken many.FirstPlace given a t) (spanned many.FirstPlace count p.1)
+first_place-sound given a g t p count h =
+    let r = last_given-spans a g t p h in
+    let n : ℕ = last_of_two p.1 in
+    let inside = r.first_in in
+    (updated r.numbers 3 (pos (max 1 n)), StandsBy-lifted (last_given a t) p.0 r.numbers 3 n (omega arith) (omega arith) r.first_is (λ _. r.first_in) r.stands, refl, omega arith, omega arith)
+
+-- both lifted, for `c`
+abbrev pub from_zero : ℕ → ℕ → Span
+from_zero a b = span (max 1 a) (max 1 b)
+
+from_first-is : (a b count : ℕ) → a ≤ b → max 1 b ≤ count → from_first a b count ≡ Ok (from_zero a b)
+from_first-is a b count h k = rw (le-leb a b h, le-leb (max 1 b) count k, from_first) refl
+
+-- numbers for both lifted addresses
+abbrev Lifted : editor.State → ℕ → ℕ → Bounds → State → Type 0
+Lifted e a b zone s = (v : Numbers) × StandsBy (with_zone zone s) e v × (v 3 ≡ pos (max 1 a)) × (v 4 ≡ pos (max 1 b))
+
+lifted-both : (s : State) (e : editor.State) (v : Numbers) (a b : ℕ) → v 3 ≡ pos a → v 4 ≡ pos b → a ≤ length e.lines → b ≤ length e.lines → a ≤ b → StandsBy s e v →
+    Lifted e a b (after_guard (lifted 4 (lifted 3 s.zone)) 3 4 (pos 0)) s
+lifted-both s e v a b va vb ha hb h st =
+    let v3 : Numbers = updated v 3 (pos (max 1 a)) in
+    let s3 : State = with_zone (lifted 3 s.zone) s in
+    let st3 : StandsBy s3 e v3 = StandsBy-lifted s e v 3 a (omega arith) (omega arith) va (λ _. ha) st in
+    let v4 : Numbers = updated v3 4 (pos (max 1 b)) in
+    let st4 : StandsBy (with_zone (lifted 4 s3.zone) s3) e v4 = StandsBy-lifted s3 e v3 4 b (omega arith) (omega arith) vb (λ _. hb) st3 in
+    let le : max 1 a ≤ max 1 b = omega arith in
+    (v4, StandsBy-guarded (with_zone (lifted 4 s3.zone) s3) e v4 3 4 (pos 0) (omega arith) (omega arith) (omega (arith, ints)) st4, refl, refl)
+
+lifted-one : (s : State) (e : editor.State) (v : Numbers) (a : ℕ) → v 3 ≡ pos a → a ≤ length e.lines → StandsBy s e v →
+    Lifted e a a (after_guard (lifted 4 (after_set (lifted 3 s.zone) 4 3 (pos 0))) 3 4 (pos 0)) s
+lifted-one s e v a va ha st =
+    let m : ℕ = max 1 a in
+    let v3 : Numbers = updated v 3 (pos m) in
+    let s3 : State = with_zone (lifted 3 s.zone) s in
+    let st3 : StandsBy s3 e v3 = StandsBy-lifted s e v 3 a (omega arith) (omega arith) va (λ _. ha) st in
+    let v4 : Numbers = updated v3 4 (pos m) in
+    let s4 : State = copied 4 3 s3 in
+    let st4 : StandsBy s4 e v4 = StandsBy-temporary s3 e v3 4 3 (pos 0) (pos m) (omega arith) (omega arith) (omega arith) (omega (arith, ints)) st3 in
+    let v5 : Numbers = updated v4 4 (pos (max 1 m)) in
+    let s5 : State = with_zone (lifted 4 s4.zone) s4 in
+    let st5 : StandsBy s5 e v5 = StandsBy-lifted s4 e v4 4 m (omega arith) (omega arith) refl (λ (some : 1 ≤ length e.lines). omega arith) st4 in
+    let same : max 1 m ≡ m = omega arith in
+    (v5, StandsBy-guarded s5 e v5 3 4 (pos 0) (omega arith) (omega arith) (omega (arith, ints)) st5, refl, ap pos same)
+
+-- the range of lifted addresses
+lifted-range : (e : editor.State) (u : State) (a b : ℕ) (v : Numbers) → StandsBy u e v → v 3 ≡ pos (max 1 a) → v 4 ≡ pos (max 1 b) → a ≤ b →
+    (vs : List ℕ) → first_of_two vs ≡ a → last_of_two vs ≡ b → Agrees (InRange e) (ranged u) (spanned many.Lines (length e.lines) vs)
+lifted-range e u a b v st va vb le vs fa lb =
+    Agrees-needing (InRange e) _ fault.Address u (spanned many.Lines (length e.lines) vs) (λ k.
+    let three = and-both (known u.zone 0 3 (negsuc 0) && known u.zone 3 4 (pos 0)) (known u.zone 4 2 (pos 0)) k in
+    let k3 = known-true u.zone v 4 2 (pos 0) three.1 (omega arith) (omega arith) st.buffer.holds in
+    let c = st.buffer.reads.last_is in
+    let inside : max 1 b ≤ length e.lines = omega (arith, ints) in
+    Agrees-ok (InRange e) u (from_zero a b) (spanned many.Lines (length e.lines) vs)
+    (rw (fa, lb) (from_first-is a b (length e.lines) le inside))
+    (record {
+      spans = record { numbers = v; stands = st; first_is = va; last_is = vb; first_in = omega arith; last_in = inside };
+      from = omega arith;
+      order = omega arith;
+    }))
+
+lifted-given : (given d : Addresses) → IsGiven d → (t : State) (p : editor.State × List ℕ) (h : Addressed (NamesOf (given_or given d)) t p) → first_of_two p.1 ≤ last_of_two p.1 →
+    Lifted p.0 (first_of_two p.1) (last_of_two p.1) (lifted_range given t.zone) t
+lifted-given Without d g t p h le =
+    let n = names-given d g p.1 p.0.lines h.numbers h.names in
+    lifted-both t p.0 h.numbers (first_of_two p.1) (last_of_two p.1) n.first_is n.last_is n.first_in n.last_in le h.stands
+lifted-given (One b) d g t p h le =
+    subst (λ (l : ℕ). Lifted p.0 (first_of_two p.1) l (lifted_range (One b) t.zone) t) (h.names.same tt)
+    (lifted-one t p.0 h.numbers (first_of_two p.1) h.names.first_is h.names.first_in h.stands)
+lifted-given (Comma b c) d g t p h le = lifted-both t p.0 h.numbers (first_of_two p.1) (last_of_two p.1) h.names.first_is h.names.last_is h.names.first_in h.names.last_in le h.stands
+lifted-given (Semicolon b c) d g t p h le = lifted-both t p.0 h.numbers (first_of_two p.1) (last_of_two p.1) h.names.first_is h.names.last_is h.names.first_in h.names.last_in le h.stands
+
+names-order : (a b : ℕ) (s : State) (e : editor.State) (v : Numbers) → StandsBy s e v → v 3 ≡ pos a → v 4 ≡ pos b → known s.zone 3 4 (pos 0) ≡ true → a ≤ b
+names-order a b s e v st va vb k =
+    let d = known-true s.zone v 3 4 (pos 0) k (omega arith) (omega arith) st.buffer.holds in
+    omega (arith, ints)
+
+-- the lines of `c`
+lines-sound : (given d : Addresses) → IsGiven d → (t : State) (p : editor.State × List ℕ) → Addressed (NamesOf (given_or given d)) t p →
+    Agrees (InRange p.0) (taken many.Lines given (given_or given d) t) (spanned many.Lines (length p.0.lines) p.1)
+lines-sound given d g t p h =
+    let a : ℕ = first_of_two p.1 in
+    let b : ℕ = last_of_two p.1 in
+    let n = names-given (given_or given d) (given_or-given given d g) p.1 p.0.lines h.numbers h.names in
+    let u : State = with_zone (lifted_range given t.zone) t in
+    let both : known t.zone 3 4 (pos 0) ≡ true → Agrees (InRange p.0) (ranged u) (spanned many.Lines (length p.0.lines) p.1) = λ (k : known t.zone 3 4 (pos 0) ≡ true).
+    let le = names-order a b t p.0 h.numbers h.stands n.first_is n.last_is k in
+    let q = lifted-given given d g t p h le in
+    lifted-range p.0 u a b q.0 q.1 q.2 q.3 le p.1 refl refl in
+    Agrees-need_then (InRange p.0) (known t.zone 3 4 (pos 0)) fault.Address u ranged (spanned many.Lines (length p.0.lines) p.1) both
+
+abbrev Equal : Numbers → Type 0
+Equal v = v 3 ≡ v 4
+
+-- `j`: with one address nothing happens
+join-sound : (c : Command) (given d : Addresses) → IsGiven d → (s : State) (e : editor.State) (start : Stands s e) (t : State) (p : editor.State × List ℕ) → Addressed (NamesOf (given_or given d)) t p →
+    Agrees Final (ranged t >> λ u. suffixed c.suffix (with_zone (ended (joined_given given c.listed s u).marks (joined_given given c.listed s u).zone) (joined_given given c.listed s u)))
+    (spanned many.Range (length e.lines) p.1 >> λ x. completed c e (Makes (effects.join x p.0)))
+join-sound c Without d g s e start t p h =
+    Agrees-bind (RangeWith Nothing_more p.0) Final (ranged t) (spanned many.Range (length e.lines) p.1) _ _ (range-sound d g t p (length e.lines) h)
+    (λ u x r. finish-sound c e (joined c.listed s u) (Makes (effects.join x p.0)) (join-follows c.listed s e start u p.0 x r.0))
+join-sound c (One b) d g s e start t p h =
+    let same : h.numbers 3 ≡ h.numbers 4 = h.names.first_is ∙ ap pos (h.names.same tt) ∙ sym h.names.last_is in
+    Agrees-bind (RangeWith Equal p.0) Final (ranged t) (spanned many.Range (length e.lines) p.1) _ _
+    (range-with Equal t p.0 p.1 h.numbers (length e.lines) h.stands (names-given (One b) tt p.1 p.0.lines h.numbers h.names) same)
+    (λ u x r. let f = r.0.spans.first_is in let l = r.0.spans.last_is in let q = r.1 in
+    finish-sound c e u (Makes (effects.join x p.0)) (join-one c.listed e u p.0 x r.0 (omega (arith, ints))))
+join-sound c (Comma a b) d g s e start t p h =
+    Agrees-bind (RangeWith Nothing_more p.0) Final (ranged t) (spanned many.Range (length e.lines) p.1) _ _ (range-sound (Comma a b) tt t p (length e.lines) h)
+    (λ u x r. finish-sound c e (joined c.listed s u) (Makes (effects.join x p.0)) (join-follows c.listed s e start u p.0 x r.0))
+join-sound c (Semicolon a b) d g s e start t p h =
+    Agrees-bind (RangeWith Nothing_more p.0) Final (ranged t) (spanned many.Range (length e.lines) p.1) _ _ (range-sound (Semicolon a b) tt t p (length e.lines) h)
+    (λ u x r. finish-sound c e (joined c.listed s u) (Makes (effects.join x p.0)) (join-follows c.listed s e start u p.0 x r.0))
+
+-- the target has its value in t3
+record Targeted (p : editor.State) (vs : List ℕ) (t : State) (q : editor.State × ℕ) : Type 0 where
+  pub numbers : Numbers
+  pub stands : StandsBy t q.0 numbers
+  pub names : Names ⊥ vs q.0.lines numbers
+  pub target_is : numbers 5 ≡ pos q.1
+  pub target_in : q.1 ≤ length q.0.lines
+  pub same_lines : q.0.lines ≡ p.lines
+
+targeted-sound : (to : Address) (t : State) (p : editor.State) (vs : List ℕ) (v : Numbers) → StandsBy t p v → Names ⊥ vs p.lines v →
+    Agrees (Targeted p vs) (evaluated 5 to t) (targeted (Some to) p)
+targeted-sound to t p vs v st n =
+    Agrees-map (Valued 5 (concrete.evaluated to p) v) (Targeted p vs) (evaluated 5 to t) (value to p) (λ m. (concrete.evaluated to p, m)) (valued-sound 5 to t p v (omega arith) (omega arith) st)
+    (λ u m r. record {
+      numbers = updated v 5 (pos m);
+      stands = r.0;
+      names = record { first_is = n.first_is; last_is = n.last_is; first_in = n.first_in; last_in = n.last_in; same = n.same };
+      target_is = refl;
+      target_in = r.1;
+      same_lines = refl;
+    })
+
+abbrev At_target : ℕ → Numbers → Type 0
+At_target n v = v 5 ≡ pos n
+
+-- the phases after the addresses, a verb at a time
+module _ (c : Command) (answer : Option Answer) (given d : Addresses) (s : State) (e : editor.State) (start : Stands s e) (known_letters : KnowLetters e.lines) (once : AtMostOnce e.lines) (t : State) (p : editor.State × List ℕ) (same_lines : p.0.lines ≡ e.lines) (h : Addressed (NamesOf (given_or given d)) t p) where
+  pub after_addresses : (verb : Verb) → Suits (takes verb).taking d →
+      Agrees Final
+      (addresses.targeted (takes verb).target t >> λ q. taken (takes verb).taking given (given_or given d) q >> λ u. effect c.listed given verb s u >> λ r. suffixed c.suffix (with_zone (ended r.marks r.zone) r))
+      (targeted (takes verb).target p.0 >> λ q. spanned (takes verb).taking (length e.lines) p.1 >> λ x. effect_of verb c.listed x q.1 q.0 answer >> completed c e)
+  after_addresses (ed.Append text) g =
+      finish-sound c e (appended c.listed s (length text) (last_given (given_or given d) t)) (Makes (effects.append text (span (last_of_two p.1) (last_of_two p.1)) p.0))
+      (append-follows c.listed text s e start (last_given (given_or given d) t) p.0 (span (last_of_two p.1) (last_of_two p.1)) (last_given-spans (given_or given d) (given_or-given given d g) t p h))
+  after_addresses (ed.Insert text) g =
+      Agrees-bind (FirstPlaces p.0) Final (taken many.FirstPlace given (given_or given d) t) (spanned many.FirstPlace (length e.lines) p.1) _ _ (first_place-sound given (given_or given d) (given_or-given given d g) t p (length e.lines) h)
+      (λ u x r. finish-sound c e (put_before c.listed s (length text) u) (Makes (effects.insert text x p.0)) (insert-follows c.listed text s e start u p.0 x r.0 r.1 r.2 r.3 r.4))
+  after_addresses (ed.Change text) g =
+      Agrees-bind (InRange p.0) Final (taken many.Lines given (given_or given d) t) (spanned many.Lines (length e.lines) p.1) _ _
+      (subst (λ (ls : List Line). Agrees (InRange p.0) (taken many.Lines given (given_or given d) t) (spanned many.Lines (length ls) p.1)) same_lines (lines-sound given d g t p h))
+      (λ u x r. finish-sound c e (modified c.listed s (replaced (length text) u)) (Makes (effects.change text x p.0)) (change-follows c.listed text s e start u p.0 x r))
+  after_addresses ed.Delete g =
+      Agrees-bind (RangeWith Nothing_more p.0) Final (ranged t) (spanned many.Range (length e.lines) p.1) _ _ (range-sound (given_or given d) (given_or-given given d g) t p (length e.lines) h)
+      (λ u x r. finish-sound c e (modified c.listed s (replaced 0 u)) (Makes (effects.delete x p.0)) (delete-follows c.listed s e start u p.0 x r.0))
+  after_addresses ed.Join g = join-sound c given d g s e start t p h
+  after_addresses (ed.Mark letter) g =
+      Agrees-bind (AtLine p.0) Final (taken many.OneLine given (given_or given d) t) (spanned many.OneLine (length e.lines) p.1) _ _ (one_line-sound given (given_or given d) (given_or-given given d g) t p (length e.lines) h)
+      (λ u x r. Agrees-need_then Final (nat_lt letter 26 && known u.zone 3 2 (pos 0)) fault.Address (marked letter u) (λ w. suffixed c.suffix (with_zone (ended w.marks w.zone) w)) (completed c e (Makes (effects.mark letter x p.0)))
+      (λ k. finish-sound c e (marked letter u) (Makes (effects.mark letter x p.0))
+      (mark-follows c.listed letter e u p.0 x r.0 r.1 (ltb-true letter 26 (and-both (nat_lt letter 26) (known u.zone 3 2 (pos 0)) k).0)
+      (subst (λ (ls : List Line). KnowLetters ls) (sym same_lines) known_letters))))
+  after_addresses (ed.Move to) g =
+      let n = names-given (given_or given d) (given_or-given given d g) p.1 p.0.lines h.numbers h.names in
+      Agrees-bind (Targeted p.0 p.1) Final (evaluated 5 to t) (targeted (Some to) p.0) _ _ (targeted-sound to t p.0 p.1 h.numbers h.stands n)
+      (λ u q k. Agrees-bind (RangeWith (At_target q.1) q.0) Final (ranged u) (spanned many.Range (length e.lines) p.1) _ _
+      (range-with (At_target q.1) u q.0 p.1 k.numbers (length e.lines) k.stands k.names k.target_is)
+      (λ w x r. Agrees-bind (Follows c.listed e) Final (moved_lines c.listed s w) (making (effects.move x q.1 q.0)) _ _
+      (move-follows c.listed s e start w q.0 x q.1 r.0 r.1 k.target_in (subst (λ (ls : List Line). AtMostOnce ls) (sym (k.same_lines ∙ same_lines)) once))
+      (λ m f i. finish-sound c e m f i)))
+  after_addresses (ed.Copy to) g =
+      let n = names-given (given_or given d) (given_or-given given d g) p.1 p.0.lines h.numbers h.names in
+      Agrees-bind (Targeted p.0 p.1) Final (evaluated 5 to t) (targeted (Some to) p.0) _ _ (targeted-sound to t p.0 p.1 h.numbers h.stands n)
+      (λ u q k. Agrees-bind (RangeWith (At_target q.1) q.0) Final (ranged u) (spanned many.Range (length e.lines) p.1) _ _
+      (range-with (At_target q.1) u q.0 p.1 k.numbers (length e.lines) k.stands k.names k.target_is)
+      (λ w x r. finish-sound c e (copied_lines c.listed s w) (Makes (effects.copy x q.1 q.0))
+      (copy-follows c.listed s e start w q.0 x q.1 r.0 r.1 k.target_in)))
+  after_addresses ed.LineNumber g =
+      let r = last_given-spans (given_or given d) (given_or-given given d g) t p h in
+      finish-sound c e (last_given (given_or given d) t) (Makes (effects.line_number (span (last_of_two p.1) (last_of_two p.1)) p.0)) (r.numbers, r.stands)
+  after_addresses ed.Null g =
+      Agrees-bind (AtLine p.0) Final (taken many.OneLine given (given_or given d) t) (spanned many.OneLine (length e.lines) p.1) _ _ (one_line-sound given (given_or given d) (given_or-given given d g) t p (length e.lines) h)
+      (λ u x r.
+      let f = r.0.spans.first_is in
+      let same = r.1 in
+      finish-sound c e (copied 1 3 u) (Makes (effects.write ed.Plain x p.0))
+      (updated r.0.spans.numbers 1 (pos x.last), StandsBy-current u p.0 r.0.spans.numbers 3 (pos 0) x.last (omega arith) (omega (arith, ints)) r.0.spans.last_in r.0.spans.stands))
+  after_addresses (ed.Write form) g =
+      Agrees-bind (RangeWith Nothing_more p.0) Final (ranged t) (spanned many.Range (length e.lines) p.1) _ _ (range-sound (given_or given d) (given_or-given given d g) t p (length e.lines) h)
+      (λ u x r.
+      let l = r.0.spans.last_is in
+      finish-sound c e (copied 1 4 u) (Makes (effects.write form x p.0))
+      (updated r.0.spans.numbers 1 (pos x.last), StandsBy-current u p.0 r.0.spans.numbers 4 (pos 0) x.last (omega arith) (omega (arith, ints)) r.0.spans.last_in r.0.spans.stands))
+  after_addresses ed.Help g = finish-sound c e t (Makes (effects.only p.0 [])) (h.numbers, h.stands)
+  after_addresses ed.HelpMode g = finish-sound c e t (Makes (effects.only p.0 [])) (h.numbers, h.stands)
+  after_addresses ed.PromptMode g = finish-sound c e t (Makes (effects.only p.0 [])) (h.numbers, h.stands)
+  after_addresses ed.QuitAnyway g = finish-sound c e t (Makes (effects.only p.0 [])) (h.numbers, h.stands)
+
+-- a command as one chain of phases
+pub command-is : (c : Command) (e : editor.State) (answer : Option Answer) →
+    command e c answer ≡ values (given_or c.addresses (takes c.verb).default) e >> λ v. targeted (takes c.verb).target v.0 >> λ q. spanned (takes c.verb).taking (length e.lines) v.1 >> λ x. effect_of c.verb c.listed x q.1 q.0 answer >> completed c e
+command-is c e answer =
+    chain (values (given_or c.addresses (takes c.verb).default) e) (λ v. targeted (takes c.verb).target v.0) (λ v q. spanned (takes c.verb).taking (length e.lines) v.1)
+    (λ v q x. record { state = q.0; span = x; target = q.1 }) (λ r. effect_of c.verb c.listed r.span r.target r.state answer >> completed c e)
+
+pub phases_sound : (c : Command) (s : State) (e : editor.State) (answer : Option Answer) → AreLettered e.lines → Stands s e → Agrees Final (step c s) (command e c answer)
+phases_sound c s e answer letters st =
+    let d : Addresses = standing (takes c.verb).default in
+    let a : Addresses = given_or c.addresses d in
+    subst (λ (y : Result Effect Fault). Agrees Final (step c s) y) (sym (command-is c e answer))
+    (Agrees-bind (AddressedIn e.lines (NamesOf a)) Final (addressed a s) (values (given_or c.addresses (takes c.verb).default) e) _ _ (command_addressed c.addresses c.verb s e st)
+    (λ t p h. after_addresses c answer c.addresses d s e st letters.known letters.once t p h.1 h.0 c.verb (suits c.verb)))

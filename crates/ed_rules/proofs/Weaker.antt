@@ -1,0 +1,68 @@
+-- Weaker states stand for more.
+use Rattle.std.proofs.Common.{◌≡◌, ◌<◌, ℕ, Bool, true, false, cond, List, Option, None, Some}
+use Rattle.std.specs.List.{list_any}
+use Rattle.zones.specs.Zone as zones
+use Rattle.zones.specs.Zone.{Bounds, Numbers}
+use Rattle.zones.proofs.Soundness.{Holds-covers}
+use Rattle.ed_base.specs.Buffer.{Line}
+use Rattle.ed_syntax.specs.declared.replacement.Part.{Part}
+use Rattle.ed_syntax.specs.States as editor
+use Rattle.ed_syntax.specs.States.{Past, Nothing, Same, Was, Kept}
+use Rattle.ed_rules.specs.declared.state.Old.{Old}
+use Rattle.ed_rules.specs.declared.state.State.{State}
+use Rattle.ed_rules.specs.Order.{join, widen, CoversOld, Covers}
+use Rattle.ed_rules.specs.StandsFor.{StandsFor, AllowsKept, AllowsPast, allows_change, allows_replacement, is_split}
+use Rattle.ed_rules.proofs.Choosing.{has-are_choices}
+use Rattle.ed_rules.proofs.Joining.{HoldsBy-fewer, Stands-join, Stands-join_other, Stands-widen, Stands-widen_other}
+
+pub StandsFor-join : (one other : State) (e : editor.State) → StandsFor one e → StandsFor (join one other) e
+StandsFor-join one other e st = let q = Stands-join one other e (st.numbers, st.stands) in record { numbers = q.0; stands = q.1; lines = st.lines; kept = st.kept }
+
+pub StandsFor-join_other : (one other : State) (e : editor.State) → StandsFor other e → StandsFor (join one other) e
+StandsFor-join_other one other e st = let q = Stands-join_other one other e (st.numbers, st.stands) in record { numbers = q.0; stands = q.1; lines = st.lines; kept = st.kept }
+
+pub StandsFor-widen : (old new : State) (e : editor.State) → StandsFor old e → StandsFor (widen old new) e
+StandsFor-widen old new e st = let q = Stands-widen old new e (st.numbers, st.stands) in record { numbers = q.0; stands = q.1; lines = st.lines; kept = st.kept }
+
+pub StandsFor-widen_other : (old new : State) (e : editor.State) → StandsFor new e → StandsFor (widen old new) e
+StandsFor-widen_other old new e st = let q = Stands-widen_other old new e (st.numbers, st.stands) in record { numbers = q.0; stands = q.1; lines = st.lines; kept = st.kept }
+
+kept-covers : (weak strong : Option Old) (k : Kept) → CoversOld weak strong → AllowsKept strong k → AllowsKept weak k
+kept-covers weak None k c h = absurd h
+kept-covers None (Some strong) k c h = absurd c
+kept-covers (Some weak) (Some strong) k c h =
+    (h.0, HoldsBy-fewer strong.zone weak.zone strong.marks weak.marks k.lines k.current h.0 c.1 (Holds-covers weak.zone strong.zone h.0 c.0 h.1.holds) h.1)
+
+past-covers : (weak strong : State) (p : Past) → Covers weak strong → AllowsPast strong.undo p → AllowsPast weak.undo p
+past-covers weak strong Nothing c h = c.nothing h
+past-covers weak strong Same c h = c.same h
+past-covers weak strong (Was k) c h = kept-covers weak.undo.was strong.undo.was k c.was h
+
+change-covers : (weak strong : State) (b : Bool) → Covers weak strong → allows_change strong.changed b ≡ true → allows_change weak.changed b ≡ true
+change-covers weak strong true c h = c.changed h
+change-covers weak strong false c h = c.unchanged h
+
+replacement-covers : (weak strong : State) (r : Option (List Part)) → Covers weak strong → allows_replacement strong.replacements r ≡ true → allows_replacement weak.replacements r ≡ true
+replacement-covers weak strong None c h = c.no_replacement h
+replacement-covers weak strong (Some parts) c h =
+    (elim (list_any is_split parts) as (λ b. cond b strong.replacements.split strong.replacements.plain ≡ true → cond b weak.replacements.split weak.replacements.plain ≡ true) [
+      | true ↦ λ k. c.split_replacement k
+      | false ↦ λ k. c.plain_replacement k
+    ]) h
+
+pub StandsFor-covers : (weak strong : State) (e : editor.State) → Covers weak strong → StandsFor strong e → StandsFor weak e
+StandsFor-covers weak strong e c st = record {
+  numbers = st.numbers;
+  stands = record {
+    buffer = HoldsBy-fewer strong.zone weak.zone strong.marks weak.marks e.lines e.current st.numbers c.marks (Holds-covers weak.zone strong.zone st.numbers c.zone st.stands.buffer.holds) st.stands.buffer;
+    remembered = (
+      has-are_choices strong.patterns weak.patterns e.pattern c.patterns st.stands.remembered.0,
+      replacement-covers weak strong e.replacement c st.stands.remembered.1,
+      has-are_choices strong.names weak.names e.name c.names st.stands.remembered.2,
+    );
+    changed = change-covers weak strong e.changed c st.stands.changed;
+    past = past-covers weak strong e.past c st.stands.past;
+  };
+  lines = st.lines;
+  kept = st.kept;
+}

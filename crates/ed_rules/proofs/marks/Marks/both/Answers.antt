@@ -1,0 +1,12 @@
+use Rattle.std.proofs.Common.{arith}
+use Rattle.ed_rules.proofs.Letters.{both_sure-each}
+use Rattle.ed_rules.proofs.marks.Marks.both.Goals as goal
+
+pub invariant_of-result : goal.invariant_of-result
+invariant_of-result c = c.loop-letter.invariant.size
+
+pub returns : goal.returns
+returns c = record {
+  value = rw (← c.self.view_is, ← c.other.view_is)
+      (both_sure-each c.loop-letter.sure c.self.inside.sure c.other.inside.sure c.loop-letter.invariant.size (λ k h. c.loop-letter.invariant.done k (omega arith)));
+}

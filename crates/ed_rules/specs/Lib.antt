@@ -1,0 +1,14 @@
+-- what a reader has to believe, in the order of reading
+pub mod Choices
+pub mod Marks
+pub mod States
+pub mod StandsFor
+pub mod Order
+pub mod Pieces
+pub mod Addresses
+pub mod Lines
+pub mod Move
+pub mod Rules
+pub mod Soundness
+-- what only serves clauses inside the crate
+pub mod Reaching

@@ -1,0 +1,123 @@
+-- The pieces that rules share: needs, the end of a rule, the change of a buffer, insertion, line 0 as 1, replacement.
+use Rattle.std.specs.Prelude.{ℕ, zero, suc, ℤ, pos, negsuc, ◌-ℤ◌, Bool, true, false, List, Option, Some, None, slice_set, if◌then◌else◌, Result, Ok, Err}
+use Rattle.ed_base.specs.declared.fault.Fault.{Fault}
+use Rattle.zones.specs.Name as name
+use Rattle.zones.specs.Name.{current_line, last_line, first_address, second_address, target_address}
+use Rattle.zones.specs.Bound.{negative_of, sum_of}
+use Rattle.zones.specs.Zone.{Bounds}
+use Rattle.zones.specs.Known.{known, least, greatest}
+use Rattle.zones.specs.Steps.{after_guard, after_set, after_shift, after_forget}
+use Rattle.ed_rules.specs.declared.state.Undo.{Undo}
+use Rattle.ed_rules.specs.declared.state.State.{State}
+use Rattle.ed_rules.specs.Marks.{mark_name, for_each_sure}
+use Rattle.ed_rules.specs.States.{changed, old_of, undo_to}
+
+-- what a need gives: the value where it is met, else its fault
+abbrev pub needing : {A : Type 0} → Bool → Fault → A → Result A Fault
+needing met fault a = if met then Ok a else Err fault
+
+abbrev pub with_zone : Bounds → State → State
+with_zone zone s = record s { zone = zone }
+
+-- a guard; one with an unbounded number is left out
+abbrev pub guarded_by : Bounds → ℕ → ℕ → Option ℤ → Bounds
+guarded_by zone x y None = zone
+guarded_by zone x y (Some c) = after_guard zone x y c
+
+-- THE END OF EACH RULE
+
+-- a line that is marked lies from 1 to the last line
+unfoldable pub mark_bounded : ℕ → Bounds → Bounds
+mark_bounded letter zone = after_guard (after_guard zone name.zero (mark_name letter) (negsuc 0)) (mark_name letter) last_line (pos 0)
+
+-- the addresses are forgotten, and what all buffers have is taken up
+unfoldable pub ended : List Bool → Bounds → Bounds
+ended marks zone =
+    for_each_sure mark_bounded marks 26
+    (after_guard
+    (after_guard (after_forget (after_forget (after_forget zone first_address) second_address) target_address) name.zero current_line (pos 0))
+    current_line last_line (pos 0))
+
+-- MOD
+
+-- what undo may find after a change: outside lists the buffer at the command's start
+abbrev pub undo_after : (listed : Bool) → (start : State) → Undo → Undo
+undo_after true start undo = undo
+undo_after false start undo = undo_to (old_of start)
+
+-- the buffer was changed by a command that began in the state `start`
+abbrev pub modified : (listed : Bool) → (start : State) → State → State
+modified listed start s = record s { changed = changed; undo = undo_after listed start s.undo }
+
+-- INS
+
+-- one mark, where low to high lines come after x + c
+unfoldable pub mark_pushed : ℕ → ℤ → Option ℤ → Option ℤ → ℕ → Bounds → Bounds
+mark_pushed x c low high letter zone =
+    if known zone (mark_name letter) x c then zone
+    else if known zone x (mark_name letter) (negsuc 0 -ℤ c) then after_shift zone (mark_name letter) low high
+    else after_shift zone (mark_name letter) (Some (pos 0)) high
+
+-- low to high lines come after x + c
+unfoldable pub inserted : ℕ → ℤ → Option ℤ → Option ℤ → List Bool → Bounds → Bounds
+inserted x c low high marks zone = after_shift (for_each_sure (mark_pushed x c low high) marks 26 zone) last_line low high
+
+-- LIFT
+
+-- 0 stands for 1
+unfoldable pub lifted : ℕ → Bounds → Bounds
+lifted x zone =
+    if known zone x name.zero (pos 0) then after_set zone x name.zero (pos 1)
+    else if known zone name.zero x (negsuc 0) then zone
+    else (let raised = after_guard (after_shift zone x (Some (pos 0)) (Some (pos 1))) name.zero x (negsuc 0) in
+    if known raised name.zero last_line (negsuc 0) then after_guard raised x last_line (pos 0) else raised)
+
+-- REPL
+
+-- the line of the letter is after the second address, and moves as the lines between become n
+unfoldable pub mark_moved : ℕ → ℕ → State → State
+mark_moved n letter s =
+    with_zone
+    (after_shift s.zone (mark_name letter) (sum_of (least s.zone first_address second_address) (Some (pos n -ℤ pos 1)))
+    (sum_of (greatest s.zone first_address second_address) (Some (pos n -ℤ pos 1)))) s
+
+-- the line of the letter may be gone
+unfoldable pub mark_lost : ℕ → State → State
+mark_lost letter s = record s { zone = after_forget s.zone (mark_name letter); marks = slice_set s.marks letter false }
+
+-- one letter of the replacement of the addressed lines by n lines
+unfoldable pub mark_replaced : ℕ → ℕ → State → State
+mark_replaced n letter s =
+    if known s.zone (mark_name letter) first_address (negsuc 0) then s
+    else if known s.zone second_address (mark_name letter) (negsuc 0) then mark_moved n letter s
+    else mark_lost letter s
+
+-- the target becomes the number of lines that are left; the distances are those in the zone before
+unfoldable pub left_over : (before : Bounds) → Bounds → Bounds
+left_over before zone =
+    guarded_by
+    (guarded_by
+    (after_shift (after_set zone target_address last_line (negsuc 0)) target_address (least before first_address second_address)
+    (greatest before first_address second_address))
+    target_address first_address (sum_of (greatest before last_line second_address) (Some (negsuc 0))))
+    first_address target_address (sum_of (greatest before second_address last_line) (Some (pos 1)))
+
+-- the current line after a deletion
+unfoldable pub current_left : Bounds → Bounds
+current_left zone =
+    if known zone first_address target_address (pos 0) then after_set zone current_line first_address (pos 0)
+    else if known zone target_address first_address (negsuc 0) then after_set zone current_line target_address (pos 0)
+    else after_guard
+    (after_guard (after_guard (after_forget zone current_line) first_address current_line (pos 1)) current_line first_address (pos 0))
+    current_line target_address (pos 0)
+
+-- the current line after n lines took the place of the addressed ones
+unfoldable pub current_replaced : ℕ → Bounds → Bounds
+current_replaced zero zone = current_left zone
+current_replaced (suc n) zone = after_set zone current_line first_address (pos n)
+
+-- the addressed lines are replaced by n lines
+unfoldable pub replaced : ℕ → State → State
+replaced n s =
+    let marked = for_each_sure (mark_replaced n) s.marks 26 s in
+    with_zone (after_set (current_replaced n (left_over s.zone marked.zone)) last_line target_address (pos n)) marked

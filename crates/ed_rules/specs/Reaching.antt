@@ -1,0 +1,15 @@
+-- What the calls of this crate answer that go over from one state to another.
+use Rattle.std.specs.Prelude.{◌≡◌, ◌≢◌, Result, Ok, Err}
+use Rattle.ed_base.specs.declared.fault.Fault.{Fault}
+use Rattle.ed_base.specs.declared.fault.Fault.TheVariants.{Memory}
+use Rattle.ed_rules.specs.declared.state.State.{State}
+
+-- a call reaches the state, or answers the fault, that it should; memory may run out at any time
+abbrev pub Reaches : Result (Unit {0}) Fault → State → Result State Fault → Type 0
+Reaches (Ok u) t should = should ≡ Ok t
+Reaches (Err f) t should = f ≢ Memory → should ≡ Err f
+
+-- the same of a call that gives the state
+abbrev pub Steps : Result State Fault → Result State Fault → Type 0
+Steps (Ok t) should = should ≡ Ok t
+Steps (Err f) should = f ≢ Memory → should ≡ Err f

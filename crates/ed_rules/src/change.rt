@@ -1,0 +1,74 @@
+//! What rules do to a whole state when the buffer changes: the change itself, and the replacement of lines.
+
+ghost use Rattle.std.specs.Prelude.{◌≡◌, ◌<◌};
+ghost use Rattle.ed_rules.specs.Marks.{for_each_sure};
+ghost use Rattle.ed_rules.specs.Pieces.{modified, mark_moved, mark_lost, mark_replaced, replaced};
+ghost use Rattle.ed_rules.specs.States.{old_of};
+
+use crate::marks::Marks;
+use crate::pieces::{mark, move_mark, set_current_replaced, set_left_over};
+use crate::state::{Changed, Old, State, Undo};
+use zones::Name;
+
+impl State {
+    /// The buffer was changed by a command that began with `before`.
+    pub(crate) fn modify(&mut self, listed: bool, before: &State)
+        ensures exact { self.new ≡ modified listed before.now self.old }
+    {
+        self.changed = Changed::YES;
+        if !listed {
+            self.undo = Undo {
+                nothing: false,
+                same: false,
+                was: Some(before.old()),
+            };
+        }
+    }
+
+    #[tactic(auto, unfolding(crate::specs::Pieces::mark_lost))]
+    fn lose_mark(&mut self, letter: usize)
+        requires letter { letter < 26 }
+        ensures exact { self.new ≡ mark_lost letter self.old }
+    {
+        self.zone.forget(mark(letter));
+        self.marks.remove(letter);
+    }
+
+    #[tactic(auto, unfolding(crate::specs::Pieces::mark_replaced, crate::specs::Pieces::mark_moved))]
+    fn replace_mark(&mut self, count: usize, letter: usize)
+        requires letter { letter < 26 }
+        ensures exact { self.new ≡ mark_replaced count letter self.old }
+    {
+        if !self.zone.is_known(mark(letter), Name::FIRST_ADDRESS, -1) {
+            if self.zone.is_known(Name::SECOND_ADDRESS, mark(letter), -1) {
+                move_mark(&mut self.zone, count, letter);
+            } else {
+                self.lose_mark(letter);
+            }
+        }
+    }
+
+    fn replace_marks(&mut self, count: usize, marks: &Marks)
+        ensures exact { self.new ≡ for_each_sure (mark_replaced count) marks.now 26 self.old }
+    {
+        for letter in 0..26 {
+            if marks.is_sure(letter) {
+                self.replace_mark(count, letter);
+            }
+        }
+    }
+
+    /// The addressed lines give way to `count` lines.
+    #[tactic(auto, unfolding(crate::specs::Pieces::replaced))]
+    pub(crate) fn replace(&mut self, count: usize)
+        ensures exact { self.new ≡ replaced count self.old }
+    {
+        let before = self.zone;
+        let marks = self.marks;
+        self.replace_marks(count, &marks);
+        set_left_over(&mut self.zone, &before);
+        set_current_replaced(&mut self.zone, count);
+        self.zone
+            .set_wide(Name::LAST_LINE, Name::TARGET_ADDRESS, count as i128);
+    }
+}

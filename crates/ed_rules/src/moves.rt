@@ -1,0 +1,143 @@
+//! The rule of `m`.
+
+ghost use Rattle.std.specs.Prelude.{◌≡◌, ◌<◌, ◌+ℤ◌, ◌≤ℤ◌, ◌^◌, pos};
+ghost use Rattle.ed_rules.specs.Marks.{for_each_sure};
+ghost use Rattle.ed_rules.specs.Move.{less, mark_moved_up, moved_up, mark_moved_down, moved_down, moved_lines};
+ghost use Rattle.ed_rules.specs.Reaching.{Reaches};
+
+use crate::marks::Marks;
+use crate::pieces::{mark, plus};
+use crate::state::State;
+use ed_base::Fault;
+use zones::{Name, Zone};
+
+/// A number less a bound.
+fn less(number: i128, bound: Option<i64>) -> Option<i128>
+    requires small { (number ≤ℤ pos (2 ^ 65)) × (pos 0 ≤ℤ (number +ℤ pos (2 ^ 65))) }
+    ensures value { result ≡ less number bound }
+{
+    match bound {
+        Some(bound) => Some(-i128::from(bound) + number),
+        None => None,
+    }
+}
+
+/// One mark of a move up. All tests ask the zone before.
+#[tactic(auto, unfolding(crate::specs::Move::mark_moved_up))]
+fn move_mark_up(zone: &mut Zone, before: &Zone, letter: usize)
+    requires letter { letter < 26 }
+    ensures exact { zone.new ≡ mark_moved_up before.now letter zone.old }
+{
+    let x = mark(letter);
+    if before.is_known(x, Name::TARGET_ADDRESS, 0) || before.is_known(Name::SECOND_ADDRESS, x, -1) {
+        return;
+    }
+    if before.is_known(Name::TARGET_ADDRESS, x, -1) && before.is_known(x, Name::FIRST_ADDRESS, -1) {
+        let low = before.least(Name::SECOND_ADDRESS, Name::FIRST_ADDRESS);
+        let high = before.bound(Name::SECOND_ADDRESS, Name::FIRST_ADDRESS);
+        zone.shift_wide(x, plus(low, 1), plus(high, 1));
+    } else if before.is_known(Name::FIRST_ADDRESS, x, 0)
+        && before.is_known(x, Name::SECOND_ADDRESS, 0)
+    {
+        let low = before.least(Name::FIRST_ADDRESS, Name::TARGET_ADDRESS);
+        let high = before.bound(Name::FIRST_ADDRESS, Name::TARGET_ADDRESS);
+        zone.shift_wide(x, less(1, high), less(1, low));
+    } else {
+        zone.forget(x);
+    }
+}
+
+fn move_marks_up(zone: &mut Zone, before: &Zone, marks: &Marks)
+    ensures exact { zone.new ≡ for_each_sure (mark_moved_up before.now) marks.now 26 zone.old }
+{
+    for letter in 0..26 {
+        if marks.is_sure(letter) {
+            move_mark_up(zone, before, letter);
+        }
+    }
+}
+
+/// The target is above the lines.
+#[tactic(auto, unfolding(crate::specs::Move::moved_up))]
+fn move_up(before: &Zone, marks: &Marks) -> Zone
+    ensures exact { result ≡ moved_up marks.now before.now }
+{
+    let mut zone = *before;
+    zone.set(Name::CURRENT_LINE, Name::TARGET_ADDRESS, 1);
+    zone.shift(
+        Name::CURRENT_LINE,
+        before.least(Name::SECOND_ADDRESS, Name::FIRST_ADDRESS),
+        before.bound(Name::SECOND_ADDRESS, Name::FIRST_ADDRESS),
+    );
+    move_marks_up(&mut zone, before, marks);
+    zone
+}
+
+/// One mark of a move down. All tests ask the zone before.
+#[tactic(auto, unfolding(crate::specs::Move::mark_moved_down))]
+fn move_mark_down(zone: &mut Zone, before: &Zone, letter: usize)
+    requires letter { letter < 26 }
+    ensures exact { zone.new ≡ mark_moved_down before.now letter zone.old }
+{
+    let x = mark(letter);
+    if before.is_known(x, Name::FIRST_ADDRESS, -1) || before.is_known(Name::TARGET_ADDRESS, x, -1) {
+        return;
+    }
+    if before.is_known(Name::SECOND_ADDRESS, x, -1) && before.is_known(x, Name::TARGET_ADDRESS, 0) {
+        let low = before.least(Name::SECOND_ADDRESS, Name::FIRST_ADDRESS);
+        let high = before.bound(Name::SECOND_ADDRESS, Name::FIRST_ADDRESS);
+        zone.shift_wide(x, less(-1, high), less(-1, low));
+    } else if before.is_known(Name::FIRST_ADDRESS, x, 0)
+        && before.is_known(x, Name::SECOND_ADDRESS, 0)
+    {
+        let low = before.least(Name::TARGET_ADDRESS, Name::SECOND_ADDRESS);
+        let high = before.bound(Name::TARGET_ADDRESS, Name::SECOND_ADDRESS);
+        zone.shift(x, low, high);
+    } else {
+        zone.forget(x);
+    }
+}
+
+fn move_marks_down(zone: &mut Zone, before: &Zone, marks: &Marks)
+    ensures exact { zone.new ≡ for_each_sure (mark_moved_down before.now) marks.now 26 zone.old }
+{
+    for letter in 0..26 {
+        if marks.is_sure(letter) {
+            move_mark_down(zone, before, letter);
+        }
+    }
+}
+
+/// The target is after the lines.
+#[tactic(auto, unfolding(crate::specs::Move::moved_down))]
+fn move_down(before: &Zone, marks: &Marks) -> Zone
+    ensures exact { result ≡ moved_down marks.now before.now }
+{
+    let mut zone = *before;
+    zone.set(Name::CURRENT_LINE, Name::TARGET_ADDRESS, 0);
+    move_marks_down(&mut zone, before, marks);
+    zone
+}
+
+impl State {
+    /// `m`
+    pub(crate) fn move_lines(&mut self, listed: bool, before: &State) -> Result<(), Fault>
+        ensures exact { Reaches result self.new (moved_lines listed before.now self.old) }
+    {
+        if self
+            .zone
+            .is_known(Name::TARGET_ADDRESS, Name::FIRST_ADDRESS, -1)
+        {
+            self.zone = move_up(&self.zone, &self.marks);
+        } else if self
+            .zone
+            .is_known(Name::SECOND_ADDRESS, Name::TARGET_ADDRESS, -1)
+        {
+            self.zone = move_down(&self.zone, &self.marks);
+        } else {
+            return Err(Fault::Destination);
+        }
+        self.modify(listed, before);
+        Ok(())
+    }
+}

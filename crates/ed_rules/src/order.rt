@@ -1,0 +1,142 @@
+//! Joining, widening and comparing states.
+
+ghost use Rattle.std.specs.Prelude.{◌≡◌, IfOk, IsTrue, ◌↔◌};
+ghost use Rattle.ed_syntax.specs.States as editor;
+ghost use Rattle.ed_rules.specs.StandsFor.{StandsFor};
+ghost use Rattle.ed_rules.specs.Order.{old_of_both, changed_of_both, replacements_of_both, undo_of_both, join, widen, Allows, CoversOld, Covers};
+
+use crate::state::{Changed, Old, Replacements, State, Undo};
+use std::alloc::AllocError;
+
+impl State {
+    /// What both states say.
+    #[tactic(auto, unfolding(crate::specs::Order::join))]
+    pub fn join(&self, other: &State) -> Result<State, AllocError>
+        ensures value { IfOk result (λ joined. joined ≡ join self.now other.now) }
+
+        // It stands for all that either stands for.
+        ensures sound { IfOk result (λ joined. (e : editor.State) → StandsFor self.now e →
+            StandsFor joined e) }
+        ensures sound_of_other { IfOk result (λ joined. (e : editor.State) → StandsFor other.now e →
+            StandsFor joined e) }
+    {
+        let mut zone = self.zone;
+        zone.join(&other.zone);
+        Ok(State {
+            zone,
+            marks: self.marks.both(&other.marks),
+            patterns: self.patterns.union(&other.patterns)?,
+            replacements: replacements_of_both(&self.replacements, &other.replacements),
+            names: self.names.union(&other.names)?,
+            changed: changed_of_both(&self.changed, &other.changed),
+            undo: undo_of_both(&self.undo, &other.undo),
+        })
+    }
+
+    /// What both states say, but each bound of this one that rose in the newer is given up.
+    #[tactic(auto, unfolding(crate::specs::Order::widen))]
+    pub fn widen(&self, new: &State) -> Result<State, AllocError>
+        ensures value { IfOk result (λ widened. widened ≡ widen self.now new.now) }
+
+        // It stands for all that either stands for.
+        ensures sound { IfOk result (λ widened. (e : editor.State) → StandsFor self.now e →
+            StandsFor widened e) }
+        ensures sound_of_other { IfOk result (λ widened. (e : editor.State) → StandsFor new.now e →
+            StandsFor widened e) }
+    {
+        let mut zone = self.zone;
+        zone.widen(&new.zone);
+        Ok(State {
+            zone,
+            marks: self.marks.both(&new.marks),
+            patterns: self.patterns.union(&new.patterns)?,
+            replacements: replacements_of_both(&self.replacements, &new.replacements),
+            names: self.names.union(&new.names)?,
+            changed: changed_of_both(&self.changed, &new.changed),
+            undo: undo_of_both(&self.undo, &new.undo),
+        })
+    }
+
+    /// Whether this state is the weaker: the other one says all that it says. It takes no memory.
+    pub fn covers(&self, other: &State) -> bool
+        ensures exact { IsTrue result ↔ Covers self.now other.now }
+    {
+        self.zone.covers(&other.zone)
+            && self.marks.are_among(&other.marks)
+            && other.patterns.are_among(&self.patterns)
+            && allows(self.replacements.none, other.replacements.none)
+            && allows(self.replacements.plain, other.replacements.plain)
+            && allows(self.replacements.split, other.replacements.split)
+            && other.names.are_among(&self.names)
+            && allows(self.changed.no, other.changed.no)
+            && allows(self.changed.yes, other.changed.yes)
+            && allows(self.undo.nothing, other.undo.nothing)
+            && allows(self.undo.same, other.undo.same)
+            && old_covers(&self.undo.was, &other.undo.was)
+    }
+}
+
+/// Whether the weak side allows what the strong one does.
+fn allows(weak: bool, strong: bool) -> bool
+    ensures exact { IsTrue result ↔ Allows weak strong }
+{
+    weak || !strong
+}
+
+fn old_covers(weak: &Option<Old>, strong: &Option<Old>) -> bool
+    ensures exact { IsTrue result ↔ CoversOld weak.now strong.now }
+{
+    match (weak, strong) {
+        (_, None) => true,
+        (None, Some(_)) => false,
+        (Some(weak), Some(strong)) => {
+            weak.zone.covers(&strong.zone) && weak.marks.are_among(&strong.marks)
+        }
+    }
+}
+
+fn changed_of_both(one: &Changed, other: &Changed) -> Changed
+    ensures value { result ≡ changed_of_both one.now other.now }
+{
+    Changed {
+        no: one.no || other.no,
+        yes: one.yes || other.yes,
+    }
+}
+
+fn replacements_of_both(one: &Replacements, other: &Replacements) -> Replacements
+    ensures value { result ≡ replacements_of_both one.now other.now }
+{
+    Replacements {
+        none: one.none || other.none,
+        plain: one.plain || other.plain,
+        split: one.split || other.split,
+    }
+}
+
+fn undo_of_both(one: &Undo, other: &Undo) -> Undo
+    ensures value { result ≡ undo_of_both one.now other.now }
+{
+    Undo {
+        nothing: one.nothing || other.nothing,
+        same: one.same || other.same,
+        was: old_of_both(&one.was, &other.was),
+    }
+}
+
+fn old_of_both(one: &Option<Old>, other: &Option<Old>) -> Option<Old>
+    ensures value { result ≡ old_of_both one.now other.now }
+{
+    match (one, other) {
+        (Some(one), Some(other)) => {
+            let mut zone = one.zone;
+            zone.join(&other.zone);
+            Some(Old {
+                zone,
+                marks: one.marks.both(&other.marks),
+            })
+        }
+        (Some(one), None) => Some(*one),
+        (None, other) => *other,
+    }
+}

@@ -1,0 +1,215 @@
+//! The pieces that rules share, on a zone: the end of a rule, insertion, line 0 as 1.
+
+ghost use Rattle.std.specs.Prelude.{◌≡◌, ◌<◌, ◌+ℤ◌, ◌-ℤ◌, ◌≤ℤ◌, ◌^◌, pos, Some};
+ghost use Rattle.zones.specs.Bound.{sum_of, negative_of};
+ghost use Rattle.zones.specs.Zone.{bound};
+ghost use Rattle.zones.specs.Known.{least, greatest};
+ghost use Rattle.zones.specs.Steps.{after_shift};
+ghost use Rattle.ed_rules.specs.Marks.{mark_name, for_each_sure};
+ghost use Rattle.ed_rules.specs.Pieces.{guarded_by, mark_bounded, ended, mark_pushed, inserted, lifted, left_over, current_left, current_replaced};
+
+use crate::marks::Marks;
+use zones::{Name, Zone};
+
+/// The name of the line that a letter marks.
+pub(crate) fn mark(letter: usize) -> Name
+    requires letter { letter < 26 }
+    ensures value { result ≡ mark_name letter }
+{
+    Name::from_place(6 + letter)
+}
+
+/// A bound as a wide number.
+pub(crate) fn wide(bound: Option<i64>) -> Option<i128>
+    ensures value { result ≡ bound }
+{
+    match bound {
+        Some(number) => Some(i128::from(number)),
+        None => None,
+    }
+}
+
+/// A bound plus a number.
+pub(crate) fn plus(bound: Option<i64>, number: i128) -> Option<i128>
+    requires small { (number ≤ℤ pos (2 ^ 65)) × (pos 0 ≤ℤ (number +ℤ pos (2 ^ 65))) }
+    ensures value { result ≡ sum_of bound (Some number) }
+{
+    match bound {
+        Some(bound) => Some(i128::from(bound) + number),
+        None => None,
+    }
+}
+
+/// A guard, left out where its number is unbounded.
+fn guard_by(zone: &mut Zone, x: Name, y: Name, c: Option<i128>)
+    ensures exact { zone.new ≡ guarded_by zone.old x y c }
+{
+    if let Some(c) = c {
+        zone.guard_wide(x, y, c);
+    }
+}
+
+#[tactic(auto, unfolding(crate::specs::Pieces::mark_bounded))]
+fn bound_mark(zone: &mut Zone, letter: usize)
+    requires letter { letter < 26 }
+    ensures exact { zone.new ≡ mark_bounded letter zone.old }
+{
+    zone.guard(Name::ZERO, mark(letter), -1);
+    zone.guard(mark(letter), Name::LAST_LINE, 0);
+}
+
+fn bound_marks(zone: &mut Zone, marks: &Marks)
+    ensures exact { zone.new ≡ for_each_sure mark_bounded marks.now 26 zone.old }
+{
+    for letter in 0..26 {
+        if marks.is_sure(letter) {
+            bound_mark(zone, letter);
+        }
+    }
+}
+
+/// The end of each rule: the addresses are forgotten, and what all buffers have is taken up.
+#[tactic(auto, unfolding(crate::specs::Pieces::ended))]
+pub(crate) fn end(zone: &mut Zone, marks: &Marks)
+    ensures exact { zone.new ≡ ended marks.now zone.old }
+{
+    zone.forget(Name::FIRST_ADDRESS);
+    zone.forget(Name::SECOND_ADDRESS);
+    zone.forget(Name::TARGET_ADDRESS);
+    zone.guard(Name::ZERO, Name::CURRENT_LINE, 0);
+    zone.guard(Name::CURRENT_LINE, Name::LAST_LINE, 0);
+    bound_marks(zone, marks);
+}
+
+/// One mark, where `low` to `high` lines come after `x + c`.
+#[tactic(auto, unfolding(crate::specs::Pieces::mark_pushed))]
+fn push_mark(zone: &mut Zone, x: Name, c: i64, low: Option<i128>, high: Option<i128>, letter: usize)
+    requires letter { letter < 26 }
+    requires small { (pos 0 ≤ℤ (c +ℤ pos 1)) × (c ≤ℤ pos 0) }
+    ensures exact { zone.new ≡ mark_pushed x c low high letter zone.old }
+{
+    if !zone.is_known(mark(letter), x, c) {
+        if zone.is_known(x, mark(letter), -1 - c) {
+            zone.shift_wide(mark(letter), low, high);
+        } else {
+            zone.shift_wide(mark(letter), Some(0), high);
+        }
+    }
+}
+
+fn push_marks(
+    zone: &mut Zone,
+    x: Name,
+    c: i64,
+    low: Option<i128>,
+    high: Option<i128>,
+    marks: &Marks,
+)
+    requires small { (pos 0 ≤ℤ (c +ℤ pos 1)) × (c ≤ℤ pos 0) }
+    ensures exact { zone.new ≡ for_each_sure (mark_pushed x c low high) marks.now 26 zone.old }
+{
+    for letter in 0..26 {
+        if marks.is_sure(letter) {
+            push_mark(zone, x, c, low, high, letter);
+        }
+    }
+}
+
+/// From `low` to `high` lines come after `x + c`.
+#[tactic(auto, unfolding(crate::specs::Pieces::inserted))]
+pub(crate) fn insert(
+    zone: &mut Zone,
+    x: Name,
+    c: i64,
+    low: Option<i128>,
+    high: Option<i128>,
+    marks: &Marks,
+)
+    requires small { (pos 0 ≤ℤ (c +ℤ pos 1)) × (c ≤ℤ pos 0) }
+    ensures exact { zone.new ≡ inserted x c low high marks.now zone.old }
+{
+    push_marks(zone, x, c, low, high, marks);
+    zone.shift_wide(Name::LAST_LINE, low, high);
+}
+
+/// Line 0 stands for line 1.
+#[tactic(auto, unfolding(crate::specs::Pieces::lifted))]
+pub(crate) fn lift(zone: &mut Zone, x: Name)
+    ensures exact { zone.new ≡ lifted x zone.old }
+{
+    if zone.is_known(x, Name::ZERO, 0) {
+        zone.set(x, Name::ZERO, 1);
+    } else if !zone.is_known(Name::ZERO, x, -1) {
+        zone.shift(x, Some(0), Some(1));
+        zone.guard(Name::ZERO, x, -1);
+        if zone.is_known(Name::ZERO, Name::LAST_LINE, -1) {
+            zone.guard(x, Name::LAST_LINE, 0);
+        }
+    }
+}
+
+/// A mark after the replaced lines moves as they become `count` lines.
+pub(crate) fn move_mark(zone: &mut Zone, count: usize, letter: usize)
+    requires letter { letter < 26 }
+    ensures exact { zone.new ≡ after_shift zone.old (mark_name letter)
+        (sum_of (least zone.old 3 4) (Some (pos count -ℤ pos 1)))
+        (sum_of (greatest zone.old 3 4) (Some (pos count -ℤ pos 1))) }
+{
+    let low = zone.least(Name::FIRST_ADDRESS, Name::SECOND_ADDRESS);
+    let high = zone.bound(Name::FIRST_ADDRESS, Name::SECOND_ADDRESS);
+    let growth = count as i128 - 1;
+    zone.shift_wide(mark(letter), plus(low, growth), plus(high, growth));
+}
+
+/// The target becomes the number of lines that are left.
+#[tactic(auto, unfolding(crate::specs::Pieces::left_over))]
+pub(crate) fn set_left_over(zone: &mut Zone, before: &Zone)
+    ensures exact { zone.new ≡ left_over before.now zone.old }
+{
+    let low = before.least(Name::FIRST_ADDRESS, Name::SECOND_ADDRESS);
+    let high = before.bound(Name::FIRST_ADDRESS, Name::SECOND_ADDRESS);
+    let above = before.bound(Name::LAST_LINE, Name::SECOND_ADDRESS);
+    let below = before.bound(Name::SECOND_ADDRESS, Name::LAST_LINE);
+    zone.set(Name::TARGET_ADDRESS, Name::LAST_LINE, -1);
+    zone.shift(Name::TARGET_ADDRESS, low, high);
+    guard_by(
+        zone,
+        Name::TARGET_ADDRESS,
+        Name::FIRST_ADDRESS,
+        plus(above, -1),
+    );
+    guard_by(
+        zone,
+        Name::FIRST_ADDRESS,
+        Name::TARGET_ADDRESS,
+        plus(below, 1),
+    );
+}
+
+#[tactic(auto, unfolding(crate::specs::Pieces::current_left))]
+fn set_current_left(zone: &mut Zone)
+    ensures exact { zone.new ≡ current_left zone.old }
+{
+    if zone.is_known(Name::FIRST_ADDRESS, Name::TARGET_ADDRESS, 0) {
+        zone.set(Name::CURRENT_LINE, Name::FIRST_ADDRESS, 0);
+    } else if zone.is_known(Name::TARGET_ADDRESS, Name::FIRST_ADDRESS, -1) {
+        zone.set(Name::CURRENT_LINE, Name::TARGET_ADDRESS, 0);
+    } else {
+        zone.forget(Name::CURRENT_LINE);
+        zone.guard(Name::FIRST_ADDRESS, Name::CURRENT_LINE, 1);
+        zone.guard(Name::CURRENT_LINE, Name::FIRST_ADDRESS, 0);
+        zone.guard(Name::CURRENT_LINE, Name::TARGET_ADDRESS, 0);
+    }
+}
+
+/// The current line after `count` lines took the place of the addressed ones.
+#[tactic(auto, unfolding(crate::specs::Pieces::current_replaced))]
+pub(crate) fn set_current_replaced(zone: &mut Zone, count: usize)
+    ensures exact { zone.new ≡ current_replaced count zone.old }
+{
+    if count == 0 {
+        set_current_left(zone);
+    } else {
+        zone.set_wide(Name::CURRENT_LINE, Name::FIRST_ADDRESS, (count - 1) as i128);
+    }
+}

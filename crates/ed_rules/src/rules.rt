@@ -1,0 +1,177 @@
+//! The rules: the state after a command, or the need that fails.
+
+ghost use Rattle.std.specs.Prelude.{◌≡◌, Ok, Option, None, IfOk, IsOk};
+ghost use Rattle.ed_syntax.specs.PublicTypes.{addresses_value, verb_value, suffix_value, command_value};
+ghost use Rattle.ed_syntax.specs.States as editor;
+ghost use Rattle.ed_syntax.specs.Applied as editing;
+ghost use Rattle.ed_syntax.specs.declared.request.Answer.{Answer};
+ghost use Rattle.ed_rules.specs.Pieces.{with_zone, ended};
+ghost use Rattle.ed_rules.specs.Rules.{taken, effect, suffixed, step_at, step, fault_of};
+ghost use Rattle.ed_rules.specs.Reaching.{Reaches, Steps};
+ghost use Rattle.ed_rules.specs.StandsFor.{StandsFor};
+ghost use Rattle.ed_rules.specs.Soundness.{IsDone};
+ghost use Rattle.ed_rules.specs.declared.state.State.{State};
+
+use crate::addresses::standing;
+use crate::pieces::{end, lift};
+use crate::state::State;
+use ed_base::Fault;
+use ed_syntax::{Addresses, Command, Form, Taking, Verb};
+use std::alloc::AllocError;
+use zones::Name;
+
+impl State {
+    /// What a command needs of its lines.
+    fn take(
+        &mut self,
+        taking: Taking,
+        given: &Addresses,
+        addresses: &Addresses,
+    ) -> Result<(), Fault>
+        ensures exact { Reaches result self.new
+            (taken taking (addresses_value given.now) (addresses_value addresses.now) self.old) }
+    {
+        match taking {
+            Taking::NoAddress => Ok(()),
+            Taking::Place => {
+                self.take_last(addresses);
+                Ok(())
+            }
+            Taking::FirstPlace => {
+                self.take_last(addresses);
+                lift(&mut self.zone, Name::FIRST_ADDRESS);
+                Ok(())
+            }
+            Taking::OneLine => {
+                self.take_last(addresses);
+                if self.zone.is_known(Name::ZERO, Name::FIRST_ADDRESS, -1) {
+                    Ok(())
+                } else {
+                    Err(Fault::Address)
+                }
+            }
+            Taking::Lines => {
+                if !self
+                    .zone
+                    .is_known(Name::FIRST_ADDRESS, Name::SECOND_ADDRESS, 0)
+                {
+                    return Err(Fault::Address);
+                }
+                self.lift_range(given);
+                self.need_range()
+            }
+            Taking::Range => self.need_range(),
+        }
+    }
+
+    /// What a command does that began with `before`, its lines taken.
+    fn act(
+        &mut self,
+        listed: bool,
+        given: &Addresses,
+        verb: &Verb,
+        before: &State,
+    ) -> Result<(), Fault>
+        ensures exact { Reaches result self.new
+            (effect listed (addresses_value given.now) (verb_value verb.now) before.now self.old) }
+    {
+        match verb {
+            Verb::Append(text) => self.append(listed, before, text.len()),
+            Verb::Insert(text) => self.put_before(listed, before, text.len()),
+            Verb::Change(text) => self.change(listed, before, text.len()),
+            Verb::Delete => self.delete(listed, before),
+            Verb::Join => self.join_lines(given, listed, before)?,
+            Verb::Mark(letter) => {
+                if !self.zone.is_known(Name::FIRST_ADDRESS, Name::LAST_LINE, 0) {
+                    return Err(Fault::Address);
+                }
+                self.mark_line(letter.place());
+            }
+            Verb::Write(_) => self.make_current(Name::SECOND_ADDRESS),
+            Verb::Null => self.make_current(Name::FIRST_ADDRESS),
+            Verb::LineNumber | Verb::Help | Verb::HelpMode | Verb::PromptMode => {}
+            Verb::Move(_) => self.move_lines(listed, before)?,
+            Verb::Copy(_) => self.copy_lines(listed, before),
+            Verb::QuitAnyway => {}
+        }
+        Ok(())
+    }
+
+    /// The end of a rule, and the need of a suffix.
+    fn finish(&mut self, suffix: &Option<Form>) -> Result<(), Fault>
+        ensures exact { Reaches result self.new
+            (suffixed (suffix_value suffix.now) (with_zone (ended self.old.marks self.old.zone) self.old)) }
+    {
+        end(&mut self.zone, &self.marks);
+        if suffix.is_none() || self.zone.is_known(Name::ZERO, Name::CURRENT_LINE, -1) {
+            Ok(())
+        } else {
+            Err(Fault::Address)
+        }
+    }
+
+    /// Goes over to the state after a command with these addresses.
+    fn step_at(
+        &mut self,
+        addresses: &Addresses,
+        command: &Command,
+        before: &State,
+    ) -> Result<(), Fault>
+        requires start { before.now ≡ self.old }
+        ensures exact { Reaches result self.new
+            (step_at (addresses_value addresses.now) (command_value command.now) self.old) }
+    {
+        let takes = command.verb.takes();
+        self.evaluate_all(addresses)?;
+        self.evaluate_target(takes.target)?;
+        self.take(takes.taking, &command.addresses, addresses)?;
+        self.act(command.listed, &command.addresses, &command.verb, before)?;
+        self.finish(&command.suffix)
+    }
+
+    /// The state after a command, or the need that fails.
+    fn step(&self, command: &Command) -> Result<State, Fault>
+        ensures exact { Steps result (step (command_value command.now) self.now) }
+    {
+        let mut after = self.try_copy()?;
+        match &command.addresses {
+            Addresses::Without => {
+                let own = standing(command.verb.takes().default);
+                after.step_at(&own, command, self)?;
+            }
+            given => after.step_at(given, command, self)?,
+        }
+        Ok(after)
+    }
+}
+
+/// The first need of a command that fails in a state.
+pub fn needs(command: &Command, state: &State) -> Result<Option<Fault>, AllocError>
+    ensures exact { IfOk result (λ need. need ≡ fault_of (step (command_value command.now) state.now)) }
+
+    // Where none fails, the command meets no fault in any editor that the state stands for, whatever it is answered.
+    ensures sound { IfOk result (λ need. need ≡ None → (e : editor.State) (given : Option Answer) →
+        StandsFor state.now e → IsOk (editing.command e (command_value command.now) given)) }
+{
+    match state.step(command) {
+        Ok(_) => Ok(None),
+        Err(Fault::Memory) => Err(AllocError),
+        Err(fault) => Ok(Some(fault)),
+    }
+}
+
+/// The state after a command whose needs hold.
+pub fn after(command: &Command, state: &State) -> Result<State, AllocError>
+    requires needed { fault_of (step (command_value command.now) state.now) ≡ None }
+    ensures exact { IfOk result (λ after. step (command_value command.now) state.now ≡ Ok after) }
+
+    // Of any editor that the state stands for, and whatever it is answered: the command meets no fault, and the result stands
+    // for what it leaves.
+    ensures sound { IfOk result (λ after. (e : editor.State) (given : Option Answer) → StandsFor state.now e →
+        IsDone after (editing.command e (command_value command.now) given)) }
+{
+    match state.step(command) {
+        Ok(after) => Ok(after),
+        Err(_) => Err(AllocError),
+    }
+}

@@ -1,0 +1,131 @@
+//! What is known of an editor's state.
+
+ghost use Rattle.std.specs.Prelude.{◌≡◌, IfOk};
+ghost use Rattle.ed_rules.specs.States.{old_of, unchanged, changed, no_replacement, nothing_to_undo, start};
+ghost use Rattle.ed_rules.specs.declared.state.State.{State};
+
+use crate::choices::Choices;
+use crate::marks::Marks;
+use ed_base::Bytes;
+use std::alloc::{AllocError, Global};
+use zones::{Name, Zone};
+
+/// What is known of an earlier buffer, which undo may bring back.
+#[derive(Clone, Copy, PartialEq, Eq, Debug)]
+pub struct Old {
+    pub zone: Zone,
+    pub marks: Marks,
+}
+
+/// Whether the buffer may be as it was last written or read, and whether it may be changed.
+#[derive(Clone, Copy, PartialEq, Eq, Debug)]
+pub struct Changed {
+    pub no: bool,
+    pub yes: bool,
+}
+
+/// Which replacements may be remembered: none, one without a split, one with a split.
+#[derive(Clone, Copy, PartialEq, Eq, Debug)]
+pub struct Replacements {
+    pub none: bool,
+    pub plain: bool,
+    pub split: bool,
+}
+
+/// What undo may find: nothing, the buffer as it is, an earlier one.
+#[derive(Clone, Copy, PartialEq, Eq, Debug)]
+pub struct Undo {
+    pub nothing: bool,
+    pub same: bool,
+    pub was: Option<Old>,
+}
+
+/// What is known of an editor's state at one point of a script: bounds on lines, the letters that surely mark one, and all that
+/// may be remembered. It stands for each state of which all this is true.
+#[derive(Debug, Drop)]
+pub struct State {
+    pub zone: Zone,
+    pub marks: Marks,
+    /// The patterns that may be remembered.
+    pub patterns: Choices,
+    pub replacements: Replacements,
+    /// The paths that may be remembered.
+    pub names: Choices,
+    pub changed: Changed,
+    pub undo: Undo,
+}
+
+impl Changed {
+    pub const NO: Changed = Changed {
+        no: true,
+        yes: false,
+    };
+
+    pub const YES: Changed = Changed {
+        no: false,
+        yes: true,
+    };
+}
+
+impl State {
+    /// The start of a run: a file of `min` to `max` lines, the last one current, and nothing remembered but a path. Without a
+    /// `max` the file has any number of lines.
+    #[tactic(auto, unfolding(crate::specs::States::start))]
+    pub fn start(
+        alloc: Global,
+        path: &Option<Bytes>,
+        min: u64,
+        max: Option<u64>,
+    ) -> Result<State, AllocError>
+        ensures value { IfOk result (λ state. state ≡ start path.now min max) }
+    {
+        let mut zone = Zone::any();
+        zone.guard_wide(Name::ZERO, Name::LAST_LINE, -i128::from(min));
+        if let Some(max) = max {
+            zone.guard_wide(Name::LAST_LINE, Name::ZERO, i128::from(max));
+        }
+        zone.set(Name::CURRENT_LINE, Name::LAST_LINE, 0);
+        Ok(State {
+            zone,
+            marks: Marks::none(),
+            patterns: Choices::only(alloc, &None)?,
+            replacements: Replacements {
+                none: true,
+                plain: false,
+                split: false,
+            },
+            names: Choices::only(alloc, path)?,
+            changed: Changed::NO,
+            undo: Undo {
+                nothing: true,
+                same: false,
+                was: None,
+            },
+        })
+    }
+
+    /// The bounds and the sure marks, as undo keeps them.
+    pub(crate) fn old(&self) -> Old
+        ensures value { result ≡ old_of self.now }
+    {
+        Old {
+            zone: self.zone,
+            marks: self.marks,
+        }
+    }
+
+    /// An equal state, made by the same allocator.
+    pub fn try_copy(&self) -> Result<State, AllocError>
+        ensures value { IfOk result (λ copy. copy ≡ self.now) }
+    {
+        Ok(State {
+            zone: self.zone,
+            marks: self.marks,
+            patterns: self.patterns.try_copy()?,
+            replacements: self.replacements,
+            names: self.names.try_copy()?,
+            changed: self.changed,
+            undo: self.undo,
+        })
+    }
+}
