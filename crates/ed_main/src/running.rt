@@ -10,7 +10,7 @@ ghost use Rattle.ed_main.specs.Correct.{Correct, status_at};
 use ed_base::{Bytes, Fault};
 use ed_session::{Outside, Session, Sink, drive};
 use ed_syntax::{Ending, Options, read_script};
-use line_store::PlainStore;
+use line_store::GapStore;
 use std::alloc::{AllocError, Global};
 
 /// Runs the script that these bytes spell, and gives its exit status.
@@ -42,7 +42,7 @@ fn session_of(
     alloc: Global,
     bytes: Bytes,
     options: Options,
-) -> Result<Session<PlainStore>, AllocError>
+) -> Result<Session<GapStore>, AllocError>
     requires silent { options.silent ≡ true }
     ensures rest { IfOk result (λ s. (answers : List Answer) → rest s answers ≡ run (script_of bytes) options answers) }
     ensures pending { IfOk result (λ s. s.pending ≡ []) }
