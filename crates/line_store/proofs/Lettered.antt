@@ -223,7 +223,7 @@ none_at (suc n) (suc letter) = none_at n letter
 pub none-below : (count n : ℕ) → AllBelow count (replicate n None)
 none-below count n letter place e = let f : ◌≡◌ {A = Option ℕ} None (Some place) = sym (none_at n letter) ∙ e in absurd cc
 
--- a place behind a line that came in is below the greater count
+-- after a line has come in, a place is below the greater count
 below-opened : (count at : ℕ) (b : Bool) (o : Option ℕ) → at ≤ count → ((place : ℕ) → o ≡ Some place → place < count) → (place : ℕ) → opened at b o ≡ Some place → place < count + 1
 below-opened count at true o h below place e = let f : at ≡ place = some_same at place e in omega arith
 below-opened count at false None h below place e = absurd cc
@@ -250,7 +250,7 @@ with_line-behind at marks n below =
     fill_by_all (λ k. opened at (get_or no_letters k false) (get_or marks k None)) marks 26 None n
     (λ k b. sym (ap (λ t. opened at t (get_or marks k None)) (none_marked 26 k) ∙ opened-before at (get_or marks k None) (below k)))
 
--- a place behind a line that went out is below the lesser count
+-- after a line has gone out, a place is below the lesser count
 below-closed : (count at : ℕ) (o : Option ℕ) → at ≤ count → ((place : ℕ) → o ≡ Some place → place < count + 1) → (place : ℕ) → closed at o ≡ Some place → place < count
 below-closed count at None h below place e = absurd cc
 below-closed count at (Some p) h below place e = ⊎_elim

@@ -1,22 +1,22 @@
--- Where letters are behind a line that came in or went out.
+-- Where letters are after a line has come in or gone out.
 use Rattle.std.specs.Prelude.{ℕ, ◌+◌, ◌-◌, List, Bool, true, false, if◌then◌else◌, map, nat_eq, nat_lt, Option, Some, None, slice_index_or}
 use Rattle.line_store.specs.Marks.{all_letters}
 
--- where a letter is behind a line that came in with it or without it
+-- where a letter is after a line has come in with it or without it
 abbrev pub opened : (at : ℕ) → Bool → Option ℕ → Option ℕ
 opened at true place = Some at
 opened at false None = None
 opened at false (Some place) = if nat_lt place at then Some place else Some (place + 1)
 
--- where the letters are behind a line that came in with these letters
+-- where the letters are after a line has come in with these letters
 abbrev pub with_line : (at : ℕ) → List Bool → List (Option ℕ) → List (Option ℕ)
 with_line at letters marks = map (λ letter. opened at (slice_index_or letters letter false) (slice_index_or marks letter None)) all_letters
 
--- where a letter is behind a line that went out
+-- where a letter is after a line has gone out
 abbrev pub closed : (at : ℕ) → Option ℕ → Option ℕ
 closed at None = None
 closed at (Some place) = if nat_eq place at then None else if nat_lt place at then Some place else Some (place - 1)
 
--- where the letters are behind a line that went out
+-- where the letters are after a line has gone out
 abbrev pub without_line : (at : ℕ) → List (Option ℕ) → List (Option ℕ)
 without_line at marks = map (λ letter. closed at (slice_index_or marks letter None)) all_letters

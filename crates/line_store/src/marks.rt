@@ -26,7 +26,7 @@ impl Model for Marks {
     ghost invariant = { λ m. length m.places ≡ 26 };
 }
 
-// Where a letter is behind a line that has come in with it or without it.
+// Where a letter is after a line has come in with it or without it.
 fn place_opened(at: usize, comes: bool, place: Option<usize>) -> Option<usize>
     requires bound { IfSome place (λ other. other < 2 ^ 64 - 1) }
     ensures value { result ≡ opened at comes place }
@@ -40,7 +40,7 @@ fn place_opened(at: usize, comes: bool, place: Option<usize>) -> Option<usize>
     }
 }
 
-// Where a letter is behind a line that has gone out.
+// Where a letter is after a line has gone out.
 fn place_closed(at: usize, place: Option<usize>) -> Option<usize>
     ensures value { result ≡ closed at place }
 {
