@@ -1,4 +1,4 @@
-//! Tests of the public calls of the editor's crates.
+//! Tests of the public calls of the editor's crates below sessions.
 #![tactic(auto)]
 
 #[cfg(test)]
@@ -6,17 +6,9 @@ mod bytes;
 #[cfg(test)]
 mod commands;
 #[cfg(test)]
-mod driving;
-#[cfg(test)]
 mod editors;
 #[cfg(test)]
 mod expected;
-#[cfg(test)]
-mod listing;
-#[cfg(test)]
-mod refusals;
-#[cfg(test)]
-mod runs;
 #[cfg(test)]
 mod scripts;
 #[cfg(test)]

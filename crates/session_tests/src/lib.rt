@@ -1,0 +1,11 @@
+//! Tests of runs: sessions that are driven.
+#![tactic(auto)]
+
+#[cfg(test)]
+mod driving;
+#[cfg(test)]
+mod listing;
+#[cfg(test)]
+mod refusals;
+#[cfg(test)]
+mod runs;
