@@ -1,0 +1,180 @@
+-- Accepted commands run to their end, from each state that what comes in stands for.
+use Rattle.std.proofs.Common.{◌≡◌, ◌<◌, ◌≤◌, ℕ, ◌+◌, ℤ, pos, neg_ℤ, ◌-ℤ◌, ◌≤ℤ◌, Bool, true, false, not, ◌||◌, List, [], ◌∷◌, length, Option, None, Some, Result, Ok, Err, IsTrue, ◌↔◌, arith, refl, sym, ap, subst}
+use Rattle.std.specs.List.{All}
+use Rattle.std.proofs.lemmas.Int.{ints}
+use Rattle.std.proofs.lemmas.List.Elements.{All-nil}
+use Rattle.ed_base.specs.declared.fault.Fault.{Fault}
+use Rattle.ed_base.specs.declared.fault.Fault.TheVariants as fault
+use Rattle.zones.specs.Zone.{Bounds, Numbers, Holds}
+use Rattle.zones.specs.Known.{known}
+use Rattle.ed_syntax.specs.declared.request.Answer.{Answer}
+use Rattle.ed_syntax.specs.Commands as ed
+use Rattle.ed_syntax.specs.Commands.{Verb, Command, Step}
+use Rattle.ed_syntax.specs.States as editor
+use Rattle.ed_syntax.specs.Effects.{Effect, Makes, Asks}
+use Rattle.ed_syntax.specs.Applied.{command}
+use Rattle.ed_syntax.specs.Progress.{Present, Progress, Writes, asked_of, stop_of, failing, ending, quitting}
+use Rattle.ed_syntax.specs.Runs.{Further, with_state, asking, turned, one, step_by, prompted, at_end, steps}
+use Rattle.ed_rules.specs.declared.state.State.{State}
+use Rattle.ed_rules.specs.Order.{Covers}
+use Rattle.cert_check.specs.Covering.{covers}
+use Rattle.ed_rules.specs.Soundness.{Agrees, Leaves, CommandIsSound}
+use Rattle.ed_rules.specs.StandsFor.{StandsFor, allows_change}
+use Rattle.cert_check.specs.Opening.{IsAtMost, IsWithin, StartIsSound}
+use Rattle.cert_check.specs.declared.certificate.Note.{Note}
+use Rattle.cert_check.specs.declared.verdict.Verdict.TheVariants.{Accepted}
+use Rattle.cert_check.specs.Certificates.{Certificate}
+use Rattle.cert_check.specs.Valid.{verdict_of, quits, has_quit, counted, are_met, left_by, knows_least, knows_most, end_checks, checks_from}
+use Rattle.cert_check.specs.Sound.{MayAsk, StopsWell}
+use Rattle.cert_check.proofs.Checks.{first-holds, EndsSo, end-holds, met-gives}
+use Rattle.cert_check.proofs.Quitting.{OnValue, SameMade, quit-leaves}
+
+-- the laws of the crates below
+pub record Laws : Type 0 where
+  pub command : CommandIsSound
+  pub decided : (weak strong : State) → IsTrue (covers weak strong) ↔ Covers weak strong
+  pub started : StartIsSound
+  pub weaker : (weak strong : State) (e : editor.State) → Covers weak strong → StandsFor strong e → StandsFor weak e
+  pub known : (zone : Bounds) (number : Numbers) (x y : ℕ) (c : ℤ) → known zone x y c ≡ true → x < 32 → y < 32 → Holds zone number → (number x -ℤ number y) ≤ℤ c
+
+-- a run stops well, and asks for nothing else
+abbrev pub RunsWell : Certificate → Progress → Type 0
+RunsWell c p = All (MayAsk c) (asked_of p) × StopsWell c (stop_of p)
+
+-- what covers a state stands for all that it stands for
+covers-stands : Laws → (weak strong : State) (e : editor.State) → covers weak strong ≡ true → StandsFor strong e → StandsFor weak e
+covers-stands k weak strong e h st = k.weaker weak strong e ((k.decided weak strong).0 h) st
+
+least-holds : Laws → (s : State) (low : ℕ) (e : editor.State) → knows_least s.zone low ≡ true → StandsFor s e → low ≤ length e.lines
+unfolding knows_least
+least-holds k s low e h st =
+    let d = k.known s.zone st.numbers 0 2 (neg_ℤ (pos low)) h (omega arith) (omega arith) st.stands.buffer.holds in
+    let zero_is = st.stands.buffer.reads.zero_is in
+    let last_is = st.stands.buffer.reads.last_is in
+    omega (arith, ints)
+
+most-holds : Laws → (s : State) (high : Option ℕ) (e : editor.State) → knows_most s.zone high ≡ true → StandsFor s e → IsAtMost (length e.lines) high
+unfolding knows_most
+most-holds k s None e h st = tt
+most-holds k s (Some high) e h st =
+    let d = k.known s.zone st.numbers 2 0 (pos high) h (omega arith) (omega arith) st.stands.buffer.holds in
+    let zero_is = st.stands.buffer.reads.zero_is in
+    let last_is = st.stands.buffer.reads.last_is in
+    omega (arith, ints)
+
+-- the number of lines of each state that the end stands for
+within-end : Laws → (quit : Bool) (bad : Option ℕ) (c : Certificate) (s : State) (e : editor.State) → EndsSo quit bad c s → StandsFor s e → IsWithin c.low c.high (length e.lines)
+within-end k quit bad c s e h st =
+    let last : StandsFor c.last e = covers-stands k c.last s e h.covered st in
+    (least-holds k c.last c.low e h.least last, most-holds k c.last c.high e h.most last)
+
+prompted-well : (c : Certificate) (m : Present) (p : Progress) → RunsWell c p → RunsWell c (prompted m p)
+prompted-well c m p well =
+    elim m.prompting as (λ b. RunsWell c (elim b as (λ _. Progress) [ true ↦ Writes m.help m.prompt p | false ↦ p ])) [ true ↦ well | false ↦ well ]
+
+-- the run ends here
+ending-well : (c : Certificate) (m : Present) → IsWithin c.low c.high (length m.state.lines) → RunsWell c (ending m)
+ending-well c m h = (All-nil (MayAsk c), h)
+
+not-changed : (b : Bool) → not b ≡ true → b ≡ true → ⊥
+not-changed true h e = absurd cc
+not-changed false h e = absurd cc
+
+-- the end of a script without a quit is a `q`
+quitting-well : Laws → (bad : Option ℕ) (c : Certificate) (s : State) (m : Present) → EndsSo false bad c s → StandsFor s m.state → RunsWell c (quitting m)
+quitting-well k bad c s m h st =
+    (elim m.state.changed as (λ b. m.state.changed ≡ b → RunsWell c (elim b as (λ _. Progress) [ true ↦ failing m fault.Unsaved | false ↦ ending m ])) [
+      | true ↦ λ e.
+          let last : StandsFor c.last m.state = covers-stands k c.last s m.state h.covered st in
+          let may : allows_change c.last.changed true ≡ true = subst (λ (b : Bool). allows_change c.last.changed b ≡ true) e last.stands.changed in
+          absurd (not-changed c.last.changed.yes h.saved may)
+      | false ↦ λ e. ending-well c m (within-end k false bad c s m.state h st)
+    ]) refl
+
+at_end-well : Laws → (bad : Option ℕ) (c : Certificate) (s : State) (m : Present) → EndsSo false bad c s → StandsFor s m.state → RunsWell c (at_end bad m)
+at_end-well k None c s m h st = quitting-well k None c s m h st
+at_end-well k (Some line) c s m h st = let f : false ≡ true = h.readable in absurd cc
+
+-- a command that its rule vouches for, and the run after it
+asking-well : (c : Certificate) (t : State) (m : Present) (y : Result Effect Fault) (again : Answer → Result Effect Fault) (go : Further) (answers : List Answer) →
+    Agrees Leaves (Ok t) y → ((e : editor.State) → StandsFor t e → RunsWell c (go (with_state e m) answers)) → RunsWell c (asking m y again go answers)
+asking-well c t m (Err f) again go answers a h = absurd a
+asking-well c t m (Ok (Makes o)) again go answers a h = h o.state a
+asking-well c t m (Ok (Asks r)) again go answers a h = absurd a
+
+turned-state : (v : Verb) (m : Present) → (turned v m).state ≡ m.state
+turned-state ed.HelpMode m = refl
+turned-state ed.PromptMode m = refl
+turned-state _ m = refl
+
+one-well : Laws → (c : Certificate) (x : Command) (s : State) (m : Present) (go : Further) (answers : List Answer) → are_met x s ≡ true → StandsFor s m.state →
+    ((q : Present) → StandsFor (left_by x s) q.state → RunsWell c (go q answers)) → RunsWell c (one x m go answers)
+one-well k c x s m go answers met st h =
+    let t : State = left_by x s in
+    asking-well c t m (command m.state x None) (λ a. command m.state x (Some a)) (λ q. go (turned x.verb q)) answers
+    (subst (λ (r : Result State Fault). Agrees Leaves r (command m.state x None)) (met-gives x s met) (k.command x s m.state None st))
+    (λ e stands. h (turned x.verb (with_state e m)) (subst (λ (u : editor.State). StandsFor t u) (sym (turned-state x.verb (with_state e m))) stands))
+
+-- a command that doesn't end the run
+going-on : (v : Verb) (x : Step) (m : Present) (go : Further) (answers : List Answer) → quits v ≡ false → step_by v x m go answers ≡ one x.command m go answers
+going-on ed.QuitAnyway x m go answers e = absurd cc
+going-on _ x m go answers e = refl
+
+-- a command that ends it
+ended : (v : Verb) (x : Step) (m : Present) (go : Further) (answers : List Answer) → quits v ≡ true → step_by v x m go answers ≡ ending m
+ended ed.QuitAnyway x m go answers e = refl
+ended _ x m go answers e = absurd cc
+
+is-quit : (v : Verb) → quits v ≡ true → v ≡ ed.QuitAnyway
+is-quit ed.QuitAnyway e = refl
+is-quit _ e = absurd cc
+
+-- the lines of what its rule stands for are those of the run
+quit-within : (c : Certificate) (t : State) (e : editor.State) (y : Result Effect Fault) → Agrees Leaves (Ok t) y → OnValue (SameMade e) y →
+    ((u : editor.State) → StandsFor t u → IsWithin c.low c.high (length u.lines)) → IsWithin c.low c.high (length e.lines)
+quit-within c t e (Err f) a same h = absurd a
+quit-within c t e (Ok (Asks r)) a same h = absurd a
+quit-within c t e (Ok (Makes o)) a same h =
+    let lines : o.state.lines ≡ e.lines = same in
+    subst (λ (n : ℕ). IsWithin c.low c.high n) (ap length lines) (h o.state a)
+
+same-made : (x : Command) (e : editor.State) → quits x.verb ≡ true → OnValue (SameMade e) (command e x None)
+same-made x e q =
+    subst (λ (v : Verb). OnValue (SameMade e) (command e (record { addresses = x.addresses; verb = v; suffix = x.suffix; listed = x.listed }) None))
+    (sym (is-quit x.verb q)) (quit-leaves x.addresses x.suffix x.listed e None)
+
+quit-well : Laws → (quit : Bool) (bad : Option ℕ) (c : Certificate) (x : Command) (s : State) (m : Present) → quits x.verb ≡ true → are_met x s ≡ true → StandsFor s m.state →
+    EndsSo quit bad c (left_by x s) → RunsWell c (ending m)
+quit-well k quit bad c x s m q met st h =
+    let t : State = left_by x s in
+    ending-well c m
+    (quit-within c t m.state (command m.state x None)
+    (subst (λ (r : Result State Fault). Agrees Leaves r (command m.state x None)) (met-gives x s met) (k.command x s m.state None st))
+    (same-made x m.state q) (λ u stands. within-end k quit bad c t u h stands))
+
+-- the steps that are left, of which the counted ones and the end are accepted
+pub steps-well : Laws → (c : Certificate) (bad : Option ℕ) (quit : Bool) (xs : List Step) (number : ℕ) (s : State) (notes : List Note) → quit ≡ has_quit xs →
+    length notes ≡ length (counted xs) → verdict_of (checks_from (end_checks quit bad c) number s (counted xs) notes) ≡ Accepted →
+    (m : Present) → StandsFor s m.state → (answers : List Answer) → RunsWell c (steps xs bad m answers)
+steps-well k c bad quit [] number s notes q size h m st answers =
+    prompted-well c m (at_end bad m)
+    (at_end-well k bad c s m (subst (λ (b : Bool). EndsSo b bad c s) q (end-holds quit bad c number s h)) st)
+steps-well k c bad quit (x ∷ xs) number s [] q size h m st answers = absurd (omega arith)
+steps-well k c bad quit (x ∷ xs) number s (n ∷ notes) q size h m st answers =
+    let v : Verb = x.command.verb in
+    let go : Further = λ t more. steps xs bad t more in
+    let covered = first-holds (covers n.state s) _ _ h in
+    let met = first-holds (are_met x.command n.state) _ _ covered.1 in
+    let before : StandsFor n.state m.state = covers-stands k n.state s m.state covered.0 st in
+    prompted-well c m (step_by v x m go answers)
+    ((elim (quits v) as (λ b. quits v ≡ b → quit ≡ b || has_quit xs → length (n ∷ notes) ≡ length (x ∷ (elim b as (λ _. List Step) [ true ↦ [] | false ↦ counted xs ])) →
+    verdict_of (checks_from (end_checks quit bad c) (number + 1) (left_by x.command n.state) (elim b as (λ _. List Step) [ true ↦ [] | false ↦ counted xs ]) notes) ≡ Accepted →
+    RunsWell c (step_by v x m go answers)) [
+      | true ↦ λ e r l a.
+          subst (λ (p : Progress). RunsWell c p) (sym (ended v x m go answers e))
+          (quit-well k quit bad c x.command n.state m e met.0 before (end-holds quit bad c (number + 1) (left_by x.command n.state) a))
+      | false ↦ λ e r l a.
+          subst (λ (p : Progress). RunsWell c p) (sym (going-on v x m go answers e))
+          (one-well k c x.command n.state m go answers met.0 before
+          (λ t stands. steps-well k c bad quit xs (number + 1) (left_by x.command n.state) notes r (omega arith) a t stands answers))
+    ]) refl q size met.1)

@@ -1,0 +1,5 @@
+use Rattle.cert_check.proofs.Opening.{start-sound}
+use Rattle.cert_check.proofs.laws.starts_are_sound.Goals as goal
+
+pub returns : goal.returns
+returns c = record { sound = start-sound }

@@ -1,0 +1,32 @@
+//! What a certificate says of a script.
+
+use ed_base::Bytes;
+use ed_rules::State;
+
+/// What is known of the editor before a command.
+#[derive(Debug, Drop)]
+pub struct Note {
+    pub state: State,
+}
+
+/// What a certificate says: the file that a run starts with and how long it may be, what is known before each counted command
+/// and at the end, how many lines are left then, and which files may be written.
+#[derive(Debug, Drop)]
+pub struct Certificate {
+    /// The path of the start file; with none the buffer is empty.
+    pub path: Option<Bytes>,
+    /// The fewest lines that the start may have.
+    pub min: u64,
+    /// The most lines that the start may have; with none there is no limit.
+    pub max: Option<u64>,
+    /// One for each counted command, in their order.
+    pub notes: Vec<Note>,
+    /// What is known at the end.
+    pub last: State,
+    /// The fewest lines at the end.
+    pub low: u64,
+    /// The most lines at the end; with none there is no limit.
+    pub high: Option<u64>,
+    /// The paths that the script may write.
+    pub writes: Vec<Bytes>,
+}

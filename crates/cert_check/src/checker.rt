@@ -1,0 +1,82 @@
+//! The verdict on a certificate.
+
+ghost use Rattle.std.specs.Prelude.{◌≡◌, IfOk};
+ghost use Rattle.ed_syntax.specs.PublicScript.{script_value};
+ghost use Rattle.cert_check.specs.Certificates.{certificate_value};
+ghost use Rattle.cert_check.specs.Valid.{judged};
+ghost use Rattle.cert_check.specs.Passing.{verdict_at, verdict_after};
+ghost use Rattle.cert_check.specs.Sound.{CannotFail};
+
+use crate::certificate::Certificate;
+use crate::laws::accepted_scripts_cannot_fail;
+use crate::passing::{Passage, count, ends_well, go_through};
+use crate::verdict::{Place, Verdict};
+use ed_rules::State;
+use ed_syntax::Script;
+use std::alloc::AllocError;
+
+fn verdict_at(number: usize, holds: bool) -> Verdict
+    ensures value { result ≡ verdict_at number holds }
+{
+    if holds {
+        Verdict::Accepted
+    } else {
+        Verdict::Refused(Place {
+            command: number,
+            inner: None,
+        })
+    }
+}
+
+/// The verdict where the checks of the commands came to `passage`.
+fn verdict_after(
+    passage: Passage,
+    quit: bool,
+    fault: Option<usize>,
+    certificate: &Certificate,
+) -> Verdict
+    ensures value { result ≡ verdict_after passage quit fault (certificate_value certificate.now) }
+{
+    match passage {
+        Passage::Left(coming) => {
+            let holds = ends_well(quit, fault, certificate, &coming);
+            verdict_at(certificate.notes.len() + 1, holds)
+        }
+        Passage::Fails(number) => verdict_at(number, false),
+    }
+}
+
+fn judge(script: &Script, certificate: &Certificate) -> Result<Verdict, AllocError>
+    ensures exact { IfOk result (λ answer. answer ≡
+        judged (script_value script.now) (certificate_value certificate.now)) }
+{
+    let commands = script.commands.as_slice();
+    let notes = certificate.notes.as_slice();
+    let counted = count(commands);
+    let shaped = notes.len() == counted.number;
+    if !shaped {
+        return Ok(verdict_at(0, false));
+    }
+    let start = State::start(
+        *script.commands.allocator(),
+        &certificate.path,
+        certificate.min,
+        certificate.max,
+    )?;
+    let passage = go_through(commands, notes, start)?;
+    let verdict = verdict_after(passage, counted.quit, script.fault, certificate);
+    Ok(verdict)
+}
+
+/// Checks a certificate for a script. It goes through the script once and stops at the first check that fails.
+pub fn check(script: &Script, certificate: &Certificate) -> Result<Verdict, AllocError>
+    ensures exact { IfOk result (λ answer. answer ≡
+        judged (script_value script.now) (certificate_value certificate.now)) }
+
+    // What is accepted can't fail: each run over a start that the bounds allow ends as the certificate says.
+    ensures sound { IfOk result (λ answer. answer ≡ Verdict.Accepted →
+        CannotFail (script_value script.now) (certificate_value certificate.now)) }
+{
+    accepted_scripts_cannot_fail();
+    judge(script, certificate)
+}

@@ -1,0 +1,144 @@
+//! The checks of commands and of the end.
+
+ghost use Rattle.std.specs.Prelude.{◌≡◌, length, option_map, IfOk};
+ghost use Rattle.ed_syntax.specs.PublicTypes.{verb_value, command_value, steps_value};
+ghost use Rattle.cert_check.specs.Covering.{covers};
+ghost use Rattle.cert_check.specs.Certificates.{certificate_value};
+ghost use Rattle.cert_check.specs.Valid.{quits, counted, has_quit, knows_least, knows_most};
+ghost use Rattle.cert_check.specs.Passing.{left_where_met, passed, ends_well, GoesTo};
+
+use crate::certificate::{Certificate, Note};
+use crate::laws::covering_is_decided;
+use ed_rules::{State, after, needs};
+use ed_syntax::{Command, Verb};
+use std::alloc::AllocError;
+use zones::{Name, Zone};
+
+/// How many commands of a script are counted, and whether the last of them ends the run.
+#[derive(Clone, Copy)]
+pub(crate) struct Counted {
+    pub number: usize,
+    pub quit: bool,
+}
+
+/// What the checks of the commands come to: the state after the last one, or the number of the first that fails.
+#[derive(Drop)]
+pub(crate) enum Passage {
+    Left(State),
+    Fails(usize),
+}
+
+fn quits(verb: &Verb) -> bool
+    ensures value { result ≡ quits (verb_value verb.now) }
+{
+    match verb {
+        Verb::QuitAnyway => true,
+        _ => false,
+    }
+}
+
+pub(crate) fn count(commands: &[Command]) -> Counted
+    ensures number { result.number ≡ length (counted (steps_value commands.now)) }
+    ensures quit { result.quit ≡ has_quit (steps_value commands.now) }
+{
+    for (index, command) in commands.iter().enumerate() {
+        if quits(&command.verb) {
+            return Counted {
+                number: index + 1,
+                quit: true,
+            };
+        }
+    }
+    Counted {
+        number: commands.len(),
+        quit: false,
+    }
+}
+
+fn is_covered(weak: &State, strong: &State) -> bool
+    ensures value { result ≡ covers weak.now strong.now }
+{
+    covering_is_decided();
+    weak.covers(strong)
+}
+
+/// The state after a command, where all its needs hold.
+fn left_by(command: &Command, note: &State) -> Result<Option<State>, AllocError>
+    ensures value { IfOk result (λ left. left ≡ left_where_met (command_value command.now) note.now) }
+{
+    let need = needs(command, note)?;
+    if need.is_some() {
+        return Ok(None);
+    }
+    let left = after(command, note)?;
+    Ok(Some(left))
+}
+
+/// The same, where the note also says no more than what comes in.
+fn passed(command: &Command, note: &State, coming: &State) -> Result<Option<State>, AllocError>
+    ensures value { IfOk result (λ left. left ≡ passed (command_value command.now) note.now coming.now) }
+{
+    if is_covered(note, coming) {
+        left_by(command, note)
+    } else {
+        Ok(None)
+    }
+}
+
+/// Goes through the counted commands with their notes, from the state at the start.
+pub(crate) fn go_through(
+    commands: &[Command],
+    notes: &[Note],
+    start: State,
+) -> Result<Passage, AllocError>
+    requires shape { length notes.now ≡ length (counted (steps_value commands.now)) }
+    ensures value { IfOk result (λ passage. GoesTo (counted (steps_value commands.now)) notes.now start passage) }
+{
+    let mut coming = start;
+    for (index, note) in notes.iter().enumerate() {
+        let left = passed(&commands[index], &note.state, &coming)?;
+        match left {
+            Some(state) => coming = state,
+            None => return Ok(Passage::Fails(index + 1)),
+        }
+    }
+    Ok(Passage::Left(coming))
+}
+
+#[tactic(auto, unfolding(crate::specs::Valid::knows_least, zones::specs::Known::known))]
+fn knows_least(zone: &Zone, low: u64) -> bool
+    ensures value { result ≡ knows_least zone.now low }
+{
+    match zone.bound(Name::ZERO, Name::LAST_LINE) {
+        Some(bound) => i128::from(bound) <= -i128::from(low),
+        None => false,
+    }
+}
+
+#[tactic(auto, unfolding(crate::specs::Valid::knows_most, zones::specs::Known::known))]
+fn knows_most(zone: &Zone, high: Option<u64>) -> bool
+    ensures value { result ≡ knows_most zone.now high }
+{
+    match (high, zone.bound(Name::LAST_LINE, Name::ZERO)) {
+        (None, _) => true,
+        (Some(high), Some(bound)) => i128::from(bound) <= i128::from(high),
+        (Some(_), None) => false,
+    }
+}
+
+/// Whether all checks of the end hold.
+pub(crate) fn ends_well(
+    quit: bool,
+    fault: Option<usize>,
+    certificate: &Certificate,
+    coming: &State,
+) -> bool
+    ensures value { result ≡ ends_well quit fault (certificate_value certificate.now) coming.now }
+{
+    let last = &certificate.last;
+    (quit || fault.is_none())
+        && is_covered(last, coming)
+        && (quit || !last.changed.yes)
+        && knows_least(&last.zone, certificate.low)
+        && knows_most(&last.zone, certificate.high)
+}
