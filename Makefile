@@ -19,6 +19,7 @@ program:
 
 install: program
 	install -D -m 755 $(PROGRAM) $(DESTDIR)$(PREFIX)/bin/ed_main
+	install -D -m 644 man/ed_main.1 $(DESTDIR)$(PREFIX)/share/man/man1/ed_main.1
 
 check:
 	tests/check
