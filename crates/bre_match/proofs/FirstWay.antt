@@ -2,13 +2,13 @@
 use Rattle.std.proofs.Common.{◌≡◌, ℕ, zero, suc, ◌+◌, ◌-◌, ◌<◌, ◌≤◌, ◌⊎◌, inl, inr, List, [], ◌∷◌, ◌++◌, map, flat_map, length, Option, Some, None, Bool, true, false, cond, leb, eqb, refl, ap, sym, ◌∙◌, subst, arith}
 use Rattle.std.proofs.lemmas.Bool.Decides.{nat_tests}
 use Rattle.bre_parse.specs.Tree.{Tree, Then}
-use Rattle.bre_parse.specs.Groups.{Groups, no_groups}
+use Rattle.bre_parse.specs.Groups.{Groups, no_groups, refers}
 use Rattle.bre_parse.specs.Ways.{Way, Body, ways, turns, next_turn, after_turn, from_way, with_group, below, only_if, by_end}
 use Rattle.bre_parse.specs.Match.{first, longest_from, or_later, match_among, match_from}
-use Rattle.bre_parse.specs.Laws.{first_to, EndBetween}
-use Rattle.bre_match.proofs.WaysReach.{Has}
+use Rattle.bre_parse.specs.Laws.{ends, first_to, EndBetween}
+use Rattle.bre_match.specs.Laws.{Has, FirstThroughItem, FirstThroughTurn, StoppingComesLast}
 use Rattle.bre_match.proofs.Merging.{Falls, falls_by_end}
-use Rattle.bre_parse.proofs.SameEnds.{order_keeps_first}
+use Rattle.bre_parse.proofs.SameEnds.{ends_ignore_groups, order_keeps_first}
 use Rattle.bre_match.proofs.WaysReach.{has_sorted, has_unsorted, has_through}
 
 -- First ways
@@ -73,6 +73,22 @@ first_in_sequence a b s p m q g v e h none_above =
     first_through q m (from_way (ways b s)) (by_end (ways a s p g)) (falls_by_end (ways a s p g))
     (λ w lt i j. none_above w lt (has_unsorted w.0 (ways a s p g) i) j) v (order_keeps_first m (ways a s p g) ∙ e) h
 
+same_has : (q : ℕ) (xs ys : List Way) → ends xs ≡ ends ys → Has q xs → Has q ys
+same_has q [] ys e h = absurd h
+same_has q (x ∷ xs) [] e h = absurd cc
+same_has q (x ∷ xs) (y ∷ ys) e h =
+    let a : x.0 ≡ y.0 = cc in
+    let b : ends xs ≡ ends ys = cc in
+    elim h [ inl i ↦ inl (sym a ∙ i) | inr i ↦ inr (same_has q xs ys b i) ]
+
+pub first_through_item : FirstThroughItem
+first_through_item item rest free text place middle end groups any way is on last =
+    let there = (first_there middle (ways item text place groups) way is).0 in
+    first_in_sequence item rest text place middle end groups way is
+    (subst (λ x. Has end (ways rest text x way.1)) (sym there) (same_has end (ways rest text middle any) (ways rest text middle way.1) (ends_ignore_groups rest free text middle any way.1) on))
+    (λ w lt i j. last w.0 lt i (same_has end (ways rest text w.0 w.1) (ways rest text w.0 any) (ends_ignore_groups rest free text w.0 w.1 any) j))
+    ∙ ap (λ x. first_to end (ways rest text x way.1)) there
+
 -- The law for a group
 pub first_in_group : (n : ℕ) (p q : ℕ) (ws : List Way) (v : Way) → first_to q ws ≡ Some v → first_to q (map (with_group n p) ws) ≡ Some (with_group n p v)
 first_in_group n p q [] v e = absurd (cc)
@@ -104,6 +120,14 @@ first_without_turn body least most fuel done p g le none_on =
     stops : (b : Bool) → b ≡ true → first_to p (only_if b (p, g)) ≡ Some (p, g)
     stops true e = let t : eqb p p ≡ true = grind (arith, nat_tests) in rw t refl
     stops false e = absurd (cc)
+
+pub first_through_turn : FirstThroughTurn
+first_through_turn turn least most more done place middle end groups way may is on last =
+    first_with_turn turn least most more done place middle end groups way may is on last
+
+pub stopping_comes_last : StoppingComesLast
+stopping_comes_last turn least most more done place groups le none_on =
+    first_without_turn turn least most more done place groups le none_on
 
 -- The law for a match: of the ways from a start the first of those that end last is the first to the greatest end
 first_of_falling : (e : ℕ) (ws : List Way) → Falls ws → Has e ws → ((m : ℕ) → Has m ws → m ≤ e) → first ws ≡ first_to e ws

@@ -9,7 +9,7 @@ use Rattle.bre_parse.specs.WellFormed.{repeats_in_order}
 use Rattle.bre_parse.specs.Groups.{refers}
 use Rattle.bre_parse.specs.Laws.{first_to}
 use Rattle.bre_match.specs.Parts.{Power, Reaches, part_of}
-use Rattle.bre_match.proofs.WaysReach.{Has}
+use Rattle.bre_match.specs.Laws.{Has}
 use Rattle.bre_match.specs.Tables.{Within}
 use Rattle.bre_match.proofs.Columns.{forth}
 use Rattle.bre_match.proofs.WaysReach.{turns_reach, reach_turns, within_next, has_next, has_only}

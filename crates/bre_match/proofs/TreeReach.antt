@@ -8,7 +8,7 @@ use Rattle.bre_parse.specs.Ways.{ways, fresh_turn, from_way, with_group, by_end,
 use Rattle.bre_parse.specs.WellFormed.{bounds_in_order, repeats_in_order}
 use Rattle.bre_parse.specs.Groups.{refers}
 use Rattle.bre_match.specs.Parts.{Part, Nothing, Never, One, AtStart, AtEnd, Both, Maybe, Star, Power, Reaches, part_of, needed, up_to, written_out}
-use Rattle.bre_match.proofs.WaysReach.{Has}
+use Rattle.bre_match.specs.Laws.{Has}
 use Rattle.bre_match.specs.Tables.{Within}
 use Rattle.bre_match.proofs.Columns.{forth}
 use Rattle.bre_match.proofs.Rows.{byte_there}

@@ -12,7 +12,8 @@ use Rattle.bre_parse.specs.Match.{match_from}
 use Rattle.bre_parse.specs.Laws.{first_to, LiteralsMatchThemselves}
 use Rattle.bre_match.proofs.FirstWay.{match_found, match_absent}
 use Rattle.bre_match.proofs.TreeReach.{both_left, both_right}
-use Rattle.bre_match.proofs.WaysReach.{Has, has_only, has_if}
+use Rattle.bre_match.specs.Laws.{Has}
+use Rattle.bre_match.proofs.WaysReach.{has_only, has_if}
 
 record Reads (text word : List ℕ) : Type 0 where
   fits : length word ≤ length text

@@ -1,5 +1,7 @@
 -- to believe: what `find` answers
 pub mod Answer
+-- laws of first ways
+pub mod Laws
 -- these only serve clauses inside the crate
 pub mod Runs
 pub mod Order

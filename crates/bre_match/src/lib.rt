@@ -12,6 +12,7 @@ ghost use Rattle.bre_match.specs.Answer.{spans, LiesWithin};
 mod backwards;
 mod column;
 mod grouping;
+pub mod laws;
 mod order;
 mod row;
 mod run;
