@@ -9,6 +9,7 @@ ghost use Rattle.bre_parse.specs.Literal.{literal};
 ghost use Rattle.bre_parse.specs.Match.{match_from};
 ghost use Rattle.bre_match.specs.Answer.{spans, LiesWithin};
 
+mod ahead;
 mod backwards;
 mod column;
 mod grouping;
@@ -20,6 +21,7 @@ mod search;
 mod span;
 mod start;
 mod table;
+mod turn;
 mod word;
 
 use crate::grouping::set_row;

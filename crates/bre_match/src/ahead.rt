@@ -1,0 +1,57 @@
+//! What lies ahead in a sequence: ways, each with the item that it meets next.
+
+ghost use Rattle.std.specs.Prelude.{◌≡◌, ℕ, ◌-◌, ◌<◌, List, ◌++◌, map, OnOk};
+ghost use Rattle.bre_parse.specs.Ways.{Way};
+ghost use Rattle.bre_match.specs.Runs.{other_ways, at_item, tasks, AreOf};
+
+use crate::run::{Ahead, Run, Way};
+use std::alloc::AllocError;
+
+/// Puts ways before all else, each to meet this item next.
+pub(crate) fn push_ahead(left: &mut Vec<Ahead>, item: usize, ways: &[Way]) -> Result<(), AllocError>
+    ensures value { OnOk result (tasks left.new.items ≡ map (at_item item) ways.now ++ tasks left.old.items) }
+{
+    let mut at = ways.len();
+    while at > 0 {
+        at -= 1;
+        let way = ways[at];
+        let run = Run::of(way.0, way.1);
+        left.push(Ahead { item, run })?;
+    }
+    Ok(())
+}
+
+/// Puts a run, if there is one, before all else.
+#[tactic(auto, using(crate::proofs::Tasks::tasks_push))]
+pub(crate) fn push_run_ahead(
+    left: &mut Vec<Ahead>,
+    item: usize,
+    found: Option<Run>,
+) -> Result<(), AllocError>
+    ensures value { (ways : List Way) → AreOf found ways → OnOk result (tasks left.new.items ≡ map (at_item item) ways ++ tasks left.old.items) }
+{
+    if let Some(run) = found {
+        left.push(Ahead { item, run })?;
+    }
+    Ok(())
+}
+
+/// Puts the ways of what was taken up but the first before all else.
+#[tactic(auto, using(crate::proofs::Tasks::tasks_push, crate::proofs::Tasks::others_there))]
+pub(crate) fn push_others(left: &mut Vec<Ahead>, taken: Ahead) -> Result<(), AllocError>
+    ensures value { OnOk result (tasks left.new.items ≡ map (at_item taken.item) (other_ways taken.run.end taken.run.shorter taken.run.groups) ++ tasks left.old.items) }
+{
+    if taken.run.shorter > 0 {
+        let item = taken.item;
+        let groups = taken.run.groups;
+        let end = taken.run.end.saturating_sub(1);
+        let shorter = taken.run.shorter - 1;
+        let run = Run {
+            end,
+            shorter,
+            groups,
+        };
+        left.push(Ahead { item, run })?;
+    }
+    Ok(())
+}

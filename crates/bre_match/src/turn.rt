@@ -1,0 +1,67 @@
+//! What is left to do in a repeat, turn after turn.
+
+ghost use Rattle.std.specs.Prelude.{◌≡◌, ℕ, ◌+◌, ◌<◌, ◌^◌, ◌++◌, flat_map, reverse, option_to_list, OnOk};
+ghost use Rattle.bre_match.specs.Turns.{after_way};
+
+use crate::run::Way;
+use std::alloc::AllocError;
+
+/// What is left to do in a repeat: the next turn behind a way, with so many turns done, or to hand out a way.
+#[derive(Clone, Copy)]
+pub(crate) enum Turn {
+    Next(usize, Way),
+    Ended(Way),
+}
+
+/// The numbers of a repeat: the least and the most turns, and one that no repeat of a text reaches.
+#[derive(Clone, Copy)]
+pub(crate) struct Bounds {
+    pub least: u8,
+    pub most: Option<u8>,
+    pub enough: usize,
+}
+
+// What one way of a turn that began at this place after so many leaves to do.
+fn after_way(least: u8, done: usize, place: usize, way: Way) -> Option<Turn>
+    requires room { done + 1 < 2 ^ 64 }
+    ensures value { option_to_list result ≡ after_way least done place way }
+{
+    if way.0 == place && least as usize <= done {
+        if done == 0 {
+            Some(Turn::Ended(way))
+        } else {
+            None
+        }
+    } else {
+        Some(Turn::Next(done + 1, way))
+    }
+}
+
+/// Puts what there is before all else.
+pub(crate) fn push_turn(left: &mut Vec<Turn>, turn: Option<Turn>) -> Result<(), AllocError>
+    ensures value { OnOk result (reverse left.new.items ≡ option_to_list turn ++ reverse left.old.items) }
+{
+    if let Some(turn) = turn {
+        left.push(turn)?;
+    }
+    Ok(())
+}
+
+/// Puts what each way of a turn leaves to do before all else.
+pub(crate) fn push_after(
+    left: &mut Vec<Turn>,
+    least: u8,
+    done: usize,
+    place: usize,
+    begun: &[Way],
+) -> Result<(), AllocError>
+    requires room { done + 1 < 2 ^ 64 }
+    ensures value { OnOk result (reverse left.new.items ≡ flat_map (after_way least done place) begun.now ++ reverse left.old.items) }
+{
+    let mut at = begun.len();
+    while at > 0 {
+        at -= 1;
+        push_turn(left, after_way(least, done, place, begun[at]))?;
+    }
+    Ok(())
+}
