@@ -11,6 +11,7 @@ pub mod Ranges
 pub mod Forms
 pub mod Substitution
 pub mod Effects
+pub mod SubstitutedLines
 pub mod Files
 pub mod Applied
 pub mod Progress

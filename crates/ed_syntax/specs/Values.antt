@@ -44,6 +44,10 @@ abbrev pub sought : Option (List ℕ) → State → Option (List ℕ)
 sought (Some text) s = Some text
 sought None s = s.pattern
 
+-- the pattern that a command looks for: its own, or the remembered one, which has to be there
+abbrev pub used_pattern : Option (List ℕ) → State → Result (List ℕ) Fault
+used_pattern own s = ok_or (sought own s) fault.Pattern
+
 -- the first of these lines that the pattern matches
 abbrev pub searched : Option (List ℕ) → List ℕ → State → Result ℕ Fault
 searched None order s = Err fault.Pattern

@@ -3,6 +3,8 @@ use Rattle.std.specs.Prelude.{pos, Bool, true, false, not, ◌&&◌, nat_lt, Opt
 use Rattle.std.specs.List.{list_all}
 use Rattle.ed_syntax.specs.Commands as ed
 use Rattle.ed_syntax.specs.Commands.{Address, Addresses, Without, One, Comma, Semicolon, Verb, Command, Step, at_base}
+use Rattle.ed_syntax.specs.declared.replacement.Part.{Part}
+use Rattle.ed_syntax.specs.declared.replacement.Part.TheVariants as part
 use Rattle.ed_syntax.specs.declared.verbs.Taking.{Taking}
 use Rattle.ed_syntax.specs.declared.verbs.Taking.TheVariants as many
 
@@ -62,6 +64,11 @@ may_have given verb = takes_any (takes verb).taking
 abbrev pub marks_by_letter : Verb → Bool
 marks_by_letter (ed.Mark letter) = nat_lt letter 26
 marks_by_letter _ = true
+
+-- a place where a line is split
+abbrev pub is_split : Part → Bool
+is_split part.Split = true
+is_split _ = false
 
 -- a command of a list
 abbrev pub is_listed : Command → Bool
