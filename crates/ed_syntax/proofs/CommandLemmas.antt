@@ -2,12 +2,13 @@
 use Rattle.std.proofs.Common.{◌≡◌, ℕ, ◌+◌, Bool, true, false, List, [], ◌∷◌, ◌++◌, length, Option, Some, refl, sym, ap, ◌∙◌, subst, arith, append_assoc}
 use Rattle.ed_base.specs.Lines.{newline, IsLine, AreLines, lines_of, bytes_of}
 use Rattle.ed_base.proofs.LineLemmas.{lines_of-whole}
-use Rattle.std.proofs.lemmas.Bool.{lt-ltb}
+use Rattle.std.specs.Prelude.{nat_lt}
+use Rattle.std.proofs.lemmas.Bool.{lt-ltb, and_from}
 use Rattle.std.proofs.lemmas.List.Elements.{All-cons, All-head, All-tail}
 use Rattle.ed_syntax.specs.Commands as ed
 use Rattle.ed_syntax.specs.Characters.{equals_sign, capital_h, capital_p, capital_q, letter_a, letter_c, letter_d, letter_h, letter_i, letter_j, letter_m, letter_t}
 use Rattle.ed_syntax.specs.Commands.{Addresses, Form, Verb, Command, Step, alone}
-use Rattle.ed_syntax.specs.Verbs.{Takes, takes, takes_any, may_have, marks_by_letter}
+use Rattle.ed_syntax.specs.Verbs.{Takes, takes, takes_any, may_have, is_sound}
 use Rattle.ed_syntax.specs.Spellings.{SpellsText, SpellsVerb, SpellsCommand, Spells}
 use Rattle.ed_syntax.specs.Tokens.{◌>>=◌}
 use Rattle.ed_syntax.specs.Reading.{Heading, text, entering, with_text, finished, heading, command_at, step_at}
@@ -123,46 +124,46 @@ may_have-text (ed.Semicolon a b) verb later = ap (λ (t : Takes). takes_any t.ta
 suffix-text : (verb : Verb) (later : List (List ℕ)) → (takes (with_text verb later).0).suffix ≡ (takes verb).suffix
 suffix-text verb later = ap (λ (t : Takes). t.suffix) (takes-text verb later)
 
--- a letter that is read as a mark is one
-plain-letter : {b : ℕ} {verb : Verb} → PlainVerb b verb → marks_by_letter verb ≡ true
-plain-letter PlainVerb.append = refl
-plain-letter PlainVerb.change = refl
-plain-letter PlainVerb.insert = refl
-plain-letter PlainVerb.delete = refl
-plain-letter PlainVerb.join = refl
-plain-letter PlainVerb.line_number = refl
-plain-letter (PlainVerb.write b form is) = refl
-plain-letter PlainVerb.help = refl
-plain-letter PlainVerb.help_mode = refl
-plain-letter PlainVerb.prompt_mode = refl
-plain-letter PlainVerb.quit_anyway = refl
+-- a letter that is read as a mark is one, and a count is at least 1
+plain-stands : {b : ℕ} {verb : Verb} → PlainVerb b verb → is_sound verb ≡ true
+plain-stands PlainVerb.append = refl
+plain-stands PlainVerb.change = refl
+plain-stands PlainVerb.insert = refl
+plain-stands PlainVerb.delete = refl
+plain-stands PlainVerb.join = refl
+plain-stands PlainVerb.line_number = refl
+plain-stands (PlainVerb.write b form is) = refl
+plain-stands PlainVerb.help = refl
+plain-stands PlainVerb.help_mode = refl
+plain-stands PlainVerb.prompt_mode = refl
+plain-stands PlainVerb.quit_anyway = refl
 
-spelled-letter : {own more : List ℕ} {verb : Verb} → SpellsLetter own more verb → marks_by_letter verb ≡ true
-spelled-letter SpellsLetter.null = refl
-spelled-letter (SpellsLetter.plain b more verb is) = plain-letter is
-spelled-letter (SpellsLetter.mark letter more small) = lt-ltb letter 26 small
-spelled-letter (SpellsLetter.move own more target is) = refl
-spelled-letter (SpellsLetter.copy own more target is) = refl
+spelled-stands : {own more : List ℕ} {verb : Verb} → SpellsLetter own more verb → is_sound verb ≡ true
+spelled-stands SpellsLetter.null = refl
+spelled-stands (SpellsLetter.plain b more verb is) = plain-stands is
+spelled-stands (SpellsLetter.mark letter more small) = and_from (nat_lt letter 26) true (lt-ltb letter 26 small) refl
+spelled-stands (SpellsLetter.move own more target is) = refl
+spelled-stands (SpellsLetter.copy own more target is) = refl
 
-letter-entering : (entered : List (List ℕ)) (verb : Verb) → marks_by_letter (entering entered verb) ≡ marks_by_letter verb
-letter-entering entered (ed.Append _) = refl
-letter-entering entered (ed.Change _) = refl
-letter-entering entered (ed.Insert _) = refl
-letter-entering entered _ = refl
+stands-entering : (entered : List (List ℕ)) (verb : Verb) → is_sound (entering entered verb) ≡ is_sound verb
+stands-entering entered (ed.Append _) = refl
+stands-entering entered (ed.Change _) = refl
+stands-entering entered (ed.Insert _) = refl
+stands-entering entered _ = refl
 
-letter-text : (verb : Verb) (later : List (List ℕ)) → marks_by_letter (with_text verb later).0 ≡ marks_by_letter verb
-letter-text verb later =
-    elim (takes verb).text as (λ t. marks_by_letter (let r : Verb × List (List ℕ) = elim t [ true ↦ (entering (text later).0 verb, (text later).1) | false ↦ (verb, later) ] in r.0) ≡ marks_by_letter verb) [
-      | true ↦ letter-entering (text later).0 verb
+stands-text : (verb : Verb) (later : List (List ℕ)) → is_sound (with_text verb later).0 ≡ is_sound verb
+stands-text verb later =
+    elim (takes verb).text as (λ t. is_sound (let r : Verb × List (List ℕ) = elim t [ true ↦ (entering (text later).0 verb, (text later).1) | false ↦ (verb, later) ] in r.0) ≡ is_sound verb) [
+      | true ↦ stands-entering (text later).0 verb
       | false ↦ refl
     ]
 
-pub command_at-letter : (listed : Bool) (line : List ℕ) (later : List (List ℕ)) (r : Command × List (List ℕ)) → command_at listed line later ≡ Some r → marks_by_letter r.0.verb ≡ true
-command_at-letter listed line later r is =
+pub command_at-stands : (listed : Bool) (line : List ℕ) (later : List (List ℕ)) (r : Command × List (List ℕ)) → command_at listed line later ≡ Some r → is_sound r.0.verb ≡ true
+command_at-stands listed line later r is =
     let h = bind-some (heading line) (λ h. Some (finished listed h later)) r is in
-    ap (λ (r : Command × List (List ℕ)). marks_by_letter r.0.verb) (sym (Some-same (finished listed h.0 later) r h.2))
-    ∙ letter-text h.0.verb later
-    ∙ spelled-letter (heading-sound line h.0 h.1).letter
+    ap (λ (r : Command × List (List ℕ)). is_sound r.0.verb) (sym (Some-same (finished listed h.0 later) r h.2))
+    ∙ stands-text h.0.verb later
+    ∙ spelled-stands (heading-sound line h.0 h.1).letter
 
 -- what was read from lines: its bytes, and as many lines as they are
 pub record ReadsFirst {A : Type 0} (Spells : List ℕ → List ℕ → A → Type 0) (lines : List (List ℕ)) (r : A × List (List ℕ)) : Type 0 where

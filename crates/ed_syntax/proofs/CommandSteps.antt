@@ -1,28 +1,32 @@
 -- What the steps of a command leave as it is: its addresses the lines and undo, its effect undo and how lines are marked.
-use Rattle.std.proofs.Common.{◌≡◌, ℕ, zero, suc, ◌-◌, ◌≤◌, true, false, ◌&&◌, nat_le, List, [], ◌∷◌, Option, Some, None, Result, Ok, refl, sym, ap, ◌∙◌, subst, arith}
+use Rattle.std.proofs.Common.{◌≡◌, ℕ, zero, suc, ◌-◌, ◌≤◌, Bool, true, false, not, ◌&&◌, nat_le, List, [], ◌∷◌, Option, Some, None, Result, Ok, refl, sym, ap, ◌∙◌, subst, arith}
 use Rattle.std.proofs.lemmas.Bool.{leb-true, and_parts}
 use Rattle.std.specs.Prelude.{nat_lt}
 use Rattle.std.specs.List.{concat}
 use Rattle.ed_base.specs.Buffer.{texts}
-use Rattle.ed_base.specs.Parts.{between}
+use Rattle.ed_base.specs.Parts.{between, replaced}
 use Rattle.ed_base.specs.declared.fault.Fault.{Fault}
 use Rattle.ed_base.specs.declared.fault.Fault.TheVariants as fault
+use Rattle.ed_syntax.specs.declared.replacement.Part.{Part}
+use Rattle.ed_syntax.specs.declared.replacement.Which.{Which}
 use Rattle.ed_syntax.specs.declared.request.Answer.{Answer}
 use Rattle.ed_syntax.specs.declared.verbs.Taking.{Taking}
 use Rattle.ed_syntax.specs.declared.verbs.Taking.TheVariants as many
 use Rattle.ed_syntax.specs.Commands as ed
 use Rattle.ed_syntax.specs.Commands.{Address, Addresses, Form, Verb, Command}
-use Rattle.ed_syntax.specs.Verbs.{takes, given_or, marks_by_letter}
+use Rattle.ed_syntax.specs.Verbs.{takes, given_or, is_sound, may_be_listed, has_split, is_listed}
 use Rattle.ed_syntax.specs.States.{State, Kept, Past, Was, kept, last}
-use Rattle.ed_syntax.specs.Values.{◌>>◌, value, evaluated, moved, values}
+use Rattle.ed_syntax.specs.Values.{◌>>◌, value, evaluated, moved, values, used_pattern}
 use Rattle.ed_syntax.specs.Ranges.{Span, span, spanned, first_of_two, last_of_two, not_before, ordered, from_first, single}
 use Rattle.ed_syntax.specs.Effects as effect
 use Rattle.ed_syntax.specs.Effects.{Outcome, Effect, Makes, Asks, altered, only, at_line, entered}
-use Rattle.ed_syntax.specs.Applied.{Placed, placed, targeted, effect_of, suffix_written, past_after, settled, completed, command}
+use Rattle.ed_syntax.specs.SubstitutedLines as substitution
+use Rattle.ed_syntax.specs.SubstitutedLines.{Results, made_of, each, used_replacement, substitute}
+use Rattle.ed_syntax.specs.Applied.{Placed, placed, targeted, making, effect_of, suffix_written, past_after, settled, completed, command}
 use Rattle.ed_syntax.specs.Laws.{WellMarked, MarksHold, ListsLeaveUndo, CommandsKeepMarks}
 use Rattle.ed_syntax.proofs.StepLemmas.{either}
 use Rattle.ed_syntax.proofs.FaultSteps.{Gives, gives, gives-none, bind-gives, bind-any}
-use Rattle.ed_syntax.proofs.MarkLemmas.{well-exchanged, well-carried, well-marked_at}
+use Rattle.ed_syntax.proofs.MarkLemmas.{well-exchanged, well-carried, well-substituted, well-marked_at}
 
 -- the same lines, and the same that undo would bring back
 pub record SameBuffer (s t : State) : Type 0 where
@@ -137,6 +141,28 @@ move-keeps x target s order =
     (λ inside. gives-none (MakesOnly s) fault.Destination)
     (λ outside. made s _ (record { past = refl; marks = well-carried (x.first - 1) x.last (effect.place_left x target) s.lines (omega (arith, order)) }))
 
+-- a state in which a pattern and a replacement are remembered
+abbrev remembering : List ℕ → List Part → State → State
+remembering text parts s = record s { pattern = Some text; replacement = Some parts }
+
+made-keeps : (listed : Bool) (form : Option Form) (x : Span) (text : List ℕ) (parts : List Part) (s : State) (results : Results) → (WellMarked s.lines → WellMarked (replaced x.first x.last results.0 s.lines)) →
+    Gives (EffectKeeps s) (substitution.made listed form x (remembering text parts s) results)
+made-keeps true form x text parts s (lines, None) well =
+    gives (EffectKeeps s) (only (remembering text parts s) []) (record { past = refl; marks = λ marked. marked })
+made-keeps false form x text parts s (lines, None) well = gives-none (EffectKeeps s) fault.NoMatch
+made-keeps listed form x text parts s (lines, Some n) well = gives (EffectKeeps s) _ (record { past = refl; marks = well })
+
+substitute-keeps : (listed : Bool) (pattern : Option (List ℕ)) (replacement : Option (List Part)) (which : Which) (form : Option Form) (x : Span) (s : State) → InOrder x →
+    Gives (EffectKeeps s) (substitute listed pattern replacement which form x s)
+substitute-keeps listed pattern replacement which form x s order =
+    bind-any (EffectKeeps s) (used_replacement listed replacement s) _ (λ parts.
+    bind-any (EffectKeeps s) (used_pattern pattern s) _ (λ text.
+    made-keeps listed form x text parts s (each (made_of text parts which) (between x.first x.last s.lines))
+    (well-substituted (x.first - 1) x.last (made_of text parts which) s.lines (omega (arith, order)))))
+
+making-keeps : (s : State) (r : Result Outcome Fault) → Gives (EffectKeeps s) r → Gives (MakesOnly s) (making r)
+making-keeps s r keeps = bind-gives (EffectKeeps s) (MakesOnly s) r _ keeps (λ o kept. made s o kept)
+
 pub effect_of-keeps : (verb : Verb) (listed : _) (x : Span) (target : ℕ) (s : State) (given : Option Answer) → InOrder x → Gives (MakesOnly s) (effect_of verb listed x target s given)
 effect_of-keeps (ed.Append text) listed x target s given order = made s _ (entered-keeps x.first text s)
 effect_of-keeps (ed.Change text) listed x target s given order = made s _ (change-keeps text x s order)
@@ -146,6 +172,8 @@ effect_of-keeps ed.Join listed x target s given order = made s _ (join-keeps x s
 effect_of-keeps (ed.Mark letter) listed x target s given order = made s _ (record { past = refl; marks = well-marked_at (x.last - 1) letter s.lines })
 effect_of-keeps (ed.Move to) listed x target s given order = move-keeps x target s order
 effect_of-keeps (ed.Copy to) listed x target s given order = made s _ (entered-keeps target (texts (between x.first x.last s.lines)) s)
+effect_of-keeps (ed.Substitute pattern replacement which form) listed x target s given order =
+    making-keeps s (substitute listed pattern replacement which form x s) (substitute-keeps listed pattern replacement which form x s order)
 effect_of-keeps _ listed x target s given order = made s _ (record { past = refl; marks = λ marked. marked })
 
 -- what a command did, where it was placed, and what came of it
@@ -177,11 +205,18 @@ command-done s c given =
 settled-listed : (before : Kept) (o : Outcome) → (settled true before o).past ≡ o.state.past
 settled-listed before o = elim o.alters as (λ t. (let r : State = elim t [ true ↦ record o.state { changed = true; past = o.state.past } | false ↦ o.state ] in r).past ≡ o.state.past) [ true ↦ refl | false ↦ refl ]
 
+-- a command of a list is listed
+in-list : (c : Command) → is_listed c ≡ true → c.listed ≡ true
+in-list c is =
+    let whole = (and_parts (c.listed && is_sound c.verb && may_be_listed c.verb) (not (has_split c.verb)) is).0 in
+    let first = (and_parts (c.listed && is_sound c.verb) (may_be_listed c.verb) whole).0 in
+    (and_parts c.listed (is_sound c.verb) first).0
+
 pub lists_leave_undo : ListsLeaveUndo
 lists_leave_undo s c given o is listed =
     let done = command-done s c given (Makes o) is o refl in
     ap (λ (s : State). s.past) done.state
-    ∙ ap (λ listed. (settled listed (kept s) done.made).past) (and_parts c.listed (marks_by_letter c.verb) listed).0
+    ∙ ap (λ listed. (settled listed (kept s) done.made).past) (in-list c listed)
     ∙ settled-listed (kept s) done.made
     ∙ done.keeps.past
     ∙ done.same.past

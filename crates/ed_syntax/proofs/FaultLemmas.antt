@@ -1,22 +1,29 @@
 -- The faults of a command: neither memory nor output is lost, and no file is refused.
 use Rattle.std.proofs.Common.{◌≡◌, ℕ, zero, suc, ◌+◌, ℤ, pos, negsuc, ◌+ℤ◌, Bool, true, false, ◌&&◌, nat_le, List, [], ◌∷◌, Option, Some, None, find, Result, Ok, Err, refl}
+use Rattle.std.specs.Prelude.{ok_or}
+use Rattle.std.specs.List.{list_any}
 use Rattle.ed_base.specs.Buffer.{marked_place}
+use Rattle.ed_base.specs.Parts.{between}
 use Rattle.ed_base.specs.declared.fault.Fault.{Fault}
 use Rattle.ed_base.specs.declared.fault.Fault.TheVariants as fault
+use Rattle.ed_syntax.specs.declared.replacement.Part.{Part}
+use Rattle.ed_syntax.specs.declared.replacement.Which.{Which}
 use Rattle.ed_syntax.specs.declared.request.Answer.{Answer}
 use Rattle.ed_syntax.specs.declared.request.Request.{Request}
 use Rattle.ed_syntax.specs.declared.verbs.Taking.{Taking}
 use Rattle.ed_syntax.specs.declared.verbs.Taking.TheVariants as many
 use Rattle.ed_syntax.specs.Commands as ed
 use Rattle.ed_syntax.specs.Commands.{Base, Address, Addresses, Form, Verb, Command}
-use Rattle.ed_syntax.specs.Verbs.{takes, given_or}
+use Rattle.ed_syntax.specs.Verbs.{takes, given_or, is_split}
 use Rattle.ed_syntax.specs.States.{State, last}
-use Rattle.ed_syntax.specs.Values.{◌>>◌, sought, searched, matches_line, line_at, lines_forward, lines_backward, base_number, within, value, evaluated, moved, values}
+use Rattle.ed_syntax.specs.Values.{◌>>◌, sought, searched, matches_line, line_at, lines_forward, lines_backward, base_number, within, value, evaluated, moved, values, used_pattern}
 use Rattle.ed_syntax.specs.Ranges.{Span, span, spanned, first_of_two, last_of_two, not_before, single}
 use Rattle.ed_syntax.specs.Forms.{lines_written}
 use Rattle.ed_syntax.specs.Effects as effect
 use Rattle.ed_syntax.specs.Effects.{Outcome, Effect, Makes, Asks}
-use Rattle.ed_syntax.specs.Applied.{placed, targeted, effect_of, suffix_written, completed, command}
+use Rattle.ed_syntax.specs.SubstitutedLines as substitution
+use Rattle.ed_syntax.specs.SubstitutedLines.{Results, made_of, each, used_replacement, substitute}
+use Rattle.ed_syntax.specs.Applied.{placed, targeted, making, effect_of, suffix_written, completed, command}
 use Rattle.ed_syntax.proofs.StepLemmas.{either}
 use Rattle.ed_syntax.proofs.FaultSteps.{Gives, Meets, gives, meets, meets-none, bind-gives, bind-any, bind-meets, ok_or-meets}
 
@@ -106,8 +113,31 @@ move-own x target s =
     either (λ (r : Result Outcome Fault). Meets Own (r >> λ o. Ok (Makes o))) (nat_le x.first target && nat_le target x.last) _ _
     (λ inside. meets Own fault.Destination refl) (λ outside. fine _)
 
+used_replacement-own : (listed : Bool) (replacement : Option (List Part)) (s : State) → Meets Own (used_replacement listed replacement s)
+used_replacement-own listed (Some parts) s = fine parts
+used_replacement-own listed None s =
+    bind-meets Own (ok_or s.replacement fault.Replacement) _ (ok_or-meets Own s.replacement fault.Replacement refl) (λ parts.
+    either (Meets Own) (listed && list_any is_split parts) _ _ (λ split. meets Own fault.Replacement refl) (λ whole. fine parts))
+
+made-own : (listed : Bool) (form : Option Form) (x : Span) (s : State) (results : Results) → Meets Own (substitution.made listed form x s results)
+made-own true form x s (lines, None) = fine _
+made-own false form x s (lines, None) = meets Own fault.NoMatch refl
+made-own listed form x s (lines, Some n) = fine _
+
+substitute-own : (listed : Bool) (pattern : Option (List ℕ)) (replacement : Option (List Part)) (which : Which) (form : Option Form) (x : Span) (s : State) →
+    Meets Own (substitute listed pattern replacement which form x s)
+substitute-own listed pattern replacement which form x s =
+    bind-meets Own (used_replacement listed replacement s) _ (used_replacement-own listed replacement s) (λ parts.
+    bind-meets Own (used_pattern pattern s) _ (ok_or-meets Own (sought pattern s) fault.Pattern refl) (λ text.
+    made-own listed form x _ (each (made_of text parts which) (between x.first x.last s.lines))))
+
+making-own : (r : Result Outcome Fault) → Meets Own r → Meets Own (making r)
+making-own r own = bind-meets Own r _ own (λ o. fine (Makes o))
+
 effect_of-own : (verb : Verb) (listed : Bool) (x : Span) (target : ℕ) (s : State) (given : Option Answer) → Meets Own (effect_of verb listed x target s given)
 effect_of-own (ed.Move to) listed x target s given = move-own x target s
+effect_of-own (ed.Substitute pattern replacement which form) listed x target s given =
+    making-own (substitute listed pattern replacement which form x s) (substitute-own listed pattern replacement which form x s)
 effect_of-own _ listed x target s given = fine _
 
 -- line 0 isn't written
@@ -140,6 +170,8 @@ move-made x target s = bind-any IsMade (effect.move x target s) _ (λ o. made o)
 
 effect_of-made : (verb : Verb) (listed : Bool) (x : Span) (target : ℕ) (s : State) (given : Option Answer) → Gives IsMade (effect_of verb listed x target s given)
 effect_of-made (ed.Move to) listed x target s given = move-made x target s
+effect_of-made (ed.Substitute pattern replacement which form) listed x target s given =
+    bind-any IsMade (substitute listed pattern replacement which form x s) _ (λ o. made o)
 effect_of-made _ listed x target s given = made _
 
 completed-made : (c : Command) (s : State) (e : Effect) → IsMade e → Gives IsMade (completed c s e)

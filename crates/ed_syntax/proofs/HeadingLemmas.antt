@@ -5,7 +5,7 @@ use Rattle.ed_syntax.specs.Verbs.{may_have}
 use Rattle.ed_syntax.specs.Addressing.{SpellsAddresses}
 use Rattle.ed_syntax.specs.Spellings.{SpellsSuffix}
 use Rattle.ed_syntax.specs.Tokens.{Parsed, ◌>>=◌, addresses}
-use Rattle.ed_syntax.specs.Reading.{Heading, verb_at, suffix_at, heading_with, heading_behind, heading}
+use Rattle.ed_syntax.specs.Reading.{Heading, verb_at, suffix_at, suffix_with, heading_with, heading_behind, heading}
 use Rattle.ed_syntax.proofs.StepLemmas.{Some-same, none_some, bind-some, chosen, either}
 use Rattle.ed_syntax.proofs.AddressesLemmas.{addresses-sound, addresses-complete}
 use Rattle.ed_syntax.proofs.VerbLemmas.{SpellsLetter, verb_at-sound, verb_at-complete}
@@ -24,19 +24,23 @@ pub record SpellsHeading (line : List ℕ) (h : Heading) : Type 0 where
 abbrev with_suffix : Addresses → Verb → Option Form → Option Heading
 with_suffix given verb suffix = Some (record { addresses = given; verb = verb; suffix = suffix })
 
--- the end of a line that is read behind these is spelled so
-abbrev HeadingRead : Addresses → List ℕ → Verb → Option Heading → Type 0
-HeadingRead given more verb read = (h : Heading) → read ≡ Some h → (line own : List ℕ) → SpellsAddresses line own given → SpellsLetter own more verb → SpellsHeading line h
+-- addresses that may stand before a command, and its suffix
+abbrev SuffixRead : Addresses → Verb → List ℕ → Option (Option Form) → Type 0
+SuffixRead given verb more read = (suffix : Option Form) → read ≡ Some suffix → (may_have given verb ≡ true) × SpellsSuffix verb more suffix
 
-heading_with-sound : (given : Addresses) (more : List ℕ) (verb : Verb) → HeadingRead given more verb (heading_with given more verb)
-heading_with-sound given more verb =
-    let with = with_suffix given verb in
-    either (HeadingRead given more verb) (may_have given verb) (suffix_at verb more >>= with) None
-    (λ may h is line own given_is letter_is.
-    let suffix = bind-some (suffix_at verb more) with h is in
-    subst (SpellsHeading line) (Some-same (record { addresses = given; verb = verb; suffix = suffix.0 }) h suffix.2)
-    (record { own = own; more = more; given = given_is; letter = letter_is; allowed = may; end = suffix_at-sound verb more suffix.0 suffix.1 }))
-    (λ may_not h is line own given_is letter_is. absurd (none_some is))
+suffix_with-sound : (given : Addresses) (verb : Verb) (more : List ℕ) → SuffixRead given verb more (suffix_with given verb more)
+suffix_with-sound given verb more =
+    either (SuffixRead given verb more) (may_have given verb) (suffix_at verb more) None
+    (λ may suffix is. (may, suffix_at-sound verb more suffix is))
+    (λ may_not suffix is. absurd (none_some is))
+
+-- the end of a line that is read behind these is spelled so
+heading_with-sound : (given : Addresses) (more : List ℕ) (verb : Verb) (h : Heading) → heading_with given more verb ≡ Some h → (line own : List ℕ) → SpellsAddresses line own given → SpellsLetter own more verb → SpellsHeading line h
+heading_with-sound given more verb h is line own given_is letter_is =
+    let found = bind-some (suffix_with given verb more) (with_suffix given verb) h is in
+    let end = suffix_with-sound given verb more found.0 found.1 in
+    subst (SpellsHeading line) (Some-same (record { addresses = given; verb = verb; suffix = found.0 }) h found.2)
+    (record { own = own; more = more; given = given_is; letter = letter_is; allowed = end.0; end = end.1 })
 
 -- a line that is read is spelled so
 pub heading-sound : (line : List ℕ) (h : Heading) → heading line ≡ Some h → SpellsHeading line h
@@ -51,5 +55,5 @@ heading-complete line h is =
     let with = with_suffix h.addresses h.verb in
     ap (λ (o : Parsed Addresses). o >>= λ r. heading_behind r.0 r.1) (addresses-complete is.given)
     ∙ ap (λ (o : Parsed Verb). o >>= λ r. heading_with h.addresses r.1 r.0) (verb_at-complete is.letter)
-    ∙ ap (λ t. chosen t (suffix_at h.verb is.more >>= with) None) is.allowed
+    ∙ ap (λ t. chosen t (suffix_at h.verb is.more) None >>= with) is.allowed
     ∙ ap (λ (o : Option (Option Form)). o >>= with) (suffix_at-complete is.end)

@@ -1,13 +1,14 @@
 -- What the commands make of lines in which each letter marks at most one line.
-use Rattle.std.proofs.Common.{◌≡◌, ℕ, ◌+◌, ◌≤◌, cond, List, [], ◌∷◌, ◌++◌, map, take, drop, length, sym, ap, ◌∙◌, arith}
+use Rattle.std.proofs.Common.{◌≡◌, ℕ, ◌+◌, ◌≤◌, cond, List, [], ◌∷◌, ◌++◌, map, take, drop, length, Option, Some, None, refl, sym, ap, ◌∙◌, arith}
 use Rattle.std.specs.Prelude.{count_by}
 use Rattle.std.proofs.lemmas.List.Sums.{sum_by-append}
-use Rattle.std.proofs.lemmas.List.Elements.{All-append, All-take, All-drop}
+use Rattle.std.proofs.lemmas.List.Elements.{All-nil, All-cons, All-head, All-tail, All-append, All-take, All-drop}
 use Rattle.ed_base.specs.Buffer.{Line, plain_line, has_letter, marked_at, KnowLetters}
 use Rattle.ed_base.specs.Parts.{block, exchanged, carried}
 use Rattle.ed_base.proofs.Letters.{once-counts, counts-once, plain-known, plain-uncounted, marked_at-once, marked_at-known}
 use Rattle.ed_base.proofs.PartLemmas.{whole}
 use Rattle.ed_syntax.specs.Laws.{WellMarked}
+use Rattle.ed_syntax.specs.SubstitutedLines.{Results, onto, each}
 
 -- how many of these lines a letter marks
 abbrev marked_by : ℕ → List Line → ℕ
@@ -53,3 +54,31 @@ well-carried a b place xs h marked =
 
 pub well-marked_at : (place letter : ℕ) (xs : List Line) → WellMarked xs → WellMarked (marked_at place letter xs)
 well-marked_at place letter xs marked = record { known = marked_at-known place letter xs marked.known; once = marked_at-once place letter xs marked.once }
+
+-- what results of lines by a substitution: no letter marks more of them, and all letters are known
+marked_by-onto : (letter : ℕ) (line : Line) (made : Option (List (List ℕ))) (later : Results) (lines : List Line) → marked_by letter later.0 ≤ marked_by letter lines →
+    marked_by letter (onto line made later).0 ≤ marked_by letter (line ∷ lines)
+marked_by-onto letter line None later lines fewer =
+    omega (arith, fewer, marked_by-append letter (line ∷ []) later.0, marked_by-append letter (line ∷ []) lines)
+marked_by-onto letter line (Some texts) later lines fewer =
+    omega (arith, fewer, marked_by-append letter (map plain_line texts) later.0, plain-uncounted texts letter, marked_by-append letter (line ∷ []) lines)
+
+marked_by-each : (letter : ℕ) (f : List ℕ → Option (List (List ℕ))) (lines : List Line) → marked_by letter (each f lines).0 ≤ marked_by letter lines
+marked_by-each letter f [] = omega arith
+marked_by-each letter f (line ∷ lines) = marked_by-onto letter line (f line.bytes) (each f lines) lines (marked_by-each letter f lines)
+
+known-onto : (line : Line) (made : Option (List (List ℕ))) (later : Results) → Knows line → KnowLetters later.0 → KnowLetters (onto line made later).0
+known-onto line None later one others = All-cons Knows line later.0 one others
+known-onto line (Some texts) later one others = All-append Knows (map plain_line texts) later.0 (plain-known texts) others
+
+known-each : (f : List ℕ → Option (List (List ℕ))) (lines : List Line) → KnowLetters lines → KnowLetters (each f lines).0
+known-each f [] all = All-nil Knows
+known-each f (line ∷ lines) all = known-onto line (f line.bytes) (each f lines) (All-head Knows line lines all) (known-each f lines (All-tail Knows line lines all))
+
+pub well-substituted : (a b : ℕ) (f : List ℕ → Option (List (List ℕ))) (xs : List Line) → a ≤ b → WellMarked xs → WellMarked (exchanged a b (each f (block a b xs)).0 xs)
+well-substituted a b f xs h marked =
+    let new = (each f (block a b xs)).0 in
+    record {
+      known = known-exchanged a b new xs (known-each f (block a b xs) (All-drop Knows a (take b xs) (All-take Knows b xs marked.known))) marked.known;
+      once = counts-once (exchanged a b new xs) (λ letter. omega (arith, marked_by-exchanged letter a b new xs h, marked_by-each letter f (block a b xs), few marked letter));
+    }

@@ -12,6 +12,7 @@ use Rattle.ed_syntax.specs.Ranges.{Span, spanned}
 use Rattle.ed_syntax.specs.Forms.{lines_written}
 use Rattle.ed_syntax.specs.Effects as effect
 use Rattle.ed_syntax.specs.Effects.{Outcome, Effect, Makes, Asks, only}
+use Rattle.ed_syntax.specs.SubstitutedLines.{substitute}
 
 -- an outcome, where there is no fault
 abbrev pub making : Result Outcome Fault → Result Effect Fault
@@ -28,6 +29,7 @@ effect_of ed.Join listed x target s given = Ok (Makes (effect.join x s))
 effect_of (ed.Mark letter) listed x target s given = Ok (Makes (effect.mark letter x s))
 effect_of (ed.Move to) listed x target s given = making (effect.move x target s)
 effect_of (ed.Copy to) listed x target s given = Ok (Makes (effect.copy x target s))
+effect_of (ed.Substitute pattern replacement which form) listed x target s given = making (substitute listed pattern replacement which form x s)
 effect_of ed.LineNumber listed x target s given = Ok (Makes (effect.line_number x s))
 effect_of ed.Null listed x target s given = Ok (Makes (effect.write ed.Plain x s))
 effect_of (ed.Write form) listed x target s given = Ok (Makes (effect.write form x s))

@@ -1,5 +1,7 @@
 -- The commands of a script (XCU ed, "Addresses in ed", "Commands in ed").
 use Rattle.std.specs.Prelude.{ℕ, ℤ, pos, Bool, List, [], Option}
+use Rattle.ed_syntax.specs.declared.replacement.Part.{Part}
+use Rattle.ed_syntax.specs.declared.replacement.Which.{Which}
 
 -- Where an address begins: a line's number, the current line, the last line, a line with a mark, or the next line forward or
 -- backward that a pattern matches. Letters count from 0, which is `a`; a pattern is its text, and none is the remembered one.
@@ -34,7 +36,8 @@ pub data Form : Type 0 where
   Unambiguous : Form
 
 -- A command's letter with its parameters: `a`, `c` and `i` with their text, `d`, `j`, `k` with the letter that marks, `m` and `t`
--- with their target, `=`, the null command, `l`, `n` and `p` by the form that they write in, `h`, `H`, `P`, `Q`.
+-- with their target, `s` with its pattern and its replacement, where none is the remembered one, which matches it takes and the form
+-- in which it writes; `=`, the null command, `l`, `n` and `p` by the form that they write in, `h`, `H`, `P`, `Q`.
 pub data Verb : Type 0 where
   Append : (text : List (List ℕ)) → Verb
   Change : (text : List (List ℕ)) → Verb
@@ -44,6 +47,7 @@ pub data Verb : Type 0 where
   Mark : (letter : ℕ) → Verb
   Move : (target : Address) → Verb
   Copy : (target : Address) → Verb
+  Substitute : (pattern : Option (List ℕ)) → (replacement : Option (List Part)) → (which : Which) → (form : Option Form) → Verb
   LineNumber : Verb
   Null : Verb
   Write : (form : Form) → Verb

@@ -21,6 +21,7 @@ pub mod Laws
 -- what the public types stand for
 pub mod PublicTypes
 pub mod PublicScript
+pub mod PartNumbers
 -- the reader's own words, tied to the spellings by a law
 pub mod Tokens
 pub mod Reading

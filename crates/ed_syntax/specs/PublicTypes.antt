@@ -48,7 +48,7 @@ form_value form.Plain = ed.Plain
 form_value form.Numbered = ed.Numbered
 form_value form.Unambiguous = ed.Unambiguous
 
--- a suffix, where there is one
+-- the form of a suffix or a flag, where there is one
 abbrev pub suffix_value : Option Form → Option ed.Form
 suffix_value None = None
 suffix_value (Some f) = Some (form_value f)
@@ -63,6 +63,7 @@ verb_value verb.Join = ed.Join
 verb_value (verb.Move target) = ed.Move (address_value target)
 verb_value (verb.Copy target) = ed.Copy (address_value target)
 verb_value (verb.Mark letter) = ed.Mark letter
+verb_value (verb.Substitute pattern replacement which form) = ed.Substitute pattern replacement which (suffix_value form)
 verb_value verb.LineNumber = ed.LineNumber
 verb_value verb.Null = ed.Null
 verb_value (verb.Write f) = ed.Write (form_value f)

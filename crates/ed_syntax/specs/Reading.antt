@@ -80,13 +80,13 @@ pub record Heading : Type 0 where
   pub verb : Verb
   pub suffix : Option Form
 
+-- the suffix of a command before which these addresses may stand
+abbrev pub suffix_with : Addresses → Verb → List ℕ → Option (Option Form)
+suffix_with given verb bs = elim (may_have given verb) [ true ↦ suffix_at verb bs | false ↦ None ]
+
 -- the addresses may stand before the command, and its line is over
 abbrev pub heading_with : Addresses → List ℕ → Verb → Option Heading
-heading_with given bs verb =
-    elim (may_have given verb) [
-      | true ↦ suffix_at verb bs >>= λ suffix. Some (record { addresses = given; verb = verb; suffix = suffix })
-      | false ↦ None
-    ]
+heading_with given bs verb = suffix_with given verb bs >>= λ suffix. Some (record { addresses = given; verb = verb; suffix = suffix })
 
 -- what stands behind the addresses
 abbrev pub heading_behind : Addresses → List ℕ → Option Heading

@@ -1,10 +1,11 @@
 -- What each command takes: addresses, lines of text, a target, a suffix (XCU ed, "Commands in ed").
-use Rattle.std.specs.Prelude.{pos, Bool, true, false, not, ◌&&◌, nat_lt, Option, Some, None}
-use Rattle.std.specs.List.{list_all}
+use Rattle.std.specs.Prelude.{pos, Bool, true, false, not, ◌&&◌, nat_le, nat_lt, Option, Some, None}
+use Rattle.std.specs.List.{list_all, list_any}
 use Rattle.ed_syntax.specs.Commands as ed
 use Rattle.ed_syntax.specs.Commands.{Address, Addresses, Without, One, Comma, Semicolon, Verb, Command, Step, at_base}
 use Rattle.ed_syntax.specs.declared.replacement.Part.{Part}
 use Rattle.ed_syntax.specs.declared.replacement.Part.TheVariants as part
+use Rattle.ed_syntax.specs.declared.replacement.Which.TheVariants as which
 use Rattle.ed_syntax.specs.declared.verbs.Taking.{Taking}
 use Rattle.ed_syntax.specs.declared.verbs.Taking.TheVariants as many
 
@@ -35,6 +36,8 @@ takes ed.Join = record { default = Comma here next; taking = many.Range; text = 
 takes (ed.Mark letter) = record { default = One here; taking = many.OneLine; text = false; target = None; suffix = true }
 takes (ed.Move to) = record { default = Comma here here; taking = many.Range; text = false; target = Some to; suffix = true }
 takes (ed.Copy to) = record { default = Comma here here; taking = many.Range; text = false; target = Some to; suffix = true }
+takes (ed.Substitute pattern replacement choice form) =
+    record { default = Comma here here; taking = many.Range; text = false; target = None; suffix = false }
 takes ed.LineNumber = record { default = One (at_base ed.Last); taking = many.Place; text = false; target = None; suffix = true }
 takes ed.Null = record { default = One next; taking = many.OneLine; text = false; target = None; suffix = false }
 takes (ed.Write form) = record { default = Comma here here; taking = many.Range; text = false; target = None; suffix = true }
@@ -65,15 +68,34 @@ abbrev pub marks_by_letter : Verb → Bool
 marks_by_letter (ed.Mark letter) = nat_lt letter 26
 marks_by_letter _ = true
 
+-- the count of a substitution counts from 1
+abbrev pub counts_from_one : Verb → Bool
+counts_from_one (ed.Substitute pattern replacement (which.Nth number) form) = nat_le 1 number
+counts_from_one _ = true
+
+-- its letter and its count are such
+abbrev pub is_sound : Verb → Bool
+is_sound verb = marks_by_letter verb && counts_from_one verb
+
+-- it may stand in the list of a global command; that `Q` may not is our choice
+abbrev pub may_be_listed : Verb → Bool
+may_be_listed ed.QuitAnyway = false
+may_be_listed _ = true
+
 -- a place where a line is split
 abbrev pub is_split : Part → Bool
 is_split part.Split = true
 is_split _ = false
 
+-- its replacement has a split, which can't be written in a list
+abbrev pub has_split : Verb → Bool
+has_split (ed.Substitute pattern (Some parts) choice form) = list_any is_split parts
+has_split _ = false
+
 -- a command of a list
 abbrev pub is_listed : Command → Bool
-is_listed c = c.listed && marks_by_letter c.verb
+is_listed c = c.listed && is_sound c.verb && may_be_listed c.verb && not (has_split c.verb)
 
 -- a step of a script: only commands of lists are listed
 abbrev pub is_step : Step → Bool
-is_step x = not x.command.listed && marks_by_letter x.command.verb && list_all is_listed x.list
+is_step x = not x.command.listed && is_sound x.command.verb && list_all is_listed x.list

@@ -2,7 +2,7 @@
 ghost use Rattle.std.specs.Prelude.{◌≡◌, IfOk};
 ghost use Rattle.ed_syntax.specs.PublicTypes.{address_value, base_value};
 
-use crate::Pattern;
+use crate::{Pattern, Replacement, Which};
 use ed_base::{Letter, Text};
 use std::alloc::AllocError;
 
@@ -69,6 +69,16 @@ pub enum Verb {
     Move(Address),
     /// `t`: copies of the addressed lines go behind the target.
     Copy(Address),
+    /// `s`: of each addressed line, matches are replaced.
+    Substitute {
+        /// `None` is the remembered pattern.
+        pattern: Option<Pattern>,
+        /// `None` is the remembered replacement, `%`.
+        replacement: Option<Replacement>,
+        which: Which,
+        /// Writes the last line that was made in this form.
+        form: Option<Form>,
+    },
     /// `k`: the letter marks the addressed line.
     Mark(Letter),
     /// `=`: writes the addressed line's number.

@@ -1,7 +1,7 @@
 //! Reads a script: its commands up to the first that can't be read.
 ghost use Rattle.std.specs.Prelude.{◌≡◌, ◌+◌, ◌≤◌, false, length, Option, Some, None, option_map, IfOk, MatchOption};
 ghost use Rattle.ed_syntax.specs.Verbs.{may_have};
-ghost use Rattle.ed_syntax.specs.Reading.{beside_letter, plain_verbs, target, verb_at, form_of, suffix_at, is_over, heading, heading_behind, with_text, command_at, script_of};
+ghost use Rattle.ed_syntax.specs.Reading.{beside_letter, plain_verbs, target, verb_at, form_of, suffix_at, is_over, suffix_with, heading_with, heading, heading_behind, with_text, command_at, script_of};
 ghost use Rattle.ed_syntax.specs.PublicTypes.{address_value, addresses_value, suffix_value, verb_value};
 ghost use Rattle.ed_syntax.specs.PublicScript.{script_value};
 ghost use Rattle.ed_syntax.specs.ReadParts.{optional_verb, optional_own_line, command_behind};
@@ -111,19 +111,35 @@ fn heading_behind(
 ) -> Result<Option<OwnLine>, AllocError>
     ensures value { IfOk result (λ h. optional_own_line h ≡ heading_behind (addresses_value addresses) bytes.now) }
 {
-    let Some((verb, rest)) = verb_at(alloc, bytes)? else {
-        return Ok(None);
-    };
-    if !may_have(&addresses, &verb) {
-        return Ok(None);
+    match verb_at(alloc, bytes)? {
+        Some((verb, rest)) => Ok(heading_with(addresses, verb, rest)),
+        None => Ok(None),
     }
-    match suffix_at(&verb, rest) {
-        Some(suffix) => Ok(Some(OwnLine {
+}
+
+// The addresses may stand before the command, and its line is over.
+fn heading_with(addresses: Addresses, verb: Verb, bytes: &[u8]) -> Option<OwnLine>
+    ensures value { optional_own_line result ≡ heading_with (addresses_value addresses) bytes.now (verb_value verb) }
+{
+    match suffix_with(&addresses, &verb, bytes) {
+        Some(suffix) => Some(OwnLine {
             addresses,
             verb,
             suffix,
-        })),
-        None => Ok(None),
+        }),
+        None => None,
+    }
+}
+
+// The suffix of a command before which these addresses may stand.
+fn suffix_with(given: &Addresses, verb: &Verb, bytes: &[u8]) -> Option<Option<Form>>
+    ensures value { option_map suffix_value result ≡
+        suffix_with (addresses_value given.now) (verb_value verb.now) bytes.now }
+{
+    if may_have(given, verb) {
+        suffix_at(verb, bytes)
+    } else {
+        None
     }
 }
 

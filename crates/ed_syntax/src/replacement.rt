@@ -1,11 +1,12 @@
 //! Replacements, and the matches that they take the place of.
 ghost use Rattle.std.specs.Prelude.{◌≡◌, ◌++◌, ◌∷◌, [], IfOk, OnOk, OnErr};
+ghost use Rattle.ed_syntax.specs.PartNumbers.{part_number};
 
 use std::alloc::{AllocError, Global};
 use std::marker::Model;
 
 /// A part of a replacement (XCU ed, "Substitute Command").
-#[derive(Clone, Copy, Debug, PartialEq, Eq)]
+#[derive(Clone, Copy, Debug)]
 pub enum Part {
     /// A byte as itself.
     Literal(u8),
@@ -15,6 +16,43 @@ pub enum Part {
     Group(u8),
     /// A place where the line is split.
     Split,
+}
+
+impl Part {
+    // A number of its own for each part.
+    fn number(&self) -> u16
+        ensures value { result ≡ part_number self.now }
+    {
+        match self {
+            Part::Literal(byte) => u16::from(*byte),
+            Part::Group(group) => 256 + u16::from(*group),
+            Part::Match => 512,
+            Part::Split => 513,
+        }
+    }
+}
+
+impl PartialEq for Part {
+    ghost use Rattle.std.specs.Prelude.{◌==◌};
+    ghost use Rattle.std.specs.Ordering.{on};
+    ghost use Rattle.std.specs.Cmp.Rules.{comparing};
+    ghost use Rattle.std.proofs.Common.{rules};
+    ghost use Rattle.ed_syntax.specs.PartNumbers.{part_number};
+
+    ghost eq = { on part_number ◌==◌ };
+
+    ghost laws = { Prim.search (comparing, rules) };
+
+    fn eq(&self, other: &Self) -> bool {
+        self.number() == other.number()
+    }
+}
+
+impl Eq for Part {
+    ghost use Rattle.std.specs.Cmp.Rules.{comparing};
+    ghost use Rattle.std.proofs.Common.{rules};
+
+    ghost laws = { Prim.search (comparing, rules) };
 }
 
 /// Which of the matches on a line are replaced.
@@ -75,4 +113,29 @@ impl Replacement {
             parts: Vec::from_slice(*self.parts.allocator(), self.parts())?,
         })
     }
+}
+
+impl PartialEq for Replacement {
+    ghost use Rattle.std.specs.Prelude.{◌==◌};
+    ghost use Rattle.std.specs.Ordering.{on};
+    ghost use Rattle.std.specs.Cmp.Lexicographic.{pointwise, lists_per};
+    ghost use Rattle.std.specs.Cmp.Rules.{comparing};
+    ghost use Rattle.std.proofs.Common.{rules};
+    ghost use Rattle.ed_syntax.specs.PartNumbers.{part_number};
+
+    ghost eq = { λ a b. pointwise (on part_number ◌==◌) a b };
+
+    ghost laws = { lists_per (Prim.search (comparing, rules)) };
+
+    fn eq(&self, other: &Self) -> bool {
+        self.parts() == other.parts()
+    }
+}
+
+impl Eq for Replacement {
+    ghost use Rattle.std.specs.Cmp.Lexicographic.{lists_equiv};
+    ghost use Rattle.std.specs.Cmp.Rules.{comparing};
+    ghost use Rattle.std.proofs.Common.{rules};
+
+    ghost laws = { lists_equiv (Prim.search (comparing, rules)) };
 }

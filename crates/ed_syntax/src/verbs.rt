@@ -142,6 +142,10 @@ impl Verb {
                 target: Some(to),
                 ..row(DefaultAddresses::CurrentTwice, Taking::Range)
             },
+            Verb::Substitute { .. } => Takes {
+                suffix: false,
+                ..row(DefaultAddresses::CurrentTwice, Taking::Range)
+            },
             Verb::LineNumber => row(DefaultAddresses::Last, Taking::Place),
             Verb::Null => Takes {
                 suffix: false,

@@ -2,13 +2,13 @@ use Rattle.std.proofs.Common.{◌≡◌, ◌+◌, ℕ, List, Option, false, true
 use Rattle.std.specs.List.{list_all}
 use Rattle.std.proofs.lemmas.Bool.{and_from}
 use Rattle.std.proofs.lemmas.List.{map_push}
-use Rattle.ed_syntax.specs.Verbs.{is_step, is_listed, marks_by_letter}
+use Rattle.ed_syntax.specs.Verbs.{is_step, is_listed, is_sound}
 use Rattle.ed_syntax.specs.Reading.{script, command_at, step_at}
 use Rattle.ed_syntax.specs.Commands.{Command, alone}
 use Rattle.ed_syntax.specs.Tokens.{◌>>=◌}
 use Rattle.ed_syntax.specs.PublicTypes.{command_value, step_value}
 use Rattle.ed_syntax.specs.ReadParts.{command_behind}
-use Rattle.ed_syntax.proofs.CommandLemmas.{command_at-letter}
+use Rattle.ed_syntax.proofs.CommandLemmas.{command_at-stands}
 use Rattle.ed_syntax.proofs.ScriptLemmas.{all_before, all_before-next, command_at-listed, steps-more}
 use Rattle.ed_syntax.proofs.reading.read_script.Goals as goal
 
@@ -31,8 +31,8 @@ commands-preserved c =
     ∙ c.commands.invariant.read in
     let read = command_value command in
     let unlisted : not read.listed ≡ true = ap not (command_at-listed false line later (read, rest) own) in
-    let letter : marks_by_letter read.verb ≡ true = command_at-letter false line later (read, rest) own in
-    let own_step : is_step (step_value command) ≡ true = and_from (not read.listed && marks_by_letter read.verb) (list_all is_listed []) (and_from (not read.listed) (marks_by_letter read.verb) unlisted letter) refl in
+    let stands : is_sound read.verb ≡ true = command_at-stands false line later (read, rest) own in
+    let own_step : is_step (step_value command) ≡ true = and_from (not read.listed && is_sound read.verb) (list_all is_listed []) (and_from (not read.listed) (is_sound read.verb) unlisted stands) refl in
     let stand =
     ap (λ items. list_all is_step (map step_value items)) appended
     ∙ ap (list_all is_step) (map_push step_value before command)
