@@ -1,21 +1,24 @@
 -- Commands: what is read is spelled so, and what is spelled so is read.
-use Rattle.std.proofs.Common.{◌≡◌, ℕ, ◌+◌, Bool, true, false, List, [], ◌∷◌, ◌++◌, length, Option, Some, refl, sym, ap, ◌∙◌, subst, arith, append_assoc}
+use Rattle.std.proofs.Common.{◌≡◌, ℕ, ◌+◌, Bool, true, false, List, [], ◌∷◌, ◌++◌, length, Option, Some, refl, sym, ap, ◌∙◌, subst, arith, append_assoc, append-nil}
+use Rattle.std.proofs.lemmas.List.{length-append}
 use Rattle.ed_base.specs.Lines.{newline, IsLine, AreLines, lines_of, bytes_of}
 use Rattle.ed_base.proofs.LineLemmas.{lines_of-whole}
-use Rattle.std.specs.Prelude.{nat_lt}
-use Rattle.std.proofs.lemmas.Bool.{lt-ltb, and_from}
 use Rattle.std.proofs.lemmas.List.Elements.{All-cons, All-head, All-tail}
 use Rattle.ed_syntax.specs.Commands as ed
-use Rattle.ed_syntax.specs.Characters.{equals_sign, capital_h, capital_p, capital_q, letter_a, letter_c, letter_d, letter_h, letter_i, letter_j, letter_m, letter_t}
+use Rattle.ed_syntax.specs.Characters.{equals_sign, capital_h, capital_p, capital_q, letter_a, letter_c, letter_d, letter_h, letter_i, letter_j, letter_m, letter_s, letter_t}
 use Rattle.ed_syntax.specs.Commands.{Addresses, Form, Verb, Command, Step, alone}
-use Rattle.ed_syntax.specs.Verbs.{Takes, takes, takes_any, may_have, is_sound}
-use Rattle.ed_syntax.specs.Spellings.{SpellsText, SpellsVerb, SpellsCommand, Spells}
+use Rattle.ed_syntax.specs.Verbs.{Takes, takes, takes_any, may_have}
+use Rattle.ed_syntax.specs.Parameters.{SpellsText}
+use Rattle.ed_syntax.specs.Spellings.{SpellsVerb, SpellsCommand, Spells}
 use Rattle.ed_syntax.specs.Tokens.{◌>>=◌}
-use Rattle.ed_syntax.specs.Reading.{Heading, text, entering, with_text, finished, heading, command_at, step_at}
+use Rattle.ed_syntax.specs.Reading.{Heading, Headed, text, entering, with_text, finished, heading, command_at, step_at}
 use Rattle.ed_syntax.proofs.StepLemmas.{Some-same, bind-some}
+use Rattle.ed_syntax.proofs.LineParts.{bytes_of-append, same_lines, taken-length}
 use Rattle.ed_syntax.proofs.VerbLemmas.{PlainVerb, SpellsLetter}
+use Rattle.ed_syntax.proofs.SubstitutionLemmas.{SpellsSubstitution, substitution-left}
+use Rattle.ed_syntax.proofs.HeadLemmas.{SpellsHead}
 use Rattle.ed_syntax.proofs.SuffixLemmas.{suffix-same}
-use Rattle.ed_syntax.proofs.HeadingLemmas.{SpellsHeading, heading-sound, heading-complete}
+use Rattle.ed_syntax.proofs.HeadingLemmas.{SpellsHeading, ReadsHeading, heading-sound, heading-complete}
 use Rattle.ed_syntax.proofs.TextLemmas.{first_line, LeftLines, text-sound, text-complete}
 
 -- the lines of a verb's text, read from lines: its bytes, and as many lines as they are
@@ -60,17 +63,52 @@ verb-sound {own} (SpellsLetter.mark letter more small) lines are = verb_alone ow
 verb-sound (SpellsLetter.move own more target is) lines are = verb_alone (letter_m ∷ own) more (ed.Move target) lines are (SpellsVerb.move own more (bytes_of lines) target is)
 verb-sound (SpellsLetter.copy own more target is) lines are = verb_alone (letter_t ∷ own) more (ed.Copy target) lines are (SpellsVerb.copy own more (bytes_of lines) target is)
 
--- a verb that is spelled so: the verb of its letter, and what its text makes of it
+-- a letter with its parameters and its text, read from the lines behind the parameters
+pub record ReadsHead (own more before : List ℕ) (lines : List (List ℕ)) (r : Verb × List (List ℕ)) : Type 0 where
+  pub bytes : List ℕ
+  pub split : bytes_of lines ≡ bytes ++ bytes_of r.1
+  pub spells : SpellsVerb own more (before ++ bytes) (bytes_of r.1) r.0
+  pub counted : length (lines_of bytes) + length r.1 ≡ length lines
+  pub are : AreLines r.1
+
+head-sound : {own more before : List ℕ} {verb : Verb} → SpellsHead own more before verb → (lines : List (List ℕ)) → AreLines lines → ReadsHead own more before lines (with_text verb lines)
+head-sound (SpellsHead.plain own more verb is) lines are =
+    let read = verb-sound is lines are in
+    record { bytes = read.bytes; split = read.split; spells = read.spells; counted = read.counted; are = read.are }
+head-sound (SpellsHead.substitution _ more before _ (SpellsSubstitution.parameters delimiter own after_pattern after_replacement _ _ pattern replacement which form good quoted replaced end)) lines are =
+    let verb = ed.Substitute pattern replacement which form in record {
+      bytes = [];
+      split = refl;
+      spells = subst (λ text. SpellsVerb (letter_s ∷ delimiter ∷ own) more text (bytes_of lines) verb) (sym (append-nil before))
+          (SpellsVerb.substitute delimiter own after_pattern after_replacement more before (bytes_of lines) pattern replacement which form good quoted replaced end);
+      counted = omega arith;
+      are = are;
+    }
+
+-- a verb that is spelled so: the verb of its letter with the lines of its parameters, and what its text makes of it
 pub record VerbRead (own more : List ℕ) (verb : Verb) (lines : List (List ℕ)) (rest : List ℕ) : Type 0 where
   pub entered : Verb
-  pub letter_is : SpellsLetter own more entered
+  pub before : List ℕ
+  pub head : SpellsHead own more before entered
+  pub behind : List (List ℕ)
+  pub behind_are : AreLines behind
+  pub split : before ++ bytes_of behind ≡ bytes_of lines
   pub left : LeftLines rest
-  pub read : with_text entered lines ≡ (verb, left.lines)
+  pub read : with_text entered behind ≡ (verb, left.lines)
 
 -- the verb of a letter that no text follows
 alone_read : (own more : List ℕ) (verb : Verb) (lines : List (List ℕ)) (rest : List ℕ) → AreLines lines → rest ≡ bytes_of lines → SpellsLetter own more verb → with_text verb lines ≡ (verb, lines) →
     VerbRead own more verb lines rest
-alone_read own more verb lines rest are same is read = record { entered = verb; letter_is = is; left = record { lines = lines; split = same; are = are }; read = read }
+alone_read own more verb lines rest are same is read = record {
+  entered = verb;
+  before = [];
+  head = SpellsHead.plain own more verb is;
+  behind = lines;
+  behind_are = are;
+  split = refl;
+  left = record { lines = lines; split = same; are = are };
+  read = read;
+}
 
 -- the same of one without parameters
 plain_read : (b : ℕ) (more : List ℕ) (verb : Verb) (lines : List (List ℕ)) (rest : List ℕ) → AreLines lines → rest ≡ bytes_of lines → PlainVerb b verb → with_text verb lines ≡ (verb, lines) →
@@ -81,8 +119,31 @@ plain_read b more verb lines rest are same is read = alone_read (b ∷ more) mor
 entered_read : (b : ℕ) (more : List ℕ) (of : List (List ℕ) → Verb) (bytes rest : List ℕ) (entered lines : List (List ℕ)) → SpellsText bytes rest entered → AreLines lines → bytes ++ rest ≡ bytes_of lines →
     PlainVerb b (of []) → with_text (of []) lines ≡ (of (text lines).0, (text lines).1) → VerbRead (b ∷ more) more (of entered) lines rest
 entered_read b more of bytes rest entered lines is are same plain with_text_is =
-    let read = text-complete is lines are same in
-    record { entered = of []; letter_is = SpellsLetter.plain b more (of []) plain; left = read.0; read = with_text_is ∙ ap (λ r. (of r.0, r.1)) read.1 }
+    let read = text-complete is lines are same in record {
+      entered = of [];
+      before = [];
+      head = SpellsHead.plain (b ∷ more) more (of []) (SpellsLetter.plain b more (of []) plain);
+      behind = lines;
+      behind_are = are;
+      split = refl;
+      left = read.0;
+      read = with_text_is ∙ ap (λ r. (of r.0, r.1)) read.1;
+    }
+
+-- `s` that is spelled so
+substitute_read : {own more before rest : List ℕ} {verb : Verb} → SpellsSubstitution own more before verb → (lines : List (List ℕ)) → AreLines lines → before ++ rest ≡ bytes_of lines →
+    ((later : List (List ℕ)) → with_text verb later ≡ (verb, later)) → VerbRead (letter_s ∷ own) more verb lines rest
+substitute_read {own} {more} {before} {rest} {verb} is lines are same unchanged =
+    let left = substitution-left is lines rest are same in record {
+      entered = verb;
+      before = before;
+      head = SpellsHead.substitution own more before verb is;
+      behind = left.lines;
+      behind_are = left.are;
+      split = ap (λ bytes. before ++ bytes) (sym left.split) ∙ same;
+      left = left;
+      read = unchanged left.lines;
+    }
 
 verb-complete : {own more bytes rest : List ℕ} {verb : Verb} → SpellsVerb own more bytes rest verb → (lines : List (List ℕ)) → AreLines lines → bytes ++ rest ≡ bytes_of lines → VerbRead own more verb lines rest
 verb-complete (SpellsVerb.append more bytes rest entered is) lines are same = entered_read letter_a more ed.Append bytes rest entered lines is are same PlainVerb.append refl
@@ -93,6 +154,8 @@ verb-complete {own} (SpellsVerb.mark letter more rest small) lines are same = al
 verb-complete (SpellsVerb.join more rest) lines are same = plain_read letter_j more ed.Join lines rest are same PlainVerb.join refl
 verb-complete (SpellsVerb.move own more rest target is) lines are same = alone_read (letter_m ∷ own) more (ed.Move target) lines rest are same (SpellsLetter.move own more target is) refl
 verb-complete (SpellsVerb.copy own more rest target is) lines are same = alone_read (letter_t ∷ own) more (ed.Copy target) lines rest are same (SpellsLetter.copy own more target is) refl
+verb-complete (SpellsVerb.substitute delimiter own after_pattern after_replacement more text rest pattern replacement which form good quoted replaced end) lines are same =
+    substitute_read (SpellsSubstitution.parameters delimiter own after_pattern after_replacement more text pattern replacement which form good quoted replaced end) lines are same (λ later. refl)
 verb-complete (SpellsVerb.line_number more rest) lines are same = plain_read equals_sign more ed.LineNumber lines rest are same PlainVerb.line_number refl
 verb-complete (SpellsVerb.null rest) lines are same = alone_read [] [] ed.Null lines rest are same SpellsLetter.null refl
 verb-complete (SpellsVerb.write letter more rest form is) lines are same = plain_read letter more (ed.Write form) lines rest are same (PlainVerb.write letter form is) refl
@@ -124,47 +187,6 @@ may_have-text (ed.Semicolon a b) verb later = ap (λ (t : Takes). takes_any t.ta
 suffix-text : (verb : Verb) (later : List (List ℕ)) → (takes (with_text verb later).0).suffix ≡ (takes verb).suffix
 suffix-text verb later = ap (λ (t : Takes). t.suffix) (takes-text verb later)
 
--- a letter that is read as a mark is one, and a count is at least 1
-plain-stands : {b : ℕ} {verb : Verb} → PlainVerb b verb → is_sound verb ≡ true
-plain-stands PlainVerb.append = refl
-plain-stands PlainVerb.change = refl
-plain-stands PlainVerb.insert = refl
-plain-stands PlainVerb.delete = refl
-plain-stands PlainVerb.join = refl
-plain-stands PlainVerb.line_number = refl
-plain-stands (PlainVerb.write b form is) = refl
-plain-stands PlainVerb.help = refl
-plain-stands PlainVerb.help_mode = refl
-plain-stands PlainVerb.prompt_mode = refl
-plain-stands PlainVerb.quit_anyway = refl
-
-spelled-stands : {own more : List ℕ} {verb : Verb} → SpellsLetter own more verb → is_sound verb ≡ true
-spelled-stands SpellsLetter.null = refl
-spelled-stands (SpellsLetter.plain b more verb is) = plain-stands is
-spelled-stands (SpellsLetter.mark letter more small) = and_from (nat_lt letter 26) true (lt-ltb letter 26 small) refl
-spelled-stands (SpellsLetter.move own more target is) = refl
-spelled-stands (SpellsLetter.copy own more target is) = refl
-
-stands-entering : (entered : List (List ℕ)) (verb : Verb) → is_sound (entering entered verb) ≡ is_sound verb
-stands-entering entered (ed.Append _) = refl
-stands-entering entered (ed.Change _) = refl
-stands-entering entered (ed.Insert _) = refl
-stands-entering entered _ = refl
-
-stands-text : (verb : Verb) (later : List (List ℕ)) → is_sound (with_text verb later).0 ≡ is_sound verb
-stands-text verb later =
-    elim (takes verb).text as (λ t. is_sound (let r : Verb × List (List ℕ) = elim t [ true ↦ (entering (text later).0 verb, (text later).1) | false ↦ (verb, later) ] in r.0) ≡ is_sound verb) [
-      | true ↦ stands-entering (text later).0 verb
-      | false ↦ refl
-    ]
-
-pub command_at-stands : (listed : Bool) (line : List ℕ) (later : List (List ℕ)) (r : Command × List (List ℕ)) → command_at listed line later ≡ Some r → is_sound r.0.verb ≡ true
-command_at-stands listed line later r is =
-    let h = bind-some (heading line) (λ h. Some (finished listed h later)) r is in
-    ap (λ (r : Command × List (List ℕ)). is_sound r.0.verb) (sym (Some-same (finished listed h.0 later) r h.2))
-    ∙ stands-text h.0.verb later
-    ∙ spelled-stands (heading-sound line h.0 h.1).letter
-
 -- what was read from lines: its bytes, and as many lines as they are
 pub record ReadsFirst {A : Type 0} (Spells : List ℕ → List ℕ → A → Type 0) (lines : List (List ℕ)) (r : A × List (List ℕ)) : Type 0 where
   pub bytes : List ℕ
@@ -173,18 +195,23 @@ pub record ReadsFirst {A : Type 0} (Spells : List ℕ → List ℕ → A → Typ
   pub counted : length (lines_of bytes) + length r.1 ≡ length lines
   pub are : AreLines r.1
 
-finished-sound : (listed : Bool) (line : List ℕ) (later : List (List ℕ)) (h : Heading) → IsLine line → AreLines later → SpellsHeading line h →
-    ReadsFirst (SpellsCommand listed) (line ∷ later) (finished listed h later)
-finished-sound listed line later h is_line are is =
-    let text = verb-sound is.letter later are in
-    let verb = (with_text h.verb later).0 in
-    let left = bytes_of (with_text h.verb later).1 in
+finished-sound : (listed : Bool) (line : List ℕ) (later : List (List ℕ)) (h : Headed) → IsLine line → ReadsHeading line later h →
+    ReadsFirst (SpellsCommand listed) (line ∷ later) (finished listed h.0 h.1)
+finished-sound listed line later h is_line is =
+    let own = is.spells in
+    let text = head-sound own.head h.1 is.are in
+    let verb = (with_text h.0.verb h.1).0 in
+    let rest = (with_text h.0.verb h.1).1 in
+    let front = bytes_of is.taken in
+    let all : bytes_of later ≡ (front ++ text.bytes) ++ bytes_of rest =
+    ap bytes_of is.split ∙ bytes_of-append is.taken h.1 ∙ ap (λ bytes. front ++ bytes) text.split ∙ sym (append_assoc front text.bytes (bytes_of rest)) in
     record {
-      bytes = line ++ newline ∷ text.bytes;
-      split = ap (λ bs. line ++ newline ∷ bs) text.split ∙ sym (append_assoc line (newline ∷ text.bytes) left);
-      spells = SpellsCommand.command line is.own is.more text.bytes left h.addresses verb h.suffix is_line is.given text.spells (may_have-text h.addresses h.verb later ∙ is.allowed)
-          (suffix-same is.end verb (suffix-text h.verb later));
-      counted = ap (λ ls. length ls + length (with_text h.verb later).1) (lines_of-whole line text.bytes is_line) ∙ omega (arith, text.counted);
+      bytes = line ++ newline ∷ (front ++ text.bytes);
+      split = ap (λ bytes. line ++ newline ∷ bytes) all ∙ sym (append_assoc line (newline ∷ (front ++ text.bytes)) (bytes_of rest));
+      spells = SpellsCommand.command line own.own own.more (front ++ text.bytes) (bytes_of rest) h.0.addresses verb h.0.suffix is_line own.given text.spells
+          (may_have-text h.0.addresses h.0.verb h.1 ∙ own.allowed) (suffix-same own.end verb (suffix-text h.0.verb h.1));
+      counted = ap (λ lines. length lines + length rest) (lines_of-whole line (front ++ text.bytes) is_line)
+          ∙ omega (arith, text.counted, taken-length is.taken text.bytes is.taken_are, ap length is.split, length-append is.taken h.1);
       are = text.are;
     }
 
@@ -192,9 +219,9 @@ finished-sound listed line later h is_line are is =
 pub command-sound : (listed : Bool) (line : List ℕ) (later : List (List ℕ)) (r : Command × List (List ℕ)) → AreLines (line ∷ later) → command_at listed line later ≡ Some r →
     ReadsFirst (SpellsCommand listed) (line ∷ later) r
 command-sound listed line later r are is =
-    let h = bind-some (heading line) (λ h. Some (finished listed h later)) r is in
-    subst (ReadsFirst (SpellsCommand listed) (line ∷ later)) (Some-same (finished listed h.0 later) r h.2)
-    (finished-sound listed line later h.0 (All-head IsLine line later are) (All-tail IsLine line later are) (heading-sound line h.0 h.1))
+    let h = bind-some (heading line later) (λ h. Some (finished listed h.0 h.1)) r is in
+    subst (ReadsFirst (SpellsCommand listed) (line ∷ later)) (Some-same (finished listed h.0.0 h.0.1) r h.2)
+    (finished-sound listed line later h.0 (All-head IsLine line later are) (heading-sound line later h.0 (All-tail IsLine line later are) h.1))
 
 -- a step that is read is spelled so
 pub step-sound : (line : List ℕ) (later : List (List ℕ)) (r : Step × List (List ℕ)) → AreLines (line ∷ later) → step_at line later ≡ Some r → ReadsFirst Spells (line ∷ later) r
@@ -227,17 +254,20 @@ pub command-complete : (listed : Bool) {bytes rest : List ℕ} {c : Command} →
 command-complete listed (SpellsCommand.command line own more text rest given verb suffix is_line addresses is allowed end) lines are same =
     let first = first_line line (text ++ rest) lines is_line are (sym (append_assoc line (newline ∷ text) rest) ∙ same) in
     let behind = verb-complete is first.later first.are first.behind in
-    let fits : may_have given behind.entered ≡ true = sym (may_have-text given behind.entered first.later) ∙ ap (λ r. may_have given r.0) behind.read ∙ allowed in
-    let suffixed : (takes behind.entered).suffix ≡ (takes verb).suffix = sym (suffix-text behind.entered first.later) ∙ ap (λ r. (takes r.0).suffix) behind.read in
+    let fits : may_have given behind.entered ≡ true = sym (may_have-text given behind.entered behind.behind) ∙ ap (λ r. may_have given r.0) behind.read ∙ allowed in
+    let suffixed : (takes behind.entered).suffix ≡ (takes verb).suffix = sym (suffix-text behind.entered behind.behind) ∙ ap (λ r. (takes r.0).suffix) behind.read in
     let h : Heading = record { addresses = given; verb = behind.entered; suffix = suffix } in
-    let spells : SpellsHeading line h = record { own = own; more = more; given = addresses; letter = behind.letter_is; allowed = fits; end = suffix-same end behind.entered suffixed } in
+    let spells : SpellsHeading line behind.before h =
+    record { own = own; more = more; given = addresses; head = behind.head; allowed = fits; end = suffix-same end behind.entered suffixed } in
+    let read = heading-complete line behind.before h spells first.later (bytes_of behind.behind) first.are behind.split in
+    let left : read.0.lines ≡ behind.behind = same_lines read.0.lines behind.behind read.0.are behind.behind_are (sym read.0.split) in
     record {
       line = line;
       later = first.later;
       split = first.split;
       are = All-cons IsLine line first.later is_line first.are;
       left = behind.left;
-      read = ap (λ (o : Option Heading). o >>= λ h. Some (finished listed h first.later)) (heading-complete line h spells) ∙ ap (λ r. Some (command_with listed given suffix r)) behind.read;
+      read = ap (λ (o : Option Headed). o >>= λ h. Some (finished listed h.0 h.1)) (read.1 ∙ ap (λ lines. Some (h, lines)) left) ∙ ap (λ r. Some (command_with listed given suffix r)) behind.read;
     }
 
 -- a step that is spelled so is read

@@ -5,6 +5,7 @@ mod ScriptRows
 mod CutRows
 pub mod CutLemmas
 mod SubstitutionRows
+mod SubstituteRows
 pub mod StepLemmas
 pub mod FaultSteps
 pub mod MarkLemmas
@@ -21,6 +22,15 @@ pub mod AddressLemmas
 pub mod AddressesLemmas
 pub mod VerbLemmas
 pub mod SuffixLemmas
+pub mod LineParts
+pub mod LaterLemmas
+pub mod PartsLemmas
+pub mod PartsSteps
+pub mod ReplacementLemmas
+pub mod FlagsLemmas
+pub mod SubstitutionLemmas
+pub mod HeadLemmas
+pub mod StandLemmas
 pub mod HeadingLemmas
 pub mod CommandLemmas
 pub mod LawLemmas

@@ -6,8 +6,9 @@ use Rattle.std.proofs.lemmas.List.Folds.{list_all-append}
 use Rattle.ed_syntax.specs.Commands.{Verb, Command, Step, Script, alone}
 use Rattle.ed_syntax.specs.Verbs.{takes, is_step}
 use Rattle.ed_syntax.specs.Tokens.{◌>>=◌}
-use Rattle.ed_syntax.specs.Reading.{Heading, is_dot, text, entering, with_text, finished, heading, command_at, step_at, script, followed}
+use Rattle.ed_syntax.specs.Reading.{is_dot, text, entering, with_text, finished, heading, command_at, step_at, script, followed}
 use Rattle.ed_syntax.proofs.StepLemmas.{Some-same, bind-some}
+use Rattle.ed_syntax.proofs.LaterLemmas.{heading-later}
 
 -- steps before a script
 abbrev pub all_before : List Step → Script → Script
@@ -31,15 +32,11 @@ with_text-later verb later =
     ]
 
 -- the same of a command
-command_behind-later : (listed : Bool) (o : Option Heading) (later : List (List ℕ)) (r : Command × List (List ℕ)) → (o >>= λ h. Some (finished listed h later)) ≡ Some r → length r.1 ≤ length later
-command_behind-later listed None later r is = cc
-command_behind-later listed (Some h) later r is =
-    let same : finished listed h later ≡ r = cc in
-    let P : Command × List (List ℕ) → Type 0 = λ r. length r.1 ≤ length later in
-    subst P same (with_text-later h.verb later)
-
 command_at-later : (listed : Bool) (line : List ℕ) (later : List (List ℕ)) (r : Command × List (List ℕ)) → command_at listed line later ≡ Some r → length r.1 ≤ length later
-command_at-later listed line later r is = command_behind-later listed (heading line) later r is
+command_at-later listed line later r is =
+    let h = bind-some (heading line later) (λ h. Some (finished listed h.0 h.1)) r is in
+    let P : Command × List (List ℕ) → Type 0 = λ r. length r.1 ≤ length later in
+    subst P (Some-same (finished listed h.0.0 h.0.1) r h.2) (omega (arith, with_text-later h.0.0.verb h.0.1, heading-later line later h.0 h.1))
 
 -- the same of a step
 pub step_at-later : (line : List ℕ) (later : List (List ℕ)) (r : Step × List (List ℕ)) → step_at line later ≡ Some r → length r.1 ≤ length later
@@ -98,8 +95,8 @@ all_before-next before line later lines rest x number next split is counted =
 -- what is read outside of lists isn't listed
 pub command_at-listed : (listed : Bool) (line : List ℕ) (later : List (List ℕ)) (r : Command × List (List ℕ)) → command_at listed line later ≡ Some r → r.0.listed ≡ listed
 command_at-listed listed line later r is =
-    let h = bind-some (heading line) (λ h. Some (finished listed h later)) r is in
-    ap (λ (r : Command × List (List ℕ)). r.0.listed) (sym (Some-same (finished listed h.0 later) r h.2))
+    let h = bind-some (heading line later) (λ h. Some (finished listed h.0 h.1)) r is in
+    ap (λ (r : Command × List (List ℕ)). r.0.listed) (sym (Some-same (finished listed h.0.0 h.0.1) r h.2))
 
 -- one step more of a script
 pub steps-more : (xs : List Step) (x : Step) → list_all is_step xs ≡ true → is_step x ≡ true → list_all is_step (xs ++ x ∷ []) ≡ true

@@ -1,15 +1,17 @@
 -- The end of a command's own line: what is read is spelled so, and what is spelled so is read.
-use Rattle.std.proofs.Common.{◌≡◌, ℕ, true, ◌&&◌, nat_eq, List, [], ◌∷◌, Option, Some, None, refl, sym, ap, ◌∙◌, ⊎_elim, subst}
+use Rattle.std.proofs.Common.{◌≡◌, ℕ, true, false, ◌&&◌, nat_eq, List, [], ◌∷◌, Option, Some, None, refl, sym, ap, ◌∙◌, ⊎_elim, subst}
 use Rattle.std.specs.List.{list_all}
-use Rattle.std.proofs.lemmas.Bool.{eqb-true, and_parts, and_from, or_cases}
+use Rattle.std.proofs.lemmas.Bool.{eqb-true, and_parts, and_from, or_cases, false≢true}
 use Rattle.std.proofs.lemmas.List.Elements.{All-nil, All-cons, All-head, All-tail}
 use Rattle.ed_syntax.specs.Characters.{letter_l, letter_n, letter_p, is_blank}
 use Rattle.ed_syntax.specs.Commands as ed
 use Rattle.ed_syntax.specs.Commands.{Form, Verb}
 use Rattle.ed_syntax.specs.Verbs.{takes}
 use Rattle.ed_syntax.specs.Addressing.{Blanks}
-use Rattle.ed_syntax.specs.Spellings.{SpellsForm, SpellsSuffix}
-use Rattle.ed_syntax.specs.Reading.{form_of, is_over, suffix_at}
+use Rattle.ed_syntax.specs.Parameters.{SpellsForm}
+use Rattle.ed_syntax.specs.Spellings.{SpellsSuffix}
+use Rattle.ed_syntax.specs.ReadParameters.{form_of}
+use Rattle.ed_syntax.specs.Reading.{is_over, suffix_at}
 use Rattle.ed_syntax.proofs.StepLemmas.{Some-same, none_some, chosen, either}
 use Rattle.ed_syntax.proofs.BlankLemmas.{IsBlank}
 
@@ -31,20 +33,20 @@ FormRead b read = (form : Form) → read ≡ Some form → SpellsForm b form
 known : (b code : ℕ) (form : Form) → SpellsForm code form → nat_eq b code ≡ true → FormRead b (Some form)
 known b code form spells is other same = subst (λ b. SpellsForm b other) (sym (eqb-true b code is)) (subst (SpellsForm code) (Some-same form other same) spells)
 
-form_of-sound : (b : ℕ) → FormRead b (form_of b)
+pub form_of-sound : (b : ℕ) → FormRead b (form_of b)
 form_of-sound b =
     either (FormRead b) (nat_eq b letter_l) _ _ (known b letter_l ed.Unambiguous SpellsForm.unambiguous)
     (λ no_l. either (FormRead b) (nat_eq b letter_n) _ _ (known b letter_n ed.Numbered SpellsForm.numbered)
     (λ no_n. either (FormRead b) (nat_eq b letter_p) _ _ (known b letter_p ed.Plain SpellsForm.plain)
     (λ no_p form is. absurd (none_some is))))
 
-form_of-complete : {b : ℕ} {form : Form} → SpellsForm b form → form_of b ≡ Some form
+pub form_of-complete : {b : ℕ} {form : Form} → SpellsForm b form → form_of b ≡ Some form
 form_of-complete SpellsForm.plain = refl
 form_of-complete SpellsForm.numbered = refl
 form_of-complete SpellsForm.unambiguous = refl
 
 -- a blank is no letter of a form
-form_of-blank : (b : ℕ) → is_blank b ≡ true → form_of b ≡ None
+pub form_of-blank : (b : ℕ) → is_blank b ≡ true → form_of b ≡ None
 form_of-blank b is = ⊎_elim (λ space. ap form_of (eqb-true b 32 space)) (λ tab. ap form_of (eqb-true b 9 tab)) (or_cases (nat_eq b 32) (nat_eq b 9) is)
 
 -- the end of a line that isn't over, from its first byte's form on
@@ -90,3 +92,8 @@ suffix_at-complete {verb} (SpellsSuffix.given letter blanks form may is are) =
 pub suffix-same : {verb : Verb} {bytes : List ℕ} {suffix : Option Form} → SpellsSuffix verb bytes suffix → (other : Verb) → (takes other).suffix ≡ (takes verb).suffix → SpellsSuffix other bytes suffix
 suffix-same (SpellsSuffix.none blanks are) other same = SpellsSuffix.none blanks are
 suffix-same (SpellsSuffix.given letter blanks form may is are) other same = SpellsSuffix.given letter blanks form (same ∙ may) is are
+
+-- behind a command that takes no suffix stand blanks
+pub suffix-blanks : {verb : Verb} {bytes : List ℕ} {suffix : Option Form} → SpellsSuffix verb bytes suffix → (takes verb).suffix ≡ false → Blanks bytes
+suffix-blanks (SpellsSuffix.none blanks are) untaken = are
+suffix-blanks (SpellsSuffix.given letter blanks form may is are) untaken = absurd (false≢true (sym untaken ∙ may))

@@ -4,8 +4,8 @@ use Rattle.std.proofs.lemmas.Bool.{cases_Bool, eqb-true, false≢true}
 use Rattle.std.proofs.lemmas.List.Elements.{All-nil, All-cons, All-head, All-tail}
 use Rattle.ed_base.specs.Lines.{newline, IsLine, AreLines, lines_of, bytes_of}
 use Rattle.ed_base.proofs.LineLemmas.{lines_of-whole}
-use Rattle.ed_syntax.specs.Spellings as spelled
-use Rattle.ed_syntax.specs.Spellings.{SpellsText}
+use Rattle.ed_syntax.specs.Parameters as spelled
+use Rattle.ed_syntax.specs.Parameters.{SpellsText}
 use Rattle.ed_syntax.specs.Reading.{is_dot, text}
 
 -- the first newline ends the first line, whatever follows

@@ -1,11 +1,11 @@
--- A command's letter with its parameters: what is read is spelled so, and what is spelled so is read.
+-- A command's letter with parameters on its own line: what is read is spelled so, and what is spelled so is read.
 use Rattle.std.proofs.Common.{◌≡◌, ℕ, ◌+◌, ◌<◌, true, nat_eq, List, [], ◌∷◌, Option, Some, refl, sym, ap, ◌∙◌, subst}
 use Rattle.std.proofs.lemmas.Bool.{eqb-true}
 use Rattle.ed_syntax.specs.Characters.{equals_sign, capital_h, capital_p, capital_q, letter_a, letter_c, letter_d, letter_h, letter_i, letter_j, letter_k, letter_m, letter_t, behind_blanks}
 use Rattle.ed_syntax.specs.Commands as ed
 use Rattle.ed_syntax.specs.Commands.{Address, Form, Verb}
 use Rattle.ed_syntax.specs.Addressing.{SpellsAddress}
-use Rattle.ed_syntax.specs.Spellings.{SpellsForm}
+use Rattle.ed_syntax.specs.Parameters.{SpellsForm}
 use Rattle.ed_syntax.specs.Tokens.{Parsed, ◌>>=◌, letter, address}
 use Rattle.ed_syntax.specs.Reading.{beside_letter, plain_verbs, target, verb_at}
 use Rattle.ed_syntax.proofs.StepLemmas.{Some-same, none_some, bind-some, either}

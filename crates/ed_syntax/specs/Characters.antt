@@ -1,10 +1,18 @@
 -- The bytes that have a meaning in scripts, blanks, digits, and the numbers that digits spell (XBD 6.1, "Portable Character Set"; XCU ed).
-use Rattle.std.specs.Prelude.{ℕ, ◌+◌, ◌-◌, ◌*◌, Bool, true, false, ◌&&◌, ◌||◌, List, [], ◌∷◌, nat_eq, nat_le}
+use Rattle.std.specs.Prelude.{ℕ, ◌+◌, ◌-◌, ◌*◌, Bool, true, false, not, ◌&&◌, ◌||◌, List, [], ◌∷◌, nat_eq, nat_le}
 use Rattle.std.specs.List.{fold}
 
 -- `$`
 abbrev pub dollar_sign : ℕ
 dollar_sign = 36
+
+-- `%`
+abbrev pub percent_sign : ℕ
+percent_sign = 37
+
+-- `&`
+abbrev pub ampersand : ℕ
+ampersand = 38
 
 -- `'`
 abbrev pub apostrophe : ℕ
@@ -74,6 +82,10 @@ letter_c = 99
 abbrev pub letter_d : ℕ
 letter_d = 100
 
+-- `g`
+abbrev pub letter_g : ℕ
+letter_g = 103
+
 -- `h`
 abbrev pub letter_h : ℕ
 letter_h = 104
@@ -106,6 +118,10 @@ letter_n = 110
 abbrev pub letter_p : ℕ
 letter_p = 112
 
+-- `s`
+abbrev pub letter_s : ℕ
+letter_s = 115
+
 -- `t`
 abbrev pub letter_t : ℕ
 letter_t = 116
@@ -117,6 +133,14 @@ is_blank b = nat_eq b 32 || nat_eq b 9
 -- a decimal digit
 abbrev pub is_digit : ℕ → Bool
 is_digit b = nat_le 48 b && nat_le b 57
+
+-- a letter
+abbrev pub is_letter : ℕ → Bool
+is_letter b = (nat_le 65 b && nat_le b 90) || (nat_le 97 b && nat_le b 122)
+
+-- the delimiter of a pattern behind a command's letter: punctuation, but no backslash (our choice)
+abbrev pub is_delimiter : ℕ → Bool
+is_delimiter b = nat_le 33 b && nat_le b 126 && not (is_letter b) && not (is_digit b) && not (nat_eq b backslash)
 
 -- the sign of an offset
 abbrev pub is_sign : ℕ → Bool

@@ -3,6 +3,7 @@ pub mod Commands
 pub mod Characters
 pub mod Quoting
 pub mod Addressing
+pub mod Parameters
 pub mod Spellings
 pub mod States
 pub mod Verbs
@@ -24,5 +25,6 @@ pub mod PublicScript
 pub mod PartNumbers
 -- the reader's own words, tied to the spellings by a law
 pub mod Tokens
+pub mod ReadParameters
 pub mod Reading
 pub mod ReadParts

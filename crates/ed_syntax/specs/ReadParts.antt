@@ -4,7 +4,7 @@ use Rattle.ed_syntax.specs.Commands as ed
 use Rattle.ed_syntax.specs.declared.command.Base.{Base}
 use Rattle.ed_syntax.specs.declared.command.Verb.{Verb}
 use Rattle.ed_syntax.specs.declared.command.Command.{Command}
-use Rattle.ed_syntax.specs.declared.reading.OwnLine.{OwnLine}
+use Rattle.ed_syntax.specs.declared.heading.OwnLine.{OwnLine}
 use Rattle.ed_syntax.specs.PublicTypes.{base_value, addresses_value, verb_value, suffix_value, command_value}
 use Rattle.ed_syntax.specs.Reading as reading
 

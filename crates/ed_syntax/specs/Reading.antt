@@ -5,8 +5,9 @@ use Rattle.ed_base.specs.Lines.{lines_of}
 use Rattle.ed_syntax.specs.Commands as ed
 use Rattle.ed_syntax.specs.Commands.{Address, Addresses, Form, Verb, Command, Step, Script, alone}
 use Rattle.ed_syntax.specs.Verbs.{may_have, takes}
-use Rattle.ed_syntax.specs.Characters.{equals_sign, capital_h, capital_p, capital_q, letter_a, letter_c, letter_d, letter_h, letter_i, letter_j, letter_k, letter_l, letter_m, letter_n, letter_p, letter_t, is_blank, behind_blanks}
+use Rattle.ed_syntax.specs.Characters.{equals_sign, capital_h, capital_p, capital_q, letter_a, letter_c, letter_d, letter_h, letter_i, letter_j, letter_k, letter_l, letter_m, letter_n, letter_p, letter_s, letter_t, is_blank, behind_blanks}
 use Rattle.ed_syntax.specs.Tokens.{Parsed, ◌>>=◌, letter, address, addresses}
+use Rattle.ed_syntax.specs.ReadParameters.{place, ParsedAt, form_of, substitution}
 
 -- the verb beside this letter
 abbrev pub beside_letter : ℕ → List (ℕ × Verb) → Option Verb
@@ -35,7 +36,7 @@ plain_verbs =
 abbrev pub target : List ℕ → Parsed Address
 target bs = address (behind_blanks bs) >>= λ r. r.0 >>= λ a. Some (a, r.1)
 
--- a command's letter with its parameters, before its text is read; nothing is the null command
+-- a command's letter with parameters that stand on its own line, before its text is read; nothing is the null command
 abbrev pub verb_at : List ℕ → Parsed Verb
 verb_at [] = Some (ed.Null, [])
 verb_at (b ∷ bs) =
@@ -50,15 +51,13 @@ verb_at (b ∷ bs) =
       ]
     ]
 
--- the form of a letter
-abbrev pub form_of : ℕ → Option Form
-form_of b =
-    elim (nat_eq b letter_l) [
-      | true ↦ Some ed.Unambiguous
-      | false ↦ elim (nat_eq b letter_n) [
-        | true ↦ Some ed.Numbered
-        | false ↦ elim (nat_eq b letter_p) [ true ↦ Some ed.Plain | false ↦ None ]
-      ]
+-- a command's letter with its parameters, before its text is read; a replacement may go on in the lines behind
+abbrev pub verb_from : List ℕ → List (List ℕ) → ParsedAt Verb
+verb_from [] later = Some (ed.Null, place [] later)
+verb_from (b ∷ bs) later =
+    elim (nat_eq b letter_s) [
+      | true ↦ substitution bs later
+      | false ↦ verb_at (b ∷ bs) >>= λ r. Some (r.0, place r.1 later)
     ]
 
 -- nothing but blanks is left of the line
@@ -74,7 +73,7 @@ suffix_at verb (b ∷ bs) =
       | None ↦ elim (is_over (b ∷ bs)) [ true ↦ Some None | false ↦ None ]
     ]
 
--- a command's own line, before its text is read
+-- a command, before its text is read
 pub record Heading : Type 0 where
   pub addresses : Addresses
   pub verb : Verb
@@ -88,13 +87,21 @@ suffix_with given verb bs = elim (may_have given verb) [ true ↦ suffix_at verb
 abbrev pub heading_with : Addresses → List ℕ → Verb → Option Heading
 heading_with given bs verb = suffix_with given verb bs >>= λ suffix. Some (record { addresses = given; verb = verb; suffix = suffix })
 
--- what stands behind the addresses
-abbrev pub heading_behind : Addresses → List ℕ → Option Heading
-heading_behind given bs = verb_at bs >>= λ r. heading_with given r.1 r.0
+-- a heading, and the lines behind it
+abbrev pub Headed : Type 0
+Headed = Heading × List (List ℕ)
 
--- what stands on a command's own line
-abbrev pub heading : List ℕ → Option Heading
-heading line = addresses line >>= λ r. heading_behind r.0 r.1
+-- a heading before these lines
+abbrev pub headed : List (List ℕ) → Option Heading → Option Headed
+headed later h = h >>= λ h. Some (h, later)
+
+-- what stands behind the addresses
+abbrev pub heading_behind : Addresses → List ℕ → List (List ℕ) → Option Headed
+heading_behind given bs later = verb_from bs later >>= λ r. headed r.1.later (heading_with given r.1.line r.0)
+
+-- what stands on a command's own line, with the lines on which its replacement goes on
+abbrev pub heading : List ℕ → List (List ℕ) → Option Headed
+heading line later = addresses line >>= λ r. heading_behind r.0 r.1 later
 
 -- the lines that are left, and the number of the line that was read last
 pub record LinesLeft : Type 0 where
@@ -131,7 +138,7 @@ finished listed h later =
 
 -- the command that begins on this line, in a list or outside, and the lines behind it
 abbrev pub command_at : (listed : Bool) → List ℕ → List (List ℕ) → Option (Command × List (List ℕ))
-command_at listed line later = heading line >>= λ h. Some (finished listed h later)
+command_at listed line later = heading line later >>= λ h. Some (finished listed h.0 h.1)
 
 -- the step that begins on this line, and the lines behind it
 abbrev pub step_at : List ℕ → List (List ℕ) → Option (Step × List (List ℕ))

@@ -1,24 +1,15 @@
 -- Which bytes spell a command, and which a script (XCU ed, "Commands in ed").
 use Rattle.std.specs.Prelude.{ℕ, ◌+◌, ◌-◌, ◌<◌, ◌≡◌, ◌≢◌, Bool, false, List, [], ◌∷◌, ◌++◌, length, Option, Some, None, IsTrue}
 use Rattle.ed_base.specs.Lines.{newline, IsLine, lines_of, bytes_of}
-use Rattle.ed_syntax.specs.Characters.{full_stop, equals_sign, capital_h, capital_p, capital_q, letter_a, letter_c, letter_d, letter_h, letter_i, letter_j, letter_k, letter_l, letter_m, letter_n, letter_p, letter_t, behind_blanks}
+use Rattle.ed_syntax.specs.declared.replacement.Part.{Part}
+use Rattle.ed_syntax.specs.declared.replacement.Which.{Which}
+use Rattle.ed_syntax.specs.Characters.{equals_sign, capital_h, capital_p, capital_q, letter_a, letter_c, letter_d, letter_h, letter_i, letter_j, letter_k, letter_m, letter_s, letter_t, is_delimiter, behind_blanks}
 use Rattle.ed_syntax.specs.Commands as ed
 use Rattle.ed_syntax.specs.Commands.{Address, Addresses, Form, Verb, Command, Step, Script, alone}
 use Rattle.ed_syntax.specs.Verbs.{may_have, takes}
+use Rattle.ed_syntax.specs.Quoting.{SpellsPattern}
 use Rattle.ed_syntax.specs.Addressing.{Blanks, SpellsAddress, SpellsAddresses}
-
--- Whole lines that are a text, up to a line that is `.` or to the end of the script, and what follows.
-pub data SpellsText : List ℕ → List ℕ → List (List ℕ) → Type 0 where
-  over : SpellsText [] [] []
-  dot : (rest : List ℕ) → SpellsText (full_stop ∷ newline ∷ []) rest []
-  line : (line bytes rest : List ℕ) (lines : List (List ℕ)) → IsLine line → line ≢ full_stop ∷ [] → SpellsText bytes rest lines →
-      SpellsText (line ++ newline ∷ bytes) rest (line ∷ lines)
-
--- the letter of a form
-pub data SpellsForm : ℕ → Form → Type 0 where
-  plain : SpellsForm letter_p ed.Plain
-  numbered : SpellsForm letter_n ed.Numbered
-  unambiguous : SpellsForm letter_l ed.Unambiguous
+use Rattle.ed_syntax.specs.Parameters.{SpellsText, SpellsForm, SpellsReplacement, SpellsEnd}
 
 -- The end of a command's own line: a suffix, if the command takes one, and blanks.
 pub data SpellsSuffix (verb : Verb) : List ℕ → Option Form → Type 0 where
@@ -27,7 +18,8 @@ pub data SpellsSuffix (verb : Verb) : List ℕ → Option Form → Type 0 where
       SpellsSuffix verb (letter ∷ blanks) (Some form)
 
 -- What stands behind the addresses on a command's own line, a letter with its parameters or nothing, and what stands behind that;
--- then the whole lines behind the command's own that belong to it, and what follows them.
+-- then the whole lines behind the command's own that belong to it, and what follows them. Where the replacement of `s` is split, what
+-- stands behind the parameters is the end of the last of these lines.
 pub data SpellsVerb : (own more text rest : List ℕ) → Verb → Type 0 where
   append : (more text rest : List ℕ) (entered : List (List ℕ)) → SpellsText text rest entered →
       SpellsVerb (letter_a ∷ more) more text rest (ed.Append entered)
@@ -42,6 +34,11 @@ pub data SpellsVerb : (own more text rest : List ℕ) → Verb → Type 0 where
       SpellsVerb (letter_m ∷ own) more [] rest (ed.Move target)
   copy : (own more rest : List ℕ) (target : Address) → SpellsAddress (behind_blanks own) more (Some target) →
       SpellsVerb (letter_t ∷ own) more [] rest (ed.Copy target)
+  substitute : (delimiter : ℕ) (own after_pattern after_replacement more text rest : List ℕ) (pattern : Option (List ℕ))
+      (replacement : Option (List Part)) (which : Which) (form : Option Form) → IsTrue (is_delimiter delimiter) →
+      SpellsPattern delimiter own (delimiter ∷ after_pattern) pattern →
+      SpellsReplacement delimiter after_pattern after_replacement text replacement → SpellsEnd delimiter after_replacement more which form →
+      SpellsVerb (letter_s ∷ delimiter ∷ own) more text rest (ed.Substitute pattern replacement which form)
   line_number : (more rest : List ℕ) → SpellsVerb (equals_sign ∷ more) more [] rest ed.LineNumber
   null : (rest : List ℕ) → SpellsVerb [] [] [] rest ed.Null
   write : (letter : ℕ) (more rest : List ℕ) (form : Form) → SpellsForm letter form → SpellsVerb (letter ∷ more) more [] rest (ed.Write form)
@@ -50,8 +47,8 @@ pub data SpellsVerb : (own more text rest : List ℕ) → Verb → Type 0 where
   prompt_mode : (more rest : List ℕ) → SpellsVerb (capital_p ∷ more) more [] rest ed.PromptMode
   quit_anyway : (more rest : List ℕ) → SpellsVerb (capital_q ∷ more) more [] rest ed.QuitAnyway
 
--- Whole lines that spell a command, in a list or outside, and the lines that follow: a line with addresses, a letter and a suffix, and a
--- text.
+-- Whole lines that spell a command, in a list or outside, and the lines that follow: a line with addresses, a letter and a suffix, and
+-- the lines that belong to it.
 pub data SpellsCommand (listed : Bool) : List ℕ → List ℕ → Command → Type 0 where
   command : (line own more text rest : List ℕ) (given : Addresses) (verb : Verb) (suffix : Option Form) → IsLine line →
       SpellsAddresses line own given → SpellsVerb own more text rest verb → IsTrue (may_have given verb) → SpellsSuffix verb more suffix →

@@ -3,6 +3,8 @@
 
 mod addresses;
 mod command;
+mod flags;
+mod heading;
 mod laws;
 mod offsets;
 mod options;
@@ -14,6 +16,7 @@ mod request;
 mod script;
 mod script_lines;
 mod spelling;
+mod substitution;
 mod tokens;
 mod verbs;
 

@@ -3,7 +3,10 @@ ghost use Rattle.std.specs.Prelude.{◌≡◌, ◌≤◌, length, All, IsTrue, M
 ghost use Rattle.std.specs.List.{prefix_len};
 ghost use Rattle.ed_syntax.specs.Characters.{is_digit, behind_blanks, value_of};
 ghost use Rattle.ed_syntax.specs.Tokens.{number, letter};
+ghost use Rattle.ed_syntax.specs.ReadParameters.{form_of};
+ghost use Rattle.ed_syntax.specs.PublicTypes.{suffix_value};
 
+use crate::Form;
 use ed_base::Letter;
 
 /// The bytes behind the spaces and tabs in front.
@@ -42,6 +45,18 @@ pub fn number(bytes: &[u8]) -> Option<(u32, &[u8])>
     }
     let (digits, rest) = bytes.split_at(len);
     Some((value_of(digits), rest))
+}
+
+/// The form of a letter.
+pub fn form_of(letter: u8) -> Option<Form>
+    ensures value { suffix_value result ≡ form_of letter }
+{
+    match letter {
+        b'l' => Some(Form::Unambiguous),
+        b'n' => Some(Form::Numbered),
+        b'p' => Some(Form::Plain),
+        _ => None,
+    }
 }
 
 // How many digits stand in front.

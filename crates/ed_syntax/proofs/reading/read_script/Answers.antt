@@ -8,7 +8,7 @@ use Rattle.ed_syntax.specs.Commands.{Command, alone}
 use Rattle.ed_syntax.specs.Tokens.{◌>>=◌}
 use Rattle.ed_syntax.specs.PublicTypes.{command_value, step_value}
 use Rattle.ed_syntax.specs.ReadParts.{command_behind}
-use Rattle.ed_syntax.proofs.CommandLemmas.{command_at-stands}
+use Rattle.ed_syntax.proofs.StandLemmas.{command_at-stands}
 use Rattle.ed_syntax.proofs.ScriptLemmas.{all_before, all_before-next, command_at-listed, steps-more}
 use Rattle.ed_syntax.proofs.reading.read_script.Goals as goal
 

@@ -2,7 +2,7 @@ use Rattle.std.proofs.Common.{◌≡◌, ℕ, suc, ◌&&◌, true, false, nat_eq
 use Rattle.std.proofs.lemmas.Bool.{ne_eqb}
 use Rattle.std.specs.List.{list_all}
 use Rattle.ed_syntax.specs.Characters.{is_blank, behind_blanks}
-use Rattle.ed_syntax.proofs.reading.is_over.Goals as goal
+use Rattle.ed_syntax.proofs.heading.is_over.Goals as goal
 
 -- nothing stands behind the blanks where all are blanks
 length-behind_blanks : (bytes : List ℕ) → nat_eq (length (behind_blanks bytes)) 0 ≡ list_all is_blank bytes
