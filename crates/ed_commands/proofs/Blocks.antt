@@ -1,7 +1,9 @@
 -- Blocks of lists: exchanged for other elements, carried to another place, and brought back.
-use Rattle.std.proofs.Common.{◌≡◌, ℕ, zero, suc, refl, ◌+◌, ◌-◌, ◌<◌, ◌≤◌, List, [], ◌∷◌, ◌++◌, take, drop, length, get_or, sym, ap, ◌∙◌, arith, append_assoc}
+use Rattle.std.proofs.Common.{◌≡◌, ℕ, zero, suc, refl, ◌+◌, ◌-◌, ◌<◌, ◌≤◌, List, [], ◌∷◌, ◌++◌, take, drop, length, get_or, set, sym, ap, ◌∙◌, arith, append_assoc}
+use Rattle.std.specs.Prelude.{Option, Some}
+use Rattle.std.specs.Option.{option_to_list}
 use Rattle.std.specs.List.{concat}
-use Rattle.std.proofs.lemmas.List.{take_at, drop_at, take-take, take-append-drop, drop-append-le, length-take-le, length-drop, length-append, take_more, map-append, drop_all, length-take, append-nil}
+use Rattle.std.proofs.lemmas.List.{take_at, drop_at, take-take, take-append-drop, drop-append-le, length-take-le, length-drop, length-append, take_more, map-append, drop_all, length-take, append-nil, take-set, drop-set}
 use Rattle.std.proofs.lemmas.List.Folds.{concat-append}
 use Rattle.std.proofs.lemmas.List.Elements.{All-append, All-same}
 use Rattle.ed_base.specs.Lines.{newline, IsLine, AreLines, bytes_of}
@@ -43,7 +45,7 @@ put-there a b new xs h =
     ∙ ap (λ t. take a xs ++ (new ++ t)) (drop_at (take a xs) (drop b xs) a (length-take-le a xs h))
 
 -- what stood between the front and the back, put there again
-taken-back : {X : Type 0} (front new old back : List X) (a b : ℕ) → length front ≡ a → a + length new ≡ b →
+pub taken-back : {X : Type 0} (front new old back : List X) (a b : ℕ) → length front ≡ a → a + length new ≡ b →
     exchanged a b old (front ++ (new ++ back)) ≡ front ++ (old ++ back)
 taken-back front new old back a b h k =
     ap (λ t. t ++ (old ++ drop b (front ++ (new ++ back)))) (take_at front (new ++ back) a h)
@@ -81,6 +83,18 @@ carried-back a b place xs h k l =
 
 pub block-none : {X : Type 0} (a : ℕ) (xs : List X) → block a a xs ≡ []
 block-none a xs = drop_all a (take a xs) (omega (arith, length-take a xs))
+
+-- what comes out of a list of one is all that was in it
+pub only-one : {X : Type 0} (xs ys : List X) (out : Option X) (x : X) → xs ≡ ys ++ option_to_list out → out ≡ Some x → length xs ≡ 1 → xs ≡ x ∷ []
+only-one xs [] out x e f h = e ∙ ap option_to_list f
+only-one xs (y ∷ ys) out x e f h = absurd (omega (arith, ap length (e ∙ ap (λ t. (y ∷ ys) ++ option_to_list t) f), length-append ys (x ∷ [])))
+
+-- an element in place of another
+pub set-one : {X : Type 0} (i : ℕ) (y : X) (xs : List X) → i < length xs → set xs i y ≡ exchanged i (i + 1) (y ∷ []) xs
+set-one i y xs h =
+    sym (take-append-drop i (set xs i y))
+    ∙ ap (λ t. t ++ drop i (set xs i y)) (take-set xs i y)
+    ∙ ap (λ t. take i xs ++ t) (drop-set xs i y h)
 
 -- the texts of one more line
 texts-more : (a i : ℕ) (lines : List Line) (text : List ℕ) → a ≤ i → i < length lines → text ≡ (get_or lines i (plain_line [])).bytes →

@@ -99,10 +99,28 @@ pub fn exchange<S: LineStore>(
     ensures put { OnOk result (S.lines store.new ≡ exchanged from to lines.items (S.lines store.old)) }
     ensures unchanged { OnErr result (S.lines store.new ≡ S.lines store.old) }
 {
+    if to - from == 1 && lines.len() == 1 {
+        return Ok(exchange_one(from, lines, store));
+    }
     store.reserve(lines.len())?;
     let taken = take_lines(alloc, from, to, store)?;
     put_lines(lines, from, store);
     Ok(taken)
+}
+
+// Puts one new line in place of another, which is handed back. No other line moves.
+fn exchange_one<S: LineStore>(at: usize, mut lines: Vec<Line>, store: &mut S) -> Vec<Line>
+    requires place { at < length (S.lines store.old) }
+    requires one { length lines.items ≡ 1 }
+    requires new { AreNew lines.items }
+    ensures taken { result.items ≡ block at (at + 1) (S.lines store.old) }
+    ensures put { S.lines store.new ≡ exchanged at (at + 1) lines.items (S.lines store.old) }
+{
+    let Some(line) = lines.pop() else {
+        unreachable!()
+    };
+    lines.push_reserved(store.exchange(at, line));
+    lines
 }
 
 // Takes a block out, its last line first, so that at the end of a store nothing has to move. Where there is no room to hand

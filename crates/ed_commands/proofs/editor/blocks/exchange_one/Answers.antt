@@ -1,0 +1,13 @@
+-- The one new line is put in place of the other.
+use Rattle.std.proofs.Common.{◌≡◌, ◌+◌, ◌∷◌, ◌∙◌, [], ap, sym}
+use Rattle.ed_base.specs.Parts.{exchanged}
+use Rattle.ed_commands.proofs.Blocks.{only-one, set-one}
+use Rattle.ed_commands.proofs.editor.blocks.exchange_one.Goals as goal
+
+pub returns-clause-put : goal.returns-clause-put
+returns-clause-put g c =
+    let old = g.S.LineStore.lines c.args.store.now in
+    let at = c.args.at in
+    c.exchange.ensures.exchanged
+    ∙ set-one at c.in-Some.line old c.requires.place
+    ∙ ap (λ t. exchanged at (at + 1) t old) (sym (only-one c.args.lines.items _ _ c.in-Some.line c.pop.ensures.items c.in-Some.is c.requires.one))
