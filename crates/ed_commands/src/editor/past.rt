@@ -83,6 +83,18 @@ impl Past {
             past_of self.new lines ≡ past_after before.listed (kept_of before.current marks (lines_before change lines))
             (past_of self.old (lines_before change lines)) }
     {
+        self.begin(before, marks);
+        self.add(change);
+    }
+
+    /// From here on the changes are those of a command, before which the letters were at `marks`: what there was then is kept; of
+    /// a listed command, what was kept.
+    pub fn begin(&mut self, before: Before, marks: Marks)
+        ensures kept { (lines : List Line) →
+            past_of self.new lines ≡ past_after before.listed (kept_of before.current marks lines) (past_of self.old lines) }
+        ensures keeps_room { vec_len self.old.changes < vec_capacity self.old.changes →
+            vec_len self.new.changes < vec_capacity self.new.changes }
+    {
         if !before.listed {
             self.changes.clear();
             self.held = Some(Held {
@@ -90,6 +102,13 @@ impl Past {
                 marks,
             });
         }
+    }
+
+    /// One more change of a command: what there was before it stays kept.
+    pub fn add(&mut self, change: Change)
+        requires room { vec_len self.old.changes < vec_capacity self.old.changes }
+        ensures kept { (lines : List Line) → past_of self.new lines ≡ past_of self.old (lines_before change lines) }
+    {
         self.changes.push_reserved(change);
     }
 }
