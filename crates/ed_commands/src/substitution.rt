@@ -4,7 +4,7 @@ ghost use Rattle.bre_parse.specs.Tree.{Tree};
 ghost use Rattle.bre_parse.specs.Bre.{bre_tree};
 ghost use Rattle.bre_parse.specs.Ways.{bytes_of};
 ghost use Rattle.bre_match.specs.Answer.{spans, LiesWithin};
-ghost use Rattle.ed_syntax.specs.Substitution.{taken, taken_first, expanded, replaced_in, split_at_newlines, substituted};
+ghost use Rattle.ed_syntax.specs.Substitution.{taken, taken_first, expanded, picked, replaced_in, split_at_newlines, substituted};
 ghost use Rattle.ed_base.specs.Lines.{IsLine};
 ghost use Rattle.ed_commands.specs.Scans.{left, left_from, scan_after, passed_over, Goes, nth_of, alone};
 
@@ -25,16 +25,29 @@ pub fn substitute(
 ) -> Result<Option<Text>, AllocError>
     ensures value { IfOk result (λ lines. lines ≡ substituted (bre_tree pattern.now) replacement.now which line.now) }
 {
-    let replaced = match which {
-        Which::First => replace_one(alloc, pattern, replacement, 0, line)?,
-        Which::Nth(number) => {
-            replace_one(alloc, pattern, replacement, number.saturating_sub(1), line)?
-        }
-        Which::All => replace_all(alloc, pattern, replacement, line)?,
-    };
-    match replaced {
+    match rewritten(alloc, pattern, replacement, which, line)? {
         Some(text) => Ok(Some(split(alloc, text)?)),
         None => Ok(None),
+    }
+}
+
+/// The line with its matches replaced, where a newline stands for each split. `None` where no match is replaced.
+pub(crate) fn rewritten(
+    alloc: Global,
+    pattern: &Bre,
+    replacement: &Replacement,
+    which: Which,
+    line: &[u8],
+) -> Result<Option<Bytes>, AllocError>
+    ensures value { IfOk result (λ text.
+        text ≡ replaced_in replacement.now line.now (picked which (taken (bre_tree pattern.now) line.now))) }
+{
+    match which {
+        Which::First => replace_one(alloc, pattern, replacement, 0, line),
+        Which::Nth(number) => {
+            replace_one(alloc, pattern, replacement, number.saturating_sub(1), line)
+        }
+        Which::All => replace_all(alloc, pattern, replacement, line),
     }
 }
 
@@ -95,8 +108,8 @@ fn split(alloc: Global, mut text: Bytes) -> Result<Text, AllocError>
     split_lines(alloc, text.as_slice())
 }
 
-// No newline stands in the text.
-fn is_one_line(text: &[u8]) -> bool
+/// No newline stands in the text.
+pub(crate) fn is_one_line(text: &[u8]) -> bool
     ensures line { IsTrue result → IsLine text.now }
 {
     match next_line(text) {
