@@ -6,7 +6,7 @@ use Rattle.ed_base.specs.Buffer.{Line, plain_line, texts, marked_at}
 use Rattle.ed_base.specs.declared.fault.Fault.{Fault}
 use Rattle.ed_base.specs.declared.fault.Fault.TheVariants.{Destination}
 use Rattle.line_store.specs.Marks.{lettered}
-use Rattle.ed_base.specs.Parts.{between, block, carried, exchanged, inserted}
+use Rattle.ed_base.specs.Parts.{between, carried, exchanged, inserted}
 use Rattle.ed_syntax.specs.States.{State}
 use Rattle.ed_syntax.specs.Ranges as ranges
 use Rattle.ed_syntax.specs.Effects as effect

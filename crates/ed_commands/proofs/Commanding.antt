@@ -11,7 +11,7 @@ use Rattle.ed_syntax.specs.Effects.{Outcome, Effect, Makes, Asks}
 use Rattle.ed_syntax.specs.Applied.{Placed, command, completed, effect_of, placed, settled, suffix_written}
 use Rattle.ed_commands.specs.declared.editor.past.Before.{Before}
 use Rattle.ed_commands.specs.declared.editor.Reply.TheVariants as reply
-use Rattle.ed_commands.specs.Editors.{Leaves, Replies, kept_at, suffixed}
+use Rattle.ed_commands.specs.Editors.{Leaves, Replies, suffixed}
 
 -- a command at the lines that it names
 at-lines : (s : State) (c : ed.Command) (p : Placed) (given : Option Answer) → placed c s ≡ Ok p →

@@ -1,16 +1,17 @@
 -- The state of an editor that holds these.
-use Rattle.std.specs.Prelude.{ℕ, Bool, List, Option, None}
+use Rattle.std.specs.Prelude.{ℕ, Bool, List, Option}
 use Rattle.ed_base.specs.Buffer.{Line}
+use Rattle.ed_syntax.specs.declared.replacement.Part.{Part}
 use Rattle.ed_syntax.specs.States.{State}
 use Rattle.ed_commands.specs.declared.editor.past.Past.{Past}
 use Rattle.ed_commands.specs.Editors.{past_of}
 
-abbrev pub held : List Line → (current : ℕ) → (pattern name : Option (List ℕ)) → (changed : Bool) → Past → State
-held lines current pattern name changed past = record {
+abbrev pub held : List Line → (current : ℕ) → (pattern : Option (List ℕ)) → (replacement : Option (List Part)) → (name : Option (List ℕ)) → (changed : Bool) → Past → State
+held lines current pattern replacement name changed past = record {
   lines = lines;
   current = current;
   pattern = pattern;
-  replacement = None;
+  replacement = replacement;
   name = name;
   changed = changed;
   past = past_of past lines;

@@ -5,5 +5,6 @@ pub mod Changes
 pub mod Held
 pub mod Letters
 pub mod Ranges
+pub mod Rewritten
 pub mod Searching
 pub mod Scanning

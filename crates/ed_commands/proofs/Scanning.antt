@@ -5,7 +5,6 @@ use Rattle.std.proofs.lemmas.Bool.Decides.{eqb_tells, leb_tells}
 use Rattle.std.proofs.lemmas.Bool.{true≢false}
 use Rattle.std.specs.declared.alloc.AllocError.{AllocError}
 use Rattle.bre_parse.specs.Tree.{Tree}
-use Rattle.bre_parse.specs.Groups.{Groups}
 use Rattle.bre_parse.specs.Match.{match_from}
 use Rattle.bre_parse.specs.Laws.{MatchesLieWithin}
 use Rattle.ed_syntax.specs.Substitution.{Found, is_empty, taken_first, taken_from, taken}

@@ -1,5 +1,5 @@
 -- An editor as a value: what it holds, and the fault that it has failed by.
-use Rattle.std.specs.Prelude.{ℕ, ◌≡◌, ◌≢◌, ◌+◌, ◌-◌, ◌≤◌, Bool, true, false, ◌&&◌, List, [], ◌∷◌, ◌++◌, map, nat_le, Option, Some, None, Result, Ok, Err, IsOkAnd, MatchResult}
+use Rattle.std.specs.Prelude.{ℕ, ◌≡◌, ◌≢◌, ◌+◌, ◌-◌, ◌≤◌, true, false, ◌&&◌, List, [], ◌∷◌, ◌++◌, map, nat_le, Option, Some, None, Result, Ok, Err, IsOkAnd, MatchResult}
 use Rattle.ed_base.specs.Buffer.{Line, plain_line, texts}
 use Rattle.ed_base.specs.Parts.{exchanged, carried}
 use Rattle.ed_base.specs.declared.fault.Fault.{Fault}

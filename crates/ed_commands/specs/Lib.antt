@@ -1,2 +1,3 @@
 pub mod Editors
+pub mod Rewriting
 pub mod Scans

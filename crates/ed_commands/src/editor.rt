@@ -17,10 +17,12 @@ mod forms;
 mod lines;
 mod past;
 mod rearranging;
+mod rewriting;
 mod searching;
+mod substituting;
 
 use ed_base::{Bytes, Fault};
-use ed_syntax::{Answer, Command, Pattern, Request};
+use ed_syntax::{Answer, Command, Pattern, Replacement, Request};
 use line_store::LineStore;
 use lines::file_store;
 use past::{Before, Past};
@@ -43,6 +45,7 @@ pub struct Editor<S: LineStore> {
     store: S,
     current: usize,
     pattern: Option<Pattern>,
+    replacement: Option<Replacement>,
     name: Option<Bytes>,
     changed: bool,
     past: Past,
@@ -50,12 +53,12 @@ pub struct Editor<S: LineStore> {
 }
 
 impl<S: LineStore> Model for Editor<S> {
-    ghost use Rattle.std.specs.Prelude.{◌≤◌, length, None};
+    ghost use Rattle.std.specs.Prelude.{◌≤◌, length};
     ghost use Rattle.ed_commands.specs.Editors.{EditorValue, past_of};
 
     ghost Value = { EditorValue };
 
-    ghost view = { λ e. record { state = record { lines = S.lines e.store; current = e.current; pattern = e.pattern; replacement = None; name = e.name; changed = e.changed; past = past_of e.past (S.lines e.store) }; failed = e.failed } };
+    ghost view = { λ e. record { state = record { lines = S.lines e.store; current = e.current; pattern = e.pattern; replacement = e.replacement; name = e.name; changed = e.changed; past = past_of e.past (S.lines e.store) }; failed = e.failed } };
 
     ghost invariant = { λ e. e.current ≤ length (S.lines e.store) };
 }
@@ -71,6 +74,7 @@ impl<S: LineStore> Editor<S> {
             store,
             current: 0,
             pattern: None,
+            replacement: None,
             name: None,
             changed: false,
             past: Past::nothing(alloc),
@@ -110,6 +114,7 @@ impl<S: LineStore> Editor<S> {
         self.current = store.len();
         self.store = store;
         self.pattern = None;
+        self.replacement = None;
         self.name = Some(path);
         self.changed = false;
         self.past = Past::nothing(self.alloc);

@@ -4,9 +4,11 @@ ghost use Rattle.std.specs.List.{concat};
 ghost use Rattle.ed_base.specs.Lines.{lines_of};
 ghost use Rattle.ed_base.specs.Buffer.{plain_line, texts};
 ghost use Rattle.ed_base.specs.Parts.{block, carried, exchanged, inserted};
+ghost use Rattle.ed_syntax.specs.Substitution.{split_at_newlines};
 ghost use Rattle.ed_commands.specs.Editors.{AreNew, place_beside, span_value};
 
 use crate::editor::addressing::Span;
+use crate::substitution::is_one_line;
 use ed_base::{Bytes, Text, join_lines, written_lines_are_read_back};
 use line_store::{FileLines, Line, LineStore};
 use std::alloc::{AllocError, Global};
@@ -38,6 +40,20 @@ pub fn copy_block<S: LineStore>(
     // The law by which the lines are read back from these bytes. It does nothing when it runs.
     written_lines_are_read_back();
     file_lines(alloc, bytes)
+}
+
+/// New lines of a text that was split at its newlines. They share its bytes.
+pub fn split_text(alloc: Global, mut text: Bytes) -> Result<Vec<Line>, AllocError>
+    ensures value { IfOk result (λ lines. lines.items ≡ map plain_line (split_at_newlines text)) }
+{
+    if is_one_line(text.as_slice()) {
+        let line = Line::from_bytes(alloc, text)?;
+        let mut lines = Vec::with_capacity(alloc, 1)?;
+        lines.push_reserved(line);
+        return Ok(lines);
+    }
+    text.push(b'\n')?;
+    file_lines(alloc, text)
 }
 
 // New lines of a file's bytes, which they share.

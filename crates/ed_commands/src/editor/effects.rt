@@ -44,6 +44,12 @@ impl<S: LineStore> Editor<S> {
             Verb::Mark(letter) => self.mark(*letter, span),
             Verb::Move(_) => self.move_lines(span, target, before)?,
             Verb::Copy(_) => self.copy(span, target, before)?,
+            Verb::Substitute {
+                pattern,
+                replacement,
+                which,
+                form,
+            } => return self.substitute(pattern, replacement, *which, *form, span, before),
             Verb::LineNumber => return Ok(self.line_number(span)?),
             Verb::Null => return Ok(self.write(Form::Plain, span)?),
             Verb::Write(form) => return Ok(self.write(*form, span)?),

@@ -1,5 +1,5 @@
 -- A text without a newline is one line.
-use Rattle.std.proofs.Common.{ℕ, List, ◌≡◌, ◌++◌, ◌∷◌, [], sym, ◌∙◌, ap}
+use Rattle.std.proofs.Common.{ℕ, List, ◌++◌, ◌∷◌, [], sym, ◌∙◌, ap}
 use Rattle.std.proofs.lemmas.List.Elements.{All-nil, All-cons}
 use Rattle.ed_base.specs.Lines.{IsLine}
 use Rattle.ed_base.proofs.LineLemmas.{lines_of-bytes_of}

@@ -10,7 +10,7 @@ pub returns-clause-exact : goal.returns-clause-exact
 returns-clause-exact g c =
     let e = c.self.inside in
     let lines = g.S.LineStore.lines e.store in
-    let s = held lines e.current e.pattern e.name e.changed e.past in
+    let s = held lines e.current e.pattern e.replacement e.name e.changed e.past in
     let is : s ≡ c.args.self.now.state = ap (λ v. v.state) c.self.view_is in
     marked s e.past (c.args.span.last - 1) c.args.letter (g.S.LineStore.lines c.mark.new.self) refl c.mark.ensures.marked
     ∙ ap (λ t. (effect.mark c.args.letter (ranges.span c.args.span.last c.args.span.last) t).state) is

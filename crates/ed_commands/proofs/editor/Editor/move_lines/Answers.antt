@@ -14,7 +14,7 @@ pub returns-clause-exact : goal.returns-clause-exact
 returns-clause-exact g c =
     let e = c.self.inside in
     let lines = g.S.LineStore.lines e.store in
-    let s = held lines e.current e.pattern e.name e.changed e.past in
+    let s = held lines e.current e.pattern e.replacement e.name e.changed e.past in
     let old = c.args.self.now.state in
     let is : s ≡ old = ap (λ v. v.state) c.self.view_is in
     let a = c.args.span.first in
@@ -27,7 +27,7 @@ returns-clause-exact g c =
     omega (arith, c.in_ok-place.ensures.within, c.requires.last, c.requires.target, ap (λ t. length t.lines) is) in
     let back : carried place (place + (to - from)) from after ≡ lines =
     rw c.in_ok-place.ensures.carried (carried-back from to place lines (omega arith) within room) in
-    let now = held after (place + (to - from)) e.pattern e.name true c.keep.new.self in
+    let now = held after (place + (to - from)) e.pattern e.replacement e.name true c.keep.new.self in
     subst (λ r. IsOkAnd r (λ outcome. now ≡ left_by c.args.before old outcome))
     (sym (moved-to a to c.args.target place old c.requires.first c.requires.order c.requires.last c.in_ok-place.ensures.place))
     (changing s c.reserve.new.self c.keep.new.self c.args.before (change.Moved from to place) (place + (to - from)) (place + (to - from)) after (carried from to place lines) c.of-marks.result

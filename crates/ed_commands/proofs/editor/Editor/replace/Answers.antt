@@ -13,7 +13,7 @@ pub returns-clause-exact : goal.returns-clause-exact
 returns-clause-exact g c =
     let e = c.self.inside in
     let lines = g.S.LineStore.lines e.store in
-    let s = held lines e.current e.pattern e.name e.changed e.past in
+    let s = held lines e.current e.pattern e.replacement e.name e.changed e.past in
     let is : s ≡ c.args.self.now.state = ap (λ v. v.state) c.self.view_is in
     let from = c.args.from in
     let to = c.args.to in

@@ -11,7 +11,7 @@ pub returns-in-Some-2-clause-exact : goal.returns-in-Some-2-clause-exact
 returns-in-Some-2-clause-exact g c =
     let e = c.self.inside in
     let lines = g.S.LineStore.lines e.store in
-    let now = held lines e.current e.pattern e.name e.changed e.past in
+    let now = held lines e.current e.pattern e.replacement e.name e.changed e.past in
     let own = c.args.own.now in
     let before = c.args.self.now.state in
     let text = c.in-Some.pattern in
@@ -28,7 +28,7 @@ pub returns-clause-exact : goal.returns-clause-exact
 returns-clause-exact g c =
     let e = c.self.inside in
     let lines = g.S.LineStore.lines e.store in
-    let now = held lines e.current e.pattern e.name e.changed e.past in
+    let now = held lines e.current e.pattern e.replacement e.name e.changed e.past in
     let own = c.args.own.now in
     let before = c.args.self.now.state in
     let text = c.in-Some.pattern in

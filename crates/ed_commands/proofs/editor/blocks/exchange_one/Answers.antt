@@ -1,5 +1,5 @@
 -- The one new line is put in place of the other.
-use Rattle.std.proofs.Common.{◌≡◌, ◌+◌, ◌∷◌, ◌∙◌, [], ap, sym}
+use Rattle.std.proofs.Common.{◌+◌, ◌∙◌, ap, sym}
 use Rattle.ed_base.specs.Parts.{exchanged}
 use Rattle.ed_commands.proofs.Blocks.{only-one, set-one}
 use Rattle.ed_commands.proofs.editor.blocks.exchange_one.Goals as goal

@@ -1,0 +1,25 @@
+-- What is taken back is the line that stood there.
+use Rattle.std.proofs.Common.{◌≡◌, ◌+◌, ◌∙◌, ap, arith, length}
+use Rattle.ed_base.specs.Parts.{exchanged}
+use Rattle.ed_commands.specs.Editors.{past_of}
+use Rattle.ed_commands.proofs.Blocks.{length-exchanged, put-back}
+use Rattle.ed_commands.proofs.editor.rewriting.rewrite_line.Goals as goal
+
+pub returns-clause-kept : goal.returns-clause-kept
+returns-clause-kept g c =
+    let lines = g.S.LineStore.lines c.args.store.now in
+    let after = g.S.LineStore.lines c.exchange.new.store in
+    let place = c.args.place in
+    let new = c.args.lines.items in
+    let entered = c.len-entered.result in
+    let removed = c.in_ok-removed.removed.items in
+    let counted : length new ≡ entered = omega (arith, c.args.lines.ok.0, c.len-entered.ensures) in
+    let back : exchanged place (place + entered) removed after ≡ lines =
+    rw (c.in_ok-removed.ensures.put, c.in_ok-removed.ensures.taken) (put-back place (place + 1) entered new lines (omega arith) (omega (arith, c.requires.place)) counted) in
+    c.add.ensures.kept after ∙ ap (past_of c.reserve.new.self) back ∙ c.reserve.ensures.unchanged lines
+
+pub returns-clause-counted : goal.returns-clause-counted
+returns-clause-counted g c =
+    let lines = g.S.LineStore.lines c.args.store.now in
+    let place = c.args.place in
+    omega (arith, ap length c.in_ok-removed.ensures.put, length-exchanged place (place + 1) c.args.lines.items lines (omega arith) (omega (arith, c.requires.place)))

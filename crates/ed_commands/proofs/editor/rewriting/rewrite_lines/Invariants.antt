@@ -1,0 +1,25 @@
+-- The lines that were passed are what results of them, and those that are left are as they were.
+use Rattle.std.proofs.Common.{◌≡◌, ◌+◌, ◌-◌, ◌≤◌, length, option_map}
+use Rattle.std.specs.Prelude.{IfNone, IfSome}
+use Rattle.ed_base.specs.Parts.{block, exchanged}
+use Rattle.ed_syntax.specs.SubstitutedLines.{each, made_of}
+use Rattle.ed_commands.specs.Editors.{past_of}
+use Rattle.ed_commands.specs.Rewriting.{kept_lines, past_of_rewritten}
+use Rattle.ed_commands.proofs.editor.rewriting.rewrite_lines.Given as goal
+
+abbrev pub invariant-loop-i : goal.invariant-loop-i
+invariant-loop-i g l =
+    let lines = g.S.LineStore.lines in
+    let old = lines l.fn.store in
+    let from = l.fn.span.first - 1 in
+    let results = each (made_of l.fn.pattern l.fn.replacement l.fn.which) (block from l.i old) in
+    record {
+      put : lines l.store ≡ exchanged from l.i results.0 old;
+      long : length (lines l.store) + l.i ≡ length old + (from + length results.0);
+      made : l.made ≡ option_map (λ n. from + n) results.1;
+      kept : past_of l.past (lines l.store)
+          ≡ past_of_rewritten l.made l.fn.before.listed (kept_lines l.fn.before.current old) (past_of l.fn.past old);
+      untouched : IfNone l.made (lines l.store ≡ old);
+      within : IfSome l.made (λ line. (1 ≤ line) × (line ≤ length (lines l.store)));
+      no_fewer : length old ≤ length (lines l.store);
+    }

@@ -1,0 +1,23 @@
+-- Lines that are rewritten one by one, what is used for that, and what undo keeps of it.
+use Rattle.std.specs.Prelude.{ℕ, Bool, List, Option, Some, None, Result, Ok}
+use Rattle.ed_base.specs.Buffer.{Line}
+use Rattle.ed_base.specs.declared.fault.Fault.{Fault}
+use Rattle.ed_syntax.specs.declared.replacement.Part.{Part}
+use Rattle.ed_syntax.specs.States.{State, Kept, Past}
+use Rattle.ed_syntax.specs.Values.{◌>>◌, used_pattern}
+use Rattle.ed_syntax.specs.SubstitutedLines.{used_replacement}
+use Rattle.ed_syntax.specs.Applied.{past_after}
+
+-- these lines as undo keeps them
+abbrev pub kept_lines : (current : ℕ) → List Line → Kept
+kept_lines current lines = record { lines = lines; current = current }
+
+-- what undo would bring back once lines were rewritten; where none was, what it would have brought back before
+abbrev pub past_of_rewritten : (made : Option ℕ) → (listed : Bool) → Kept → Past → Past
+past_of_rewritten None listed before past = past
+past_of_rewritten (Some n) listed before past = past_after listed before past
+
+-- the state in which `s` remembers the replacement and the pattern that it uses, or why it has none
+abbrev pub remembering : (listed : Bool) → (pattern : Option (List ℕ)) → (replacement : Option (List Part)) → State → Result State Fault
+remembering listed pattern replacement s =
+    used_replacement listed replacement s >> λ parts. used_pattern pattern s >> λ text. Ok (record s { pattern = Some text; replacement = Some parts })

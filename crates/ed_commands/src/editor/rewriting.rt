@@ -1,0 +1,105 @@
+//! Lines that are rewritten one by one, each by itself.
+ghost use Rattle.std.specs.Prelude.{◌≡◌, ◌+◌, ◌-◌, ◌^◌, ◌<◌, ◌≤◌, length, map, option_map, IfNone, IfOk, IfSome, OnErr, OnOk};
+ghost use Rattle.ed_base.specs.Buffer.{plain_line};
+ghost use Rattle.ed_base.specs.Parts.{between, exchanged, replaced};
+ghost use Rattle.ed_syntax.specs.SubstitutedLines.{each, made_of};
+ghost use Rattle.ed_commands.specs.Editors.{AreNew, past_of};
+ghost use Rattle.ed_commands.specs.Rewriting.{kept_lines, past_of_rewritten};
+
+use crate::editor::addressing::Span;
+use crate::editor::blocks::{exchange, split_text};
+use crate::editor::past::{Before, Change, Past};
+use crate::substitution::rewritten;
+use ed_syntax::{Pattern, Replacement, Which};
+use line_store::{Line, LineStore, Marks};
+use std::alloc::{AllocError, Global};
+
+// The new lines that a line becomes where the matches of a pattern are replaced; `None` where it stays as it is.
+fn new_lines_of(
+    alloc: Global,
+    pattern: &Pattern,
+    replacement: &Replacement,
+    which: Which,
+    line: &[u8],
+) -> Result<Option<Vec<Line>>, AllocError>
+    ensures value { IfOk result (λ made.
+        option_map (λ lines. lines.items) made ≡ option_map (map plain_line) (made_of pattern.now replacement.now which line.now)) }
+{
+    let made = rewritten(alloc, pattern.bre(), replacement, which, line)?;
+    let Some(text) = made else {
+        return Ok(None);
+    };
+    let lines = split_text(alloc, text)?;
+    Ok(Some(lines))
+}
+
+/// Rewrites the lines of a span one by one, and tells the number of the last line that came of it; `None` where each stayed as it
+/// was. A line that becomes one line is exchanged for it where it stands.
+pub fn rewrite_lines<S: LineStore>(
+    alloc: Global,
+    pattern: &Pattern,
+    replacement: &Replacement,
+    which: Which,
+    span: Span,
+    before: Before,
+    store: &mut S,
+    past: &mut Past,
+) -> Result<Option<usize>, AllocError>
+    requires first { 1 ≤ span.first }
+    requires order { span.first ≤ span.last }
+    requires last { span.last ≤ length (S.lines store.old) }
+    ensures made { IfOk result (λ made. made
+        ≡ option_map (λ n. span.first - 1 + n) (each (made_of pattern.now replacement.now which) (between span.first span.last (S.lines store.old))).1) }
+    ensures put { OnOk result (S.lines store.new
+        ≡ replaced span.first span.last (each (made_of pattern.now replacement.now which) (between span.first span.last (S.lines store.old))).0 (S.lines store.old)) }
+    ensures kept { IfOk result (λ made. past_of past.new (S.lines store.new)
+        ≡ past_of_rewritten made before.listed (kept_lines before.current (S.lines store.old)) (past_of past.old (S.lines store.old))) }
+    ensures untouched { IfOk result (λ made. IfNone made (S.lines store.new ≡ S.lines store.old)) }
+    ensures within { IfOk result (λ made. IfSome made (λ line. (1 ≤ line) × (line ≤ length (S.lines store.new)))) }
+    ensures no_fewer { length (S.lines store.old) ≤ length (S.lines store.new) }
+{
+    let count = store.len();
+    let mut made = None;
+    for i in span.first - 1..span.last {
+        // The lines behind this one are as they were, so that its place is counted from the end.
+        let place = store.len() - (count - i);
+        let new = new_lines_of(alloc, pattern, replacement, which, store.text(place))?;
+        let Some(lines) = new else {
+            continue;
+        };
+        if made.is_none() {
+            let marks = Marks::of(store);
+            past.begin(before, marks);
+        }
+        rewrite_line(alloc, place, lines, store, past)?;
+        made = Some(store.len() - (count - i - 1));
+    }
+    Ok(made)
+}
+
+// Puts new lines in place of one, as one more change of a command.
+fn rewrite_line<S: LineStore>(
+    alloc: Global,
+    place: usize,
+    lines: Vec<Line>,
+    store: &mut S,
+    past: &mut Past,
+) -> Result<(), AllocError>
+    requires place { place < length (S.lines store.old) }
+    requires fits { place < 2 ^ 64 - 1 }
+    requires new { AreNew lines.items }
+    ensures put { OnOk result (S.lines store.new ≡ exchanged place (place + 1) lines.items (S.lines store.old)) }
+    ensures counted { OnOk result (length (S.lines store.new) + 1 ≡ length (S.lines store.old) + length lines.items) }
+    ensures kept { OnOk result (past_of past.new (S.lines store.new) ≡ past_of past.old (S.lines store.old)) }
+    ensures unchanged { OnErr result (S.lines store.new ≡ S.lines store.old) }
+{
+    past.reserve()?;
+    let entered = lines.len();
+    let removed = exchange(alloc, place, place + 1, lines, store)?;
+    past.add(Change::Replaced {
+        from: place,
+        entered,
+        removed,
+    });
+    Ok(())
+}

@@ -1,0 +1,124 @@
+//! `s`: matches are replaced, line by line (XCU ed, "Substitute Command").
+ghost use Rattle.std.specs.Prelude.{◌≡◌, ◌≢◌, ◌≤◌, IsOkAnd, MatchResult, OnErr};
+ghost use Rattle.std.specs.List.{list_any};
+ghost use Rattle.ed_base.specs.declared.fault.Fault.TheVariants.{Memory};
+ghost use Rattle.ed_syntax.specs.PublicTypes.{suffix_value};
+ghost use Rattle.ed_syntax.specs.States.{last};
+ghost use Rattle.ed_syntax.specs.Verbs.{is_split};
+ghost use Rattle.ed_syntax.specs.SubstitutedLines.{substitute};
+ghost use Rattle.ed_commands.specs.Editors.{Tells, left_by, span_value};
+ghost use Rattle.ed_commands.specs.Rewriting.{remembering};
+
+use crate::editor::Editor;
+use crate::editor::addressing::Span;
+use crate::editor::lines::write_lines;
+use crate::editor::past::Before;
+use crate::editor::rewriting::rewrite_lines;
+use ed_base::{Bytes, Fault};
+use ed_syntax::{Form, Part, Pattern, Replacement, Which};
+use line_store::LineStore;
+
+// Whether a line may be split by the replacement.
+fn splits(replacement: &Replacement) -> bool
+    ensures value { result ≡ list_any is_split replacement.now }
+{
+    for part in replacement.parts() {
+        if is_a_split(*part) {
+            return true;
+        }
+    }
+    false
+}
+
+fn is_a_split(part: Part) -> bool
+    ensures value { result ≡ is_split part }
+{
+    matches!(part, Part::Split)
+}
+
+impl<S: LineStore> Editor<S> {
+    /// `s`: the last line that came of it is current, and is written in the form of the flag. In a list it isn't a fault that no
+    /// line matched (our choice).
+    pub(crate) fn substitute(
+        &mut self,
+        pattern: &Option<Pattern>,
+        replacement: &Option<Replacement>,
+        which: Which,
+        flag: Option<Form>,
+        span: Span,
+        before: Before,
+    ) -> Result<Bytes, Fault>
+        requires first { 1 ≤ span.first }
+        requires order { span.first ≤ span.last }
+        requires last { span.last ≤ last self.old.state }
+        ensures exact { let expected = substitute before.listed pattern.now replacement.now which (suffix_value flag) (span_value span) self.old.state in
+            MatchResult result (λ output. IsOkAnd expected (λ o. (self.new.state ≡ left_by before self.old.state o) × (output ≡ o.output)))
+            (λ fault. fault ≢ Memory → expected ≡ Err fault) }
+        ensures failed { self.new.failed ≡ self.old.failed }
+    {
+        self.remember_both(pattern, replacement, before.listed)?;
+        let (Some(pattern), Some(replacement)) = (&self.pattern, &self.replacement) else {
+            unreachable!()
+        };
+        let made = rewrite_lines(
+            self.alloc,
+            pattern,
+            replacement,
+            which,
+            span,
+            before,
+            &mut self.store,
+            &mut self.past,
+        )?;
+        let Some(line) = made else {
+            if before.listed {
+                return Ok(Bytes::new(self.alloc));
+            }
+            return Err(Fault::NoMatch);
+        };
+        self.current = line;
+        self.changed = true;
+        let mut output = Bytes::new(self.alloc);
+        if let Some(form) = flag {
+            let here = Span {
+                first: line,
+                last: line,
+            };
+            write_lines(&mut output, form, here, &self.store)?;
+        }
+        Ok(output)
+    }
+
+    // The command's own pattern and replacement are remembered, once it is known that there are both to use.
+    fn remember_both(
+        &mut self,
+        pattern: &Option<Pattern>,
+        replacement: &Option<Replacement>,
+        listed: bool,
+    ) -> Result<(), Fault>
+        ensures remembered { Tells (λ _. self.new.state) (remembering listed pattern.now replacement.now self.old.state) result }
+        ensures unchanged { OnErr result (self.new ≡ self.old) }
+        ensures failed { self.new.failed ≡ self.old.failed }
+    {
+        if replacement.is_none() {
+            match &self.replacement {
+                Some(remembered) if !(listed && splits(remembered)) => {}
+                _ => return Err(Fault::Replacement),
+            }
+        }
+        if pattern.is_none() && self.pattern.is_none() {
+            return Err(Fault::Pattern);
+        }
+        let replacement = match replacement {
+            Some(own) => Some(own.try_copy()?),
+            None => None,
+        };
+        if let Some(own) = pattern {
+            self.pattern = Some(own.try_copy()?);
+        }
+        if replacement.is_some() {
+            self.replacement = replacement;
+        }
+        Ok(())
+    }
+}
