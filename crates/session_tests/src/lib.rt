@@ -8,4 +8,6 @@ mod listing;
 #[cfg(test)]
 mod refusals;
 #[cfg(test)]
+mod replacing;
+#[cfg(test)]
 mod runs;
