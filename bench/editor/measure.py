@@ -1,4 +1,4 @@
-"""Processor time and peak memory of our editor beside `ed` and `sed`, on the same inputs and interleaved.
+"""Processor time and peak memory of our editor beside `ed`, `sed`, `perl` and `vim`, on the same inputs and interleaved.
 
 Each measure is the best of three runs. For each size the table gives seconds of processor time, mebibytes of peak memory
 and the ratio to `ed`; the last lines give the exponent by which the time grows from the smallest size to the largest.
@@ -20,8 +20,9 @@ RUNS = 3
 class Work:
     """One piece of work at one size: the file, the script, and how often it is run."""
 
-    def __init__(self, folder, name, size, lines, script, repeat=1, sed=None, vim=False):
-        self.name, self.size, self.repeat, self.sed, self.vim = name, size, repeat, sed, vim
+    def __init__(self, folder, name, size, lines, script, repeat=1, sed=None, perl=None, vim=False):
+        self.name, self.size, self.repeat = name, size, repeat
+        self.sed, self.perl, self.vim = sed, perl, vim
         self.file = os.path.join(folder, f"{name}-{size}")
         self.script = self.file + ".ed"
         with open(self.file, "wb") as out:
@@ -103,6 +104,33 @@ def double(folder, n):
     return Work(folder, "double", n, text_lines(1_000), [b"1,$t$\n" * ((n // 1_000).bit_length() - 1), b"Q\n"])
 
 
+def fields(count):
+    return (b"%07d field %d of a line\n" % (i, i * 7919 % 1000) for i in range(count))
+
+
+def swap_fields(folder, n):
+    """Each line of two fields that are exchanged."""
+    return Work(folder, "swap", n, fields(n), [b"1,$s/\\([0-9]*\\) \\([a-z]*\\)/\\2 \\1/\nQ\n"],
+                sed=["sed", r"s/\([0-9]*\) \([a-z]*\)/\2 \1/"], perl=["perl", "-pe", r"s/([0-9]*) ([a-z]*)/$2 $1/"])
+
+
+def replace_in_a_long_line(folder, megabytes):
+    """One line, of whose bytes each sixteenth is replaced."""
+    return Work(folder, "long", megabytes, [b"0123456789abcdef" * (megabytes << 16), b"\n"], [b"s/a/b/g\nQ\n"],
+                sed=["sed", "s/a/b/g"], perl=["perl", "-pe", "s/a/b/g"])
+
+
+def substitute_rising(folder, n):
+    script = [b"%ds/^/x/\n" % line for line in changed_lines(n, 10_000)] + [b"Q\n"]
+    return Work(folder, "s rising", n, text_lines(n), script, vim=True)
+
+
+def substitute_at_random(folder, n):
+    lines = changed_lines(n, 10_000)
+    random.Random(1).shuffle(lines)
+    return Work(folder, "s random", n, text_lines(n), [b"%ds/^/x/\n" % line for line in lines] + [b"Q\n"], vim=True)
+
+
 def measured(words, work):
     """Processor seconds and peak mebibytes of the runs of the work."""
     seconds, peak = 0.0, 0
@@ -132,6 +160,8 @@ def programs_for(work):
         programs["ed"] = ["ed", "-s"]
     if work.sed and shutil.which("sed"):
         programs["sed"] = work.sed
+    if work.perl and shutil.which("perl"):
+        programs["perl"] = work.perl
     if work.vim and shutil.which("vim"):
         programs["vim"] = ["vim", "-es", "-u", "NONE", "-n", "-i", "NONE"]
     return programs
@@ -172,6 +202,10 @@ def main():
         report("change 10,000 lines in random order (lines)", [change_at_random(folder, n) for n in (250_000, 500_000, 1_000_000)])
         report("move each line to the front (lines)", [move_to_front(folder, n) for n in (12_500, 25_000, 50_000)])
         report("double 1,000 lines by 1,$t$ (lines)", [double(folder, n) for n in (512_000, 1_024_000, 2_048_000)])
+        report("exchange two fields of each line by s (lines)", [swap_fields(folder, n) for n in (50_000, 100_000, 200_000)])
+        report("replace bytes in one line by s (MiB)", [replace_in_a_long_line(folder, n) for n in (5, 10, 20, 50)])
+        report("10,000 times s on one line, at rising places (lines)", [substitute_rising(folder, n) for n in (250_000, 500_000, 1_000_000)])
+        report("10,000 times s on one line, in random order (lines)", [substitute_at_random(folder, n) for n in (250_000, 500_000, 1_000_000)])
         report("search onwards in 100,000 lines (searches)", [search_onwards(folder, n) for n in (250, 500, 1_000)])
         report("search around 100,000 lines (searches)", [search_around(folder, n) for n in (10, 20, 40)])
         report("print ten of 100,000 lines between marks (times)", [print_between_marks(folder, n) for n in (2_500, 5_000, 10_000)])
