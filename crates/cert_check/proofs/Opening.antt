@@ -3,6 +3,8 @@ use Rattle.std.proofs.Common.{◌≡◌, ◌≤◌, ℕ, pos, neg_ℤ, true, fal
 use Rattle.std.proofs.lemmas.Int.{ints}
 use Rattle.std.proofs.lemmas.List.{length-map}
 use Rattle.ed_base.specs.Buffer.{Line, plain_line}
+use Rattle.ed_base.specs.Lines.{lines_of}
+use Rattle.ed_base.proofs.LineLemmas.{HoldsLines-lines, HoldsLines-lines_of}
 use Rattle.zones.specs.Zone.{Bounds, Numbers, Holds, updated}
 use Rattle.zones.specs.Steps.{any_zone, after_guard}
 use Rattle.zones.proofs.Known.{updated-other}
@@ -11,6 +13,7 @@ use Rattle.ed_rules.specs.States.{limited, start}
 use Rattle.cert_check.specs.Opening.{IsAtMost, StartIsSound}
 use Rattle.ed_rules.proofs.Choosing.{has_choice-only}
 use Rattle.ed_rules.proofs.Keeping.{marks_of-plain, once-by_count}
+use Rattle.ed_rules.proofs.Whole.{whole-plain}
 use Rattle.ed_rules.proofs.LettersInLines.{no_letter, KnowLetters-plain}
 
 limited-holds : (max : Option ℕ) (zone : Bounds) (count : ℕ) (v : Numbers) → IsAtMost count max → v 0 ≡ pos 0 → v 2 ≡ pos count → Holds zone v → Holds (limited max zone) v
@@ -19,7 +22,8 @@ limited-holds (Some max) zone count v h zero_is last_is holds = Holds-after_guar
 
 pub start-sound : StartIsSound
 unfolding start
-start-sound path min max texts within =
+start-sound path min max bytes within =
+    let texts : List (List ℕ) = lines_of bytes in
     let lines : List Line = map plain_line texts in
     let count : ℕ = length lines in
     let size : count ≡ length texts = length-map texts plain_line in
@@ -43,6 +47,6 @@ start-sound path min max texts within =
         changed = refl;
         past = refl;
       };
-      lines = record { known = KnowLetters-plain texts; once = once-by_count lines (λ x. let q = marks_of-plain x texts in omega arith) };
+      lines = record { whole = whole-plain texts (HoldsLines-lines (HoldsLines-lines_of bytes)); known = KnowLetters-plain texts; once = once-by_count lines (λ x. let q = marks_of-plain x texts in omega arith) };
       kept = tt;
     }

@@ -25,7 +25,7 @@ use Rattle.cert_check.proofs.Running.{Laws, RunsWell, steps-well}
 
 -- what is left runs well from each editor that was opened within the bounds
 abbrev GoesWell : Certificate → (path : Option (List ℕ)) → Further → Type 0
-GoesWell c path go = (texts : List (List ℕ)) → IsWithin c.min c.max (length texts) → (m : Present) → m.state ≡ opened path texts → (answers : List Answer) →
+GoesWell c path go = (bytes : List ℕ) → IsWithin c.min c.max (length (lines_of bytes)) → (m : Present) → m.state ≡ opened path bytes → (answers : List Answer) →
     RunsWell c (go m answers)
 
 start-well : (c : Certificate) (path : Option (List ℕ)) (m : Present) (go : Further) (answers : List Answer) → m.state ≡ opening →
@@ -34,7 +34,7 @@ start-well c None m go answers new within h = h [] within m new answers
 start-well c (Some path) m go [] new within h = (All-nil (MayAsk c), tt)
 start-well c (Some path) m go (answer.Bytes bytes ∷ later) new within h =
     let q : Present = runs.with_state (loaded bytes path m.state) m in
-    let well = h (lines_of bytes) within q (subst (λ (e : editor.State). loaded bytes path e ≡ opened (Some path) (lines_of bytes)) (sym new) refl) later in
+    let well = h bytes within q (subst (λ (e : editor.State). loaded bytes path e ≡ opened (Some path) bytes) (sym new) refl) later in
     (All-cons (MayAsk c) (request.Read path) _ tt well.0, well.1)
 start-well c (Some path) m go (answer.Missing ∷ later) new within h =
     let q : Present = runs.with_state (loaded [] path m.state) m in
@@ -48,7 +48,7 @@ accepted-safe k script c h o answers same within =
     let go : Further = steps script.steps script.fault in
     let shape = first-holds (length c.notes == length (counted script.steps)) _ _ h in
     let size : length c.notes ≡ length (counted script.steps) = eqb-true _ _ shape.0 in
-    let goes : GoesWell c c.path go = λ texts bounds m new more.
+    let goes : GoesWell c c.path go = λ bytes bounds m new more.
     steps-well k c script.fault (has_quit script.steps) script.steps 1 (start c.path c.min c.max) c.notes refl size shape.1 m
-    (subst (λ (e : editor.State). StandsFor (start c.path c.min c.max) e) (sym new) (k.started c.path c.min c.max texts bounds)) more in
+    (subst (λ (e : editor.State). StandsFor (start c.path c.min c.max) e) (sym new) (k.started c.path c.min c.max bytes bounds)) more in
     subst (λ (p : Option (List ℕ)). RunsWell c (runs.start p (present o) go answers)) (sym same) (start-well c c.path (present o) go answers refl within goes)

@@ -1,15 +1,16 @@
 -- Soundness of the start: what the rules begin with stands for an editor with a file of that many lines.
 use Rattle.std.specs.Prelude.{ℕ, ◌≤◌, List, map, length, Option, Some, None}
 use Rattle.ed_base.specs.Buffer.{plain_line}
+use Rattle.ed_base.specs.Lines.{lines_of}
 use Rattle.ed_syntax.specs.States as editor
 use Rattle.ed_syntax.specs.States.{opening}
 use Rattle.ed_rules.specs.Choices.{Choice}
 use Rattle.ed_rules.specs.States.{start}
 use Rattle.ed_rules.specs.StandsFor.{StandsFor}
 
--- an editor that was just opened over these lines, with this path remembered
-abbrev pub opened : (path : Choice) → (texts : List (List ℕ)) → editor.State
-opened path texts = let lines = map plain_line texts in record opening { lines = lines; current = length lines; name = path }
+-- an editor that was just opened over a file of these bytes, with this path remembered
+abbrev pub opened : (path : Choice) → (bytes : List ℕ) → editor.State
+opened path bytes = let lines = map plain_line (lines_of bytes) in record opening { lines = lines; current = length lines; name = path }
 
 -- at most so many, where there is a limit
 abbrev pub IsAtMost : ℕ → Option ℕ → Type 0
@@ -20,7 +21,7 @@ IsAtMost n (Some most) = n ≤ most
 abbrev pub IsWithin : (low : ℕ) → (high : Option ℕ) → ℕ → Type 0
 IsWithin low high n = (low ≤ n) × IsAtMost n high
 
--- the start stands for each editor that was opened over as many lines as it allows
+-- the start stands for each editor that was opened over a file of as many lines as it allows
 abbrev pub StartIsSound : Type 0
-StartIsSound = (path : Choice) (min : ℕ) (max : Option ℕ) (texts : List (List ℕ)) → IsWithin min max (length texts) →
-    StandsFor (start path min max) (opened path texts)
+StartIsSound = (path : Choice) (min : ℕ) (max : Option ℕ) (bytes : List ℕ) → IsWithin min max (length (lines_of bytes)) →
+    StandsFor (start path min max) (opened path bytes)

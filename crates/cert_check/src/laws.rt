@@ -19,7 +19,7 @@ pub fn covering_is_decided()
     ensures exact { (weak strong : State) → IsTrue (covers weak strong) ↔ Covers weak strong }
 {}
 
-/// The start of the rules stands for each editor that was opened over as many lines as it allows.
+/// The start of the rules stands for each editor that was opened over a file of as many lines as it allows.
 pub fn starts_are_sound()
     ensures sound { StartIsSound }
 {}

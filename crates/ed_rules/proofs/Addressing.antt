@@ -1,5 +1,5 @@
 -- The addresses before a command: where the rule values them, the editor does, and the names have their values.
-use Rattle.std.proofs.Common.{◌≡◌, ◌<◌, ◌≤◌, ◌+◌, inl, inr, ℕ, ℤ, pos, negsuc, ◌+ℤ◌, Bool, true, false, List, [], ◌∷◌, length, get_or, Option, None, Some, Result, Ok, arith, refl, ◌∙◌, sym, ap, subst, ◌&&◌, not, nat_lt}
+use Rattle.std.proofs.Common.{◌≡◌, ◌<◌, ◌≤◌, ◌+◌, ℕ, ℤ, pos, negsuc, ◌+ℤ◌, true, List, [], ◌∷◌, length, Option, None, Some, Result, Ok, arith, refl, ◌∙◌, sym, ap, subst, ◌&&◌, not, nat_lt}
 use Rattle.std.proofs.lemmas.Int.{ints}
 use Rattle.std.proofs.lemmas.Bool.{le-leb, ltb-true}
 use Rattle.ed_base.specs.declared.fault.Fault.{Fault}
@@ -291,6 +291,7 @@ command_addressed Without ed.Join s e st = addressed-sound (takes ed.Join).defau
 command_addressed Without (ed.Mark letter) s e st = addressed-sound (One here) s e st
 command_addressed Without (ed.Move to) s e st = twice-sound s e st
 command_addressed Without (ed.Copy to) s e st = twice-sound s e st
+command_addressed Without (ed.Substitute pattern replacement choice form) s e st = twice-sound s e st
 command_addressed Without ed.LineNumber s e st = addressed-sound (takes ed.LineNumber).default s e st
 command_addressed Without ed.Null s e st = addressed-sound (takes ed.Null).default s e st
 command_addressed Without (ed.Write form) s e st = twice-sound s e st

@@ -1,11 +1,11 @@
 -- One command: addresses, what it takes, what it does, its end, one after another on both sides.
-use Rattle.std.proofs.Common.{◌≡◌, ◌<◌, ◌≤◌, ◌+◌, ℕ, zero, suc, pos, negsuc, Bool, true, false, List, [], length, Option, None, Some, Result, Ok, Err, arith, refl, ◌∙◌, sym, ap, subst, ◌&&◌, nat_lt, max}
+use Rattle.std.proofs.Common.{◌≡◌, ◌<◌, ◌≤◌, ◌+◌, ℕ, zero, suc, pos, negsuc, true, List, [], length, Option, Some, Result, Ok, arith, refl, ◌∙◌, sym, ap, subst, ◌&&◌, nat_lt, max}
 use Rattle.std.proofs.lemmas.Int.{ints}
 use Rattle.std.proofs.lemmas.Bool.{le-leb}
 use Rattle.ed_base.specs.declared.fault.Fault.{Fault}
 use Rattle.ed_base.specs.declared.fault.Fault.TheVariants as fault
 use Rattle.ed_base.specs.Buffer.{Line, KnowLetters, AtMostOnce}
-use Rattle.zones.specs.Zone.{Bounds, Numbers, bound, updated}
+use Rattle.zones.specs.Zone.{Bounds, Numbers, updated}
 use Rattle.zones.specs.Steps.{after_set, after_guard}
 use Rattle.ed_syntax.specs.declared.verbs.Taking.{Taking}
 use Rattle.ed_syntax.specs.declared.verbs.Taking.TheVariants as many
@@ -17,16 +17,17 @@ use Rattle.ed_syntax.specs.States.{kept}
 use Rattle.ed_syntax.specs.Verbs.{takes, given_or}
 use Rattle.ed_syntax.specs.Values.{◌>>◌, value, values}
 use Rattle.ed_syntax.specs.Values as concrete
-use Rattle.zones.specs.Bound.{negative_of}
 use Rattle.ed_syntax.specs.Ranges.{Span, span, first_of_two, last_of_two, spanned, ordered, single, from_first}
 use Rattle.ed_syntax.specs.Effects as effects
 use Rattle.ed_syntax.specs.Effects.{Effect, Makes, Asks}
-use Rattle.ed_syntax.specs.Applied.{Placed, making, completed, targeted, effect_of, command}
+use Rattle.ed_syntax.specs.Applied.{making, completed, targeted, effect_of, command}
 use Rattle.ed_rules.specs.declared.state.State.{State}
 use Rattle.ed_rules.specs.Lines.{lifted_range, joined, joined_given, marked, copied_lines}
 use Rattle.ed_rules.specs.Addresses as addresses
-use Rattle.ed_rules.specs.StandsFor.{StandsBy, AreLettered}
+use Rattle.ed_rules.specs.StandsFor.{StandsBy, AreWhole, AreLettered}
 use Rattle.ed_rules.specs.Move.{moved_lines}
+use Rattle.ed_rules.specs.Substituting.{substituted}
+use Rattle.ed_syntax.specs.SubstitutedLines.{substitute}
 use Rattle.ed_rules.specs.Soundness.{Agrees}
 use Rattle.ed_rules.proofs.Standing.{Stands, StandsBy-temporary, StandsBy-current, StandsBy-guarded, Reads-temporary}
 use Rattle.ed_rules.proofs.Addressing.{Valued, valued-sound, Names, NamesOf, Addressed, AddressedIn, command_addressed}
@@ -35,11 +36,12 @@ use Rattle.ed_rules.proofs.Effects.{append-follows, delete-follows, insert-follo
 use Rattle.std.proofs.lemmas.Bool.{ltb-true}
 use Rattle.ed_rules.proofs.Lifting.{Holds-lifted}
 use Rattle.ed_rules.proofs.Finishing.{Final, Follows, finish-sound}
+use Rattle.ed_rules.proofs.SubstitutionEffects.{substitute-follows}
 use Rattle.zones.specs.Known.{known}
 use Rattle.ed_rules.specs.Pieces.{ended, with_zone, modified, replaced, lifted}
 use Rattle.ed_rules.specs.Addresses.{copied, addressed, standing, last_given, evaluated, ranged}
-use Rattle.ed_rules.specs.Rules.{taken, effect, suffixed, step, fault_of}
-use Rattle.ed_rules.specs.Lines.{appended, put_before, copied_after}
+use Rattle.ed_rules.specs.Rules.{taken, effect, suffixed, step_at}
+use Rattle.ed_rules.specs.Lines.{appended, put_before}
 use Rattle.zones.proofs.Known.{known-true}
 use Rattle.ed_rules.proofs.Basics.{chain, and-both, Agrees-bind, Agrees-ok, Agrees-map, Agrees-needing, Agrees-need_then}
 
@@ -169,6 +171,7 @@ suits ed.Join = tt
 suits (ed.Mark letter) = tt
 suits (ed.Move to) = tt
 suits (ed.Copy to) = tt
+suits (ed.Substitute pattern replacement choice form) = tt
 suits ed.LineNumber = tt
 suits ed.Null = tt
 suits (ed.Write form) = tt
@@ -336,7 +339,7 @@ abbrev At_target : ℕ → Numbers → Type 0
 At_target n v = v 5 ≡ pos n
 
 -- the phases after the addresses, a verb at a time
-module _ (c : Command) (answer : Option Answer) (given d : Addresses) (s : State) (e : editor.State) (start : Stands s e) (known_letters : KnowLetters e.lines) (once : AtMostOnce e.lines) (t : State) (p : editor.State × List ℕ) (same_lines : p.0.lines ≡ e.lines) (h : Addressed (NamesOf (given_or given d)) t p) where
+module _ (c : Command) (answer : Option Answer) (given d : Addresses) (s : State) (e : editor.State) (start : Stands s e) (whole : AreWhole e.lines) (known_letters : KnowLetters e.lines) (once : AtMostOnce e.lines) (t : State) (p : editor.State × List ℕ) (same_lines : p.0.lines ≡ e.lines) (h : Addressed (NamesOf (given_or given d)) t p) where
   pub after_addresses : (verb : Verb) → Suits (takes verb).taking d →
       Agrees Final
       (addresses.targeted (takes verb).target t >> λ q. taken (takes verb).taking given (given_or given d) q >> λ u. effect c.listed given verb s u >> λ r. suffixed c.suffix (with_zone (ended r.marks r.zone) r))
@@ -376,6 +379,11 @@ module _ (c : Command) (answer : Option Answer) (given d : Addresses) (s : State
       (range-with (At_target q.1) u q.0 p.1 k.numbers (length e.lines) k.stands k.names k.target_is)
       (λ w x r. finish-sound c e (copied_lines c.listed s w) (Makes (effects.copy x q.1 q.0))
       (copy-follows c.listed s e start w q.0 x q.1 r.0 r.1 k.target_in)))
+  after_addresses (ed.Substitute pattern replacement choice form) g =
+      Agrees-bind (RangeWith Nothing_more p.0) Final (ranged t) (spanned many.Range (length e.lines) p.1) _ _ (range-sound (given_or given d) (given_or-given given d g) t p (length e.lines) h)
+      (λ u x r. Agrees-bind (Follows c.listed e) Final (substituted c.listed pattern replacement choice s u) (making (substitute c.listed pattern replacement choice form x p.0)) _ _
+      (substitute-follows c.listed pattern replacement choice form s e start u p.0 x r.0 (subst (λ (ls : List Line). AreWhole ls) (sym same_lines) whole))
+      (λ m f i. finish-sound c e m f i))
   after_addresses ed.LineNumber g =
       let r = last_given-spans (given_or given d) (given_or-given given d g) t p h in
       finish-sound c e (last_given (given_or given d) t) (Makes (effects.line_number (span (last_of_two p.1) (last_of_two p.1)) p.0)) (r.numbers, r.stands)
@@ -404,10 +412,11 @@ command-is c e answer =
     chain (values (given_or c.addresses (takes c.verb).default) e) (λ v. targeted (takes c.verb).target v.0) (λ v q. spanned (takes c.verb).taking (length e.lines) v.1)
     (λ v q x. record { state = q.0; span = x; target = q.1 }) (λ r. effect_of c.verb c.listed r.span r.target r.state answer >> completed c e)
 
-pub phases_sound : (c : Command) (s : State) (e : editor.State) (answer : Option Answer) → AreLettered e.lines → Stands s e → Agrees Final (step c s) (command e c answer)
+pub phases_sound : (c : Command) (s : State) (e : editor.State) (answer : Option Answer) → AreLettered e.lines → Stands s e →
+    Agrees Final (step_at (given_or c.addresses (standing (takes c.verb).default)) c s) (command e c answer)
 phases_sound c s e answer letters st =
     let d : Addresses = standing (takes c.verb).default in
     let a : Addresses = given_or c.addresses d in
-    subst (λ (y : Result Effect Fault). Agrees Final (step c s) y) (sym (command-is c e answer))
+    subst (λ (y : Result Effect Fault). Agrees Final (step_at a c s) y) (sym (command-is c e answer))
     (Agrees-bind (AddressedIn e.lines (NamesOf a)) Final (addressed a s) (values (given_or c.addresses (takes c.verb).default) e) _ _ (command_addressed c.addresses c.verb s e st)
-    (λ t p h. after_addresses c answer c.addresses d s e st letters.known letters.once t p h.1 h.0 c.verb (suits c.verb)))
+    (λ t p h. after_addresses c answer c.addresses d s e st letters.whole letters.known letters.once t p h.1 h.0 c.verb (suits c.verb)))

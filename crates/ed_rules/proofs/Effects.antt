@@ -1,5 +1,5 @@
 -- What commands do, side by side.
-use Rattle.std.proofs.Common.{◌≡◌, ◌<◌, ◌≤◌, ℕ, suc, ◌+◌, ◌-◌, ℤ, pos, negsuc, ◌-ℤ◌, ◌≤ℤ◌, Bool, true, false, List, [], ◌∷◌, length, map, Option, Some, arith, ◌∙◌, ap, refl, sym, subst, min, cond, inl, inr, take, length-drop, get_or, set, get_or-set_other, length-set}
+use Rattle.std.proofs.Common.{◌≡◌, ◌<◌, ◌≤◌, ℕ, suc, ◌+◌, ◌-◌, ℤ, pos, negsuc, ◌-ℤ◌, ◌≤ℤ◌, Bool, true, false, List, [], ◌∷◌, length, map, Option, Some, arith, ◌∙◌, ap, refl, sym, subst, min, cond, inl, inr, take, length-drop, get_or, set, get_or-set_other}
 use Rattle.std.proofs.lemmas.Int.{ints}
 use Rattle.std.proofs.lemmas.List.{length-map}
 use Rattle.ed_base.specs.Buffer.{Line, plain_line, texts, marked_at, KnowLetters}
@@ -59,7 +59,7 @@ altered-follows listed s u start e st remembered past lines current v b =
     (v, record { buffer = b; remembered = remembered; changed = refl; past = past-after listed s u start e st past })
 
 -- the same of a state that differs in its zone and its marks alone
-altered-aside : (listed : Bool) (s t u : State) (start e : editor.State) → Stands s start → Remembers t e → AllowsPast t.undo e.past → u ≡ record t { zone = u.zone; marks = u.marks } →
+pub altered-aside : (listed : Bool) (s t u : State) (start e : editor.State) → Stands s start → Remembers t e → AllowsPast t.undo e.past → u ≡ record t { zone = u.zone; marks = u.marks } →
     (lines : List Line) (current : ℕ) (v : Numbers) → HoldsBy u.zone u.marks lines current v →
     Follows listed start (modified listed s u) (Makes (effects.altered lines current e))
 altered-aside listed s t u start e st remembered past aside lines current v b =

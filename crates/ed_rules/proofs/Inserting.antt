@@ -7,7 +7,6 @@ use Rattle.zones.specs.Bound.{Obeys, negative_of}
 use Rattle.zones.specs.Zone.{Bounds, Numbers, Holds, updated}
 use Rattle.zones.specs.Steps.{after_shift}
 use Rattle.zones.proofs.Soundness.{Holds-after_shift}
-use Rattle.ed_syntax.specs.States as editor
 use Rattle.ed_rules.specs.StandsFor.{HoldsBy}
 use Rattle.ed_rules.proofs.LettersInLines.{line_with, line_with-place, place-line_with, line_with-inserted_before, line_with-inserted_after, length-inserted, line_with-range}
 use Rattle.ed_rules.proofs.Finishing.{for_each_sure-by}

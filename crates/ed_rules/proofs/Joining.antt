@@ -1,5 +1,5 @@
 -- What is joined stands for what either state stands for.
-use Rattle.std.proofs.Common.{◌≡◌, ◌<◌, ℕ, Bool, true, false, cond, ◌&&◌, ◌||◌, List, length, get_or, Option, None, Some, arith, ◌∙◌, refl, sym}
+use Rattle.std.proofs.Common.{◌≡◌, ◌<◌, ℕ, Bool, true, false, cond, ◌&&◌, ◌||◌, List, get_or, Option, None, Some, arith, ◌∙◌, sym}
 use Rattle.std.specs.List.{list_any}
 use Rattle.std.proofs.lemmas.List.FromFn.{get_or-map-range_with_len}
 use Rattle.ed_base.specs.Buffer.{Line}
@@ -14,10 +14,9 @@ use Rattle.ed_rules.specs.declared.state.Changed.{Changed}
 use Rattle.ed_rules.specs.declared.state.Replacements.{Replacements}
 use Rattle.ed_rules.specs.declared.state.Undo.{Undo}
 use Rattle.ed_rules.specs.declared.state.State.{State}
-use Rattle.ed_rules.specs.Choices.{union}
 use Rattle.ed_rules.specs.Marks.{both_sure}
 use Rattle.ed_rules.specs.Order.{old_of_both, changed_of_both, replacements_of_both, undo_of_both, united, join, widen}
-use Rattle.ed_rules.specs.StandsFor.{HoldsBy, StandsBy, Remembers, AllowsPast, AllowsKept, allows_change, allows_replacement, is_split}
+use Rattle.ed_rules.specs.StandsFor.{HoldsBy, AllowsPast, AllowsKept, allows_change, allows_replacement, ends_line}
 use Rattle.ed_rules.proofs.Basics.{and-both}
 use Rattle.ed_rules.proofs.Choosing.{or-left, or-right, has-union, has-union_other}
 use Rattle.ed_rules.proofs.Standing.{Stands}
@@ -77,7 +76,7 @@ change-both_other one other false h = or-right one.no other.no h
 replacement-both : (one other : Replacements) (r : Option (List Part)) → allows_replacement one r ≡ true → allows_replacement (replacements_of_both one other) r ≡ true
 replacement-both one other None h = or-left one.none other.none h
 replacement-both one other (Some parts) h =
-    (elim (list_any is_split parts) as (λ b. cond b one.split one.plain ≡ true → cond b (one.split || other.split) (one.plain || other.plain) ≡ true) [
+    (elim (list_any ends_line parts) as (λ b. cond b one.split one.plain ≡ true → cond b (one.split || other.split) (one.plain || other.plain) ≡ true) [
       | true ↦ λ k. or-left one.split other.split k
       | false ↦ λ k. or-left one.plain other.plain k
     ]) h
@@ -85,7 +84,7 @@ replacement-both one other (Some parts) h =
 replacement-both_other : (one other : Replacements) (r : Option (List Part)) → allows_replacement other r ≡ true → allows_replacement (replacements_of_both one other) r ≡ true
 replacement-both_other one other None h = or-right one.none other.none h
 replacement-both_other one other (Some parts) h =
-    (elim (list_any is_split parts) as (λ b. cond b other.split other.plain ≡ true → cond b (one.split || other.split) (one.plain || other.plain) ≡ true) [
+    (elim (list_any ends_line parts) as (λ b. cond b other.split other.plain ≡ true → cond b (one.split || other.split) (one.plain || other.plain) ≡ true) [
       | true ↦ λ k. or-right one.split other.split k
       | false ↦ λ k. or-right one.plain other.plain k
     ]) h

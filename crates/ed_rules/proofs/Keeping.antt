@@ -1,12 +1,8 @@
 -- A command keeps the letters of lines: each line still knows all of them, and each marks one line at most.
-use Rattle.std.proofs.Common.{◌≡◌, ◌≢◌, ◌<◌, ◌≤◌, inl, inr, ℕ, zero, suc, ◌+◌, ◌-◌, Bool, true, false, cond, ◌&&◌, List, [], ◌∷◌, ◌++◌, length, map, get_or, set, take, drop, Option, None, Some, Result, Ok, Err, arith, refl, ◌∙◌, sym, ap, subst, nat_le, nat_lt, min}
-use Rattle.std.specs.List.{concat}
-use Rattle.std.proofs.Common.{get_or-set_same, get_or-set_other}
-use Rattle.std.proofs.lemmas.Bool.{cases_eq, cases_lt, leb-true}
-use Rattle.std.proofs.lemmas.List.{get_or_past}
-use Rattle.ed_base.specs.declared.fault.Fault.{Fault}
-use Rattle.ed_base.specs.declared.fault.Fault.TheVariants as fault
-use Rattle.ed_base.specs.Buffer.{Line, plain_line, has_letter, with_letter, marked_at, texts, AtMostOnce}
+use Rattle.std.proofs.Common.{◌≡◌, ◌≢◌, ◌≤◌, inl, inr, ℕ, zero, suc, ◌+◌, Bool, true, false, cond, List, [], ◌∷◌, ◌++◌, map, get_or, set, take, drop, arith, refl, ◌∙◌, sym, ap, subst}
+use Rattle.std.proofs.Common.{get_or-set_other}
+use Rattle.std.proofs.lemmas.Bool.{cases_eq}
+use Rattle.ed_base.specs.Buffer.{Line, plain_line, has_letter, with_letter, marked_at, AtMostOnce}
 use Rattle.ed_base.specs.Parts as parts
 use Rattle.ed_rules.proofs.LettersInLines.{no_letter, set-off}
 
@@ -59,7 +55,7 @@ count-by_once (l ∷ ls) h x =
           let q = count-by_once ls (λ y i j a b. let z : suc i ≡ suc j = h y (suc i) (suc j) a b in omega arith) x in omega arith
     ]) refl
 
-marks_of-append : (x : ℕ) (s t : List Line) → marks_of x (s ++ t) ≡ marks_of x s + marks_of x t
+pub marks_of-append : (x : ℕ) (s t : List Line) → marks_of x (s ++ t) ≡ marks_of x s + marks_of x t
 marks_of-append x [] t = omega arith
 marks_of-append x (l ∷ s) t = let q = marks_of-append x s t in omega arith
 
@@ -73,7 +69,7 @@ marks_of-drop x [] (suc b) = omega arith
 marks_of-drop x (l ∷ ls) (suc b) = let q = marks_of-drop x ls b in omega arith
 
 -- the lines up to a, those from there up to b, and the others
-marks_of-parts : (x : ℕ) (ls : List Line) (a b : ℕ) → a ≤ b → marks_of x (take a ls) + marks_of x (drop a (take b ls)) + marks_of x (drop b ls) ≡ marks_of x ls
+pub marks_of-parts : (x : ℕ) (ls : List Line) (a b : ℕ) → a ≤ b → marks_of x (take a ls) + marks_of x (drop a (take b ls)) + marks_of x (drop b ls) ≡ marks_of x ls
 marks_of-parts x [] zero zero h = refl
 marks_of-parts x [] zero (suc b) h = refl
 marks_of-parts x [] (suc a) zero h = refl
@@ -89,6 +85,17 @@ once-replaced ls new a b h plain once =
     once-by_count (parts.exchanged a b new ls) (λ x.
     let c = count-by_once ls once x in
     let n = plain x in
+    let p = marks_of-parts x ls a b h in
+    let q = marks_of-append x (take a ls) (new ++ drop b ls) in
+    let r = marks_of-append x new (drop b ls) in
+    omega arith)
+
+-- others, on which no letter is more often, in place of a range
+pub once-exchanged : (ls new : List Line) (a b : ℕ) → a ≤ b → ((x : ℕ) → marks_of x new ≤ marks_of x (parts.block a b ls)) → AtMostOnce ls → AtMostOnce (parts.exchanged a b new ls)
+once-exchanged ls new a b h few once =
+    once-by_count (parts.exchanged a b new ls) (λ x.
+    let c = count-by_once ls once x in
+    let n = few x in
     let p = marks_of-parts x ls a b h in
     let q = marks_of-append x (take a ls) (new ++ drop b ls) in
     let r = marks_of-append x new (drop b ls) in

@@ -22,7 +22,7 @@ pub one_more-some : (o : Option ℕ) (i : ℕ) → one_more o ≡ Some i → (j 
 one_more-some None i e = cc
 one_more-some (Some j) i e = (j, refl, cc)
 
-one_more-none : (o : Option ℕ) → one_more o ≡ None → o ≡ None
+pub one_more-none : (o : Option ℕ) → one_more o ≡ None → o ≡ None
 one_more-none None e = refl
 one_more-none (Some j) e = cc
 

@@ -16,6 +16,11 @@ pub mod Effects
 pub mod Commanding
 pub mod Keeping
 pub mod Moving
+pub mod Whole
+pub mod Results
+pub mod Substituting
+pub mod SubstitutionEffects
 pub mod Lettered
 pub mod Sound
 pub mod Weaker
+mod SubstitutingRows

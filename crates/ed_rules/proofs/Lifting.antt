@@ -17,7 +17,7 @@ same_all v x n e p = elim (cases_eq p x) [
   | inr q ↦ updated-other v x n p q
 ]
 
-Holds-same : (z : Bounds) (v w : Numbers) → ((p : ℕ) → w p ≡ v p) → Holds z v → Holds z w
+pub Holds-same : (z : Bounds) (v w : Numbers) → ((p : ℕ) → w p ≡ v p) → Holds z v → Holds z w
 unfolding Holds
 Holds-same z v w same h p q hp hq = rw (same p, same q) (h p q hp hq)
 

@@ -1,8 +1,8 @@
 -- Lines that are moved: where each line comes to, and the marks.
-use Rattle.std.proofs.Common.{◌≡◌, ◌≢◌, ◌<◌, ◌≤◌, ◌⊎◌, inl, inr, ℕ, zero, suc, ◌+◌, ◌-◌, ℤ, pos, negsuc, ◌+ℤ◌, ◌-ℤ◌, Bool, true, false, cond, ◌&&◌, ◌||◌, List, [], ◌∷◌, ◌++◌, length, take, drop, get_or, Option, None, Some, arith, ◌∙◌, ap, refl, sym, subst, length-append, length-drop}
+use Rattle.std.proofs.Common.{◌≡◌, ◌<◌, ◌≤◌, ◌⊎◌, inl, inr, ℕ, zero, suc, ◌+◌, ◌-◌, ℤ, pos, negsuc, ◌-ℤ◌, Bool, true, false, cond, ◌&&◌, ◌||◌, List, [], ◌∷◌, ◌++◌, length, take, drop, get_or, Option, Some, arith, ◌∙◌, ap, refl, sym, subst, length-append, length-drop}
 use Rattle.std.proofs.lemmas.Int.{ints}
-use Rattle.std.proofs.lemmas.Bool.{cases_eq, cases_lt}
-use Rattle.std.proofs.lemmas.List.{length-take-le, get_or-append-add, get_or_append_left, get_or-append_right, get_or-take, get_or-drop}
+use Rattle.std.proofs.lemmas.Bool.{cases_lt}
+use Rattle.std.proofs.lemmas.List.{length-take-le, get_or_append_left, get_or-append_right, get_or-take, get_or-drop}
 use Rattle.ed_base.specs.Buffer.{Line, plain_line, has_letter, AtMostOnce}
 use Rattle.ed_base.specs.Parts as parts
 use Rattle.zones.specs.Bound.{Obeys, sum_of, negative_of}
@@ -11,7 +11,7 @@ use Rattle.zones.specs.Steps.{after_shift, after_set, after_forget}
 use Rattle.zones.specs.Known.{known, least, greatest}
 use Rattle.zones.proofs.Soundness.{Obeys-sum_of, Obeys-bound, Holds-after_shift, Holds-after_set, Holds-after_forget}
 use Rattle.zones.proofs.Known.{known-true, updated-same, updated-other, Obeys-twice_negative}
-use Rattle.ed_rules.specs.Marks.{mark_name, for_each_sure}
+use Rattle.ed_rules.specs.Marks.{mark_name}
 use Rattle.ed_rules.specs.Move.{less, mark_moved_up, moved_up, mark_moved_down, moved_down}
 use Rattle.ed_rules.proofs.Basics.{and-both, Obeys-lowered}
 use Rattle.ed_rules.proofs.LettersInLines.{line_with, one_more, one_more-some, line_with-range, no_letter}

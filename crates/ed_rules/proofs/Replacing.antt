@@ -1,5 +1,5 @@
 -- Replacement of a range by n lines.
-use Rattle.std.proofs.Common.{◌≡◌, ◌≢◌, ◌<◌, ◌≤◌, inl, inr, ℕ, zero, suc, ◌+◌, ◌-◌, ℤ, pos, negsuc, ◌-ℤ◌, true, false, cond, List, length, set, get_or, get_or-set_same, get_or-set_other, length-set, Option, None, Some, min, arith, ◌∙◌, ap, refl, sym, subst}
+use Rattle.std.proofs.Common.{◌≡◌, ◌≢◌, ◌<◌, ◌≤◌, inl, inr, ℕ, zero, suc, ◌+◌, ◌-◌, ℤ, pos, negsuc, ◌-ℤ◌, true, false, cond, List, length, set, get_or, get_or-set_other, Option, None, Some, min, arith, ◌∙◌, ap, refl, sym, subst}
 use Rattle.std.proofs.lemmas.Int.{ints}
 use Rattle.std.proofs.lemmas.Bool.{cases_eq}
 use Rattle.ed_base.specs.Buffer.{Line}

@@ -1,5 +1,5 @@
 -- Soundness of one command.
-use Rattle.std.proofs.Common.{◌≡◌, Option, None, Result, Ok, Err, IsOk, refl, subst}
+use Rattle.std.proofs.Common.{◌≡◌, true, false, Option, None, Result, Ok, Err, IsOk, refl, subst}
 use Rattle.ed_base.specs.declared.fault.Fault.{Fault}
 use Rattle.ed_syntax.specs.declared.request.Answer.{Answer}
 use Rattle.ed_syntax.specs.Commands.{Command}
@@ -7,7 +7,12 @@ use Rattle.ed_syntax.specs.States as editor
 use Rattle.ed_syntax.specs.Effects.{Effect, Makes, Asks}
 use Rattle.ed_syntax.specs.Applied.{command}
 use Rattle.ed_rules.specs.declared.state.State.{State}
-use Rattle.ed_rules.specs.Rules.{step, fault_of}
+use Rattle.ed_base.specs.declared.fault.Fault.TheVariants as fault
+use Rattle.ed_syntax.specs.Values.{◌>>◌}
+use Rattle.ed_syntax.specs.Verbs.{takes, given_or}
+use Rattle.ed_rules.specs.Pieces.{needing}
+use Rattle.ed_rules.specs.Addresses.{standing}
+use Rattle.ed_rules.specs.Rules.{enters_lines, step_at, step, fault_of}
 use Rattle.ed_rules.specs.Soundness.{Agrees, Leaves, IsDone, CommandIsSound}
 use Rattle.ed_rules.specs.StandsFor.{StandsFor}
 use Rattle.ed_rules.proofs.Finishing.{Final}
@@ -22,7 +27,11 @@ leaves-lettered (Ok t) (Ok (Makes o)) a l = record { numbers = a.0; stands = a.1
 
 pub command_sound : CommandIsSound
 command_sound c s e given st =
-    leaves-lettered (step c s) (command e c given) (phases_sound c s e given st.lines (st.numbers, st.stands)) (command-lettered c e given st.lines st.kept)
+    let rest : Result State Fault = step_at (given_or c.addresses (standing (takes c.verb).default)) c s in
+    (elim (enters_lines c.verb) as (λ b. enters_lines c.verb ≡ b → Agrees Leaves (needing b fault.Syntax s >> step_at (given_or c.addresses (standing (takes c.verb).default)) c) (command e c given)) [
+      | true ↦ λ w. leaves-lettered rest (command e c given) (phases_sound c s e given st.lines (st.numbers, st.stands)) (command-lettered c e given w st.lines st.kept)
+      | false ↦ λ w. tt
+    ]) refl
 
 done-by : (t : State) (y : Result Effect Fault) → Agrees Leaves (Ok t) y → IsDone t y
 done-by t (Ok f) a = a

@@ -1,5 +1,5 @@
 -- A state still stands for an editor's where a step changed one name that isn't a mark.
-use Rattle.std.proofs.Common.{◌≡◌, ◌<◌, ◌≤◌, ◌+◌, ℕ, ℤ, pos, ◌+ℤ◌, ◌-ℤ◌, ◌≤ℤ◌, Bool, true, List, length, Option, arith, refl, ◌∙◌}
+use Rattle.std.proofs.Common.{◌≡◌, ◌<◌, ◌≤◌, ◌+◌, ℕ, ℤ, pos, ◌+ℤ◌, ◌-ℤ◌, ◌≤ℤ◌, Bool, true, List, length, arith, refl, ◌∙◌}
 use Rattle.ed_base.specs.Buffer.{Line}
 use Rattle.zones.specs.Zone.{Numbers, updated}
 use Rattle.zones.specs.Steps.{after_set, after_guard}

@@ -1,17 +1,14 @@
 -- Weaker states stand for more.
-use Rattle.std.proofs.Common.{◌≡◌, ◌<◌, ℕ, Bool, true, false, cond, List, Option, None, Some}
+use Rattle.std.proofs.Common.{◌≡◌, Bool, true, false, cond, List, Option, None, Some}
 use Rattle.std.specs.List.{list_any}
-use Rattle.zones.specs.Zone as zones
-use Rattle.zones.specs.Zone.{Bounds, Numbers}
 use Rattle.zones.proofs.Soundness.{Holds-covers}
-use Rattle.ed_base.specs.Buffer.{Line}
 use Rattle.ed_syntax.specs.declared.replacement.Part.{Part}
 use Rattle.ed_syntax.specs.States as editor
 use Rattle.ed_syntax.specs.States.{Past, Nothing, Same, Was, Kept}
 use Rattle.ed_rules.specs.declared.state.Old.{Old}
 use Rattle.ed_rules.specs.declared.state.State.{State}
 use Rattle.ed_rules.specs.Order.{join, widen, CoversOld, Covers}
-use Rattle.ed_rules.specs.StandsFor.{StandsFor, AllowsKept, AllowsPast, allows_change, allows_replacement, is_split}
+use Rattle.ed_rules.specs.StandsFor.{StandsFor, AllowsKept, AllowsPast, allows_change, allows_replacement, ends_line}
 use Rattle.ed_rules.proofs.Choosing.{has-are_choices}
 use Rattle.ed_rules.proofs.Joining.{HoldsBy-fewer, Stands-join, Stands-join_other, Stands-widen, Stands-widen_other}
 
@@ -45,7 +42,7 @@ change-covers weak strong false c h = c.unchanged h
 replacement-covers : (weak strong : State) (r : Option (List Part)) → Covers weak strong → allows_replacement strong.replacements r ≡ true → allows_replacement weak.replacements r ≡ true
 replacement-covers weak strong None c h = c.no_replacement h
 replacement-covers weak strong (Some parts) c h =
-    (elim (list_any is_split parts) as (λ b. cond b strong.replacements.split strong.replacements.plain ≡ true → cond b weak.replacements.split weak.replacements.plain ≡ true) [
+    (elim (list_any ends_line parts) as (λ b. cond b strong.replacements.split strong.replacements.plain ≡ true → cond b weak.replacements.split weak.replacements.plain ≡ true) [
       | true ↦ λ k. c.split_replacement k
       | false ↦ λ k. c.plain_replacement k
     ]) h

@@ -8,6 +8,7 @@ pub mod Pieces
 pub mod Addresses
 pub mod Lines
 pub mod Move
+pub mod Substituting
 pub mod Rules
 pub mod Soundness
 -- what only serves clauses inside the crate

@@ -1,5 +1,5 @@
 -- The rule of `m`. All its tests ask the zone before; where both directions are known, up is taken.
-use Rattle.std.specs.Prelude.{ℕ, ℤ, pos, negsuc, ◌-ℤ◌, ◌&&◌, ◌||◌, Bool, List, Option, Some, if◌then◌else◌, Result, Ok, Err}
+use Rattle.std.specs.Prelude.{ℕ, ℤ, pos, negsuc, ◌&&◌, ◌||◌, Bool, List, Option, Some, if◌then◌else◌, Result, Ok, Err}
 use Rattle.ed_base.specs.declared.fault.Fault.{Fault}
 use Rattle.ed_base.specs.declared.fault.Fault.TheVariants as fault
 use Rattle.zones.specs.Name.{current_line, first_address, second_address, target_address}

@@ -3,7 +3,7 @@ use Rattle.std.specs.Prelude.{ℕ, zero, suc, ℤ, pos, negsuc, ◌-ℤ◌, Bool
 use Rattle.ed_base.specs.declared.fault.Fault.{Fault}
 use Rattle.zones.specs.Name as name
 use Rattle.zones.specs.Name.{current_line, last_line, first_address, second_address, target_address}
-use Rattle.zones.specs.Bound.{negative_of, sum_of}
+use Rattle.zones.specs.Bound.{sum_of}
 use Rattle.zones.specs.Zone.{Bounds}
 use Rattle.zones.specs.Known.{known, least, greatest}
 use Rattle.zones.specs.Steps.{after_guard, after_set, after_shift, after_forget}

@@ -1,5 +1,7 @@
 -- The rules: the state after a command, or the fault of the first need that fails. They go through the phases of a command.
-use Rattle.std.specs.Prelude.{ℕ, pos, negsuc, Bool, ◌&&◌, nat_lt, length, Option, Some, None, Result, Ok, Err}
+use Rattle.std.specs.Prelude.{ℕ, pos, negsuc, Bool, true, ◌&&◌, not, nat_lt, nat_eq, List, length, Option, Some, None, Result, Ok, Err}
+use Rattle.std.specs.List.{list_all}
+use Rattle.ed_base.specs.Lines.{newline}
 use Rattle.ed_base.specs.declared.fault.Fault.{Fault}
 use Rattle.ed_base.specs.declared.fault.Fault.TheVariants as fault
 use Rattle.zones.specs.Name as name
@@ -16,6 +18,7 @@ use Rattle.ed_rules.specs.Pieces.{needing, with_zone, ended, lifted}
 use Rattle.ed_rules.specs.Addresses.{addressed, standing, last_given, targeted, ranged}
 use Rattle.ed_rules.specs.Lines.{appended, put_before, lifted_range, changed_to, deleted, joined_given, marked, current_at, copied_lines}
 use Rattle.ed_rules.specs.Move.{moved_lines}
+use Rattle.ed_rules.specs.Substituting.{substituted}
 
 -- what a command needs of its lines, by how many it takes
 abbrev pub taken : Taking → (given a : Addresses) → State → Result State Fault
@@ -44,6 +47,7 @@ effect listed given ed.HelpMode start s = Ok s
 effect listed given ed.PromptMode start s = Ok s
 effect listed given (ed.Move to) start s = moved_lines listed start s
 effect listed given (ed.Copy to) start s = Ok (copied_lines listed start s)
+effect listed given (ed.Substitute pattern replacement choice form) start s = substituted listed pattern replacement choice start s
 effect listed given ed.QuitAnyway start s = Ok s
 
 -- a suffix writes the current line, so there has to be one
@@ -60,9 +64,20 @@ step_at a c s =
     effect c.listed c.addresses c.verb s u >> λ r.
     suffixed c.suffix (with_zone (ended r.marks r.zone) r)
 
+-- none of these lines holds a newline
+abbrev pub are_lines : List (List ℕ) → Bool
+are_lines text = list_all (λ line. list_all (λ byte. not (nat_eq byte newline)) line) text
+
+-- what a command enters are lines; no script enters anything else
+abbrev pub enters_lines : Verb → Bool
+enters_lines (ed.Append text) = are_lines text
+enters_lines (ed.Insert text) = are_lines text
+enters_lines (ed.Change text) = are_lines text
+enters_lines _ = true
+
 -- the state after a command, or the fault of the first need that fails
 abbrev pub step : Command → State → Result State Fault
-step c s = step_at (given_or c.addresses (standing (takes c.verb).default)) c s
+step c s = needing (enters_lines c.verb) fault.Syntax s >> step_at (given_or c.addresses (standing (takes c.verb).default)) c
 
 -- the need that fails
 abbrev pub fault_of : Result State Fault → Option Fault

@@ -1,11 +1,12 @@
 -- What a state stands for: the editor's states of which all that it says is true.
-use Rattle.std.specs.Prelude.{◌≡◌, ℕ, ◌+◌, ◌<◌, ◌≤◌, pos, Bool, true, false, List, length, Option, Some, None, if◌then◌else◌}
+use Rattle.std.specs.Prelude.{◌≡◌, ℕ, ◌+◌, ◌<◌, ◌≤◌, pos, Bool, true, false, List, length, Option, Some, None, nat_eq, All, if◌then◌else◌}
 use Rattle.std.specs.List.{list_any}
 use Rattle.zones.specs.Name as name
 use Rattle.zones.specs.Zone.{Bounds, Numbers, Holds}
 use Rattle.ed_base.specs.Buffer.{Line, marked_place, KnowLetters, AtMostOnce}
+use Rattle.ed_base.specs.Lines.{newline, IsLine}
 use Rattle.ed_syntax.specs.declared.replacement.Part.{Part}
-use Rattle.ed_syntax.specs.declared.replacement.Part.TheVariants.{Split}
+use Rattle.ed_syntax.specs.declared.replacement.Part.TheVariants.{Literal, Split}
 use Rattle.ed_syntax.specs.States as editor
 use Rattle.ed_syntax.specs.States.{Past, Nothing, Same, Was, Kept}
 use Rattle.ed_rules.specs.declared.state.Old.{Old}
@@ -30,14 +31,16 @@ pub record HoldsBy (zone : Bounds) (marks : List Bool) (lines : List Line) (curr
   pub reads : Reads marks lines current number
   pub inside : current ≤ length lines
 
--- which replacement is remembered
-abbrev pub is_split : Part → Bool
-is_split Split = true
-is_split _ = false
+-- a part that ends a line where it comes: a split, or a newline as a byte, which no script has
+abbrev pub ends_line : Part → Bool
+ends_line (Literal byte) = nat_eq byte newline
+ends_line Split = true
+ends_line _ = false
 
+-- which replacement is remembered
 abbrev pub allows_replacement : Replacements → Option (List Part) → Bool
 allows_replacement kinds None = kinds.none
-allows_replacement kinds (Some parts) = if list_any is_split parts then kinds.split else kinds.plain
+allows_replacement kinds (Some parts) = if list_any ends_line parts then kinds.split else kinds.plain
 
 -- whether the buffer is changed
 abbrev pub allows_change : Changed → Bool → Bool
@@ -66,8 +69,13 @@ pub record StandsBy (s : State) (e : editor.State) (number : Numbers) : Type 0 w
   pub changed : allows_change s.changed e.changed ≡ true
   pub past : AllowsPast s.undo e.past
 
--- lines as an editor has them: of each it is known which letters mark it, and each letter marks one line at most
+-- no line holds a newline
+abbrev pub AreWhole : List Line → Type 0
+AreWhole lines = All (λ line. IsLine line.bytes) lines
+
+-- lines as an editor has them: none holds a newline, of each it is known which letters mark it, and each letter marks one line at most
 pub record AreLettered (lines : List Line) : Type 0 where
+  pub whole : AreWhole lines
   pub known : KnowLetters lines
   pub once : AtMostOnce lines
 

@@ -40,7 +40,7 @@ fn choice_matches_always(alloc: Global, choice: &Option<Bytes>) -> Result<bool, 
 }
 
 // Whether each choice is a pattern that has a match in every line.
-fn all_match_always(choices: &Choices) -> Result<bool, AllocError>
+pub(crate) fn all_match_always(choices: &Choices) -> Result<bool, AllocError>
     ensures value { IfOk result (λ always. always ≡ list_all is_always choices.now) }
 {
     for choice in choices.members() {

@@ -26,7 +26,7 @@ impl State {
     }
 
     #[tactic(auto, unfolding(crate::specs::Pieces::mark_lost))]
-    fn lose_mark(&mut self, letter: usize)
+    pub(crate) fn lose_mark(&mut self, letter: usize)
         requires letter { letter < 26 }
         ensures exact { self.new ≡ mark_lost letter self.old }
     {

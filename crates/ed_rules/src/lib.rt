@@ -12,6 +12,7 @@ mod order;
 mod pieces;
 mod rules;
 mod state;
+mod substitution;
 
 pub use choices::Choices;
 pub use laws::{commands_are_sound, weaker_states_stand_for_more};

@@ -41,7 +41,7 @@ pub(crate) fn plus(bound: Option<i64>, number: i128) -> Option<i128>
 }
 
 /// A guard, left out where its number is unbounded.
-fn guard_by(zone: &mut Zone, x: Name, y: Name, c: Option<i128>)
+pub(crate) fn guard_by(zone: &mut Zone, x: Name, y: Name, c: Option<i128>)
     ensures exact { zone.new ≡ guarded_by zone.old x y c }
 {
     if let Some(c) = c {

@@ -1,12 +1,12 @@
 //! The rules: the state after a command, or the need that fails.
 
-ghost use Rattle.std.specs.Prelude.{◌≡◌, Ok, Option, None, IfOk, IsOk};
+ghost use Rattle.std.specs.Prelude.{◌≡◌, true, Ok, Option, None, IfOk, IsOk};
 ghost use Rattle.ed_syntax.specs.PublicTypes.{addresses_value, verb_value, suffix_value, command_value};
 ghost use Rattle.ed_syntax.specs.States as editor;
 ghost use Rattle.ed_syntax.specs.Applied as editing;
 ghost use Rattle.ed_syntax.specs.declared.request.Answer.{Answer};
 ghost use Rattle.ed_rules.specs.Pieces.{with_zone, ended};
-ghost use Rattle.ed_rules.specs.Rules.{taken, effect, suffixed, step_at, step, fault_of};
+ghost use Rattle.ed_rules.specs.Rules.{taken, effect, suffixed, are_lines, enters_lines, step_at, step, fault_of};
 ghost use Rattle.ed_rules.specs.Reaching.{Reaches, Steps};
 ghost use Rattle.ed_rules.specs.StandsFor.{StandsFor};
 ghost use Rattle.ed_rules.specs.Soundness.{IsDone};
@@ -15,10 +15,28 @@ ghost use Rattle.ed_rules.specs.declared.state.State.{State};
 use crate::addresses::standing;
 use crate::pieces::{end, lift};
 use crate::state::State;
-use ed_base::Fault;
+use ed_base::{Fault, Text};
 use ed_syntax::{Addresses, Command, Form, Taking, Verb};
 use std::alloc::AllocError;
 use zones::Name;
+
+fn text_is_lines(text: &Text)
+    ensures lines { are_lines text.now ≡ true }
+{
+    let _lines = text.as_slice();
+}
+
+/// What a command enters are lines, since each text holds nothing else.
+fn texts_are_lines(verb: &Verb)
+    ensures lines { enters_lines (verb_value verb.now) ≡ true }
+{
+    match verb {
+        Verb::Append(text) => text_is_lines(text),
+        Verb::Insert(text) => text_is_lines(text),
+        Verb::Change(text) => text_is_lines(text),
+        _ => {}
+    }
+}
 
 impl State {
     /// What a command needs of its lines.
@@ -92,6 +110,12 @@ impl State {
             Verb::LineNumber | Verb::Help | Verb::HelpMode | Verb::PromptMode => {}
             Verb::Move(_) => self.move_lines(listed, before)?,
             Verb::Copy(_) => self.copy_lines(listed, before),
+            Verb::Substitute {
+                pattern,
+                replacement,
+                which,
+                ..
+            } => self.substitute(listed, pattern, replacement, *which, before)?,
             Verb::QuitAnyway => {}
         }
         Ok(())
@@ -133,6 +157,7 @@ impl State {
     fn step(&self, command: &Command) -> Result<State, Fault>
         ensures exact { Steps result (step (command_value command.now) self.now) }
     {
+        texts_are_lines(&command.verb);
         let mut after = self.try_copy()?;
         match &command.addresses {
             Addresses::Without => {

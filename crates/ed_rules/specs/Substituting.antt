@@ -1,0 +1,107 @@
+-- The rule of `s` (XCU ed, "Substitute Command"): what it needs, and what it leaves.
+use Rattle.std.specs.Prelude.{ℕ, pos, negsuc, Bool, true, false, ◌&&◌, not, nat_le, List, Option, Some, None, Result, Ok, Err, if◌then◌else◌}
+use Rattle.std.specs.List.{list_all, list_any}
+use Rattle.ed_base.specs.declared.fault.Fault.{Fault}
+use Rattle.ed_base.specs.declared.fault.Fault.TheVariants as fault
+use Rattle.zones.specs.Name.{current_line, last_line, first_address, second_address}
+use Rattle.zones.specs.Zone.{Bounds}
+use Rattle.zones.specs.Known.{known, greatest}
+use Rattle.zones.specs.Steps.{after_guard, after_set, after_shift, after_forget}
+use Rattle.ed_syntax.specs.declared.replacement.Part.{Part}
+use Rattle.ed_syntax.specs.declared.replacement.Which.{Which}
+use Rattle.ed_syntax.specs.declared.replacement.Which.TheVariants as which
+use Rattle.ed_syntax.specs.Values.{◌>>◌}
+use Rattle.ed_rules.specs.declared.state.Replacements.{Replacements}
+use Rattle.ed_rules.specs.declared.state.State.{State}
+use Rattle.ed_rules.specs.Marks.{mark_name, for_each_sure}
+use Rattle.ed_rules.specs.Choices.{Choice}
+use Rattle.ed_rules.specs.StandsFor.{ends_line}
+use Rattle.ed_rules.specs.Order.{join}
+use Rattle.ed_rules.specs.Pieces.{needing, with_zone, guarded_by, modified, mark_lost}
+use Rattle.ed_rules.specs.Addresses.{is_always, possible_patterns}
+
+-- WHAT IT NEEDS
+
+-- the kind of a replacement
+abbrev pub kind_of : List Part → Replacements
+kind_of parts = let splits = list_any ends_line parts in record { none = false; plain = not splits; split = splits }
+
+-- the kinds that a command may use: that of its own replacement, or those that may be remembered
+abbrev pub possible_kinds : Option (List Part) → Replacements → Replacements
+possible_kinds None kinds = kinds
+possible_kinds (Some parts) kinds = kind_of parts
+
+-- a replacement is there; in a list it has no split
+abbrev pub has_usable : (listed : Bool) → Replacements → Bool
+has_usable listed kinds = not kinds.none && not (listed && kinds.split)
+
+-- the state with the kinds that the command may use, where one is there
+abbrev pub replacement_used : (listed : Bool) → Option (List Part) → State → Result State Fault
+replacement_used listed own s =
+    let kinds = possible_kinds own s.replacements in needing (has_usable listed kinds) fault.Replacement (record s { replacements = kinds })
+
+-- the state with the patterns that the command may look for, where there are some
+abbrev pub pattern_used : Option (List ℕ) → State → Result State Fault
+pattern_used own s = possible_patterns own s >> λ patterns. Ok (record s { patterns = patterns })
+
+-- the first of the matches on a line is replaced, or all
+abbrev pub takes_first : Which → Bool
+takes_first which.First = true
+takes_first (which.Nth number) = nat_le number 1
+takes_first which.All = true
+
+-- whatever the lines hold, there is something to be replaced in each
+abbrev pub is_sure_to_match : List Choice → Which → Bool
+is_sure_to_match patterns choice = list_all is_always patterns && takes_first choice
+
+-- WHAT IT LEAVES
+
+-- One mark: after the lines it stays, or goes down by what splits may add; before them it stays; among them it may be lost.
+unfoldable pub mark_substituted : (splits : Bool) → ℕ → State → State
+mark_substituted splits letter s =
+    if known s.zone second_address (mark_name letter) (negsuc 0)
+    then (if splits then with_zone (after_shift s.zone (mark_name letter) (Some (pos 0)) None) s else s)
+    else if known s.zone (mark_name letter) first_address (negsuc 0) then s
+    else mark_lost letter s
+
+abbrev pub marks_substituted : (splits : Bool) → State → State
+marks_substituted splits s = for_each_sure (mark_substituted splits) s.marks 26 s
+
+-- where lines may be split: there may be more of them; the current one isn't before the second address, and as far from the last
+-- one as that was
+unfoldable pub current_split : (before : Bounds) → Bounds → Bounds
+current_split before zone =
+    guarded_by
+    (guarded_by
+    (after_guard (after_forget (after_shift zone last_line (Some (pos 0)) None) current_line) second_address current_line (pos 0))
+    current_line last_line (greatest before second_address last_line))
+    last_line current_line (greatest before last_line second_address)
+
+-- the current line after a substitution in each of the lines
+abbrev pub current_substituted : (splits : Bool) → (before : Bounds) → Bounds → Bounds
+current_substituted true before zone = current_split before zone
+current_substituted false before zone = after_set zone current_line second_address (pos 0)
+
+-- a substitution in each of the lines
+unfoldable pub surely_substituted : (listed : Bool) → (start : State) → State → State
+surely_substituted listed start s =
+    let t = marks_substituted s.replacements.split s in
+    modified listed start (with_zone (current_substituted s.replacements.split s.zone t.zone) t)
+
+-- a substitution, without a split, in some of the lines at least
+unfoldable pub partly_substituted : (listed : Bool) → (start : State) → State → State
+partly_substituted listed start s =
+    let t = marks_substituted false s in
+    modified listed start
+    (with_zone (after_guard (after_guard (after_forget t.zone current_line) first_address current_line (pos 0)) current_line second_address (pos 0)) t)
+
+-- by whether it is sure; where it isn't, only a list may go on without a match
+abbrev pub substituted_if : (sure listed : Bool) → (start : State) → State → Result State Fault
+substituted_if true listed start s = Ok (surely_substituted listed start s)
+substituted_if false true start s = Ok (join s (partly_substituted true start s))
+substituted_if false false start s = Err fault.NoMatch
+
+-- `s`: its own replacement and pattern become the only ones that may be remembered
+abbrev pub substituted : (listed : Bool) → Option (List ℕ) → Option (List Part) → Which → (start : State) → State → Result State Fault
+substituted listed pattern replacement choice start s =
+    replacement_used listed replacement s >> pattern_used pattern >> λ t. substituted_if (is_sure_to_match t.patterns choice) listed start t
