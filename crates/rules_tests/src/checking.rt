@@ -55,6 +55,11 @@ fn certificates_of_the_rules_get_their_verdicts(rt: HostRuntime) -> Result<(), F
         Row { script: b"Q\n9p\nQ\n", start: lines(0, None), bounds: ANY, verdict: Verdict::Accepted },
         Row { script: b"a\nx\n.\n1p\nQ\n", start: unnamed, bounds: Final { low: 1, high: Some(1) }, verdict: Verdict::Accepted },
         Row { script: b"H\nP\n=\n.t.\n1,$j\n$m0\nQ\n", start: lines(2, Some(2)), bounds: Final { low: 1, high: Some(1) }, verdict: Verdict::Accepted },
+        // A substitution keeps the number of lines, but where its replacement has a split.
+        Row { script: b"1,$s/$/;/\n1s//%/\nQ\n", start: lines(1, Some(5)), bounds: Final { low: 1, high: Some(5) }, verdict: Verdict::Accepted },
+        Row { script: b"2s/^/x\\\ny/\n2,.p\nQ\n", start: lines(2, Some(5)), bounds: Final { low: 2, high: None }, verdict: Verdict::Accepted },
+        Row { script: b"2s/^/x\\\ny/\n2,.p\nQ\n", start: lines(2, Some(5)), bounds: Final { low: 2, high: Some(9) }, verdict: refused(4) },
+        Row { script: b"1s/$/;/\n", start: lines(1, None), bounds: ANY, verdict: refused(2) },
     ];
     for row in &rows {
         let script = read_script(rt.alloc(), row.script)?;

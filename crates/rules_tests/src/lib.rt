@@ -7,3 +7,5 @@ mod certifying;
 mod checking;
 #[cfg(test)]
 mod rules;
+#[cfg(test)]
+mod substitution;

@@ -9,7 +9,7 @@ use std::test::Fail;
 use zones::Name;
 
 /// The number of a script's first command whose needs fail, with its fault; or the state at the end.
-fn walked(
+pub fn walked(
     alloc: Global,
     script: &[u8],
     start: Start,
@@ -25,7 +25,8 @@ fn walked(
     Ok(Ok(state))
 }
 
-const fn lines(min: u64, max: Option<u64>) -> Start {
+/// A start from a file of so many lines.
+pub const fn lines(min: u64, max: Option<u64>) -> Start {
     Start {
         named: true,
         min,
