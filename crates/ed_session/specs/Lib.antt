@@ -8,6 +8,7 @@ pub mod MemFiles
 pub mod MemSinks
 pub mod KeptAnswers
 -- what serves clauses inside the crate
+pub mod Seen
 pub mod Insides
 pub mod Turns
 pub mod Work

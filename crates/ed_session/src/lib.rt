@@ -1,6 +1,7 @@
 //! Runs of scripts: an editor over any store of lines, sessions, and the loop that drives one to its end.
 #![tactic(auto)]
 
+mod disk_files;
 mod driving;
 mod kept;
 pub mod laws;
@@ -10,9 +11,11 @@ mod modes;
 mod outside;
 mod phase;
 mod reports;
+mod seen;
 mod session;
 mod sink;
 
+pub use disk_files::DiskFiles;
 pub use driving::drive;
 pub use mem_files::MemFiles;
 pub use mem_sink::MemSink;

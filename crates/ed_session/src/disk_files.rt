@@ -1,0 +1,151 @@
+//! Files on a disk, whose calls are logged.
+ghost use Rattle.std.specs.Prelude.{◌≡◌, ◌≢◌, ◌≤◌, ◌⊎◌, [], length, IfOk};
+ghost use Rattle.ed_syntax.specs.declared.request.Answer.TheVariants as answer;
+ghost use Rattle.ed_session.specs.Seen.{log_seen};
+
+use crate::Outside;
+use crate::seen::{SeenAnswer, SeenBytes, SeenRequest};
+use ed_base::Bytes;
+use ed_syntax::Answer;
+use std::alloc::{AllocError, Global};
+use std::fs::{File, OpenFile, OpenOptions};
+use std::io;
+use std::io::{ErrorKind, Read, Write};
+use std::os::fd::IntoRawFd;
+use std::rt::Files;
+
+/// An outside whose files are those of the system.
+///
+/// A file that isn't there is missing. One that can't be read or written is refused, and so is a path that isn't UTF-8 or
+/// holds a zero byte. A write gives the file that is there other bytes and leaves its owner, mode and links. One that is
+/// refused midway leaves a front of the new bytes, and after it what the file had there. A call that finds no memory has
+/// changed no file.
+#[derive(Drop)]
+pub struct DiskFiles<R: Files<File = File> + Drop> {
+    alloc: Global,
+    files: R,
+    log: Vec<(SeenRequest, SeenAnswer)>,
+    failures: usize,
+    ghost few: { failures ≤ length log.items },
+}
+
+impl<R: Files<File = File> + Drop> DiskFiles<R> {
+    /// The files of this system. It takes no memory.
+    pub fn new(alloc: Global, files: R) -> Self
+        ensures log { log_seen result.log.items ≡ [] }
+        ensures count { result.failures ≡ 0 }
+    {
+        DiskFiles {
+            alloc,
+            files,
+            log: Vec::new(alloc),
+            failures: 0,
+        }
+    }
+}
+
+impl<R: Files<File = File> + Drop> Outside for DiskFiles<R> {
+    ghost log = { λ d. log_seen d.log.items };
+
+    ghost failures = { λ d. d.failures };
+
+    ghost use Rattle.std.proofs.Common.{subst, sym};
+    ghost use Rattle.std.proofs.lemmas.List.{length-map};
+
+    ghost few_failures = { λ d. subst (λ n. d.failures ≤ n) (sym (length-map d.log.items _)) d.few };
+
+    fn read(&mut self, path: &[u8]) -> Result<Answer, AllocError> {
+        self.log.reserve(1)?;
+        let asked = SeenRequest::Read(SeenBytes::of(self.alloc, path)?);
+        let answer = read_answer(self.alloc, &self.files, path)?;
+        let seen = SeenAnswer::of(self.alloc, &answer)?;
+        self.log.push((asked, seen))?;
+        if matches!(answer, Answer::Refused) {
+            self.failures += 1;
+        }
+        Ok(answer)
+    }
+
+    fn write(&mut self, path: &[u8], bytes: &[u8]) -> Result<Answer, AllocError> {
+        self.log.reserve(1)?;
+        let asked = SeenRequest::Write(
+            SeenBytes::of(self.alloc, path)?,
+            SeenBytes::of(self.alloc, bytes)?,
+        );
+        let answer = write_answer(&self.files, path, bytes)?;
+        let seen = SeenAnswer::of(self.alloc, &answer)?;
+        self.log.push((asked, seen))?;
+        if matches!(answer, Answer::Refused) {
+            self.failures += 1;
+        }
+        Ok(answer)
+    }
+}
+
+// What a read of a path is answered.
+fn read_answer<R: Files>(alloc: Global, files: &R, path: &[u8]) -> Result<Answer, AllocError>
+    ensures not_done { IfOk result (λ a. a ≢ answer.Done) }
+{
+    let Ok(path) = str::from_utf8(path) else {
+        return Ok(Answer::Refused);
+    };
+    match read_file(alloc, files, path) {
+        Ok(bytes) => Ok(Answer::Bytes(Bytes::from_vec(bytes))),
+        Err(error) => match error.kind() {
+            ErrorKind::NotFound => Ok(Answer::Missing),
+            ErrorKind::OutOfMemory => Err(AllocError),
+            _ => Ok(Answer::Refused),
+        },
+    }
+}
+
+fn read_file<R: Files>(alloc: Global, files: &R, path: &str) -> io::Result<Vec<u8>> {
+    let mut file = OpenOptions::new().read(true).open(files, path)?;
+    let mut bytes = Vec::new(alloc);
+    // Room for all that the file says it has, so that nothing is moved while it is read.
+    bytes.reserve_exact(usize::try_from(file.metadata()?.len()).unwrap_or(0))?;
+    file.read_to_end(&mut bytes)?;
+    Ok(bytes)
+}
+
+// What a write to a path is answered. Memory is asked for no later than by the opening, which changes no byte.
+fn write_answer<R: Files<File = File>>(
+    files: &R,
+    path: &[u8],
+    bytes: &[u8],
+) -> Result<Answer, AllocError>
+    ensures done_or_refused { IfOk result (λ a. (a ≡ answer.Done) ⊎ (a ≡ answer.Refused)) }
+{
+    let Ok(path) = str::from_utf8(path) else {
+        return Ok(Answer::Refused);
+    };
+    match OpenOptions::new()
+        .write(true)
+        .create(true)
+        .open(files, path)
+    {
+        Ok(file) => match overwrite(file, bytes) {
+            Ok(()) => Ok(Answer::Done),
+            Err(_) => Ok(Answer::Refused),
+        },
+        Err(error) if error.kind() == ErrorKind::OutOfMemory => Err(AllocError),
+        Err(_) => Ok(Answer::Refused),
+    }
+}
+
+// Gives an open file just these bytes. What isn't a file on a disk, as a pipe or a terminal, has nothing to be cut off.
+fn overwrite(mut file: File, bytes: &[u8]) -> io::Result<()> {
+    file.write_all(bytes)?;
+    if file.metadata()?.is_file() {
+        file.set_len(bytes.len() as u64)?;
+    }
+    close(file)
+}
+
+// Closes a file. Dropping it would hide an error that is found only then.
+fn close(file: File) -> io::Result<()> {
+    match libc::close(file.into_raw_fd()) {
+        0 => Ok(()),
+        _ => Err(io::Error::from(ErrorKind::Other)),
+    }
+}

@@ -1,0 +1,65 @@
+//! Files on a disk. What the system answers, no clause says.
+use ed_base::Bytes;
+use ed_session::{DiskFiles, Outside};
+use ed_syntax::Answer;
+use std::alloc::{AllocError, Global};
+use std::fs;
+use std::test::Fail;
+
+/// A file that only a test here writes.
+const WRITTEN: &str = "/tmp/ed_tests_written";
+
+fn bytes(alloc: Global, of: &[u8]) -> Result<Answer, AllocError> {
+    Ok(Answer::Bytes(Bytes::from_slice(alloc, of)?))
+}
+
+#[test]
+fn a_file_that_was_written_is_read_again(rt: HostRuntime) -> Result<(), Fail> {
+    let path = WRITTEN.as_bytes();
+    let mut files = DiskFiles::new(rt.alloc(), &rt);
+    let texts: [&[u8]; 4] = [b"a\nlonger\nfile\n", b"short\0\xff", b"", b"a\n"];
+    for text in &texts {
+        assert_eq!(rt; files.write(path, text)?, Answer::Done, "{text:?}");
+        assert_eq!(rt; files.read(path)?, bytes(rt.alloc(), text)?, "{text:?}");
+    }
+    fs::remove_file(&rt, WRITTEN)?;
+    assert_eq!(rt; files.read(path)?, Answer::Missing);
+    Ok(())
+}
+
+/// A path that can't be written, and whether a read finds no file there; else it is refused.
+struct Row {
+    path: &'static [u8],
+    missing: bool,
+}
+
+#[rattlefmt::skip]
+const ROWS: [Row; 5] = [
+    Row { path: b"/tmp", missing: false },
+    Row { path: b"/tmp/ed_tests_absent/file", missing: true },
+    Row { path: b"/dev/null/file", missing: false },
+    Row { path: b"/tmp/ed_tests\0absent", missing: false },
+    Row { path: b"/tmp/\xff", missing: false },
+];
+
+#[test]
+fn what_is_no_file_is_missing_or_refused(rt: HostRuntime) -> Result<(), Fail> {
+    let mut files = DiskFiles::new(rt.alloc(), &rt);
+    for row in &ROWS {
+        let read = if row.missing {
+            Answer::Missing
+        } else {
+            Answer::Refused
+        };
+        assert_eq!(rt; files.read(row.path)?, read, "{:?}", row.path);
+        assert_eq!(rt;
+            files.write(row.path, b"a\n")?,
+            Answer::Refused,
+            "{:?}",
+            row.path
+        );
+    }
+    // A device that is always full.
+    assert_eq!(rt; files.write(b"/dev/full", b"a\n")?, Answer::Refused);
+    Ok(())
+}
