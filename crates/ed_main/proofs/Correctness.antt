@@ -17,7 +17,6 @@ use Rattle.ed_session.proofs.Leading.{output_after}
 use Rattle.ed_session.proofs.Taken.{some-more}
 use Rattle.ed_main.specs.Correct as correct
 use Rattle.ed_main.specs.Correct.{ComesTo, Correct, status_at}
-use Rattle.ed_main.specs.Outcomes.{options_on, CameTo}
 
 module _ (from : SessionValue) (whole : Progress) (log : Log) (old new : Option (List ℕ)) (is : rest from (answers log) ≡ whole) (none : from.pending ≡ []) where
   -- nothing was pending
@@ -65,7 +64,3 @@ unbegun_correct bytes options log old status none is = record {
   spelled = what_is_read bytes;
   comes = correct.unbegun (rw none refl) refl is;
 }
-
--- and what the program was given names the file
-pub came_to : (bytes path name : List ℕ) (log : Log) (old new : Option (List ℕ)) (status : ℕ) → name ≡ path → Correct bytes (options_on name) log old new status → CameTo bytes path status
-came_to bytes path name log old new status e x = record { log = log; old = old; new = new; correct = subst (λ p. Correct bytes (options_on p) log old new status) e x }

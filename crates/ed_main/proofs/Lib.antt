@@ -1,3 +1,4 @@
 mod Correctness
-mod FourWords
 mod Taking
+mod WordsLemmas
+mod WordsRows

@@ -2,6 +2,7 @@
 #![tactic(auto)]
 
 mod editing;
+mod job;
 mod reading;
 mod running;
 mod words;

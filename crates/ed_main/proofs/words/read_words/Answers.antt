@@ -1,0 +1,26 @@
+-- The words give just the job of the subcommand that `clap` found in them.
+use Rattle.std.proofs.Common.{◌≡◌, ◌∙◌, ℕ, List, map}
+use Rattle.std.proofs.lemmas.Result.{IfErr-weaker, IfOk-weaker}
+use Rattle.clap.specs.Words.{app_of, kind_of, subcommand_rows_of}
+use Rattle.ed_main.specs.Words.{job_of, job_named}
+use Rattle.ed_main.proofs.WordsLemmas.{given_by, refused_by}
+use Rattle.ed_main.proofs.words.read_words.Goals as goal
+
+pub returns-in-Ok-clause-value : goal.returns-in-Ok-clause-value
+returns-in-Ok-clause-value c =
+    let words : List (List ℕ) = map (λ w. w.now) c.args.words.now in
+    let e : job_of words ≡ job_named (subcommand_rows_of c.in-Ok.matches) =
+    given_by (app_of c.in_ok-program.field-0) words _ _ c.in_ok-program.ensures.value c.in-Ok.ensures.kinds c.in-Ok.ensures.matches in
+    IfOk-weaker c.job_of_matches.result _ _ (λ job h. e ∙ h) c.job_of_matches.ensures.value
+
+pub returns-in-Ok-clause-only_if_refused : goal.returns-in-Ok-clause-only_if_refused
+returns-in-Ok-clause-only_if_refused c =
+    let words : List (List ℕ) = map (λ w. w.now) c.args.words.now in
+    let e : job_of words ≡ job_named (subcommand_rows_of c.in-Ok.matches) =
+    given_by (app_of c.in_ok-program.field-0) words _ _ c.in_ok-program.ensures.value c.in-Ok.ensures.kinds c.in-Ok.ensures.matches in
+    IfErr-weaker c.job_of_matches.result _ _ (λ fault h differs. e ∙ h differs) c.job_of_matches.ensures.only_if_refused
+
+pub returns-in-Err-clause-only_if_refused : goal.returns-in-Err-clause-only_if_refused
+returns-in-Err-clause-only_if_refused c =
+    let words : List (List ℕ) = map (λ w. w.now) c.args.words.now in
+    refused_by (app_of c.in_ok-program.field-0) words (kind_of c.in-Err.error) c.refused.result c.in_ok-program.ensures.value c.in-Err.ensures.kinds c.refused.ensures.memory
