@@ -1,5 +1,5 @@
 //! One run of the program: its words, its script, its files, and the status that it ends with.
-ghost use Rattle.std.specs.Prelude.{◌≡◌, ◌≤◌, true};
+ghost use Rattle.std.specs.Prelude.{◌≤◌};
 ghost use Rattle.ed_main.specs.Outcomes.{CameTo};
 
 use crate::job::Job;
@@ -27,16 +27,7 @@ where
     ensures status { result ≤ 4 }
 {
     match job_of_run(rt) {
-        Ok(Job::Edit(options)) => {
-            if options.silent {
-                edit_file(rt, options)
-            } else {
-                refuse(
-                    rt,
-                    &WordsFault::of(rt.alloc(), "error: edit without -s isn't there yet"),
-                )
-            }
-        }
+        Ok(Job::Edit(options)) => edit_file(rt, options),
         Err(fault) => refuse(rt, &fault),
     }
 }
@@ -72,7 +63,6 @@ fn job_of_run<R: Env + AllocGlobal>(rt: &R) -> Result<Job, WordsFault> {
 fn edit_file<R>(rt: &R, options: Options) -> u8
 where
     R: Files<File = File> + Input + Print + AllocGlobal,
-    requires silent { options.silent ≡ true }
     ensures status { result ≤ 3 }
 {
     match read_all(rt.alloc(), &mut In::new(rt.reader()), LIMIT) {
@@ -86,7 +76,6 @@ where
 fn run<R>(rt: &R, script: Bytes, options: Options) -> u8
 where
     R: Files<File = File> + Print + AllocGlobal,
-    requires silent { options.silent ≡ true }
     ensures status { result ≤ 3 }
     ensures came { CameTo script options result }
 {

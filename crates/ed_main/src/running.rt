@@ -1,5 +1,5 @@
 //! One run of a script, over any files and any sink.
-ghost use Rattle.std.specs.Prelude.{◌≡◌, ◌<◌, ◌≤◌, ◌-◌, ◌^◌, ◌++◌, List, [], true, IfOk};
+ghost use Rattle.std.specs.Prelude.{◌≡◌, ◌<◌, ◌≤◌, ◌-◌, ◌^◌, ◌++◌, List, [], IfOk};
 ghost use Rattle.ed_syntax.specs.Reading.{script_of};
 ghost use Rattle.ed_syntax.specs.Runs.{run};
 ghost use Rattle.ed_syntax.specs.declared.request.Answer.{Answer};
@@ -21,7 +21,6 @@ pub fn edit<O: Outside, W: Sink>(
     outside: &mut O,
     sink: &mut W,
 ) -> u8
-    requires silent { options.silent ≡ true }
     requires count { W.failures sink.old < 2 ^ 64 - 1 }
 
     // What was asked is added to the log; all else is what the run of the script says.
@@ -43,7 +42,6 @@ fn session_of(
     bytes: Bytes,
     options: Options,
 ) -> Result<Session<GapStore>, AllocError>
-    requires silent { options.silent ≡ true }
     ensures rest { IfOk result (λ s. (answers : List Answer) → rest s answers ≡ run (script_of bytes) options answers) }
     ensures pending { IfOk result (λ s. s.pending ≡ []) }
 {
@@ -70,17 +68,19 @@ mod tests {
     /// A run on the file `F`, whose first call may be refused.
     struct Row {
         script: &'static [u8],
+        silent: bool,
         refused: u64,
         output: &'static [u8],
         status: u8,
     }
 
     #[rattlefmt::skip]
-    const ROWS: [Row; 4] = [
-        Row { script: b"2d\n,p\nQ\n", refused: 0, output: b"a\nc\n", status: 0 },
-        Row { script: b"2d\n,p\n", refused: 0, output: b"a\nc\n?\n", status: 1 },
-        Row { script: b"H\n4p\n", refused: 0, output: b"?\ninvalid address\n", status: 1 },
-        Row { script: b",p\nQ\n", refused: 1, output: b"?\n", status: 3 },
+    const ROWS: [Row; 5] = [
+        Row { script: b"2d\n,p\nQ\n", silent: false, refused: 0, output: b"6\na\nc\n", status: 0 },
+        Row { script: b"2d\n,p\nQ\n", silent: true, refused: 0, output: b"a\nc\n", status: 0 },
+        Row { script: b"2d\n,p\n", silent: true, refused: 0, output: b"a\nc\n?\n", status: 1 },
+        Row { script: b"H\n4p\n", silent: true, refused: 0, output: b"?\ninvalid address\n", status: 1 },
+        Row { script: b",p\nQ\n", silent: true, refused: 1, output: b"?\n", status: 3 },
     ];
 
     #[test]
@@ -92,7 +92,7 @@ mod tests {
             files.refuse(row.refused);
             let mut sink = MemSink::new(alloc, 64, 2)?;
             let options = Options {
-                silent: true,
+                silent: row.silent,
                 prompt: None,
                 path: Some(Bytes::from_slice(alloc, b"F")?),
             };

@@ -26,7 +26,7 @@ use Rattle.ed_session.specs.declared.phase.Phase.{Phase}
 use Rattle.ed_session.specs.declared.phase.Phase.TheVariants as phases
 use Rattle.ed_session.specs.Sessions.{SessionValue, rest, awaited, request_of, path_of, is_over, is_waiting, is_started}
 use Rattle.ed_session.specs.Calls.{GoesOn, BreaksOff, Leads, HandsOut, Awaits, Gives, Answers, Starts}
-use Rattle.ed_session.specs.Insides.{silently, quits_anyway, help_after, prompting_after, Reported, ask_of_output, ask_of_request, AsksFirst, KeepsPhase, state_loaded, AdvancesOrGives}
+use Rattle.ed_session.specs.Insides.{holding, bytes_of_write, counted, length_counted, quits_anyway, help_after, prompting_after, Reported, ask_of_output, ask_of_request, AsksFor, AsksFirst, KeepsPhase, state_loaded, AdvancesOrGives}
 use Rattle.ed_session.proofs.Stepping.{step_one, steps_prompted, rest_opens, answered_opens, started_opens, runs_out, hears_and_runs_out}
 
 -- a session that isn't over stays nowhere
@@ -124,9 +124,9 @@ turned_is ed.PromptMode m = refl
 turned_is verb m = refl
 
 -- what a session holds after a command that is done
-pub turned_present : (verb : Verb) (old s t : State) (m n : Modes) (prompt : List ℕ) → t ≡ s → n.prompting ≡ prompting_after verb m.prompting → n.help ≡ help_after verb m.help
-    → silently t n prompt ≡ turned verb (with_state s (silently old m prompt))
-turned_present verb old s t m n prompt e f h = rw (turned_is verb (with_state s (silently old m prompt)), e, f, h) refl
+pub turned_present : (verb : Verb) (silent : Bool) (old s t : State) (m n : Modes) (prompt : List ℕ) → t ≡ s → n.prompting ≡ prompting_after verb m.prompting → n.help ≡ help_after verb m.help
+    → holding silent t n prompt ≡ turned verb (with_state s (holding silent old m prompt))
+turned_present verb silent old s t m n prompt e f h = rw (turned_is verb (with_state s (holding silent old m prompt)), e, f, h) refl
 
 -- what is left after the next step
 abbrev tail : List Step → Option ℕ → Further
@@ -179,8 +179,18 @@ answered_fails m counted e f go answers is = rw is refl
 answered_asks : (m : Present) (counted : List ℕ) (e : Result Effect Fault) (r : Request) (go : Further) (answers : List Answer) → e ≡ Ok (Asks r) → answered m counted e go answers ≡ failing m fault.File
 answered_asks m counted e r go answers is = rw is refl
 
-count_silent : (silent : Bool) (r : Request) (a : Answer) → silent ≡ true → count silent r a ≡ []
-count_silent silent r a h = rw h refl
+-- the count is that of the bytes that were written or read
+count_is : (silent : Bool) (r : Request) (a : Answer) (writes : Option ℕ) → writes ≡ bytes_of_write r → count silent r a ≡ counted silent (length_counted writes a)
+count_is true r a writes h = refl
+count_is false (request.Read path) (answer.Bytes bytes) writes h = rw h refl
+count_is false (request.Read path) answer.Missing writes h = rw h refl
+count_is false (request.Read path) answer.Refused writes h = rw h refl
+count_is false (request.Read path) answer.Done writes h = rw h refl
+count_is false (request.Write path bytes) a writes h = rw h refl
+
+counted_none : (silent : Bool) → counted silent None ≡ []
+counted_none true = refl
+counted_none false = refl
 
 -- a command that is done
 pub goes_done : (v new : SessionValue) (x : Step) (more : List Step) (o : Outcome) (output : List ℕ) → v.pending ≡ [] → v.steps ≡ x ∷ more → quits_anyway x.command.verb ≡ false → v.phase ≡ phases.Prompted
@@ -237,18 +247,20 @@ module _ (v : SessionValue) (x : Step) (more : List Step) (r : Request) (pending
       ∙ asking_hears v.present _ r (λ b. command v.present.state x.command (Some b)) (λ t. tail more v.fault (turned x.command.verb t)) a answers asks
 
   -- the answer was taken
-  pub answers_done : (a : Answer) (new : SessionValue) (o : Outcome) (output : List ℕ) → v.present.silent ≡ true → command v.present.state x.command (Some a) ≡ Ok (Makes o) → output ≡ o.output
-      → new.phase ≡ phases.Between → new.steps ≡ more → new.fault ≡ v.fault → new.pending ≡ output → new.present ≡ turned x.command.verb (with_state o.state v.present) → Answers v r a new
-  answers_done a new o output silent done is now left_now fault none present =
-      let counted : o.output ++ count v.present.silent r a ≡ o.output = ap (λ c. o.output ++ c) (count_silent v.present.silent r a silent) ∙ append-nil o.output in
+  pub answers_done : (a : Answer) (new : SessionValue) (o : Outcome) (output : List ℕ) (writes : Option ℕ) → writes ≡ bytes_of_write r
+      → command v.present.state x.command (Some a) ≡ Ok (Makes o) → output ≡ o.output
+      → new.phase ≡ phases.Between → new.steps ≡ more → new.fault ≡ v.fault → new.pending ≡ output ++ counted v.present.silent (length_counted writes a)
+      → new.present ≡ turned x.command.verb (with_state o.state v.present) → Answers v r a new
+  answers_done a new o output writes counts done is now left_now fault none present =
+      let all : List ℕ = o.output ++ count v.present.silent r a in
       inl (record {
-        events = Heard v.present.help r ∷ Wrote v.present.help o.output ∷ [];
+        events = Heard v.present.help r ∷ Wrote v.present.help all ∷ [];
         same = λ answers.
             hears a answers
             ∙ ap (Hears v.present.help r) (answered_makes v.present _ _ o (λ t. tail more v.fault (turned x.command.verb t)) answers done
-            ∙ ap (λ w. Writes v.present.help w (tail more v.fault (turned x.command.verb (reached o v.present)) answers)) counted
-            ∙ ap (Writes v.present.help o.output) (sym (between_next new answers now ∙ steps_same new.steps more new.fault v.fault new.present _ answers left_now fault present)));
-        handed_out = ap (λ p. p ++ (o.output ++ [])) pending ∙ append-nil o.output ∙ sym (none ∙ is);
+            ∙ ap (Writes v.present.help all) (sym (between_next new answers now ∙ steps_same new.steps more new.fault v.fault new.present _ answers left_now fault present)));
+        handed_out = ap (λ p. p ++ (all ++ [])) pending ∙ append-nil all ∙ ap (λ c. o.output ++ c) (count_is v.present.silent r a writes counts)
+            ∙ ap (λ w. w ++ counted v.present.silent (length_counted writes a)) (sym is) ∙ sym none;
         answered = refl;
         stays = no_end v new (ap is_over at);
       })
@@ -290,25 +302,27 @@ gives_request old new (request.Read path) w = w
 gives_request old new (request.Write path bytes) w = w
 
 -- the start file's answer was taken
-pub starts_loaded : (old new : SessionValue) (path : List ℕ) (a : Answer) (s : State) → old.phase ≡ phases.Fresh (Some path) → old.pending ≡ [] → old.present.silent ≡ true → old.present.state ≡ opening
-    → state_loaded path a ≡ Some s → new.phase ≡ phases.Between → new.pending ≡ [] → new.steps ≡ old.steps → new.fault ≡ old.fault → new.present ≡ with_state s old.present
-    → Answers old (request.Read path) a new
-starts_loaded old new path (answer.Bytes bytes) s fresh handed silent opens is now pending left fault present = inl (record {
-  events = Heard old.present.help (request.Read path) ∷ Wrote old.present.help [] ∷ [];
-  same = λ answers. let e : state_loaded path (answer.Bytes bytes) ≡ Some s = is in rw (fresh, silent, opens, now, left, fault, present) (let f = e in cc);
-  handed_out = rw (handed, pending) refl;
-  answered = refl;
-  stays = no_end old new (rw fresh refl);
-})
-starts_loaded old new path answer.Missing s fresh handed silent opens is now pending left fault present = inl (record {
+pub starts_loaded : (old new : SessionValue) (path : List ℕ) (a : Answer) (s : State) → old.phase ≡ phases.Fresh (Some path) → old.pending ≡ [] → old.present.state ≡ opening
+    → state_loaded path a ≡ Some s → new.phase ≡ phases.Between → new.pending ≡ counted old.present.silent (length_counted None a) → new.steps ≡ old.steps → new.fault ≡ old.fault
+    → new.present ≡ with_state s old.present → Answers old (request.Read path) a new
+starts_loaded old new path (answer.Bytes bytes) s fresh handed opens is now pending left fault present =
+    let read : List ℕ = count old.present.silent (request.Read path) (answer.Bytes bytes) in
+    inl (record {
+      events = Heard old.present.help (request.Read path) ∷ Wrote old.present.help read ∷ [];
+      same = λ answers. let e : state_loaded path (answer.Bytes bytes) ≡ Some s = is in rw (fresh, opens, now, left, fault, present) (let f = e in cc);
+      handed_out = ap (λ p. p ++ (read ++ [])) handed ∙ append-nil read ∙ count_is old.present.silent (request.Read path) (answer.Bytes bytes) None refl ∙ sym pending;
+      answered = refl;
+      stays = no_end old new (rw fresh refl);
+    })
+starts_loaded old new path answer.Missing s fresh handed opens is now pending left fault present = inl (record {
   events = Heard old.present.help (request.Read path) ∷ [];
   same = λ answers. rw (fresh, opens, now, left, fault, present) (let e = is in cc);
-  handed_out = rw (handed, pending) refl;
+  handed_out = ap (λ p. p ++ []) handed ∙ sym (pending ∙ counted_none old.present.silent);
   answered = refl;
   stays = no_end old new (rw fresh refl);
 })
-starts_loaded old new path answer.Refused s fresh handed silent opens is now pending left fault present = cc
-starts_loaded old new path answer.Done s fresh handed silent opens is now pending left fault present = cc
+starts_loaded old new path answer.Refused s fresh handed opens is now pending left fault present = cc
+starts_loaded old new path answer.Done s fresh handed opens is now pending left fault present = cc
 
 started_fails : (path : List ℕ) (a : Answer) (m : Present) (go : Further) (answers : List Answer) → state_loaded path a ≡ None → started path a m go answers ≡ failing m fault.File
 started_fails path (answer.Bytes bytes) m go answers e = cc
@@ -354,14 +368,14 @@ left_below xs n h = omega (arith, some_length (steps_value (drop n xs)) h, lengt
 pub below_left : (xs : List rust.Command) (n : ℕ) → n < length xs → steps_value (drop n xs) ≢ []
 below_left xs n h e = let none : length (steps_value (drop n xs)) ≡ 0 = ap length e in omega (arith, length-map (drop n xs) step_value, length-drop n xs)
 
-pub asks_some : (s : State) (steps : List Step) → AsksFirst s steps → steps ≢ []
-asks_some s [] asks e = absurd asks
-asks_some s (x ∷ steps) asks e = cc
+pub asks_some : (writes : Option ℕ) (s : State) (steps : List Step) → AsksFirst writes s steps → steps ≢ []
+asks_some writes s [] asks e = absurd asks
+asks_some writes s (x ∷ steps) asks e = cc
 
 -- what the first step asks for
-pub asks_it : (s : State) (all more : List Step) (x : Step) → AsksFirst s all → all ≡ x ∷ more → (quits_anyway x.command.verb ≡ false) × ((r : Request) × (command s x.command None ≡ Ok (Asks r)))
-asks_it s [] more x asks e = absurd asks
-asks_it s (y ∷ rest) more x asks e = let same : y ≡ x = cc in subst (λ z. (quits_anyway z.command.verb ≡ false) × ((r : Request) × (command s z.command None ≡ Ok (Asks r)))) same asks
+pub asks_it : (writes : Option ℕ) (s : State) (all more : List Step) (x : Step) → AsksFirst writes s all → all ≡ x ∷ more → AsksFor writes s x
+asks_it writes s [] more x asks e = absurd asks
+asks_it writes s (y ∷ rest) more x asks e = let same : y ≡ x = cc in subst (AsksFor writes s) same asks
 
 -- what isn't true is false
 pub is_false : (b : Bool) → (b ≡ true → ⊥) → b ≡ false
@@ -369,8 +383,9 @@ is_false true h = absurd (h refl)
 is_false false h = refl
 
 -- a session that waits has a step that asks
-pub waiting_keeps : (p : Phase) (s : State) (steps : List Step) (pending : List ℕ) → p ≡ phases.Waiting → KeepsPhase p s steps pending → AsksFirst s steps × (pending ≡ [])
-waiting_keeps p s steps pending e keeps = subst (λ q. KeepsPhase q s steps pending) e keeps
+pub waiting_keeps : (p : Phase) (writes : Option ℕ) (s : State) (steps : List Step) (pending : List ℕ) → p ≡ phases.Waiting → KeepsPhase p writes s steps pending →
+    AsksFirst writes s steps × (pending ≡ [])
+waiting_keeps p writes s steps pending e keeps = subst (λ q. KeepsPhase q writes s steps pending) e keeps
 
 -- the answer to what is awaited
 pub if_awaited : (old v : SessionValue) (r : Request) (a : Answer) (new : SessionValue) → v ≡ old → awaited v ≡ Some r → Answers v r a new → IfSome (awaited old) (λ q. Answers old q a new)
@@ -394,5 +409,6 @@ pub starts_with : (old : SessionValue) (path : List ℕ) (a : Answer) (new : Ses
 starts_with old path a new e x = subst (λ p. Starts p old a new) (ap path_of (sym e)) x
 
 -- a session that is fresh holds nothing
-pub fresh_keeps : (p : Phase) (path : Option (List ℕ)) (s : State) (steps : List Step) (pending : List ℕ) → p ≡ phases.Fresh path → KeepsPhase p s steps pending → (s ≡ opening) × (pending ≡ [])
-fresh_keeps p path s steps pending e keeps = subst (λ q. KeepsPhase q s steps pending) e keeps
+pub fresh_keeps : (p : Phase) (path : Option (List ℕ)) (writes : Option ℕ) (s : State) (steps : List Step) (pending : List ℕ) → p ≡ phases.Fresh path →
+    KeepsPhase p writes s steps pending → (s ≡ opening) × (pending ≡ [])
+fresh_keeps p path writes s steps pending e keeps = subst (λ q. KeepsPhase q writes s steps pending) e keeps

@@ -1,5 +1,6 @@
 -- What a session keeps inside, and what is true of it in each phase.
-use Rattle.std.specs.Prelude.{ℕ, ◌≡◌, ◌≢◌, ◌≤◌, ◌⊎◌, Bool, true, false, not, List, [], ◌∷◌, Option, Some, None, Ok}
+use Rattle.std.specs.Prelude.{ℕ, ◌≡◌, ◌≢◌, ◌≤◌, ◌⊎◌, Bool, true, false, not, List, [], ◌∷◌, ◌++◌, length, decimal, Option, Some, None, Ok}
+use Rattle.ed_base.specs.Lines.{newline}
 use Rattle.ed_base.specs.declared.fault.Fault.{Fault}
 use Rattle.ed_base.specs.declared.fault.Fault.TheVariants.{Memory}
 use Rattle.ed_syntax.specs.declared.request.Answer.{Answer}
@@ -21,9 +22,25 @@ use Rattle.ed_session.specs.declared.phase.Phase.TheVariants as phases
 use Rattle.ed_session.specs.Sessions.{SessionValue, is_over, is_started, is_waiting}
 use Rattle.ed_session.specs.Calls.{GoesOn, Gives}
 
--- what a run holds that is silent, as every run is so far
-abbrev pub silently : State → Modes → List ℕ → Present
-silently s modes prompt = record { state = s; silent = true; prompting = modes.prompting; prompt = prompt; help = modes.help }
+-- what a run holds with these modes
+abbrev pub holding : (silent : Bool) → State → Modes → (prompt : List ℕ) → Present
+holding silent s modes prompt = record { state = s; silent = silent; prompting = modes.prompting; prompt = prompt; help = modes.help }
+
+-- how many bytes a request writes, if it writes
+abbrev pub bytes_of_write : Request → Option ℕ
+bytes_of_write (request.Read path) = None
+bytes_of_write (request.Write path bytes) = Some (length bytes)
+
+-- how many bytes were written or read, if some were, by the answer to a request that writes so many or reads
+abbrev pub length_counted : (writes : Option ℕ) → Answer → Option ℕ
+length_counted (Some n) given = Some n
+length_counted None (answer.Bytes bytes) = Some (length bytes)
+length_counted None given = None
+
+-- the count of so many bytes, unless the run is silent
+abbrev pub counted : (silent : Bool) → Option ℕ → List ℕ
+counted false (Some n) = decimal n ++ newline ∷ []
+counted silent n = []
 
 -- the command that ends the run by itself
 abbrev pub quits_anyway : Verb → Bool
@@ -60,16 +77,23 @@ pub record AreReady (brief full : List ℕ) : Type 0 where
   pub without_text : brief ≡ report false Memory
   pub with_text : full ≡ report true Memory
 
--- the first command asks for a file
-abbrev pub AsksFirst : State → List Step → Type 0
-AsksFirst s [] = ⊥
-AsksFirst s (x ∷ steps) = (quits_anyway x.command.verb ≡ false) × ((request : Request) × (command s x.command None ≡ Ok (Asks request)))
+-- a command asks for a file, with a request that writes so many bytes or reads
+pub record AsksFor (writes : Option ℕ) (s : State) (x : Step) : Type 0 where
+  pub goes : quits_anyway x.command.verb ≡ false
+  pub request : Request
+  pub asks : command s x.command None ≡ Ok (Asks request)
+  pub writes_it : writes ≡ bytes_of_write request
+
+-- the first command does
+abbrev pub AsksFirst : (writes : Option ℕ) → State → List Step → Type 0
+AsksFirst writes s [] = ⊥
+AsksFirst writes s (x ∷ steps) = AsksFor writes s x
 
 -- what each phase keeps
-abbrev pub KeepsPhase : Phase → State → List Step → List ℕ → Type 0
-KeepsPhase (phases.Fresh path) s steps pending = (s ≡ opening) × (pending ≡ [])
-KeepsPhase phases.Waiting s steps pending = AsksFirst s steps × (pending ≡ [])
-KeepsPhase other s steps pending = Unit {0}
+abbrev pub KeepsPhase : Phase → (writes : Option ℕ) → State → List Step → List ℕ → Type 0
+KeepsPhase (phases.Fresh path) writes s steps pending = (s ≡ opening) × (pending ≡ [])
+KeepsPhase phases.Waiting writes s steps pending = AsksFirst writes s steps × (pending ≡ [])
+KeepsPhase other writes s steps pending = Unit {0}
 
 -- what an editor holds after the answer to the read of the start file
 abbrev pub state_loaded : (path : List ℕ) → Answer → Option State
@@ -78,11 +102,11 @@ state_loaded path answer.Missing = Some (loaded [] path opening)
 state_loaded path other = None
 
 -- what every session keeps: till it is over its editor hasn't failed, and its reports aren't handed out
-pub record IsSound (at : Phase) (state : State) (failed : Option Fault) (count next : ℕ) (steps : List Step) (pending brief full : List ℕ) (told : Bool) : Type 0 where
+pub record IsSound (at : Phase) (writes : Option ℕ) (state : State) (failed : Option Fault) (count next : ℕ) (steps : List Step) (pending brief full : List ℕ) (told : Bool) : Type 0 where
   pub within : next ≤ count
   pub works : is_over at ≡ false → failed ≡ None
   pub can_report : is_over at ≡ false → AreReady brief full
-  pub keeps : KeepsPhase at state steps pending
+  pub keeps : KeepsPhase at writes state steps pending
   pub ended : told ≡ true → (is_over at ≡ true) × (pending ≡ [])
 
 -- the run has gone on without output

@@ -1,6 +1,7 @@
 //! Runs of scripts: an editor over any store of lines, sessions, and the loop that drives one to its end.
 #![tactic(auto)]
 
+mod counts;
 mod disk_files;
 mod driving;
 mod kept;

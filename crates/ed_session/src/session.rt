@@ -2,10 +2,11 @@
 ghost use Rattle.std.specs.Prelude.{◌≡◌, ◌≢◌, ◌≤◌, List, [], Some, None, true, false, IfOk, IfErr, OnOk, IfSome, IfNone, IsSome};
 ghost use Rattle.ed_base.specs.declared.fault.Fault.TheVariants.{File, Memory};
 ghost use Rattle.ed_commands.specs.Editors.{opening_value};
-ghost use Rattle.ed_session.specs.Insides.{state_loaded};
+ghost use Rattle.ed_session.specs.Insides.{counted, length_counted, state_loaded};
 
 mod advancing;
 
+use crate::counts::{length_counted, with_count};
 use crate::modes::Modes;
 use crate::phase::Phase;
 use crate::reports::Reports;
@@ -42,6 +43,10 @@ pub struct Session<S: LineStore> {
     next: usize,
     fault: Option<usize>,
     modes: Modes,
+    // The counts of bytes that are read or written aren't written.
+    silent: bool,
+    // How many bytes the awaited request writes, if it writes.
+    writes: Option<usize>,
     // What is written before a command while prompting is on.
     prompt: Bytes,
     // Output that wasn't handed out.
@@ -58,33 +63,42 @@ impl<S: LineStore> Model for Session<S> {
 
     ghost Value = { SessionValue };
 
-    ghost use Rattle.ed_session.specs.Insides.{IsSound, silently};
+    ghost use Rattle.ed_session.specs.Insides.{IsSound, holding};
 
     ghost view = { λ s. record {
       phase = s.phase;
-      present = silently s.editor.state s.modes s.prompt;
+      present = holding s.silent s.editor.state s.modes s.prompt;
       steps = steps_value (drop s.next s.commands.items);
       fault = s.fault;
       pending = s.pending;
       told = s.told;
     } };
 
-    ghost invariant = { λ s. IsSound s.phase s.editor.state s.editor.failed (vec_len s.commands) s.next
+    ghost invariant = { λ s. IsSound s.phase s.writes s.editor.state s.editor.failed (vec_len s.commands) s.next
         (steps_value (drop s.next s.commands.items)) s.pending s.reports.brief s.reports.full s.told };
 }
 
-// Loads what was answered of the start file into an editor that was just made.
-fn load<S: LineStore>(editor: &mut Editor<S>, answer: Answer, path: Bytes) -> Result<(), Fault>
+// Loads what was answered of the start file into an editor that was just made, and gives the count of its bytes.
+fn load<S: LineStore>(
+    alloc: Global,
+    editor: &mut Editor<S>,
+    silent: bool,
+    answer: Answer,
+    path: Bytes,
+) -> Result<Bytes, Fault>
     requires opening { editor.old ≡ opening_value }
     ensures loaded { OnOk result (state_loaded path answer ≡ Some editor.new.state) }
+    ensures count { IfOk result (λ count. count ≡ counted silent (length_counted None answer)) }
     ensures fault { IfErr result (λ fault. fault ≢ Memory → (fault ≡ File) × (state_loaded path answer ≡ None)) }
     ensures failed { OnOk result (editor.new.failed ≡ None) }
 {
+    let count = with_count(Bytes::new(alloc), silent, length_counted(None, &answer))?;
     match answer {
-        Answer::Bytes(bytes) => editor.load_bytes(bytes, path),
-        Answer::Missing => editor.load(b"", path),
-        Answer::Refused | Answer::Done => Err(Fault::File),
+        Answer::Bytes(bytes) => editor.load_bytes(bytes, path)?,
+        Answer::Missing => editor.load(b"", path)?,
+        Answer::Refused | Answer::Done => return Err(Fault::File),
     }
+    Ok(count)
 }
 
 impl<S: LineStore> Session<S> {
@@ -98,7 +112,6 @@ impl<S: LineStore> Session<S> {
 
     /// A session of this script that hasn't started.
     pub fn new(alloc: Global, script: Script, options: Options) -> Result<Self, AllocError>
-        requires silent { options.silent ≡ true }
         ensures value { IfOk result (λ s. s ≡ made (script_value script) options) }
         // What is left of it is the whole run.
         ensures rest { IfOk result (λ s. (answers : List Answer) →
@@ -108,7 +121,7 @@ impl<S: LineStore> Session<S> {
         let store = S::empty(alloc)?;
         let Script { commands, fault } = script;
         let Options {
-            silent: _,
+            silent,
             prompt,
             path,
         } = options;
@@ -127,6 +140,8 @@ impl<S: LineStore> Session<S> {
                 prompting,
                 help: false,
             },
+            silent,
+            writes: None,
             prompt,
             pending: Bytes::new(alloc),
             reports,
@@ -161,8 +176,8 @@ impl<S: LineStore> Session<S> {
         }
     }
 
-    /// Starts the run with the answer to the read of its start file, or, where it has no path, with an empty buffer:
-    /// then the answer isn't looked at. A missing file is an empty buffer with its name; any other answer but the
+    /// Starts the run with the answer to the read of its start file, whose bytes are counted in the output unless the run is
+    /// silent; or, where it has no path, with an empty buffer: then the answer isn't looked at. A missing file is an empty buffer with its name; any other answer but the
     /// file's bytes ends the run by `Fault::File`.
     pub fn start(&mut self, answer: Answer)
         requires fresh { is_started self.old.phase ≡ false }
@@ -175,10 +190,13 @@ impl<S: LineStore> Session<S> {
         let Phase::Fresh(Some(path)) = mem::replace(&mut self.phase, Phase::Between) else {
             return;
         };
-        if let Err(fault) = load(&mut self.editor, answer, path) {
-            let (fault, report) = self.reports.ending(self.modes.help, fault);
-            self.phase = Phase::Over(Err(fault));
-            self.pending = report;
+        match load(self.alloc, &mut self.editor, self.silent, answer, path) {
+            Ok(count) => self.pending = count,
+            Err(fault) => {
+                let (fault, report) = self.reports.ending(self.modes.help, fault);
+                self.phase = Phase::Over(Err(fault));
+                self.pending = report;
+            }
         }
     }
 
@@ -236,13 +254,20 @@ impl<S: LineStore> Session<S> {
         ensures untold { self.new.told ≡ false }
         ensures work { work self.new ≤ work self.old }
     {
+        let length = length_counted(self.writes, &answer);
         match self.editor.apply(&self.commands[self.next], Some(answer)) {
-            Ok(Reply::Done(output)) => {
-                self.modes = self.modes.after(&self.commands[self.next].verb);
-                self.next += 1;
-                self.pending = output;
-                self.phase = Phase::Between;
-            }
+            Ok(Reply::Done(output)) => match with_count(output, self.silent, length) {
+                Ok(written) => {
+                    self.modes = self.modes.after(&self.commands[self.next].verb);
+                    self.next += 1;
+                    self.pending = written;
+                    self.phase = Phase::Between;
+                }
+                Err(_) => {
+                    self.phase = Phase::Over(Err(Fault::Memory));
+                    self.pending = self.reports.of_memory(self.modes.help);
+                }
+            },
             Ok(Reply::Wants(_)) => {
                 let (fault, report) = self.reports.ending(self.modes.help, Fault::File);
                 self.phase = Phase::Over(Err(fault));

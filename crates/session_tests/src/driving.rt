@@ -2,14 +2,17 @@
 use ed_base::{Bytes, Fault};
 use ed_session::{MemFiles, MemSink, Session, drive};
 use ed_syntax::{Ending, Options, read_script};
-use line_store::PlainStore;
+use line_store::{ChunkStore, GapStore, LineStore, PlainStore};
 use std::alloc::{AllocError, Global};
+use std::process::Abort;
+use std::test::Fail;
 
 /// A run on the file `F`: its script, the file's bytes, its prompt, and how files and output are refused (0: not at all).
 #[derive(Clone, Copy)]
 pub struct Case<'a> {
     pub script: &'a [u8],
     pub file: Option<&'a [u8]>,
+    pub silent: bool,
     pub prompt: Option<&'a [u8]>,
     pub refused_call: u64,
     pub room: usize,
@@ -21,6 +24,7 @@ pub struct Case<'a> {
 pub const UNREFUSED: Case<'static> = Case {
     script: b"",
     file: None,
+    silent: true,
     prompt: None,
     refused_call: 0,
     room: 256,
@@ -32,22 +36,13 @@ pub const ABC: Option<&[u8]> = Some(b"a\nb\nc\n");
 
 pub const ARROW: Option<&[u8]> = Some(b"> ");
 
-pub fn session_of(
+pub fn session_of<S: LineStore>(
     alloc: Global,
     script: &[u8],
-    prompt: Option<Bytes>,
-    path: Option<Bytes>,
-) -> Result<Session<PlainStore>, AllocError> {
+    options: Options,
+) -> Result<Session<S>, AllocError> {
     let script = read_script(alloc, script)?;
-    Session::new(
-        alloc,
-        script,
-        Options {
-            silent: true,
-            prompt,
-            path,
-        },
-    )
+    Session::new(alloc, script, options)
 }
 
 /// How many lines the buffer had where the run ended well.
@@ -58,8 +53,11 @@ pub fn lines(end: Result<Ending, Fault>) -> Result<usize, Fault> {
     }
 }
 
-/// How the case ends, and what its sink took.
-pub fn run(alloc: Global, case: Case<'_>) -> Result<(Result<usize, Fault>, MemSink), AllocError> {
+/// How the case ends over a store, and what its sink took.
+pub fn run<S: LineStore>(
+    alloc: Global,
+    case: Case<'_>,
+) -> Result<(Result<usize, Fault>, MemSink), AllocError> {
     let mut files = MemFiles::new(alloc);
     if let Some(bytes) = case.file {
         files.add(b"F", Bytes::from_slice(alloc, bytes)?)?;
@@ -67,12 +65,43 @@ pub fn run(alloc: Global, case: Case<'_>) -> Result<(Result<usize, Fault>, MemSi
     files.refuse(case.refused_call);
     let mut sink = MemSink::new(alloc, case.room, case.piece)?;
     sink.refuse(case.refused_write);
-    let prompt = match case.prompt {
-        Some(prompt) => Some(Bytes::from_slice(alloc, prompt)?),
-        None => None,
+    let options = Options {
+        silent: case.silent,
+        prompt: match case.prompt {
+            Some(prompt) => Some(Bytes::from_slice(alloc, prompt)?),
+            None => None,
+        },
+        path: Some(Bytes::from_slice(alloc, b"F")?),
     };
-    let path = Bytes::from_slice(alloc, b"F")?;
-    let mut session = session_of(alloc, case.script, prompt, Some(path))?;
+    let mut session = session_of::<S>(alloc, case.script, options)?;
     let end = drive(&mut session, &mut files, &mut sink);
     Ok((lines(end), sink))
+}
+
+fn check_over<S: LineStore>(
+    rt: &impl Abort,
+    alloc: Global,
+    case: Case<'_>,
+    output: &[u8],
+    expected: Result<usize, Fault>,
+) -> Result<(), Fail> {
+    for piece in [64, 1] {
+        let (ends, sink) = run::<S>(alloc, Case { piece, ..case })?;
+        assert_eq!(*rt; sink.taken(), output, "{:?}, {piece} at once", case.script);
+        assert_eq!(rt; ends, expected, "{:?}, {piece} at once", case.script);
+    }
+    Ok(())
+}
+
+/// Over each store, the case writes this output and ends so, whether much of it is taken at once or little.
+pub fn check(
+    rt: &impl Abort,
+    alloc: Global,
+    case: Case<'_>,
+    output: &[u8],
+    expected: Result<usize, Fault>,
+) -> Result<(), Fail> {
+    check_over::<PlainStore>(rt, alloc, case, output, expected)?;
+    check_over::<GapStore>(rt, alloc, case, output, expected)?;
+    check_over::<ChunkStore>(rt, alloc, case, output, expected)
 }

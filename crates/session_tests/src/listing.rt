@@ -1,6 +1,7 @@
 //! How `l` folds a line: no row is longer than 71 bytes, and none ends within an escape (XCU ed, "List Command").
 use crate::driving::{Case, UNREFUSED, run};
 use ed_base::Bytes;
+use line_store::PlainStore;
 use std::alloc::AllocError;
 use std::test::Fail;
 
@@ -45,7 +46,7 @@ fn a_long_line_is_folded_between_two_bytes(rt: HostRuntime) -> Result<(), Fail> 
             file: Some(file.as_slice()),
             ..UNREFUSED
         };
-        let (_, sink) = run(rt.alloc(), case)?;
+        let (_, sink) = run::<PlainStore>(rt.alloc(), case)?;
         assert_eq!(rt;
             sink.taken(),
             expected.as_slice(),

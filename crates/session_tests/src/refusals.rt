@@ -2,7 +2,8 @@
 use crate::driving::{ABC, ARROW, Case, UNREFUSED, lines, run, session_of};
 use ed_base::{Bytes, Fault};
 use ed_session::{Ask, MemFiles, Out, drive};
-use ed_syntax::Answer;
+use ed_syntax::{Answer, Options};
+use line_store::PlainStore;
 use std::alloc::{AllocError, Global};
 use std::test::Fail;
 
@@ -35,7 +36,7 @@ fn a_refused_start_file_is_reported_and_ends_the_run(rt: HostRuntime) -> Result<
             prompt: row.prompt,
             ..TWO_LINES
         };
-        let (ends, sink) = run(rt.alloc(), case)?;
+        let (ends, sink) = run::<PlainStore>(rt.alloc(), case)?;
         assert_eq!(rt; sink.taken(), row.output, "{} refused", row.refused_call);
         assert_eq!(rt; ends, row.ends, "{} refused", row.refused_call);
     }
@@ -57,7 +58,7 @@ fn is_refused_at(
     whole: &[u8],
     taken: usize,
 ) -> Result<bool, AllocError> {
-    let (ends, sink) = run(alloc, case)?;
+    let (ends, sink) = run::<PlainStore>(alloc, case)?;
     Ok(ends == Err(Fault::Output) && sink.taken().len() == taken && whole.starts_with(sink.taken()))
 }
 
@@ -65,7 +66,7 @@ fn is_refused_at(
 #[test]
 fn each_refused_write_and_each_full_room_ends_the_run(rt: HostRuntime) -> Result<(), Fail> {
     for case in [TWO_LINES, HELPED] {
-        let (_, whole) = run(rt.alloc(), case)?;
+        let (_, whole) = run::<PlainStore>(rt.alloc(), case)?;
         let whole = whole.taken();
         for (room, refused_write) in (0..whole.len()).zip(1..) {
             let refused = Case {
@@ -91,12 +92,12 @@ fn a_writer_takes_the_output_till_it_is_full(rt: HostRuntime) -> Result<(), Fail
     files.add(b"F", Bytes::from_slice(rt.alloc(), b"a\nb\nc\n")?)?;
     let mut room = [0u8; 3];
     let mut sink = Out::new(room.as_mut_slice());
-    let mut session = session_of(
-        rt.alloc(),
-        TWO_LINES.script,
-        None,
-        Some(Bytes::from_slice(rt.alloc(), b"F")?),
-    )?;
+    let options = Options {
+        silent: true,
+        prompt: None,
+        path: Some(Bytes::from_slice(rt.alloc(), b"F")?),
+    };
+    let mut session = session_of::<PlainStore>(rt.alloc(), TWO_LINES.script, options)?;
     let end = drive(&mut session, &mut files, &mut sink);
     assert_eq!(rt; lines(end), Err(Fault::Output));
     drop(sink);
@@ -106,7 +107,12 @@ fn a_writer_takes_the_output_till_it_is_full(rt: HostRuntime) -> Result<(), Fail
 
 #[test]
 fn a_session_without_a_path_is_stepped_to_its_end(rt: HostRuntime) -> Result<(), Fail> {
-    let mut session = session_of(rt.alloc(), b"a\nx\n.\np\nx\n", None, None)?;
+    let options = Options {
+        silent: true,
+        prompt: None,
+        path: None,
+    };
+    let mut session = session_of::<PlainStore>(rt.alloc(), b"a\nx\n.\np\nx\n", options)?;
     assert!(rt; !session.started());
     session.start(Answer::Refused);
     for output in ["x\n", "?\n"] {

@@ -1,6 +1,7 @@
 //! Runs of `s`: what they write and how they end, as the standard says, and that a run that is out of memory says so.
-use crate::driving::{Case, UNREFUSED, run};
+use crate::driving::{Case, UNREFUSED, check, run};
 use ed_base::Fault;
+use line_store::GapStore;
 use std::alloc::Global;
 use std::process::Abort;
 use std::test::Fail;
@@ -77,9 +78,7 @@ fn check_each(rt: &impl Abort, alloc: Global, rows: &[Row]) -> Result<(), Fail> 
             file: Some(row.file),
             ..UNREFUSED
         };
-        let (ends, sink) = run(alloc, case)?;
-        assert_eq!(*rt; sink.taken(), row.output, "{:?}", row.script);
-        assert_eq!(rt; ends, row.ends, "{:?}", row.script);
+        check(rt, alloc, case, row.output, row.ends)?;
     }
     Ok(())
 }
@@ -108,7 +107,7 @@ fn a_run_that_is_out_of_memory_ends_by_no_other_fault(rt: HostRuntime) {
             file: Some(row.file),
             ..UNREFUSED
         };
-        if let Ok((ends, sink)) = run(rt.alloc(), case) {
+        if let Ok((ends, sink)) = run::<GapStore>(rt.alloc(), case) {
             assert!(rt;
                 ends == Err(Fault::Memory) || (ends == row.ends && sink.taken() == row.output),
                 "{:?}",

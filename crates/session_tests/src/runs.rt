@@ -1,5 +1,5 @@
 //! Runs of scripts: what they write and how they end, as the standard says (XCU ed).
-use crate::driving::{ABC, ARROW, Case, UNREFUSED, run};
+use crate::driving::{ABC, ARROW, Case, UNREFUSED, check};
 use ed_base::Fault;
 use std::alloc::Global;
 use std::process::Abort;
@@ -140,22 +140,6 @@ const LINE_COMMANDS: [Row; 37] = [
     Row { script: b"1c\nx\n.\n,p\nQ\n", file: ABC, output: b"x\nb\nc\n", ends: Ok(3) },
 ];
 
-// A run writes and ends so, whether its output is taken in large pieces or byte by byte.
-fn check(
-    rt: &impl Abort,
-    alloc: Global,
-    case: Case<'_>,
-    output: &[u8],
-    expected: Result<usize, Fault>,
-) -> Result<(), Fail> {
-    for piece in [64, 1] {
-        let (ends, sink) = run(alloc, Case { piece, ..case })?;
-        assert_eq!(*rt; sink.taken(), output, "{:?}, {piece} at once", case.script);
-        assert_eq!(rt; ends, expected, "{:?}, {piece} at once", case.script);
-    }
-    Ok(())
-}
-
 fn check_each(rt: &impl Abort, alloc: Global, rows: &[Row]) -> Result<(), Fail> {
     for row in rows {
         let case = Case {
@@ -211,6 +195,28 @@ const PROMPTS_AND_HELP: [PromptRow; 9] = [
     PromptRow { script: b"H\na\nx\n", file: None, prompt: None, output: b"?\nbuffer modified\n", ends: Err(Fault::Unsaved) },
     PromptRow { script: b"h\n1p\nQ\n", file: ABC, prompt: None, output: b"a\n", ends: Ok(3) },
 ];
+
+// XCU ed, "Options": without `-s` the bytes of the start file are counted. One that is missing has no count.
+#[rattlefmt::skip]
+const COUNTS: [Row; 3] = [
+    Row { script: b"1p\nQ\n", file: ABC, output: b"6\na\n", ends: Ok(3) },
+    Row { script: b"$p\nQ\n", file: Some(b"a\nb"), output: b"3\nb\n", ends: Ok(2) },
+    Row { script: b"Q\n", file: None, output: b"", ends: Ok(0) },
+];
+
+#[test]
+fn the_bytes_of_the_start_file_are_counted(rt: HostRuntime) -> Result<(), Fail> {
+    for row in &COUNTS {
+        let case = Case {
+            script: row.script,
+            file: row.file,
+            silent: false,
+            ..UNREFUSED
+        };
+        check(&rt, rt.alloc(), case, row.output, row.ends)?;
+    }
+    Ok(())
+}
 
 #[test]
 fn prompts_and_help_come_where_the_standard_says(rt: HostRuntime) -> Result<(), Fail> {

@@ -6,7 +6,7 @@ ghost use Rattle.ed_syntax.specs.Progress.{failing};
 ghost use Rattle.ed_syntax.specs.PublicTypes.{verb_value};
 ghost use Rattle.ed_session.specs.declared.phase.Phase.TheVariants as phases;
 ghost use Rattle.ed_session.specs.Calls.{Gives};
-ghost use Rattle.ed_session.specs.Insides.{AdvancesOrGives, ask_of_output, ask_of_request, quits_anyway};
+ghost use Rattle.ed_session.specs.Insides.{AdvancesOrGives, ask_of_output, ask_of_request, bytes_of_write, quits_anyway};
 ghost use Rattle.ed_session.specs.Sessions.{is_over, is_started, is_waiting, rest};
 ghost use Rattle.ed_session.specs.Work.{work};
 
@@ -32,6 +32,16 @@ fn output(bytes: Bytes) -> Option<Ask>
         None
     } else {
         Some(Ask::Output(bytes))
+    }
+}
+
+// How many bytes a request writes, if it writes.
+fn bytes_of_write(request: &Request) -> Option<usize>
+    ensures value { result ≡ bytes_of_write request.now }
+{
+    match request {
+        Request::Read(_) => None,
+        Request::Write(_, bytes) => Some(bytes.len()),
     }
 }
 
@@ -146,6 +156,7 @@ impl<S: LineStore> Session<S> {
             }
             Ok(Reply::Wants(request)) => {
                 self.phase = Phase::Waiting;
+                self.writes = bytes_of_write(&request);
                 Some(asking(request))
             }
             Err(fault) => {

@@ -10,12 +10,12 @@ returns-in-Ok-Wants-clause-given g c =
     let i = c.self.inside in
     let v = c.self.view_is in
     let at = ap (λ u. u.phase) v ∙ c.requires.waiting in
-    let keeps = waiting_keeps i.phase _ _ _ at c.self.invariant.keeps in
+    let keeps = waiting_keeps i.phase _ _ _ _ at c.self.invariant.keeps in
     let x = c.index.result.now in
-    let left = left_next i.commands.items i.next x (left_below i.commands.items i.next (asks_some _ _ keeps.0)) c.index.ensures in
-    let first = asks_it i.editor.state _ _ (step_value x) keeps.0 left in
+    let left = left_next i.commands.items i.next x (left_below i.commands.items i.next (asks_some _ _ _ keeps.0)) c.index.ensures in
+    let first = asks_it _ i.editor.state _ _ (step_value x) keeps.0 left in
     let exact = rw c.in-Ok-Wants.field-0-is at c.in-Ok-Wants.ensures.exact in
     let asks = wants_is _ _ _ c.in-Ok-Wants.field-0-0 (exact (c.self.invariant.works (ap is_over at))) in
-    if_awaited _ _ first.1.0 c.args.answer _ v (awaits_it _ (step_value x) _ first.1.0 keeps.1 left first.0 at first.1.1)
-    (answers_fail _ (step_value x) _ first.1.0 keeps.1 left first.0 at first.1.1 c.args.answer _ File _ _ c.ending-fault.ensures.value
+    if_awaited _ _ first.request c.args.answer _ v (awaits_it _ (step_value x) _ first.request keeps.1 left first.goes at first.asks)
+    (answers_fail _ (step_value x) _ first.request keeps.1 left first.goes at first.asks c.args.answer _ File _ _ c.ending-fault.ensures.value
     (λ h. inr (refl, (c.in-Ok-Wants.field-0-0, asks.0))) refl refl refl)

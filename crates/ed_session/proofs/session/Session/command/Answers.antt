@@ -2,7 +2,7 @@ use Rattle.std.proofs.Common.{◌≡◌, ◌≢◌, ◌∙◌, ap, sym, refl, fa
 use Rattle.ed_base.specs.declared.fault.Fault.TheVariants.{Memory}
 use Rattle.ed_syntax.specs.Applied.{command}
 use Rattle.ed_syntax.specs.PublicTypes.{command_value, step_value}
-use Rattle.ed_session.specs.Insides.{quits_anyway, silently}
+use Rattle.ed_session.specs.Insides.{quits_anyway, holding}
 use Rattle.ed_session.specs.Sessions.{is_over}
 use Rattle.ed_session.proofs.Advancing.{advances_by, goes_done, goes_asking, gives_request, next_fails, hands_out_report, done_is, wants_is, turned_present, left_next, left_below, is_false, as_goes, as_awaits, as_hands_out}
 use Rattle.ed_session.proofs.session.Session.command.Goals as goal
@@ -23,7 +23,7 @@ invariant_of-self-in-Ok-Wants g c =
       within = c.self.invariant.within;
       works = λ h. rw works at c.in-Ok-Wants.ensures.failed;
       can_report = λ h. c.self.invariant.can_report live;
-      keeps = (rw (left, asks.1) (goes, (c.in-Ok-Wants.request, asks.0)), ap (λ u. u.pending) v ∙ c.requires.handed_out);
+      keeps = (rw (left, asks.1) (record { goes = goes; request = c.in-Ok-Wants.request; asks = asks.0; writes_it = c.bytes_of_write-self-inside.ensures.value }), ap (λ u. u.pending) v ∙ c.requires.handed_out);
       ended = λ h. absurd (let n = (c.self.invariant.ended h).0 in cc);
     }
 
@@ -44,7 +44,7 @@ returns-in-Ok-Done-clause-given g c =
     rw c.output.ensures.value (advances_by c.args.self.now _ c.in-Ok-Done.written
     (as_goes c.args.self.now _ c.in-Ok-Done.written _ v
     (goes_done _ _ (step_value x) _ done.0 c.in-Ok-Done.written pending left goes (ap (λ u. u.phase) v ∙ c.requires.prompted) done.1 done.3 refl refl refl pending
-    (turned_present (command_value x).verb i.editor.state done.0.state c.apply.new.self.state i.modes c.after-self-inside.result i.prompt done.2 turned.prompting turned.help)))
+    (turned_present (command_value x).verb i.silent i.editor.state done.0.state c.apply.new.self.state i.modes c.after-self-inside.result i.prompt done.2 turned.prompting turned.help)))
     refl refl pending untold)
 
 pub returns-in-Ok-Wants-clause-given : goal.returns-in-Ok-Wants-clause-given
@@ -61,7 +61,7 @@ returns-in-Ok-Wants-clause-given g c =
     let asks = wants_is _ _ _ c.in-Ok-Wants.request (exact (c.self.invariant.works live)) in
     rw c.asking.ensures.value (gives_request c.args.self.now _ c.in-Ok-Wants.request
     (as_awaits c.args.self.now _ c.in-Ok-Wants.request _ v
-    (goes_asking _ _ (step_value x) _ c.in-Ok-Wants.request pending left goes (ap (λ u. u.phase) v ∙ c.requires.prompted) asks.0 refl refl refl pending (ap (λ s. silently s i.modes i.prompt) asks.1))))
+    (goes_asking _ _ (step_value x) _ c.in-Ok-Wants.request pending left goes (ap (λ u. u.phase) v ∙ c.requires.prompted) asks.0 refl refl refl pending (ap (λ s. holding i.silent s i.modes i.prompt) asks.1))))
 
 pub returns-in-Err-clause-given : goal.returns-in-Err-clause-given
 returns-in-Err-clause-given g c =

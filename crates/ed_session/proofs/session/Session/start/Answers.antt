@@ -8,17 +8,17 @@ returns-in-Err-clause-given g c =
     let i = c.self.inside in
     let v = c.self.view_is in
     let fresh : i.phase ≡ phases.Fresh (Some c.in-Fresh-Some.path) = search rules in
-    let keeps = fresh_keeps i.phase _ _ _ _ fresh c.self.invariant.keeps in
+    let keeps = fresh_keeps i.phase _ _ _ _ _ fresh c.self.invariant.keeps in
     starts_with c.args.self.now c.in-Fresh-Some.path c.args.answer _ (sym (ap (λ u. u.phase) v) ∙ fresh)
     (as_answers c.args.self.now _ _ c.args.answer _ v
     (starts_fails _ _ c.in-Fresh-Some.path c.args.answer c.in-Err.fault _ _ fresh keeps.1 c.ending-fault.ensures.value c.in-Err.ensures.fault refl refl refl))
 
-pub returns-in_default-load-clause-given : goal.returns-in_default-load-clause-given
-returns-in_default-load-clause-given g c =
+pub returns-in-Ok-clause-given : goal.returns-in-Ok-clause-given
+returns-in-Ok-clause-given g c =
     let i = c.self.inside in
     let v = c.self.view_is in
     let fresh : i.phase ≡ phases.Fresh (Some c.in-Fresh-Some.path) = search rules in
-    let keeps = fresh_keeps i.phase _ _ _ _ fresh c.self.invariant.keeps in
+    let keeps = fresh_keeps i.phase _ _ _ _ _ fresh c.self.invariant.keeps in
     starts_with c.args.self.now c.in-Fresh-Some.path c.args.answer _ (sym (ap (λ u. u.phase) v) ∙ fresh)
     (as_answers c.args.self.now _ _ c.args.answer _ v
-    (starts_loaded _ _ c.in-Fresh-Some.path c.args.answer _ fresh keeps.1 refl keeps.0 c.in_default-load.ensures.loaded c.replace.ensures.after keeps.1 refl refl refl))
+    (starts_loaded _ _ c.in-Fresh-Some.path c.args.answer _ fresh keeps.1 keeps.0 c.in-Ok.ensures.loaded c.replace.ensures.after c.in-Ok.ensures.count refl refl refl))
