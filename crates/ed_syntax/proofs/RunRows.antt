@@ -372,7 +372,7 @@ copy_has_no_mark = refl
 joined_line_has_no_mark : edited letters (codes "1ka\n1,2j\n'a=\n") ≡ fails (codes "?\n") fault.Mark
 joined_line_has_no_mark = refl
 
-one_line_is_not_joined : edited (codes "a\nb\n") (codes "1,1j\n2j\n,p\nq\n") ≡ fails (codes "a\nb\n?\n") fault.Syntax
+one_line_is_not_joined : edited (codes "a\nb\n") (codes "1,1j\n2j\n,p\nq\n") ≡ ends (codes "a\nb\n") 2
 one_line_is_not_joined = refl
 
 last_line_joins_none : edited letters (codes "j\n") ≡ fails (codes "?\n") fault.Address

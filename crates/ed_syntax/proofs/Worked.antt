@@ -7,7 +7,7 @@ use Rattle.ed_syntax.specs.declared.request.Answer.TheVariants as answer
 use Rattle.ed_syntax.specs.declared.request.Request.{Request}
 use Rattle.ed_syntax.specs.declared.request.Request.TheVariants as request
 use Rattle.ed_syntax.specs.Reading.{script_of}
-use Rattle.ed_syntax.specs.Progress.{Progress, Stop, Ends, output_of, asked_of, stop_of, cut}
+use Rattle.ed_syntax.specs.Progress.{Progress, Stop, Waits, Ends, output_of, asked_of, stop_of, cut}
 use Rattle.ed_syntax.specs.Runs.{run}
 
 -- what is seen of a run
@@ -23,6 +23,10 @@ seen p = record { output = output_of p; asked = asked_of p; stop = stop_of p }
 abbrev pub options : Bool → Option (List ℕ) → Options
 options silent prompt = record { silent = silent; prompt = prompt; path = Some (codes "F") }
 
+-- a silent run without a file
+abbrev pub unnamed : Options
+unnamed = record { silent = true; prompt = None; path = None }
+
 -- a run of a script with these answers
 abbrev pub ran : List ℕ → Options → List Answer → Seen
 ran script o answers = seen (run (script_of script) o answers)
@@ -31,12 +35,22 @@ ran script o answers = seen (run (script_of script) o answers)
 abbrev pub edited : List ℕ → List ℕ → Seen
 edited file script = ran script (options true None) (answer.Bytes file ∷ [])
 
--- it read its file, wrote this output, and ended with so many lines or by a fault
+-- it wrote this output and asked this, and ended with so many lines or by a fault, or waits
+abbrev pub ended : List ℕ → List Request → ℕ → Seen
+ended output asked lines = record { output = output; asked = asked; stop = Ends (Ok (record { lines = lines })) }
+
+abbrev pub failed : List ℕ → List Request → Fault → Seen
+failed output asked f = record { output = output; asked = asked; stop = Ends (Err f) }
+
+abbrev pub waiting : List ℕ → List Request → Request → Seen
+waiting output asked r = record { output = output; asked = asked; stop = Waits r }
+
+-- it read its file and asked no more
 abbrev pub ends : List ℕ → ℕ → Seen
-ends output lines = record { output = output; asked = request.Read (codes "F") ∷ []; stop = Ends (Ok (record { lines = lines })) }
+ends output lines = ended output (request.Read (codes "F") ∷ []) lines
 
 abbrev pub fails : List ℕ → Fault → Seen
-fails output f = record { output = output; asked = request.Read (codes "F") ∷ []; stop = Ends (Err f) }
+fails output f = failed output (request.Read (codes "F") ∷ []) f
 
 -- a run that was cut at a step, so many bytes of which were written
 abbrev pub ran_short : List ℕ → Options → List Answer → (steps bytes : ℕ) → Seen

@@ -1,7 +1,8 @@
 -- Which bytes spell an address (XCU ed, "Addresses in ed").
 -- Each names a text, what stands behind the part at its head, and what that part means. A text ends with its line.
 use Rattle.std.specs.Prelude.{ℕ, ◌+◌, ◌<◌, ◌≤◌, ◌≡◌, ℤ, pos, ◌+ℤ◌, neg_ℤ, List, ◌∷◌, ◌++◌, length, All, Option, Some, None, IsTrue, IsFalse}
-use Rattle.ed_syntax.specs.Characters.{dollar_sign, apostrophe, plus_sign, comma_byte, hyphen, full_stop, slash, semicolon_byte, question_mark, letter_a, is_blank, is_digit, is_sign, is_separator, begins_address, begins, behind_blanks, value_of}
+use Rattle.ed_syntax.specs.Characters.{dollar_sign, apostrophe, plus_sign, comma_byte, hyphen, full_stop, slash, semicolon_byte, question_mark, is_blank, is_digit, is_sign, is_separator, begins_address, begins, behind_blanks, value_of}
+use Rattle.ed_syntax.specs.Letters.{letter_a}
 use Rattle.ed_syntax.specs.Commands.{Base, Number, Current, Last, Marked, Forward, Backward, Address, Addresses, Without, One, Comma, Semicolon, at_base}
 use Rattle.ed_syntax.specs.Quoting.{SpellsPattern, SpellsClosing}
 

@@ -13,6 +13,7 @@ use Rattle.ed_syntax.specs.Forms.{lines_written}
 use Rattle.ed_syntax.specs.Effects as effect
 use Rattle.ed_syntax.specs.Effects.{Outcome, Effect, Makes, Asks, only}
 use Rattle.ed_syntax.specs.SubstitutedLines.{substitute}
+use Rattle.ed_syntax.specs.Files as file
 
 -- an outcome, where there is no fault
 abbrev pub making : Result Outcome Fault → Result Effect Fault
@@ -33,9 +34,15 @@ effect_of (ed.Substitute pattern replacement which form) listed x target s given
 effect_of ed.LineNumber listed x target s given = Ok (Makes (effect.line_number x s))
 effect_of ed.Null listed x target s given = Ok (Makes (effect.write ed.Plain x s))
 effect_of (ed.Write form) listed x target s given = Ok (Makes (effect.write form x s))
+effect_of (ed.ReadFile path) listed x target s given = file.read path given x s
+effect_of (ed.WriteFile path) listed x target s given = file.write path given x s
+effect_of (ed.Edit path) listed x target s given = file.edit path given s
+effect_of (ed.EditAnyway path) listed x target s given = file.edit_anyway path given s
+effect_of (ed.FileName path) listed x target s given = making (file.file_name path s)
 effect_of ed.Help listed x target s given = Ok (Makes (only s []))
 effect_of ed.HelpMode listed x target s given = Ok (Makes (only s []))
 effect_of ed.PromptMode listed x target s given = Ok (Makes (only s []))
+effect_of ed.Quit listed x target s given = making (file.quit s)
 effect_of ed.QuitAnyway listed x target s given = Ok (Makes (only s []))
 
 -- the lines that a command is applied to, the value of its target, and the state once its addresses were evaluated

@@ -1,6 +1,10 @@
--- The bytes that have a meaning in scripts, blanks, digits, and the numbers that digits spell (XBD 6.1, "Portable Character Set"; XCU ed).
+-- The signs that have a meaning in scripts, blanks, digits, and the numbers that digits spell (XBD 6.1, "Portable Character Set"; XCU ed).
 use Rattle.std.specs.Prelude.{ℕ, ◌+◌, ◌-◌, ◌*◌, Bool, true, false, not, ◌&&◌, ◌||◌, List, [], ◌∷◌, nat_eq, nat_le}
 use Rattle.std.specs.List.{fold}
+
+-- `!`
+abbrev pub exclamation_mark : ℕ
+exclamation_mark = 33
 
 -- `$`
 abbrev pub dollar_sign : ℕ
@@ -50,18 +54,6 @@ equals_sign = 61
 abbrev pub question_mark : ℕ
 question_mark = 63
 
--- `H`
-abbrev pub capital_h : ℕ
-capital_h = 72
-
--- `P`
-abbrev pub capital_p : ℕ
-capital_p = 80
-
--- `Q`
-abbrev pub capital_q : ℕ
-capital_q = 81
-
 -- `[`
 abbrev pub left_square_bracket : ℕ
 left_square_bracket = 91
@@ -69,62 +61,6 @@ left_square_bracket = 91
 -- `\`
 abbrev pub backslash : ℕ
 backslash = 92
-
--- `a`
-abbrev pub letter_a : ℕ
-letter_a = 97
-
--- `c`
-abbrev pub letter_c : ℕ
-letter_c = 99
-
--- `d`
-abbrev pub letter_d : ℕ
-letter_d = 100
-
--- `g`
-abbrev pub letter_g : ℕ
-letter_g = 103
-
--- `h`
-abbrev pub letter_h : ℕ
-letter_h = 104
-
--- `i`
-abbrev pub letter_i : ℕ
-letter_i = 105
-
--- `j`
-abbrev pub letter_j : ℕ
-letter_j = 106
-
--- `k`
-abbrev pub letter_k : ℕ
-letter_k = 107
-
--- `l`
-abbrev pub letter_l : ℕ
-letter_l = 108
-
--- `m`
-abbrev pub letter_m : ℕ
-letter_m = 109
-
--- `n`
-abbrev pub letter_n : ℕ
-letter_n = 110
-
--- `p`
-abbrev pub letter_p : ℕ
-letter_p = 112
-
--- `s`
-abbrev pub letter_s : ℕ
-letter_s = 115
-
--- `t`
-abbrev pub letter_t : ℕ
-letter_t = 116
 
 -- a blank is a space or a tab
 abbrev pub is_blank : ℕ → Bool

@@ -37,7 +37,8 @@ pub data Form : Type 0 where
 
 -- A command's letter with its parameters: `a`, `c` and `i` with their text, `d`, `j`, `k` with the letter that marks, `m` and `t`
 -- with their target, `s` with its pattern and its replacement, where none is the remembered one, which matches it takes and the form
--- in which it writes; `=`, the null command, `l`, `n` and `p` by the form that they write in, `h`, `H`, `P`, `Q`.
+-- in which it writes; `=`, the null command, `l`, `n` and `p` by the form that they write in; `r`, `w`, `e`, `E` and `f` with their
+-- path, where none is the remembered one; `h`, `H`, `P`, `q`, `Q`.
 pub data Verb : Type 0 where
   Append : (text : List (List ℕ)) → Verb
   Change : (text : List (List ℕ)) → Verb
@@ -51,9 +52,15 @@ pub data Verb : Type 0 where
   LineNumber : Verb
   Null : Verb
   Write : (form : Form) → Verb
+  ReadFile : (path : Option (List ℕ)) → Verb
+  WriteFile : (path : Option (List ℕ)) → Verb
+  Edit : (path : Option (List ℕ)) → Verb
+  EditAnyway : (path : Option (List ℕ)) → Verb
+  FileName : (path : Option (List ℕ)) → Verb
   Help : Verb
   HelpMode : Verb
   PromptMode : Verb
+  Quit : Verb
   QuitAnyway : Verb
 
 -- a command; `listed` where it stands in the list of a global command

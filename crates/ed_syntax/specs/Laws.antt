@@ -1,5 +1,5 @@
 -- What holds of every command and of every run.
-use Rattle.std.specs.Prelude.{◌≡◌, Bool, true, false, List, [], ◌∷◌, Option, Ok, Err, IsTrue, IsFalse}
+use Rattle.std.specs.Prelude.{◌≡◌, Bool, true, false, ℕ, List, [], ◌∷◌, Option, Some, None, Ok, Err, IsTrue, IsFalse}
 use Rattle.ed_base.specs.Buffer.{Line, KnowLetters, AtMostOnce}
 use Rattle.ed_base.specs.declared.fault.Fault.{Fault}
 use Rattle.ed_base.specs.declared.fault.Fault.TheVariants as fault
@@ -11,7 +11,7 @@ use Rattle.ed_syntax.specs.declared.options.Options.{Options}
 use Rattle.ed_syntax.specs.Commands.{Command, Script}
 use Rattle.ed_syntax.specs.Verbs.{is_listed}
 use Rattle.ed_syntax.specs.States.{State, Kept, Was}
-use Rattle.ed_syntax.specs.Effects.{Outcome, Makes}
+use Rattle.ed_syntax.specs.Effects.{Outcome, Makes, Asks}
 use Rattle.ed_syntax.specs.Applied.{command}
 use Rattle.ed_syntax.specs.Progress.{Ends, asked_of, stop_of}
 use Rattle.ed_syntax.specs.Runs.{run}
@@ -44,12 +44,34 @@ serves (request.Read path) (answer.Bytes bytes) = true
 serves (request.Write path bytes) answer.Done = true
 serves r a = false
 
+-- an answer that isn't asked for isn't looked at
+abbrev pub UnaskedAnswersDoNothing : Type 0
+UnaskedAnswersDoNothing = (s : State) (c : Command) (a : Answer) → ((r : Request) → command s c None ≡ Ok (Asks r) → ⊥) → command s c (Some a) ≡ command s c None
+
+-- a command that has its answer asks no more
+abbrev pub NothingIsAskedTwice : Type 0
+NothingIsAskedTwice = (s : State) (c : Command) (a : Answer) (r : Request) → command s c (Some a) ≡ Ok (Asks r) → ⊥
+
 -- the last of these requests was answered, and not served
 pub data LastUnserved : List Request → List Answer → Type 0 where
   last : (r : Request) (a : Answer) (later : List Answer) → IsFalse (serves r a) → LastUnserved (r ∷ []) (a ∷ later)
   next : (r : Request) (a : Answer) (asked : List Request) (answers : List Answer) → LastUnserved asked answers → LastUnserved (r ∷ asked) (a ∷ answers)
 
+-- an answer with which a run starts: the file's bytes, or that there is no such file
+abbrev pub starts : Answer → Bool
+starts (answer.Bytes bytes) = true
+starts answer.Missing = true
+starts a = false
+
+-- The answer that makes a run end by a file: one to the start's request, if it has a file, with which it doesn't start, or one that
+-- doesn't serve a command's.
+pub data FileCause : (start : Option (List ℕ)) → List Request → List Answer → Type 0 where
+  at_start : (path : List ℕ) (a : Answer) (later : List Answer) → IsFalse (starts a) → FileCause (Some path) (request.Read path ∷ []) (a ∷ later)
+  at_command : (asked : List Request) (answers : List Answer) → LastUnserved asked answers → FileCause None asked answers
+  after_start : (path : List ℕ) (a : Answer) (asked : List Request) (answers : List Answer) → LastUnserved asked answers →
+      FileCause (Some path) (request.Read path ∷ asked) (a ∷ answers)
+
 -- where a run ends by a file, an answer is the cause
 abbrev pub FilesHaveACause : Type 0
 FilesHaveACause = (script : Script) (o : Options) (answers : List Answer) → stop_of (run script o answers) ≡ Ends (Err fault.File) →
-    LastUnserved (asked_of (run script o answers)) answers
+    FileCause o.path (asked_of (run script o answers)) answers

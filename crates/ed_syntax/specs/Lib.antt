@@ -1,6 +1,7 @@
 -- what a reader has to believe, in the order of reading
 pub mod Commands
 pub mod Characters
+pub mod Letters
 pub mod Quoting
 pub mod Addressing
 pub mod Parameters
@@ -26,5 +27,6 @@ pub mod PartNumbers
 -- the reader's own words, tied to the spellings by a law
 pub mod Tokens
 pub mod ReadParameters
+pub mod ReadVerbs
 pub mod Reading
 pub mod ReadParts

@@ -1,15 +1,16 @@
--- Which bytes spell a command's text and the parameters of `s` (XCU ed, "Commands in ed", "Substitute Command").
+-- Which bytes spell a command's text, its path and the parameters of `s` (XCU ed, "Commands in ed", "Substitute Command").
 -- Each names a text, what stands behind the part at its head, and what that part means. A text ends with its line.
-use Rattle.std.specs.Prelude.{ℕ, ◌+◌, ◌<◌, ◌≢◌, List, [], ◌∷◌, ◌++◌, Option, Some, None, IsFalse}
+use Rattle.std.specs.Prelude.{ℕ, ◌+◌, ◌<◌, ◌≡◌, ◌≢◌, List, [], ◌∷◌, ◌++◌, Option, Some, None, IsTrue, IsFalse}
 use Rattle.ed_base.specs.Lines.{newline, IsLine}
 use Rattle.ed_syntax.specs.declared.replacement.Part.{Part}
 use Rattle.ed_syntax.specs.declared.replacement.Part.TheVariants as part
 use Rattle.ed_syntax.specs.declared.replacement.Which.{Which}
 use Rattle.ed_syntax.specs.declared.replacement.Which.TheVariants as which
-use Rattle.ed_syntax.specs.Characters.{percent_sign, ampersand, full_stop, backslash, letter_g, letter_l, letter_n, letter_p, is_digit, is_letter}
+use Rattle.ed_syntax.specs.Characters.{exclamation_mark, percent_sign, ampersand, full_stop, backslash, is_blank, is_digit, is_letter, behind_blanks}
+use Rattle.ed_syntax.specs.Letters.{letter_g, letter_l, letter_n, letter_p}
 use Rattle.ed_syntax.specs.Commands as ed
 use Rattle.ed_syntax.specs.Commands.{Form}
-use Rattle.ed_syntax.specs.Addressing.{SpellsNumber}
+use Rattle.ed_syntax.specs.Addressing.{Blanks, SpellsNumber}
 
 -- Whole lines that are a text, up to a line that is `.` or to the end of the script, and what follows.
 pub data SpellsText : List ℕ → List ℕ → List (List ℕ) → Type 0 where
@@ -23,6 +24,12 @@ pub data SpellsForm : ℕ → Form → Type 0 where
   plain : SpellsForm letter_p ed.Plain
   numbered : SpellsForm letter_n ed.Numbered
   unambiguous : SpellsForm letter_l ed.Unambiguous
+
+-- A path, up to the line's end: blanks and a name that doesn't begin with `!`; none where nothing stands there but blanks.
+pub data SpellsPath : List ℕ → Option (List ℕ) → Type 0 where
+  none : (blanks : List ℕ) → Blanks blanks → SpellsPath blanks None
+  given : (blank byte : ℕ) (text name : List ℕ) → IsTrue (is_blank blank) → behind_blanks text ≡ byte ∷ name → byte ≢ exclamation_mark →
+      SpellsPath (blank ∷ text) (Some (byte ∷ name))
 
 -- a backslash and this byte in a replacement: a group, or the byte itself; by our choice nothing behind letters and `0`
 pub data SpellsEscape (delimiter : ℕ) : (byte : ℕ) → Part → Type 0 where

@@ -67,9 +67,15 @@ verb_value (verb.Substitute pattern replacement which form) = ed.Substitute patt
 verb_value verb.LineNumber = ed.LineNumber
 verb_value verb.Null = ed.Null
 verb_value (verb.Write f) = ed.Write (form_value f)
+verb_value (verb.ReadFile path) = ed.ReadFile path
+verb_value (verb.WriteFile path) = ed.WriteFile path
+verb_value (verb.Edit path) = ed.Edit path
+verb_value (verb.EditAnyway path) = ed.EditAnyway path
+verb_value (verb.FileName path) = ed.FileName path
 verb_value verb.Help = ed.Help
 verb_value verb.HelpMode = ed.HelpMode
 verb_value verb.PromptMode = ed.PromptMode
+verb_value verb.Quit = ed.Quit
 verb_value verb.QuitAnyway = ed.QuitAnyway
 
 -- a command

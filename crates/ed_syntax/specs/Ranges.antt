@@ -43,6 +43,11 @@ abbrev pub single : ℕ → Result Span Fault
 single zero = Err fault.Address
 single (suc n) = Ok (span (suc n) (suc n))
 
+-- all lines where no address is given, of an empty buffer none; else in order
+abbrev pub whole : (last : ℕ) → List ℕ → Result Span Fault
+whole last [] = Ok (span 1 last)
+whole last (a ∷ more) = ordered a (last_of_two (a ∷ more))
+
 -- The lines that these values name, for a command that takes so many, in a buffer of so many lines; of two for one line the last is
 -- taken, in any order.
 abbrev pub spanned : Taking → (last : ℕ) → List ℕ → Result Span Fault
@@ -52,3 +57,4 @@ spanned takes.FirstPlace last values = let a = not_before (last_of_two values) i
 spanned takes.OneLine last values = single (last_of_two values)
 spanned takes.Lines last values = from_first (first_of_two values) (last_of_two values) last
 spanned takes.Range last values = ordered (first_of_two values) (last_of_two values)
+spanned takes.Whole last values = whole last values

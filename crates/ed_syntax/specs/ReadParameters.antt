@@ -7,7 +7,8 @@ use Rattle.ed_syntax.specs.declared.replacement.Which.{Which}
 use Rattle.ed_syntax.specs.declared.replacement.Which.TheVariants as which
 use Rattle.ed_syntax.specs.Commands as ed
 use Rattle.ed_syntax.specs.Commands.{Form, Verb}
-use Rattle.ed_syntax.specs.Characters.{percent_sign, ampersand, backslash, letter_g, letter_l, letter_n, letter_p, is_digit, is_letter, is_delimiter}
+use Rattle.ed_syntax.specs.Characters.{percent_sign, ampersand, backslash, is_digit, is_letter, is_delimiter}
+use Rattle.ed_syntax.specs.Letters.{letter_g, letter_l, letter_n, letter_p}
 use Rattle.ed_syntax.specs.Tokens.{Parsed, ◌>>=◌, number, pattern_at}
 
 -- a place in a script: what is left of a line, and the lines behind it

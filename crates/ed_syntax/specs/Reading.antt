@@ -3,53 +3,13 @@ use Rattle.std.specs.Prelude.{ℕ, zero, suc, ◌+◌, ◌-◌, Bool, true, fals
 use Rattle.std.specs.List.{list_all}
 use Rattle.ed_base.specs.Lines.{lines_of}
 use Rattle.ed_syntax.specs.Commands as ed
-use Rattle.ed_syntax.specs.Commands.{Address, Addresses, Form, Verb, Command, Step, Script, alone}
+use Rattle.ed_syntax.specs.Commands.{Addresses, Form, Verb, Command, Step, Script, alone}
 use Rattle.ed_syntax.specs.Verbs.{may_have, takes}
-use Rattle.ed_syntax.specs.Characters.{equals_sign, capital_h, capital_p, capital_q, letter_a, letter_c, letter_d, letter_h, letter_i, letter_j, letter_k, letter_l, letter_m, letter_n, letter_p, letter_s, letter_t, is_blank, behind_blanks}
-use Rattle.ed_syntax.specs.Tokens.{Parsed, ◌>>=◌, letter, address, addresses}
+use Rattle.ed_syntax.specs.Characters.{is_blank}
+use Rattle.ed_syntax.specs.Letters.{letter_s}
+use Rattle.ed_syntax.specs.Tokens.{◌>>=◌, addresses}
+use Rattle.ed_syntax.specs.ReadVerbs.{verb_at}
 use Rattle.ed_syntax.specs.ReadParameters.{place, ParsedAt, form_of, substitution}
-
--- the verb beside this letter
-abbrev pub beside_letter : ℕ → List (ℕ × Verb) → Option Verb
-beside_letter b [] = None
-beside_letter b (entry ∷ entries) = elim (nat_eq b entry.0) [ true ↦ Some entry.1 | false ↦ beside_letter b entries ]
-
--- the commands whose letter has no parameters on its line, before their texts are read
-abbrev pub plain_verbs : List (ℕ × Verb)
-plain_verbs =
-    (letter_a, ed.Append [])
-    ∷ (letter_c, ed.Change [])
-    ∷ (letter_d, ed.Delete)
-    ∷ (letter_i, ed.Insert [])
-    ∷ (letter_j, ed.Join)
-    ∷ (letter_l, ed.Write ed.Unambiguous)
-    ∷ (letter_n, ed.Write ed.Numbered)
-    ∷ (letter_p, ed.Write ed.Plain)
-    ∷ (equals_sign, ed.LineNumber)
-    ∷ (letter_h, ed.Help)
-    ∷ (capital_h, ed.HelpMode)
-    ∷ (capital_p, ed.PromptMode)
-    ∷ (capital_q, ed.QuitAnyway)
-    ∷ []
-
--- a target with blanks before it
-abbrev pub target : List ℕ → Parsed Address
-target bs = address (behind_blanks bs) >>= λ r. r.0 >>= λ a. Some (a, r.1)
-
--- a command's letter with parameters that stand on its own line, before its text is read; nothing is the null command
-abbrev pub verb_at : List ℕ → Parsed Verb
-verb_at [] = Some (ed.Null, [])
-verb_at (b ∷ bs) =
-    elim (nat_eq b letter_k) [
-      | true ↦ letter bs >>= λ r. Some (ed.Mark r.0, r.1)
-      | false ↦ elim (nat_eq b letter_m) [
-        | true ↦ target bs >>= λ r. Some (ed.Move r.0, r.1)
-        | false ↦ elim (nat_eq b letter_t) [
-          | true ↦ target bs >>= λ r. Some (ed.Copy r.0, r.1)
-          | false ↦ beside_letter b plain_verbs >>= λ verb. Some (verb, bs)
-        ]
-      ]
-    ]
 
 -- a command's letter with its parameters, before its text is read; a replacement may go on in the lines behind
 abbrev pub verb_from : List ℕ → List (List ℕ) → ParsedAt Verb

@@ -51,6 +51,7 @@ one c m go = asking m (command m.state c None) (λ a. command m.state c (Some a)
 
 -- a step that ends the run, or goes on
 abbrev pub step_by : Verb → Step → Present → Further → Rest
+step_by ed.Quit x m go answers = quitting m
 step_by ed.QuitAnyway x m go answers = ending m
 step_by verb x m go answers = one x.command m go answers
 

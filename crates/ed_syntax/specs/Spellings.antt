@@ -3,13 +3,14 @@ use Rattle.std.specs.Prelude.{ℕ, ◌+◌, ◌-◌, ◌<◌, ◌≡◌, ◌≢�
 use Rattle.ed_base.specs.Lines.{newline, IsLine, lines_of, bytes_of}
 use Rattle.ed_syntax.specs.declared.replacement.Part.{Part}
 use Rattle.ed_syntax.specs.declared.replacement.Which.{Which}
-use Rattle.ed_syntax.specs.Characters.{equals_sign, capital_h, capital_p, capital_q, letter_a, letter_c, letter_d, letter_h, letter_i, letter_j, letter_k, letter_m, letter_s, letter_t, is_delimiter, behind_blanks}
+use Rattle.ed_syntax.specs.Characters.{equals_sign, is_delimiter, behind_blanks}
+use Rattle.ed_syntax.specs.Letters.{capital_e, capital_h, capital_p, capital_q, letter_a, letter_c, letter_d, letter_e, letter_f, letter_h, letter_i, letter_j, letter_k, letter_m, letter_q, letter_r, letter_s, letter_t, letter_w}
 use Rattle.ed_syntax.specs.Commands as ed
 use Rattle.ed_syntax.specs.Commands.{Address, Addresses, Form, Verb, Command, Step, Script, alone}
 use Rattle.ed_syntax.specs.Verbs.{may_have, takes}
 use Rattle.ed_syntax.specs.Quoting.{SpellsPattern}
 use Rattle.ed_syntax.specs.Addressing.{Blanks, SpellsAddress, SpellsAddresses}
-use Rattle.ed_syntax.specs.Parameters.{SpellsText, SpellsForm, SpellsReplacement, SpellsEnd}
+use Rattle.ed_syntax.specs.Parameters.{SpellsText, SpellsForm, SpellsPath, SpellsReplacement, SpellsEnd}
 
 -- The end of a command's own line: a suffix, if the command takes one, and blanks.
 pub data SpellsSuffix (verb : Verb) : List ℕ → Option Form → Type 0 where
@@ -42,9 +43,15 @@ pub data SpellsVerb : (own more text rest : List ℕ) → Verb → Type 0 where
   line_number : (more rest : List ℕ) → SpellsVerb (equals_sign ∷ more) more [] rest ed.LineNumber
   null : (rest : List ℕ) → SpellsVerb [] [] [] rest ed.Null
   write : (letter : ℕ) (more rest : List ℕ) (form : Form) → SpellsForm letter form → SpellsVerb (letter ∷ more) more [] rest (ed.Write form)
+  read_file : (own rest : List ℕ) (path : Option (List ℕ)) → SpellsPath own path → SpellsVerb (letter_r ∷ own) [] [] rest (ed.ReadFile path)
+  write_file : (own rest : List ℕ) (path : Option (List ℕ)) → SpellsPath own path → SpellsVerb (letter_w ∷ own) [] [] rest (ed.WriteFile path)
+  edit : (own rest : List ℕ) (path : Option (List ℕ)) → SpellsPath own path → SpellsVerb (letter_e ∷ own) [] [] rest (ed.Edit path)
+  edit_anyway : (own rest : List ℕ) (path : Option (List ℕ)) → SpellsPath own path → SpellsVerb (capital_e ∷ own) [] [] rest (ed.EditAnyway path)
+  file_name : (own rest : List ℕ) (path : Option (List ℕ)) → SpellsPath own path → SpellsVerb (letter_f ∷ own) [] [] rest (ed.FileName path)
   help : (more rest : List ℕ) → SpellsVerb (letter_h ∷ more) more [] rest ed.Help
   help_mode : (more rest : List ℕ) → SpellsVerb (capital_h ∷ more) more [] rest ed.HelpMode
   prompt_mode : (more rest : List ℕ) → SpellsVerb (capital_p ∷ more) more [] rest ed.PromptMode
+  quit : (more rest : List ℕ) → SpellsVerb (letter_q ∷ more) more [] rest ed.Quit
   quit_anyway : (more rest : List ℕ) → SpellsVerb (capital_q ∷ more) more [] rest ed.QuitAnyway
 
 -- Whole lines that spell a command, in a list or outside, and the lines that follow: a line with addresses, a letter and a suffix, and

@@ -18,7 +18,7 @@ abbrev pub next : Address
 next = record { base = ed.Current; offset = pos 1 }
 
 -- What a command takes: the addresses that it has where none are given; how many it takes, and what line 0 means to it; whether the
--- lines of a text follow it; the address that is its target; whether a suffix may follow.
+-- lines of a text follow it; the address that is its target; whether a suffix may follow. Without addresses `w` takes all lines.
 pub record Takes : Type 0 where
   pub default : Addresses
   pub taking : Taking
@@ -41,9 +41,15 @@ takes (ed.Substitute pattern replacement choice form) =
 takes ed.LineNumber = record { default = One (at_base ed.Last); taking = many.Place; text = false; target = None; suffix = true }
 takes ed.Null = record { default = One next; taking = many.OneLine; text = false; target = None; suffix = false }
 takes (ed.Write form) = record { default = Comma here here; taking = many.Range; text = false; target = None; suffix = true }
+takes (ed.ReadFile path) = record { default = One (at_base ed.Last); taking = many.Place; text = false; target = None; suffix = false }
+takes (ed.WriteFile path) = record { default = Without; taking = many.Whole; text = false; target = None; suffix = false }
+takes (ed.Edit path) = record { default = Without; taking = many.NoAddress; text = false; target = None; suffix = false }
+takes (ed.EditAnyway path) = record { default = Without; taking = many.NoAddress; text = false; target = None; suffix = false }
+takes (ed.FileName path) = record { default = Without; taking = many.NoAddress; text = false; target = None; suffix = false }
 takes ed.Help = record { default = Without; taking = many.NoAddress; text = false; target = None; suffix = true }
 takes ed.HelpMode = record { default = Without; taking = many.NoAddress; text = false; target = None; suffix = true }
 takes ed.PromptMode = record { default = Without; taking = many.NoAddress; text = false; target = None; suffix = true }
+takes ed.Quit = record { default = Without; taking = many.NoAddress; text = false; target = None; suffix = false }
 takes ed.QuitAnyway = record { default = Without; taking = many.NoAddress; text = false; target = None; suffix = false }
 
 -- the given addresses, or the command's own where there are none
@@ -77,8 +83,11 @@ counts_from_one _ = true
 abbrev pub is_sound : Verb → Bool
 is_sound verb = marks_by_letter verb && counts_from_one verb
 
--- it may stand in the list of a global command; that `Q` may not is our choice
+-- it may stand in the list of a global command; that `e`, `E`, `q` and `Q` may not is our choice
 abbrev pub may_be_listed : Verb → Bool
+may_be_listed (ed.Edit path) = false
+may_be_listed (ed.EditAnyway path) = false
+may_be_listed ed.Quit = false
 may_be_listed ed.QuitAnyway = false
 may_be_listed _ = true
 

@@ -3,7 +3,7 @@ ghost use Rattle.std.specs.Prelude.{◌≡◌, IfOk};
 ghost use Rattle.ed_syntax.specs.PublicTypes.{address_value, base_value};
 
 use crate::{Pattern, Replacement, Which};
-use ed_base::{Letter, Text};
+use ed_base::{Bytes, Letter, Text};
 use std::alloc::AllocError;
 
 /// Where an address begins.
@@ -87,12 +87,24 @@ pub enum Verb {
     Null,
     /// `l`, `n` and `p`, by their form.
     Write(Form),
+    /// `r`: the lines of the file at this path go behind the addressed line. `None` is the remembered path, here and below.
+    ReadFile(Option<Bytes>),
+    /// `w`: the addressed lines are what the file then has.
+    WriteFile(Option<Bytes>),
+    /// `e`: the lines of the file come in place of the buffer, if its changes were written.
+    Edit(Option<Bytes>),
+    /// `E`: as `e`, whether or not changes were written.
+    EditAnyway(Option<Bytes>),
+    /// `f`: the path is remembered, and the remembered one is written.
+    FileName(Option<Bytes>),
     /// `h`: nothing, since a run has no earlier fault.
     Help,
     /// `H`: turns help mode on or off, in which a fault's text is written behind its `?`.
     HelpMode,
     /// `P`: turns prompting on or off.
     PromptMode,
+    /// `q`: the end of the run, if changes were written.
+    Quit,
     /// `Q`: the end of the run, whether or not changes were written.
     QuitAnyway,
 }

@@ -21,6 +21,8 @@ pub enum Taking {
     Lines,
     /// Two, the first not behind the second; 0 is a fault. One given stands for both.
     Range,
+    /// As `Range`; without any, all lines, of an empty buffer none.
+    Whole,
 }
 
 /// What stands for the addresses where none is given.
@@ -152,11 +154,23 @@ impl Verb {
                 ..row(DefaultAddresses::Next, Taking::OneLine)
             },
             Verb::Write(_) => row(DefaultAddresses::CurrentTwice, Taking::Range),
+            Verb::ReadFile(_) => Takes {
+                suffix: false,
+                ..row(DefaultAddresses::Last, Taking::Place)
+            },
+            Verb::WriteFile(_) => Takes {
+                suffix: false,
+                ..row(DefaultAddresses::Without, Taking::Whole)
+            },
             Verb::Help | Verb::HelpMode | Verb::PromptMode => row(
                 DefaultAddresses::Without,
                 Taking::NoAddress,
             ),
-            Verb::QuitAnyway => Takes {
+            Verb::Edit(_)
+            | Verb::EditAnyway(_)
+            | Verb::FileName(_)
+            | Verb::Quit
+            | Verb::QuitAnyway => Takes {
                 suffix: false,
                 ..row(DefaultAddresses::Without, Taking::NoAddress)
             },
