@@ -3,7 +3,8 @@ use Rattle.std.proofs.Common.{◌≡◌, ◌≢◌, ℕ, ◌+◌, ◌-◌, ◌<�
 use Rattle.std.specs.Prelude.{IsTrue, IsFalse}
 use Rattle.std.proofs.lemmas.Bool.{eqb-true, leb-true, le-leb, and_parts, and_from, or_parts, or_cases, false≢true}
 use Rattle.ed_base.specs.Buffer.{letter_of}
-use Rattle.ed_syntax.specs.Characters.{dollar_sign, apostrophe, plus_sign, hyphen, full_stop, slash, question_mark, backslash, letter_a, is_digit, is_sign, begins_address, begins}
+use Rattle.ed_syntax.specs.Characters.{dollar_sign, apostrophe, plus_sign, hyphen, full_stop, slash, question_mark, backslash, is_digit, is_sign, begins_address, begins}
+use Rattle.ed_syntax.specs.Letters.{letter_a}
 use Rattle.ed_syntax.specs.Commands.{Base, Number, Current, Last, Marked, Forward, Backward, Address}
 use Rattle.ed_syntax.specs.Quoting.{SpellsPattern, SpellsClosing}
 use Rattle.ed_syntax.specs.Addressing.{SpellsBase, SpellsOffsets, SpellsAddress}

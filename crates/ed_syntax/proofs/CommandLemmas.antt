@@ -5,16 +5,17 @@ use Rattle.ed_base.specs.Lines.{newline, IsLine, AreLines, lines_of, bytes_of}
 use Rattle.ed_base.proofs.LineLemmas.{lines_of-whole}
 use Rattle.std.proofs.lemmas.List.Elements.{All-cons, All-head, All-tail}
 use Rattle.ed_syntax.specs.Commands as ed
-use Rattle.ed_syntax.specs.Characters.{equals_sign, capital_h, capital_p, capital_q, letter_a, letter_c, letter_d, letter_h, letter_i, letter_j, letter_m, letter_s, letter_t}
+use Rattle.ed_syntax.specs.Characters.{equals_sign}
+use Rattle.ed_syntax.specs.Letters.{capital_e, capital_h, capital_p, capital_q, letter_a, letter_c, letter_d, letter_e, letter_f, letter_h, letter_i, letter_j, letter_m, letter_q, letter_r, letter_s, letter_t, letter_w}
 use Rattle.ed_syntax.specs.Commands.{Addresses, Form, Verb, Command, Step, alone}
 use Rattle.ed_syntax.specs.Verbs.{Takes, takes, takes_any, may_have}
-use Rattle.ed_syntax.specs.Parameters.{SpellsText}
+use Rattle.ed_syntax.specs.Parameters.{SpellsText, SpellsPath}
 use Rattle.ed_syntax.specs.Spellings.{SpellsVerb, SpellsCommand, Spells}
 use Rattle.ed_syntax.specs.Tokens.{◌>>=◌}
 use Rattle.ed_syntax.specs.Reading.{Heading, Headed, text, entering, with_text, finished, heading, command_at, step_at}
 use Rattle.ed_syntax.proofs.StepLemmas.{Some-same, bind-some}
 use Rattle.ed_syntax.proofs.LineParts.{bytes_of-append, same_lines, taken-length}
-use Rattle.ed_syntax.proofs.VerbLemmas.{PlainVerb, SpellsLetter}
+use Rattle.ed_syntax.proofs.VerbLemmas.{PlainVerb, FileVerb, SpellsLetter}
 use Rattle.ed_syntax.proofs.SubstitutionLemmas.{SpellsSubstitution, substitution-left}
 use Rattle.ed_syntax.proofs.HeadLemmas.{SpellsHead}
 use Rattle.ed_syntax.proofs.SuffixLemmas.{suffix-same}
@@ -53,7 +54,16 @@ plain-sound (PlainVerb.write b form is) more lines are = verb_alone (b ∷ more)
 plain-sound {b} PlainVerb.help more lines are = verb_alone (b ∷ more) more ed.Help lines are (SpellsVerb.help more (bytes_of lines))
 plain-sound {b} PlainVerb.help_mode more lines are = verb_alone (b ∷ more) more ed.HelpMode lines are (SpellsVerb.help_mode more (bytes_of lines))
 plain-sound {b} PlainVerb.prompt_mode more lines are = verb_alone (b ∷ more) more ed.PromptMode lines are (SpellsVerb.prompt_mode more (bytes_of lines))
+plain-sound {b} PlainVerb.quit more lines are = verb_alone (b ∷ more) more ed.Quit lines are (SpellsVerb.quit more (bytes_of lines))
 plain-sound {b} PlainVerb.quit_anyway more lines are = verb_alone (b ∷ more) more ed.QuitAnyway lines are (SpellsVerb.quit_anyway more (bytes_of lines))
+
+-- a letter with a path is spelled so
+file-sound : {path : Option (List ℕ)} {b : ℕ} {verb : Verb} → FileVerb path b verb → (own : List ℕ) → SpellsPath own path → (lines : List (List ℕ)) → AreLines lines → ReadsVerb (b ∷ own) [] lines (with_text verb lines)
+file-sound {path} {b} FileVerb.read_file own spells lines are = verb_alone (b ∷ own) [] (ed.ReadFile path) lines are (SpellsVerb.read_file own (bytes_of lines) path spells)
+file-sound {path} {b} FileVerb.write_file own spells lines are = verb_alone (b ∷ own) [] (ed.WriteFile path) lines are (SpellsVerb.write_file own (bytes_of lines) path spells)
+file-sound {path} {b} FileVerb.edit own spells lines are = verb_alone (b ∷ own) [] (ed.Edit path) lines are (SpellsVerb.edit own (bytes_of lines) path spells)
+file-sound {path} {b} FileVerb.edit_anyway own spells lines are = verb_alone (b ∷ own) [] (ed.EditAnyway path) lines are (SpellsVerb.edit_anyway own (bytes_of lines) path spells)
+file-sound {path} {b} FileVerb.file_name own spells lines are = verb_alone (b ∷ own) [] (ed.FileName path) lines are (SpellsVerb.file_name own (bytes_of lines) path spells)
 
 -- a verb that is read with its text is spelled so
 verb-sound : {own more : List ℕ} {verb : Verb} → SpellsLetter own more verb → (lines : List (List ℕ)) → AreLines lines → ReadsVerb own more lines (with_text verb lines)
@@ -62,6 +72,7 @@ verb-sound (SpellsLetter.plain b more verb is) lines are = plain-sound is more l
 verb-sound {own} (SpellsLetter.mark letter more small) lines are = verb_alone own more (ed.Mark letter) lines are (SpellsVerb.mark letter more (bytes_of lines) small)
 verb-sound (SpellsLetter.move own more target is) lines are = verb_alone (letter_m ∷ own) more (ed.Move target) lines are (SpellsVerb.move own more (bytes_of lines) target is)
 verb-sound (SpellsLetter.copy own more target is) lines are = verb_alone (letter_t ∷ own) more (ed.Copy target) lines are (SpellsVerb.copy own more (bytes_of lines) target is)
+verb-sound (SpellsLetter.file b own path verb is spells) lines are = file-sound is own spells lines are
 
 -- a letter with its parameters and its text, read from the lines behind the parameters
 pub record ReadsHead (own more before : List ℕ) (lines : List (List ℕ)) (r : Verb × List (List ℕ)) : Type 0 where
@@ -115,6 +126,11 @@ plain_read : (b : ℕ) (more : List ℕ) (verb : Verb) (lines : List (List ℕ))
     VerbRead (b ∷ more) more verb lines rest
 plain_read b more verb lines rest are same is read = alone_read (b ∷ more) more verb lines rest are same (SpellsLetter.plain b more verb is) read
 
+-- the same of one with a path
+file_read : (b : ℕ) (own : List ℕ) (path : Option (List ℕ)) (verb : Verb) (lines : List (List ℕ)) (rest : List ℕ) → AreLines lines → rest ≡ bytes_of lines → FileVerb path b verb → SpellsPath own path →
+    with_text verb lines ≡ (verb, lines) → VerbRead (b ∷ own) [] verb lines rest
+file_read b own path verb lines rest are same is spells read = alone_read (b ∷ own) [] verb lines rest are same (SpellsLetter.file b own path verb is spells) read
+
 -- the verb of a letter that a text follows
 entered_read : (b : ℕ) (more : List ℕ) (of : List (List ℕ) → Verb) (bytes rest : List ℕ) (entered lines : List (List ℕ)) → SpellsText bytes rest entered → AreLines lines → bytes ++ rest ≡ bytes_of lines →
     PlainVerb b (of []) → with_text (of []) lines ≡ (of (text lines).0, (text lines).1) → VerbRead (b ∷ more) more (of entered) lines rest
@@ -159,9 +175,15 @@ verb-complete (SpellsVerb.substitute delimiter own after_pattern after_replaceme
 verb-complete (SpellsVerb.line_number more rest) lines are same = plain_read equals_sign more ed.LineNumber lines rest are same PlainVerb.line_number refl
 verb-complete (SpellsVerb.null rest) lines are same = alone_read [] [] ed.Null lines rest are same SpellsLetter.null refl
 verb-complete (SpellsVerb.write letter more rest form is) lines are same = plain_read letter more (ed.Write form) lines rest are same (PlainVerb.write letter form is) refl
+verb-complete (SpellsVerb.read_file own rest path is) lines are same = file_read letter_r own path (ed.ReadFile path) lines rest are same FileVerb.read_file is refl
+verb-complete (SpellsVerb.write_file own rest path is) lines are same = file_read letter_w own path (ed.WriteFile path) lines rest are same FileVerb.write_file is refl
+verb-complete (SpellsVerb.edit own rest path is) lines are same = file_read letter_e own path (ed.Edit path) lines rest are same FileVerb.edit is refl
+verb-complete (SpellsVerb.edit_anyway own rest path is) lines are same = file_read capital_e own path (ed.EditAnyway path) lines rest are same FileVerb.edit_anyway is refl
+verb-complete (SpellsVerb.file_name own rest path is) lines are same = file_read letter_f own path (ed.FileName path) lines rest are same FileVerb.file_name is refl
 verb-complete (SpellsVerb.help more rest) lines are same = plain_read letter_h more ed.Help lines rest are same PlainVerb.help refl
 verb-complete (SpellsVerb.help_mode more rest) lines are same = plain_read capital_h more ed.HelpMode lines rest are same PlainVerb.help_mode refl
 verb-complete (SpellsVerb.prompt_mode more rest) lines are same = plain_read capital_p more ed.PromptMode lines rest are same PlainVerb.prompt_mode refl
+verb-complete (SpellsVerb.quit more rest) lines are same = plain_read letter_q more ed.Quit lines rest are same PlainVerb.quit refl
 verb-complete (SpellsVerb.quit_anyway more rest) lines are same = plain_read capital_q more ed.QuitAnyway lines rest are same PlainVerb.quit_anyway refl
 
 -- a text changes nothing of what its command takes

@@ -1,11 +1,12 @@
 -- The flags of `s`: what is read is spelled so, and what is spelled so is read.
-use Rattle.std.proofs.Common.{◌≡◌, ◌≢◌, ℕ, zero, suc, ◌<◌, nat_eq, nat_le, true, false, List, [], ◌∷◌, Option, Some, None, refl, sym, ap, ◌∙◌, ⊎_elim, subst, arith}
+use Rattle.std.proofs.Common.{◌≡◌, ℕ, zero, suc, ◌<◌, nat_eq, nat_le, true, List, [], ◌∷◌, Option, Some, None, refl, sym, ap, ◌∙◌, ⊎_elim, subst, arith}
 use Rattle.std.specs.Prelude.{unwrap_or}
 use Rattle.std.proofs.lemmas.Bool.{eqb-true, ne_eqb, or_cases, and_parts, leb-true, false≢true}
 use Rattle.std.proofs.lemmas.List.Elements.{All-head}
 use Rattle.ed_syntax.specs.declared.replacement.Which.{Which}
 use Rattle.ed_syntax.specs.declared.replacement.Which.TheVariants as which
-use Rattle.ed_syntax.specs.Characters.{letter_g, is_blank, is_digit}
+use Rattle.ed_syntax.specs.Characters.{is_blank, is_digit}
+use Rattle.ed_syntax.specs.Letters.{letter_g}
 use Rattle.ed_syntax.specs.Commands as ed
 use Rattle.ed_syntax.specs.Commands.{Form}
 use Rattle.ed_syntax.specs.Addressing.{Blanks, SpellsNumber}

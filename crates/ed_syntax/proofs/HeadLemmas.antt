@@ -1,9 +1,9 @@
 -- A command's letter with its parameters, on its own line and further lines: what is read is spelled so, and what is spelled so is read.
-use Rattle.std.proofs.Common.{◌≡◌, ℕ, ◌+◌, nat_eq, true, false, List, [], ◌∷◌, ◌++◌, Option, Some, None, refl, sym, ap, ◌∙◌, ⊎_elim, subst}
+use Rattle.std.proofs.Common.{◌≡◌, ℕ, ◌+◌, nat_eq, false, List, [], ◌∷◌, ◌++◌, Option, Some, None, refl, sym, ap, ◌∙◌, ⊎_elim, subst}
 use Rattle.std.proofs.lemmas.Bool.{cases_Bool, eqb-true}
 use Rattle.std.proofs.lemmas.List.Elements.{All-nil}
 use Rattle.ed_base.specs.Lines.{IsLine, AreLines, bytes_of}
-use Rattle.ed_syntax.specs.Characters.{letter_a, letter_k, letter_m, letter_s, letter_t}
+use Rattle.ed_syntax.specs.Letters.{letter_a, letter_k, letter_m, letter_s, letter_t}
 use Rattle.ed_syntax.specs.Commands as ed
 use Rattle.ed_syntax.specs.Commands.{Form, Verb}
 use Rattle.ed_syntax.specs.Verbs.{takes}
@@ -11,7 +11,8 @@ use Rattle.ed_syntax.specs.Spellings.{SpellsSuffix}
 use Rattle.ed_syntax.specs.Tokens.{Parsed, ◌>>=◌}
 use Rattle.ed_syntax.specs.ReadParameters as reading
 use Rattle.ed_syntax.specs.ReadParameters.{Place, ParsedAt, place}
-use Rattle.ed_syntax.specs.Reading.{verb_at, verb_from}
+use Rattle.ed_syntax.specs.ReadVerbs.{path_at, verb_at}
+use Rattle.ed_syntax.specs.Reading.{verb_from}
 use Rattle.ed_syntax.proofs.StepLemmas.{Some-same, none_some, bind-some, chosen, either}
 use Rattle.ed_syntax.proofs.TextLemmas.{LeftLines}
 use Rattle.ed_syntax.proofs.LineParts.{ReadsOver}
@@ -47,9 +48,14 @@ verb_from-sound (b ∷ bs) lines are =
     let found = bind-some (verb_at (b ∷ bs)) (λ r. Some (r.0, place r.1 lines)) r is in
     plain_read (b ∷ bs) lines are found.0 (verb_at-sound (b ∷ bs) found.0 found.1) r found.2)
 
+-- nothing comes of what goes on with nothing
+none-after : {A B : Type 0} (o : Option A) → ◌>>=◌ {B = B} o (λ x. None) ≡ None
+none-after None = refl
+none-after (Some x) = refl
+
 -- the letter `s` is none of those whose parameters stand on their line
 at_s : (bs : List ℕ) → verb_at (letter_s ∷ bs) ≡ None
-at_s bs = refl
+at_s bs = none-after (path_at bs)
 
 verb_elsewhere : (b : ℕ) (bs more : List ℕ) (verb : Verb) (lines : List (List ℕ)) → verb_at (b ∷ bs) ≡ Some (verb, more) → verb_from (b ∷ bs) lines ≡ Some (verb, place more lines)
 verb_elsewhere b bs more verb lines is =
@@ -66,6 +72,7 @@ plain_from (SpellsLetter.plain b more verb is) lines = verb_elsewhere b more mor
 plain_from (SpellsLetter.mark l more small) lines = verb_elsewhere letter_k ((letter_a + l) ∷ more) more (ed.Mark l) lines (verb_at-complete (SpellsLetter.mark l more small))
 plain_from (SpellsLetter.move own more target is) lines = verb_elsewhere letter_m own more (ed.Move target) lines (verb_at-complete (SpellsLetter.move own more target is))
 plain_from (SpellsLetter.copy own more target is) lines = verb_elsewhere letter_t own more (ed.Copy target) lines (verb_at-complete (SpellsLetter.copy own more target is))
+plain_from (SpellsLetter.file b own path verb is spells) lines = verb_elsewhere b own [] verb lines (verb_at-complete (SpellsLetter.file b own path verb is spells))
 
 -- no suffix follows `s`
 no_suffix : {own more text : List ℕ} {verb : Verb} → SpellsSubstitution own more text verb → (takes verb).suffix ≡ false

@@ -6,7 +6,7 @@ use Rattle.ed_syntax.specs.Verbs.{may_have}
 use Rattle.ed_syntax.specs.Addressing.{SpellsAddresses}
 use Rattle.ed_syntax.specs.Spellings.{SpellsSuffix}
 use Rattle.ed_syntax.specs.Tokens.{Parsed, ◌>>=◌, addresses}
-use Rattle.ed_syntax.specs.ReadParameters.{Place, ParsedAt}
+use Rattle.ed_syntax.specs.ReadParameters.{ParsedAt}
 use Rattle.ed_syntax.specs.Reading.{Heading, Headed, verb_from, suffix_at, suffix_with, heading_with, headed, heading_behind, heading}
 use Rattle.ed_syntax.proofs.StepLemmas.{Some-same, none_some, bind-some, chosen, either}
 use Rattle.ed_syntax.proofs.AddressesLemmas.{addresses-sound, addresses-complete}

@@ -1,13 +1,14 @@
 -- No more lines stand behind what was read than before it.
-use Rattle.std.proofs.Common.{◌≡◌, ℕ, zero, suc, ◌≤◌, nat_eq, true, false, List, [], ◌∷◌, length, Option, Some, None, refl, subst, arith}
-use Rattle.ed_syntax.specs.declared.replacement.Part.{Part}
+use Rattle.std.proofs.Common.{◌≡◌, ℕ, zero, suc, ◌≤◌, nat_eq, List, [], ◌∷◌, length, Option, Some, None, refl, subst, arith}
 use Rattle.ed_syntax.specs.declared.replacement.Part.TheVariants as part
-use Rattle.ed_syntax.specs.Characters.{ampersand, backslash, letter_s, is_delimiter}
+use Rattle.ed_syntax.specs.Characters.{backslash, is_delimiter}
+use Rattle.ed_syntax.specs.Letters.{letter_s}
 use Rattle.ed_syntax.specs.Commands as ed
 use Rattle.ed_syntax.specs.Commands.{Addresses, Verb}
 use Rattle.ed_syntax.specs.Tokens.{◌>>=◌, pattern_at, addresses}
-use Rattle.ed_syntax.specs.ReadParameters.{Place, ParsedAt, place, unescaped_part, escaped_at, part_at, after_part, parts, all_parts, is_percent, replacement, end_at, substitution_with, substitution_by, substitution}
-use Rattle.ed_syntax.specs.Reading.{Heading, Headed, verb_at, verb_from, heading_with, headed, heading_behind, heading}
+use Rattle.ed_syntax.specs.ReadParameters.{Place, ParsedAt, place, unescaped_part, escaped_at, part_at, parts, all_parts, is_percent, replacement, end_at, substitution_with, substitution}
+use Rattle.ed_syntax.specs.ReadVerbs.{verb_at}
+use Rattle.ed_syntax.specs.Reading.{Headed, verb_from, heading_with, headed, heading_behind, heading}
 use Rattle.ed_syntax.proofs.StepLemmas.{Some-same, none_some, bind-some, either}
 
 -- all that may be read leaves so few lines

@@ -3,6 +3,7 @@ pub mod RunRows
 mod AddressRows
 mod ScriptRows
 mod CutRows
+mod FileRows
 pub mod CutLemmas
 mod SubstitutionRows
 mod SubstituteRows
@@ -11,6 +12,7 @@ pub mod FaultSteps
 pub mod MarkLemmas
 pub mod CommandSteps
 pub mod FaultLemmas
+pub mod AnswerLemmas
 pub mod RunLemmas
 pub mod ScriptLemmas
 pub mod BlankLemmas
@@ -20,6 +22,7 @@ pub mod BracketLemmas
 pub mod QuotingLemmas
 pub mod AddressLemmas
 pub mod AddressesLemmas
+pub mod PathLemmas
 pub mod VerbLemmas
 pub mod SuffixLemmas
 pub mod LineParts

@@ -1,5 +1,5 @@
 -- The parts of a replacement: what is read is spelled so, and what is spelled so is read.
-use Rattle.std.proofs.Common.{◌≡◌, ◌≢◌, ℕ, zero, suc, ◌+◌, ◌-◌, ◌<◌, ◌≤◌, nat_eq, nat_le, Bool, true, false, ◌&&◌, List, [], ◌∷◌, ◌++◌, length, Option, Some, None, refl, sym, ap, ◌∙◌, subst, arith, append_assoc}
+use Rattle.std.proofs.Common.{◌≡◌, ◌≢◌, ℕ, zero, suc, ◌+◌, ◌-◌, ◌<◌, ◌≤◌, nat_eq, nat_le, Bool, true, false, List, [], ◌∷◌, ◌++◌, length, Option, Some, refl, sym, ap, ◌∙◌, subst, arith, append_assoc}
 use Rattle.std.specs.Prelude.{◌||◌}
 use Rattle.std.proofs.lemmas.Bool.{eq-eqb, eqb-true, eqb-false, ne_eqb, and_parts, leb-true}
 use Rattle.std.proofs.lemmas.List.{length-append}
@@ -8,7 +8,7 @@ use Rattle.ed_base.specs.Lines.{newline, IsLine, AreLines, bytes_of}
 use Rattle.ed_syntax.specs.declared.replacement.Part.{Part}
 use Rattle.ed_syntax.specs.declared.replacement.Part.TheVariants as part
 use Rattle.ed_syntax.specs.Characters.{ampersand, backslash, is_digit, is_letter}
-use Rattle.ed_syntax.specs.Parameters.{SpellsEscape, SpellsParts, IsClosed}
+use Rattle.ed_syntax.specs.Parameters.{SpellsEscape, SpellsParts}
 use Rattle.ed_syntax.specs.Tokens.{◌>>=◌}
 use Rattle.ed_syntax.specs.ReadParameters.{Place, ParsedAt, place, part_escaped, unescaped_part, escaped_at, part_at, after_part, parts}
 use Rattle.ed_syntax.proofs.StepLemmas.{Some-same, none_some, bind-some, either}

@@ -1,16 +1,15 @@
 -- A replacement: what is read is spelled so, and what is spelled so is read.
-use Rattle.std.proofs.Common.{◌≡◌, ◌≢◌, ℕ, ◌+◌, nat_eq, not, true, false, ◌&&◌, List, [], ◌∷◌, ◌++◌, length, drop, Option, Some, None, refl, sym, ap, ◌∙◌, ⊎_elim, subst, arith}
+use Rattle.std.proofs.Common.{◌≡◌, ◌≢◌, ℕ, nat_eq, not, true, false, ◌&&◌, List, [], ◌∷◌, ◌++◌, length, drop, Option, Some, None, refl, sym, ap, ◌∙◌, ⊎_elim, subst, arith}
 use Rattle.std.proofs.lemmas.Bool.{cases_Bool, eq-eqb, eqb-true, eqb-false, ne_eqb, and_parts, and_from, not-true, false≢true}
 use Rattle.std.proofs.lemmas.List.{length-append}
 use Rattle.std.proofs.lemmas.List.Elements.{All-nil}
 use Rattle.ed_base.specs.Lines.{newline, IsLine, AreLines, bytes_of}
 use Rattle.ed_syntax.specs.declared.replacement.Part.{Part}
-use Rattle.ed_syntax.specs.declared.replacement.Part.TheVariants as part
-use Rattle.ed_syntax.specs.Characters.{percent_sign, ampersand, backslash}
+use Rattle.ed_syntax.specs.Characters.{percent_sign, backslash}
 use Rattle.ed_syntax.specs.Parameters.{SpellsParts, IsClosed, SpellsReplacement}
 use Rattle.ed_syntax.specs.Tokens.{◌>>=◌}
 use Rattle.ed_syntax.specs.ReadParameters.{Place, ParsedAt, place, all_parts, is_closed, is_percent, replacement}
-use Rattle.ed_syntax.proofs.StepLemmas.{Some-same, none_some, bind-some, chosen, either}
+use Rattle.ed_syntax.proofs.StepLemmas.{Some-same, bind-some, chosen, either}
 use Rattle.ed_syntax.proofs.TextLemmas.{LeftLines}
 use Rattle.ed_syntax.proofs.LineParts.{ReadsOver}
 use Rattle.ed_syntax.proofs.PartsLemmas.{parts-sound, parts-complete}

@@ -5,7 +5,6 @@ use Rattle.std.proofs.lemmas.Bool.{and_from}
 use Rattle.std.proofs.lemmas.List.Folds.{list_all-append}
 use Rattle.ed_syntax.specs.Commands.{Verb, Command, Step, Script, alone}
 use Rattle.ed_syntax.specs.Verbs.{takes, is_step}
-use Rattle.ed_syntax.specs.Tokens.{◌>>=◌}
 use Rattle.ed_syntax.specs.Reading.{is_dot, text, entering, with_text, finished, heading, command_at, step_at, script, followed}
 use Rattle.ed_syntax.proofs.StepLemmas.{Some-same, bind-some}
 use Rattle.ed_syntax.proofs.LaterLemmas.{heading-later}

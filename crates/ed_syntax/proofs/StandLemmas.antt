@@ -1,20 +1,22 @@
 -- What is read has letters for its marks, and counts from 1.
-use Rattle.std.proofs.Common.{◌≡◌, ℕ, ◌<◌, nat_eq, true, false, ◌&&◌, List, [], ◌∷◌, Option, Some, None, refl, sym, ap, ◌∙◌, subst, arith}
+use Rattle.std.proofs.Common.{◌≡◌, ℕ, nat_eq, true, false, List, [], ◌∷◌, Option, Some, None, refl, sym, ap, ◌∙◌, subst, arith}
 use Rattle.std.specs.Prelude.{nat_lt}
 use Rattle.std.proofs.lemmas.Bool.{lt-ltb, le-leb, and_from}
 use Rattle.ed_syntax.specs.declared.replacement.Part.{Part}
 use Rattle.ed_syntax.specs.declared.replacement.Which.{Which}
 use Rattle.ed_syntax.specs.declared.replacement.Which.TheVariants as which
-use Rattle.ed_syntax.specs.Characters.{letter_s, is_delimiter}
+use Rattle.ed_syntax.specs.Characters.{is_delimiter}
+use Rattle.ed_syntax.specs.Letters.{letter_s}
 use Rattle.ed_syntax.specs.Commands as ed
 use Rattle.ed_syntax.specs.Commands.{Addresses, Form, Verb, Command}
 use Rattle.ed_syntax.specs.Verbs.{takes, is_sound}
 use Rattle.ed_syntax.specs.Parameters.{SpellsWhich, SpellsFlags}
 use Rattle.ed_syntax.specs.Tokens.{◌>>=◌, pattern_at, addresses}
-use Rattle.ed_syntax.specs.ReadParameters.{Place, ParsedAt, place, replacement, flags, end_at, substitution_with, substitution_by, substitution}
-use Rattle.ed_syntax.specs.Reading.{Heading, Headed, verb_at, verb_from, suffix_with, text, entering, with_text, heading_with, headed, heading_behind, heading, finished, command_at}
+use Rattle.ed_syntax.specs.ReadParameters.{Place, ParsedAt, place, replacement, end_at, substitution_with, substitution}
+use Rattle.ed_syntax.specs.ReadVerbs.{verb_at}
+use Rattle.ed_syntax.specs.Reading.{Heading, Headed, verb_from, suffix_with, text, entering, with_text, heading_with, headed, heading_behind, heading, finished, command_at}
 use Rattle.ed_syntax.proofs.StepLemmas.{Some-same, none_some, bind-some, either}
-use Rattle.ed_syntax.proofs.VerbLemmas.{PlainVerb, SpellsLetter, verb_at-sound}
+use Rattle.ed_syntax.proofs.VerbLemmas.{PlainVerb, FileVerb, SpellsLetter, verb_at-sound}
 use Rattle.ed_syntax.proofs.FlagsLemmas.{flags-sound}
 
 plain-stands : {b : ℕ} {verb : Verb} → PlainVerb b verb → is_sound verb ≡ true
@@ -28,7 +30,15 @@ plain-stands (PlainVerb.write b form is) = refl
 plain-stands PlainVerb.help = refl
 plain-stands PlainVerb.help_mode = refl
 plain-stands PlainVerb.prompt_mode = refl
+plain-stands PlainVerb.quit = refl
 plain-stands PlainVerb.quit_anyway = refl
+
+file-stands : {path : Option (List ℕ)} {b : ℕ} {verb : Verb} → FileVerb path b verb → is_sound verb ≡ true
+file-stands FileVerb.read_file = refl
+file-stands FileVerb.write_file = refl
+file-stands FileVerb.edit = refl
+file-stands FileVerb.edit_anyway = refl
+file-stands FileVerb.file_name = refl
 
 letter-stands : {own more : List ℕ} {verb : Verb} → SpellsLetter own more verb → is_sound verb ≡ true
 letter-stands SpellsLetter.null = refl
@@ -36,6 +46,7 @@ letter-stands (SpellsLetter.plain b more verb is) = plain-stands is
 letter-stands (SpellsLetter.mark letter more small) = and_from (nat_lt letter 26) true (lt-ltb letter 26 small) refl
 letter-stands (SpellsLetter.move own more target is) = refl
 letter-stands (SpellsLetter.copy own more target is) = refl
+letter-stands (SpellsLetter.file b own path verb is spells) = file-stands is
 
 module _ (pattern : Option (List ℕ)) (replaced : Option (List Part)) where
   which-stands : {text rest : List ℕ} {w : Which} (form : Option Form) → SpellsWhich text rest w → is_sound (ed.Substitute pattern replaced w form) ≡ true

@@ -2,11 +2,10 @@
 use Rattle.std.proofs.Common.{◌≡◌, ◌≢◌, ℕ, nat_eq, nat_le, not, true, ◌&&◌, List, [], ◌∷◌, ◌++◌, drop, Option, Some, None, refl, sym, ap, ◌∙◌, subst}
 use Rattle.std.specs.Prelude.{IsTrue}
 use Rattle.std.proofs.lemmas.Bool.{eqb-false, and_parts, not-true}
-use Rattle.std.proofs.lemmas.List.Elements.{All-nil}
-use Rattle.ed_base.specs.Lines.{IsLine, AreLines, bytes_of}
+use Rattle.ed_base.specs.Lines.{AreLines, bytes_of}
 use Rattle.ed_syntax.specs.declared.replacement.Part.{Part}
 use Rattle.ed_syntax.specs.declared.replacement.Which.{Which}
-use Rattle.ed_syntax.specs.Characters.{backslash, letter_s, is_digit, is_letter, is_delimiter}
+use Rattle.ed_syntax.specs.Characters.{backslash, is_digit, is_letter, is_delimiter}
 use Rattle.ed_syntax.specs.Commands as ed
 use Rattle.ed_syntax.specs.Commands.{Form, Verb}
 use Rattle.ed_syntax.specs.Quoting.{SpellsPattern, SpellsClosing}

@@ -3,7 +3,8 @@ use Rattle.std.proofs.Common.{◌≡◌, ℕ, true, false, ◌&&◌, nat_eq, Lis
 use Rattle.std.specs.List.{list_all}
 use Rattle.std.proofs.lemmas.Bool.{eqb-true, and_parts, and_from, or_cases, false≢true}
 use Rattle.std.proofs.lemmas.List.Elements.{All-nil, All-cons, All-head, All-tail}
-use Rattle.ed_syntax.specs.Characters.{letter_l, letter_n, letter_p, is_blank}
+use Rattle.ed_syntax.specs.Characters.{is_blank}
+use Rattle.ed_syntax.specs.Letters.{letter_l, letter_n, letter_p}
 use Rattle.ed_syntax.specs.Commands as ed
 use Rattle.ed_syntax.specs.Commands.{Form, Verb}
 use Rattle.ed_syntax.specs.Verbs.{takes}

@@ -2,17 +2,19 @@
 ghost use Rattle.std.specs.Prelude.{◌≡◌, ◌+◌, ◌≤◌, length, Option, Some, None, option_map, IfOk, MatchOption};
 ghost use Rattle.ed_syntax.specs.Verbs.{may_have};
 ghost use Rattle.ed_syntax.specs.ReadParameters.{place};
-ghost use Rattle.ed_syntax.specs.Reading.{beside_letter, plain_verbs, target, verb_at, verb_from, suffix_at, is_over, headed, suffix_with, heading_with, heading_behind, heading};
+ghost use Rattle.ed_syntax.specs.ReadVerbs.{beside_letter, plain_verbs, file_verbs, file_verb, target, verb_at};
+ghost use Rattle.ed_syntax.specs.Reading.{verb_from, suffix_at, is_over, headed, suffix_with, heading_with, heading_behind, heading};
 ghost use Rattle.ed_syntax.specs.PublicTypes.{address_value, addresses_value, suffix_value, verb_value};
 ghost use Rattle.ed_syntax.specs.ReadParts.{optional_verb, optional_own_line};
 
 use crate::addresses::{address, addresses};
+use crate::paths::path;
 use crate::quoting::Parsed;
 use crate::script_lines::ScriptLines;
 use crate::substitution::substitution;
 use crate::tokens::{behind_blanks, form_of, letter};
 use crate::{Address, Addresses, Form, Taking, Verb};
-use ed_base::Text;
+use ed_base::{Bytes, Text};
 use std::alloc::{AllocError, Global};
 
 /// What stands on a command's own line.
@@ -120,7 +122,7 @@ fn verb_at(alloc: Global, bytes: &[u8]) -> Parsed<'_, Verb>
         },
         letter => match plain_verb(alloc, letter) {
             Some(verb) => Ok(Some((verb, rest))),
-            None => Ok(None),
+            None => file_verb(alloc, letter, rest),
         },
     }
 }
@@ -142,7 +144,36 @@ fn plain_verb(alloc: Global, letter: u8) -> Option<Verb>
         b'h' => Some(Verb::Help),
         b'H' => Some(Verb::HelpMode),
         b'P' => Some(Verb::PromptMode),
+        b'q' => Some(Verb::Quit),
         b'Q' => Some(Verb::QuitAnyway),
+        _ => None,
+    }
+}
+
+// The command on files of a letter, with its path.
+fn file_verb(alloc: Global, letter: u8, bytes: &[u8]) -> Parsed<'_, Verb>
+    ensures value { IfOk result (λ read. MatchOption read (file_verb letter bytes.now ≡ None)
+        (λ (verb, rest). file_verb letter bytes.now ≡ Some (verb_value verb, rest.now))) }
+{
+    match path(alloc, bytes)? {
+        Some(path) => match on_file(letter, path) {
+            Some(verb) => Ok(Some((verb, &[]))),
+            None => Ok(None),
+        },
+        None => Ok(None),
+    }
+}
+
+// The command on files of a letter, with this path.
+fn on_file(letter: u8, path: Option<Bytes>) -> Option<Verb>
+    ensures value { optional_verb result ≡ beside_letter letter (file_verbs path) }
+{
+    match letter {
+        b'e' => Some(Verb::Edit(path)),
+        b'E' => Some(Verb::EditAnyway(path)),
+        b'f' => Some(Verb::FileName(path)),
+        b'r' => Some(Verb::ReadFile(path)),
+        b'w' => Some(Verb::WriteFile(path)),
         _ => None,
     }
 }
