@@ -1,32 +1,37 @@
 -- What the steps of a command leave as it is: its addresses the lines and undo, its effect undo and how lines are marked.
-use Rattle.std.proofs.Common.{◌≡◌, ℕ, zero, suc, ◌-◌, ◌≤◌, Bool, true, false, not, ◌&&◌, nat_le, List, [], ◌∷◌, Option, Some, None, Result, Ok, refl, sym, ap, ◌∙◌, subst, arith}
-use Rattle.std.proofs.lemmas.Bool.{leb-true, and_parts}
+use Rattle.std.proofs.Common.{◌≡◌, ℕ, zero, suc, ◌+◌, ◌-◌, ◌≤◌, Bool, true, false, not, ◌&&◌, nat_le, List, [], ◌∷◌, Option, Some, None, Result, Ok, refl, sym, ap, ◌∙◌, subst, arith}
+use Rattle.std.proofs.lemmas.Bool.{leb-true, and_parts, false≢true}
 use Rattle.std.specs.Prelude.{nat_lt}
 use Rattle.std.specs.List.{concat}
 use Rattle.ed_base.specs.Buffer.{texts}
+use Rattle.ed_base.specs.Lines.{lines_of}
 use Rattle.ed_base.specs.Parts.{between, replaced}
 use Rattle.ed_base.specs.declared.fault.Fault.{Fault}
 use Rattle.ed_base.specs.declared.fault.Fault.TheVariants as fault
 use Rattle.ed_syntax.specs.declared.replacement.Part.{Part}
 use Rattle.ed_syntax.specs.declared.replacement.Which.{Which}
 use Rattle.ed_syntax.specs.declared.request.Answer.{Answer}
+use Rattle.ed_syntax.specs.declared.request.Answer.TheVariants as answer
+use Rattle.ed_syntax.specs.declared.request.Request.TheVariants as request
 use Rattle.ed_syntax.specs.declared.verbs.Taking.{Taking}
 use Rattle.ed_syntax.specs.declared.verbs.Taking.TheVariants as many
 use Rattle.ed_syntax.specs.Commands as ed
 use Rattle.ed_syntax.specs.Commands.{Address, Addresses, Form, Verb, Command}
 use Rattle.ed_syntax.specs.Verbs.{takes, given_or, is_sound, may_be_listed, has_split, is_listed}
-use Rattle.ed_syntax.specs.States.{State, Kept, Past, Was, kept, last}
+use Rattle.ed_syntax.specs.States.{State, Kept, Past, Nothing, Was, kept, last}
 use Rattle.ed_syntax.specs.Values.{◌>>◌, value, evaluated, moved, values, used_pattern}
-use Rattle.ed_syntax.specs.Ranges.{Span, span, spanned, first_of_two, last_of_two, not_before, ordered, from_first, single}
+use Rattle.ed_syntax.specs.Ranges.{Span, span, spanned, first_of_two, last_of_two, not_before, ordered, from_first, single, whole}
 use Rattle.ed_syntax.specs.Effects as effect
 use Rattle.ed_syntax.specs.Effects.{Outcome, Effect, Makes, Asks, altered, only, at_line, entered}
 use Rattle.ed_syntax.specs.SubstitutedLines as substitution
 use Rattle.ed_syntax.specs.SubstitutedLines.{Results, made_of, each, used_replacement, substitute}
+use Rattle.ed_syntax.specs.Files as file
+use Rattle.ed_syntax.specs.Files.{used_path, named_first, bytes_read, with_bytes, written_to, with_lines, saved}
 use Rattle.ed_syntax.specs.Applied.{Placed, placed, targeted, making, effect_of, suffix_written, past_after, settled, completed, command}
 use Rattle.ed_syntax.specs.Laws.{WellMarked, MarksHold, ListsLeaveUndo, CommandsKeepMarks}
 use Rattle.ed_syntax.proofs.StepLemmas.{either}
 use Rattle.ed_syntax.proofs.FaultSteps.{Gives, gives, gives-none, bind-gives, bind-any}
-use Rattle.ed_syntax.proofs.MarkLemmas.{well-exchanged, well-carried, well-substituted, well-marked_at}
+use Rattle.ed_syntax.proofs.MarkLemmas.{well-exchanged, well-plain, well-carried, well-substituted, well-marked_at}
 
 -- the same lines, and the same that undo would bring back
 pub record SameBuffer (s t : State) : Type 0 where
@@ -56,15 +61,15 @@ targeted-same None s = gives (λ t. SameBuffer s t.0) (s, 0) (record { lines = r
 targeted-same (Some a) s =
     bind-any (λ t. SameBuffer s t.0) (value a s) (λ n. Ok (evaluated a s, n)) (λ n. gives (λ t. SameBuffer s t.0) (evaluated a s, n) (record { lines = refl; past = refl }))
 
--- the first line of a span isn't behind its last
+-- the first line of a span isn't behind its last, or the span has no line
 abbrev pub InOrder : Span → Type 0
-InOrder x = x.first ≤ x.last
+InOrder x = x.first ≤ x.last + 1
 
 ordered-in : (a b : ℕ) → Gives InOrder (ordered a b)
 ordered-in a b =
     either (Gives InOrder) (nat_le 1 a) _ _
     (λ some. either (Gives InOrder) (nat_le a b) _ _
-    (λ up. gives InOrder (span a b) (leb-true a b up))
+    (λ up. gives InOrder (span a b) (omega (arith, leb-true a b up)))
     (λ down. gives-none InOrder fault.Address))
     (λ none. gives-none InOrder fault.Address)
 
@@ -78,6 +83,10 @@ single-in : (n : ℕ) → Gives InOrder (single n)
 single-in zero = gives-none InOrder fault.Address
 single-in (suc n) = gives InOrder (span (suc n) (suc n)) (omega arith)
 
+whole-in : (last : ℕ) (values : List ℕ) → Gives InOrder (whole last values)
+whole-in last [] = gives InOrder (span 1 last) (omega arith)
+whole-in last (a ∷ more) = ordered-in a (last_of_two (a ∷ more))
+
 spanned-in : (t : Taking) (last : ℕ) (values : List ℕ) → Gives InOrder (spanned t last values)
 spanned-in many.NoAddress last values = gives InOrder (span 0 0) (omega arith)
 spanned-in many.Place last values = gives InOrder (span (last_of_two values) (last_of_two values)) (omega arith)
@@ -85,6 +94,7 @@ spanned-in many.FirstPlace last values = gives InOrder (span (not_before (last_o
 spanned-in many.OneLine last values = single-in (last_of_two values)
 spanned-in many.Lines last values = from_first-in (first_of_two values) (last_of_two values) last
 spanned-in many.Range last values = ordered-in (first_of_two values) (last_of_two values)
+spanned-in many.Whole last values = whole-in last values
 
 -- where a command is placed, lines and undo are as before, and its lines are in order
 pub record PlacedWell (s : State) (p : Placed) : Type 0 where
@@ -99,17 +109,33 @@ placed-well c s =
     gives (PlacedWell s) (record { state = t.0; span = x; target = t.1 })
     (record { same = record { lines = later.lines ∙ same.lines; past = later.past ∙ same.past }; order = order }))))
 
--- an effect leaves undo, and lines that are marked well stay so
+-- an effect keeps undo, and lines that are marked well stay so
 pub record EffectKeeps (s : State) (o : Outcome) : Type 0 where
   pub past : o.state.past ≡ s.past
   pub marks : WellMarked s.lines → WellMarked o.state.lines
 
--- so does one that is made
-abbrev pub MakesOnly : State → Effect → Type 0
-MakesOnly s e = (o : Outcome) → e ≡ Makes o → EffectKeeps s o
+-- undo is as it was; after a command that may not stand in a list it may be gone
+pub data PastLeft (verb : Verb) (before now : Past) : Type 0 where
+  as_before : now ≡ before → PastLeft verb before now
+  gone : may_be_listed verb ≡ false → now ≡ Nothing → PastLeft verb before now
 
-made : (s : State) (o : Outcome) → EffectKeeps s o → Gives (MakesOnly s) (Ok (Makes o))
-made s o keeps = gives (MakesOnly s) (Makes o) (λ p same. let e : o ≡ p = cc in subst (EffectKeeps s) e keeps)
+-- what an effect leaves
+pub record EffectLeaves (verb : Verb) (s : State) (o : Outcome) : Type 0 where
+  pub past : PastLeft verb s.past o.state.past
+  pub marks : WellMarked s.lines → WellMarked o.state.lines
+
+-- so does one that is made
+abbrev pub MakesOnly : Verb → State → Effect → Type 0
+MakesOnly verb s e = (o : Outcome) → e ≡ Makes o → EffectLeaves verb s o
+
+leaving : (verb : Verb) (s : State) (o : Outcome) → EffectLeaves verb s o → Gives (MakesOnly verb s) (Ok (Makes o))
+leaving verb s o leaves = gives (MakesOnly verb s) (Makes o) (λ p same. let e : o ≡ p = cc in subst (EffectLeaves verb s) e leaves)
+
+kept_so : (verb : Verb) (s : State) (o : Outcome) → EffectKeeps s o → EffectLeaves verb s o
+kept_so verb s o keeps = record { past = as_before keeps.past; marks = keeps.marks }
+
+made : (verb : Verb) (s : State) (o : Outcome) → EffectKeeps s o → Gives (MakesOnly verb s) (Ok (Makes o))
+made verb s o keeps = leaving verb s o (kept_so verb s o keeps)
 
 same_lines : (s : State) (current : ℕ) (output : List ℕ) → EffectKeeps s (only (at_line current s) output)
 same_lines s current output = record { past = refl; marks = λ marked. marked }
@@ -135,11 +161,11 @@ join-keeps x s order =
     (λ several. record { past = refl; marks = well-exchanged (x.first - 1) x.last (concat (texts (between x.first x.last s.lines)) ∷ []) s.lines (omega (arith, order)) })
     (λ one. record { past = refl; marks = λ marked. marked })
 
-move-keeps : (x : Span) (target : ℕ) (s : State) → InOrder x → Gives (MakesOnly s) (effect.move x target s >> λ o. Ok (Makes o))
-move-keeps x target s order =
-    either (λ (r : Result Outcome Fault). Gives (MakesOnly s) (r >> λ o. Ok (Makes o))) (nat_le x.first target && nat_le target x.last) _ _
-    (λ inside. gives-none (MakesOnly s) fault.Destination)
-    (λ outside. made s _ (record { past = refl; marks = well-carried (x.first - 1) x.last (effect.place_left x target) s.lines (omega (arith, order)) }))
+move-keeps : (to : Address) (x : Span) (target : ℕ) (s : State) → InOrder x → Gives (MakesOnly (ed.Move to) s) (effect.move x target s >> λ o. Ok (Makes o))
+move-keeps to x target s order =
+    either (λ (r : Result Outcome Fault). Gives (MakesOnly (ed.Move to) s) (r >> λ o. Ok (Makes o))) (nat_le x.first target && nat_le target x.last) _ _
+    (λ inside. gives-none (MakesOnly (ed.Move to) s) fault.Destination)
+    (λ outside. made (ed.Move to) s _ (record { past = refl; marks = well-carried (x.first - 1) x.last (effect.place_left x target) s.lines (omega (arith, order)) }))
 
 -- a state in which a pattern and a replacement are remembered
 abbrev remembering : List ℕ → List Part → State → State
@@ -160,65 +186,122 @@ substitute-keeps listed pattern replacement which form x s order =
     made-keeps listed form x text parts s (each (made_of text parts which) (between x.first x.last s.lines))
     (well-substituted (x.first - 1) x.last (made_of text parts which) s.lines (omega (arith, order)))))
 
-making-keeps : (s : State) (r : Result Outcome Fault) → Gives (EffectKeeps s) r → Gives (MakesOnly s) (making r)
-making-keeps s r keeps = bind-gives (EffectKeeps s) (MakesOnly s) r _ keeps (λ o kept. made s o kept)
+making-keeps : (verb : Verb) (s : State) (r : Result Outcome Fault) → Gives (EffectKeeps s) r → Gives (MakesOnly verb s) (making r)
+making-keeps verb s r keeps = bind-gives (EffectKeeps s) (MakesOnly verb s) r _ keeps (λ o kept. made verb s o kept)
 
-pub effect_of-keeps : (verb : Verb) (listed : _) (x : Span) (target : ℕ) (s : State) (given : Option Answer) → InOrder x → Gives (MakesOnly s) (effect_of verb listed x target s given)
-effect_of-keeps (ed.Append text) listed x target s given order = made s _ (entered-keeps x.first text s)
-effect_of-keeps (ed.Change text) listed x target s given order = made s _ (change-keeps text x s order)
-effect_of-keeps ed.Delete listed x target s given order = made s _ (delete-keeps x s order)
-effect_of-keeps (ed.Insert text) listed x target s given order = made s _ (insert-keeps text x s)
-effect_of-keeps ed.Join listed x target s given order = made s _ (join-keeps x s order)
-effect_of-keeps (ed.Mark letter) listed x target s given order = made s _ (record { past = refl; marks = well-marked_at (x.last - 1) letter s.lines })
-effect_of-keeps (ed.Move to) listed x target s given order = move-keeps x target s order
-effect_of-keeps (ed.Copy to) listed x target s given order = made s _ (entered-keeps target (texts (between x.first x.last s.lines)) s)
+-- what is made of a file's bytes
+with_bytes-leaves : (verb : Verb) (s : State) (path : List ℕ) (given : Option Answer) (make : List ℕ → Outcome) → ((bytes : List ℕ) → EffectLeaves verb s (make bytes)) →
+    Gives (MakesOnly verb s) (with_bytes path given make)
+with_bytes-leaves verb s path None make leaves = gives (MakesOnly verb s) (Asks (request.Read path)) (λ o is. cc)
+with_bytes-leaves verb s path (Some a) make leaves = bind-any (MakesOnly verb s) (bytes_read a) _ (λ bytes. leaving verb s (make bytes) (leaves bytes))
+
+read-leaves : (verb : Verb) (path : Option (List ℕ)) (given : Option Answer) (x : Span) (s : State) → Gives (MakesOnly verb s) (file.read path given x s)
+read-leaves verb path given x s =
+    bind-any (MakesOnly verb s) (used_path path s) _ (λ used.
+    with_bytes-leaves verb s used given _ (λ bytes.
+    let keeps = entered-keeps x.first (lines_of bytes) (named_first used s) in
+    record { past = as_before keeps.past; marks = keeps.marks }))
+
+written-leaves : (verb : Verb) (path : List ℕ) (a : Answer) (x : Span) (s : State) → Gives (MakesOnly verb s) (written_to path a x s)
+written-leaves verb path answer.Done x s = leaving verb s _ (record { past = as_before refl; marks = λ marked. marked })
+written-leaves verb path (answer.Bytes bytes) x s = gives-none (MakesOnly verb s) fault.File
+written-leaves verb path answer.Missing x s = gives-none (MakesOnly verb s) fault.File
+written-leaves verb path answer.Refused x s = gives-none (MakesOnly verb s) fault.File
+
+with_lines-leaves : (verb : Verb) (path : List ℕ) (given : Option Answer) (x : Span) (s : State) → Gives (MakesOnly verb s) (with_lines path given x s)
+with_lines-leaves verb path None x s = gives (MakesOnly verb s) (Asks _) (λ o is. cc)
+with_lines-leaves verb path (Some a) x s = written-leaves verb path a x s
+
+edit_anyway-leaves : (verb : Verb) → may_be_listed verb ≡ false → (path : Option (List ℕ)) (given : Option Answer) (s : State) → Gives (MakesOnly verb s) (file.edit_anyway path given s)
+edit_anyway-leaves verb unlisted path given s =
+    bind-any (MakesOnly verb s) (used_path path s) _ (λ used.
+    with_bytes-leaves verb s used given _ (λ bytes. record { past = gone unlisted refl; marks = λ marked. well-plain (lines_of bytes) }))
+
+-- a buffer that is saved is as it was
+saved-same : (s : State) → Gives (λ t. t ≡ s) (saved s)
+saved-same s = either (Gives (λ t. t ≡ s)) s.changed _ _ (λ changed. gives-none (λ t. t ≡ s) fault.Unsaved) (λ unchanged. gives (λ t. t ≡ s) s refl)
+
+edit-leaves : (verb : Verb) → may_be_listed verb ≡ false → (path : Option (List ℕ)) (given : Option Answer) (s : State) → Gives (MakesOnly verb s) (file.edit path given s)
+edit-leaves verb unlisted path given s =
+    bind-any (MakesOnly verb s) (used_path path s) _ (λ used.
+    bind-gives (λ t. t ≡ s) (MakesOnly verb s) (saved s) _ (saved-same s) (λ t is.
+    subst (λ t. Gives (MakesOnly verb s) (file.edit_anyway (Some used) given t)) (sym is) (edit_anyway-leaves verb unlisted (Some used) given s)))
+
+file_name-keeps : (path : Option (List ℕ)) (s : State) → Gives (EffectKeeps s) (file.file_name path s)
+file_name-keeps path s = bind-any (EffectKeeps s) (used_path path s) _ (λ used. gives (EffectKeeps s) _ (record { past = refl; marks = λ marked. marked }))
+
+quit-keeps : (s : State) → Gives (EffectKeeps s) (file.quit s)
+quit-keeps s =
+    bind-gives (λ t. t ≡ s) (EffectKeeps s) (saved s) _ (saved-same s) (λ t is.
+    gives (EffectKeeps s) (only t []) (subst (λ t. EffectKeeps s (only t [])) (sym is) (record { past = refl; marks = λ marked. marked })))
+
+pub effect_of-keeps : (verb : Verb) (listed : _) (x : Span) (target : ℕ) (s : State) (given : Option Answer) → InOrder x → Gives (MakesOnly verb s) (effect_of verb listed x target s given)
+effect_of-keeps (ed.Append text) listed x target s given order = made (ed.Append text) s _ (entered-keeps x.first text s)
+effect_of-keeps (ed.Change text) listed x target s given order = made (ed.Change text) s _ (change-keeps text x s order)
+effect_of-keeps ed.Delete listed x target s given order = made ed.Delete s _ (delete-keeps x s order)
+effect_of-keeps (ed.Insert text) listed x target s given order = made (ed.Insert text) s _ (insert-keeps text x s)
+effect_of-keeps ed.Join listed x target s given order = made ed.Join s _ (join-keeps x s order)
+effect_of-keeps (ed.Mark letter) listed x target s given order = made (ed.Mark letter) s _ (record { past = refl; marks = well-marked_at (x.last - 1) letter s.lines })
+effect_of-keeps (ed.Move to) listed x target s given order = move-keeps to x target s order
+effect_of-keeps (ed.Copy to) listed x target s given order = made (ed.Copy to) s _ (entered-keeps target (texts (between x.first x.last s.lines)) s)
 effect_of-keeps (ed.Substitute pattern replacement which form) listed x target s given order =
-    making-keeps s (substitute listed pattern replacement which form x s) (substitute-keeps listed pattern replacement which form x s order)
-effect_of-keeps _ listed x target s given order = made s _ (record { past = refl; marks = λ marked. marked })
+    making-keeps (ed.Substitute pattern replacement which form) s (substitute listed pattern replacement which form x s) (substitute-keeps listed pattern replacement which form x s order)
+effect_of-keeps (ed.ReadFile path) listed x target s given order = read-leaves (ed.ReadFile path) path given x s
+effect_of-keeps (ed.WriteFile path) listed x target s given order =
+    bind-any (MakesOnly (ed.WriteFile path) s) (used_path path s) _ (λ used. with_lines-leaves (ed.WriteFile path) used given x s)
+effect_of-keeps (ed.Edit path) listed x target s given order = edit-leaves (ed.Edit path) refl path given s
+effect_of-keeps (ed.EditAnyway path) listed x target s given order = edit_anyway-leaves (ed.EditAnyway path) refl path given s
+effect_of-keeps (ed.FileName path) listed x target s given order = making-keeps (ed.FileName path) s (file.file_name path s) (file_name-keeps path s)
+effect_of-keeps ed.Quit listed x target s given order = making-keeps ed.Quit s (file.quit s) (quit-keeps s)
+effect_of-keeps verb listed x target s given order = made verb s _ (record { past = refl; marks = λ marked. marked })
 
 -- what a command did, where it was placed, and what came of it
 pub record CommandDone (s : State) (c : Command) (o : Outcome) : Type 0 where
   pub placed : State
   pub made : Outcome
   pub same : SameBuffer s placed
-  pub keeps : EffectKeeps placed made
+  pub leaves : EffectLeaves c.verb placed made
   pub state : o.state ≡ settled c.listed (kept s) made
 
 abbrev DoneWell : State → Command → Effect → Type 0
 DoneWell s c e = (o : Outcome) → e ≡ Makes o → CommandDone s c o
 
-completed-done : (c : Command) (s t : State) (e : Effect) → SameBuffer s t → MakesOnly t e → Gives (DoneWell s c) (completed c s e)
+completed-done : (c : Command) (s t : State) (e : Effect) → SameBuffer s t → MakesOnly c.verb t e → Gives (DoneWell s c) (completed c s e)
 completed-done c s t (Asks r) same only_made = gives (DoneWell s c) (Asks r) (λ o is. cc)
 completed-done c s t (Makes o) same only_made =
     bind-any (DoneWell s c) (suffix_written c.suffix o.state) _ (λ more.
     gives (DoneWell s c) _ (λ p is.
     let e : settled c.listed (kept s) o ≡ p.state = cc in
-    record { placed = t; made = o; same = same; keeps = only_made o refl; state = sym e }))
+    record { placed = t; made = o; same = same; leaves = only_made o refl; state = sym e }))
 
 pub command-done : (s : State) (c : Command) (given : Option Answer) → Gives (DoneWell s c) (command s c given)
 command-done s c given =
     bind-gives (PlacedWell s) (DoneWell s c) (placed c s) _ (placed-well c s) (λ p well.
-    bind-gives (MakesOnly p.state) (DoneWell s c) (effect_of c.verb c.listed p.span p.target p.state given) _ (effect_of-keeps c.verb c.listed p.span p.target p.state given well.order) (λ e only_made.
+    bind-gives (MakesOnly c.verb p.state) (DoneWell s c) (effect_of c.verb c.listed p.span p.target p.state given) _ (effect_of-keeps c.verb c.listed p.span p.target p.state given well.order) (λ e only_made.
     completed-done c s p.state e well.same only_made))
 
 -- where a command is listed, undo is what it was
 settled-listed : (before : Kept) (o : Outcome) → (settled true before o).past ≡ o.state.past
 settled-listed before o = elim o.alters as (λ t. (let r : State = elim t [ true ↦ record o.state { changed = true; past = o.state.past } | false ↦ o.state ] in r).past ≡ o.state.past) [ true ↦ refl | false ↦ refl ]
 
--- a command of a list is listed
-in-list : (c : Command) → is_listed c ≡ true → c.listed ≡ true
+-- a command of a list is listed, and may be
+in-list : (c : Command) → is_listed c ≡ true → (c.listed ≡ true) × (may_be_listed c.verb ≡ true)
 in-list c is =
-    let whole = (and_parts (c.listed && is_sound c.verb && may_be_listed c.verb) (not (has_split c.verb)) is).0 in
-    let first = (and_parts (c.listed && is_sound c.verb) (may_be_listed c.verb) whole).0 in
-    (and_parts c.listed (is_sound c.verb) first).0
+    let both = and_parts (c.listed && is_sound c.verb) (may_be_listed c.verb) (and_parts (c.listed && is_sound c.verb && may_be_listed c.verb) (not (has_split c.verb)) is).0 in
+    ((and_parts c.listed (is_sound c.verb) both.0).0, both.1)
+
+-- then it leaves undo as it was
+left-same : {verb : Verb} {before now : Past} → PastLeft verb before now → may_be_listed verb ≡ true → now ≡ before
+left-same (as_before is) may = is
+left-same (gone unlisted is) may = absurd (false≢true (sym unlisted ∙ may))
 
 pub lists_leave_undo : ListsLeaveUndo
 lists_leave_undo s c given o is listed =
     let done = command-done s c given (Makes o) is o refl in
     ap (λ (s : State). s.past) done.state
-    ∙ ap (λ listed. (settled listed (kept s) done.made).past) (in-list c listed)
+    ∙ ap (λ listed. (settled listed (kept s) done.made).past) (in-list c listed).0
     ∙ settled-listed (kept s) done.made
-    ∙ done.keeps.past
+    ∙ left-same done.leaves.past (in-list c listed).1
     ∙ done.same.past
 
 -- what a settled outcome holds
@@ -229,6 +312,13 @@ settled-lines listed before o =
 -- so it is of what undo keeps
 abbrev PastMarked : Past → Type 0
 PastMarked past = (before : Kept) → past ≡ Was before → WellMarked before.lines
+
+left-marked : {verb : Verb} {before now : Past} → PastLeft verb before now → PastMarked before → PastMarked now
+left-marked (as_before is) marked = subst PastMarked (sym is) marked
+left-marked {verb} {before} {now} (gone unlisted is) marked = subst PastMarked (sym is) nothing
+  where
+    nothing : PastMarked Nothing
+    nothing earlier was = cc
 
 past_after-marked : (listed : _) (before : Kept) (past : Past) → WellMarked before.lines → PastMarked past → PastMarked (past_after listed before past)
 past_after-marked true before past now earlier = earlier
@@ -245,8 +335,8 @@ pub commands_keep_marks : CommandsKeepMarks
 commands_keep_marks s c given o is hold =
     let done = command-done s c given (Makes o) is o refl in
     let buffer : WellMarked done.placed.lines = subst WellMarked (sym done.same.lines) hold.buffer in
-    let earlier : PastMarked done.made.state.past = subst PastMarked (sym (done.keeps.past ∙ done.same.past)) hold.past in
+    let earlier : PastMarked done.made.state.past = left-marked done.leaves.past (subst PastMarked (sym done.same.past) hold.past) in
     subst MarksHold (sym done.state) (record {
-      buffer = subst WellMarked (sym (settled-lines c.listed (kept s) done.made)) (done.keeps.marks buffer);
+      buffer = subst WellMarked (sym (settled-lines c.listed (kept s) done.made)) (done.leaves.marks buffer);
       past = settled-past c.listed (kept s) done.made hold.buffer earlier;
     })

@@ -1,4 +1,4 @@
--- The faults of a command: neither memory nor output is lost, and no file is refused.
+-- The faults of a command's steps: neither memory nor output is lost, and no file is refused.
 use Rattle.std.proofs.Common.{◌≡◌, ℕ, zero, suc, ◌+◌, ℤ, pos, negsuc, ◌+ℤ◌, Bool, true, false, ◌&&◌, nat_le, List, [], ◌∷◌, Option, Some, None, find, Result, Ok, Err, refl}
 use Rattle.std.specs.Prelude.{ok_or}
 use Rattle.std.specs.List.{list_any}
@@ -8,24 +8,23 @@ use Rattle.ed_base.specs.declared.fault.Fault.{Fault}
 use Rattle.ed_base.specs.declared.fault.Fault.TheVariants as fault
 use Rattle.ed_syntax.specs.declared.replacement.Part.{Part}
 use Rattle.ed_syntax.specs.declared.replacement.Which.{Which}
-use Rattle.ed_syntax.specs.declared.request.Answer.{Answer}
-use Rattle.ed_syntax.specs.declared.request.Request.{Request}
 use Rattle.ed_syntax.specs.declared.verbs.Taking.{Taking}
 use Rattle.ed_syntax.specs.declared.verbs.Taking.TheVariants as many
 use Rattle.ed_syntax.specs.Commands as ed
-use Rattle.ed_syntax.specs.Commands.{Base, Address, Addresses, Form, Verb, Command}
+use Rattle.ed_syntax.specs.Commands.{Base, Address, Addresses, Form, Command}
 use Rattle.ed_syntax.specs.Verbs.{takes, given_or, is_split}
 use Rattle.ed_syntax.specs.States.{State, last}
 use Rattle.ed_syntax.specs.Values.{◌>>◌, sought, searched, matches_line, line_at, lines_forward, lines_backward, base_number, within, value, evaluated, moved, values, used_pattern}
-use Rattle.ed_syntax.specs.Ranges.{Span, span, spanned, first_of_two, last_of_two, not_before, single}
+use Rattle.ed_syntax.specs.Ranges.{Span, span, spanned, first_of_two, last_of_two, not_before, ordered, single, whole}
 use Rattle.ed_syntax.specs.Forms.{lines_written}
 use Rattle.ed_syntax.specs.Effects as effect
-use Rattle.ed_syntax.specs.Effects.{Outcome, Effect, Makes, Asks}
+use Rattle.ed_syntax.specs.Effects.{Outcome, Makes}
 use Rattle.ed_syntax.specs.SubstitutedLines as substitution
 use Rattle.ed_syntax.specs.SubstitutedLines.{Results, made_of, each, used_replacement, substitute}
-use Rattle.ed_syntax.specs.Applied.{placed, targeted, making, effect_of, suffix_written, completed, command}
+use Rattle.ed_syntax.specs.Files.{used_path, saved, file_name, quit}
+use Rattle.ed_syntax.specs.Applied.{placed, targeted, making, suffix_written}
 use Rattle.ed_syntax.proofs.StepLemmas.{either}
-use Rattle.ed_syntax.proofs.FaultSteps.{Gives, Meets, gives, meets, meets-none, bind-gives, bind-any, bind-meets, ok_or-meets}
+use Rattle.ed_syntax.proofs.FaultSteps.{Meets, meets, meets-none, bind-meets, ok_or-meets}
 
 -- a fault that a command may have of its own
 abbrev pub is_own : Fault → Bool
@@ -38,7 +37,7 @@ abbrev pub Own : Fault → Type 0
 Own f = is_own f ≡ true
 
 -- a step without a fault
-fine : {A : Type 0} (x : A) → Meets Own (Ok x)
+pub fine : {A : Type 0} (x : A) → Meets Own (Ok x)
 fine x = meets-none Own x
 
 searched-own : (text : Option (List ℕ)) (order : List ℕ) (s : State) → Meets Own (searched text order s)
@@ -85,6 +84,10 @@ spanned-if : (test : Bool) (x : Span) (other : Result Span Fault) → Meets Own 
 spanned-if true x other is = fine x
 spanned-if false x other is = is
 
+ordered-own : (a b : ℕ) → Meets Own (ordered a b)
+ordered-own a b =
+    either (Meets Own) (nat_le 1 a) _ _ (λ some. spanned-if (nat_le a b) (span a b) (Err fault.Address) (meets Own fault.Address refl)) (λ none. meets Own fault.Address refl)
+
 spanned-own : (t : Taking) (last : ℕ) (values : List ℕ) → Meets Own (spanned t last values)
 spanned-own many.NoAddress last values = fine (span 0 0)
 spanned-own many.Place last values = fine (span (last_of_two values) (last_of_two values))
@@ -97,18 +100,20 @@ spanned-own many.OneLine last values = single-own (last_of_two values)
 spanned-own many.Lines last values =
     spanned-if (nat_le (first_of_two values) (last_of_two values) && nat_le (not_before (last_of_two values)) last) (span (not_before (first_of_two values)) (not_before (last_of_two values))) (Err fault.Address)
     (meets Own fault.Address refl)
-spanned-own many.Range last values =
-    let a = first_of_two values in
-    let b = last_of_two values in
-    either (Meets Own) (nat_le 1 a) _ _ (λ some. spanned-if (nat_le a b) (span a b) (Err fault.Address) (meets Own fault.Address refl)) (λ none. meets Own fault.Address refl)
+spanned-own many.Range last values = ordered-own (first_of_two values) (last_of_two values)
+spanned-own many.Whole last values = whole-own values
+  where
+    whole-own : (values : List ℕ) → Meets Own (whole last values)
+    whole-own [] = fine (span 1 last)
+    whole-own (a ∷ more) = ordered-own a (last_of_two (a ∷ more))
 
-placed-own : (c : Command) (s : State) → Meets Own (placed c s)
+pub placed-own : (c : Command) (s : State) → Meets Own (placed c s)
 placed-own c s =
     bind-meets Own (values (given_or c.addresses (takes c.verb).default) s) _ (values-own (given_or c.addresses (takes c.verb).default) s) (λ v.
     bind-meets Own (targeted (takes c.verb).target v.0) _ (targeted-own (takes c.verb).target v.0) (λ t.
     bind-meets Own (spanned (takes c.verb).taking (last s) v.1) _ (spanned-own (takes c.verb).taking (last s) v.1) (λ x. fine (record { state = t.0; span = x; target = t.1 }))))
 
-move-own : (x : Span) (target : ℕ) (s : State) → Meets Own (effect.move x target s >> λ o. Ok (Makes o))
+pub move-own : (x : Span) (target : ℕ) (s : State) → Meets Own (effect.move x target s >> λ o. Ok (Makes o))
 move-own x target s =
     either (λ (r : Result Outcome Fault). Meets Own (r >> λ o. Ok (Makes o))) (nat_le x.first target && nat_le target x.last) _ _
     (λ inside. meets Own fault.Destination refl) (λ outside. fine _)
@@ -124,61 +129,35 @@ made-own true form x s (lines, None) = fine _
 made-own false form x s (lines, None) = meets Own fault.NoMatch refl
 made-own listed form x s (lines, Some n) = fine _
 
-substitute-own : (listed : Bool) (pattern : Option (List ℕ)) (replacement : Option (List Part)) (which : Which) (form : Option Form) (x : Span) (s : State) →
+pub substitute-own : (listed : Bool) (pattern : Option (List ℕ)) (replacement : Option (List Part)) (which : Which) (form : Option Form) (x : Span) (s : State) →
     Meets Own (substitute listed pattern replacement which form x s)
 substitute-own listed pattern replacement which form x s =
     bind-meets Own (used_replacement listed replacement s) _ (used_replacement-own listed replacement s) (λ parts.
     bind-meets Own (used_pattern pattern s) _ (ok_or-meets Own (sought pattern s) fault.Pattern refl) (λ text.
     made-own listed form x _ (each (made_of text parts which) (between x.first x.last s.lines))))
 
-making-own : (r : Result Outcome Fault) → Meets Own r → Meets Own (making r)
+pub making-own : (r : Result Outcome Fault) → Meets Own r → Meets Own (making r)
 making-own r own = bind-meets Own r _ own (λ o. fine (Makes o))
 
-effect_of-own : (verb : Verb) (listed : Bool) (x : Span) (target : ℕ) (s : State) (given : Option Answer) → Meets Own (effect_of verb listed x target s given)
-effect_of-own (ed.Move to) listed x target s given = move-own x target s
-effect_of-own (ed.Substitute pattern replacement which form) listed x target s given =
-    making-own (substitute listed pattern replacement which form x s) (substitute-own listed pattern replacement which form x s)
-effect_of-own _ listed x target s given = fine _
+-- the used path, and that the buffer is saved
+pub used_path-own : (path : Option (List ℕ)) (s : State) → Meets Own (used_path path s)
+used_path-own (Some path) s = fine path
+used_path-own None s = ok_or-meets Own s.name fault.Name refl
+
+pub saved-own : (s : State) → Meets Own (saved s)
+saved-own s = either (Meets Own) s.changed _ _ (λ changed. meets Own fault.Unsaved refl) (λ unchanged. fine s)
+
+pub file_name-own : (path : Option (List ℕ)) (s : State) → Meets Own (file_name path s)
+file_name-own path s = bind-meets Own (used_path path s) _ (used_path-own path s) (λ used. fine _)
+
+pub quit-own : (s : State) → Meets Own (quit s)
+quit-own s = bind-meets Own (saved s) _ (saved-own s) (λ t. fine _)
 
 -- line 0 isn't written
 written-own : {A : Type 0} (n : ℕ) (written : A) → Meets {A = A} Own (elim n [ zero ↦ Err fault.Address | suc k ↦ Ok written ])
 written-own zero written = meets Own fault.Address refl
 written-own (suc k) written = fine written
 
-suffix-own : (suffix : Option Form) (s : State) → Meets Own (suffix_written suffix s)
+pub suffix-own : (suffix : Option Form) (s : State) → Meets Own (suffix_written suffix s)
 suffix-own None s = fine []
 suffix-own (Some form) s = written-own s.current (lines_written form s.current s.current s.lines)
-
-completed-own : (c : Command) (s : State) (e : Effect) → Meets Own (completed c s e)
-completed-own c s (Asks r) = fine (Asks r)
-completed-own c s (Makes o) = bind-meets Own (suffix_written c.suffix o.state) _ (suffix-own c.suffix o.state) (λ more. fine _)
-
-pub command-own : (s : State) (c : Command) (given : Option Answer) → Meets Own (command s c given)
-command-own s c given =
-    bind-meets Own (placed c s) _ (placed-own c s) (λ p.
-    bind-meets Own (effect_of c.verb c.listed p.span p.target p.state given) _ (effect_of-own c.verb c.listed p.span p.target p.state given) (λ e. completed-own c s e))
-
--- it asks for no file
-abbrev pub IsMade : Effect → Type 0
-IsMade e = (r : Request) → e ≡ Asks r → ⊥
-
-made : (o : Outcome) → Gives IsMade (Ok (Makes o))
-made o = gives IsMade (Makes o) (λ r same. cc)
-
-move-made : (x : Span) (target : ℕ) (s : State) → Gives IsMade (effect.move x target s >> λ o. Ok (Makes o))
-move-made x target s = bind-any IsMade (effect.move x target s) _ (λ o. made o)
-
-effect_of-made : (verb : Verb) (listed : Bool) (x : Span) (target : ℕ) (s : State) (given : Option Answer) → Gives IsMade (effect_of verb listed x target s given)
-effect_of-made (ed.Move to) listed x target s given = move-made x target s
-effect_of-made (ed.Substitute pattern replacement which form) listed x target s given =
-    bind-any IsMade (substitute listed pattern replacement which form x s) _ (λ o. made o)
-effect_of-made _ listed x target s given = made _
-
-completed-made : (c : Command) (s : State) (e : Effect) → IsMade e → Gives IsMade (completed c s e)
-completed-made c s (Asks r) is = absurd (is r refl)
-completed-made c s (Makes o) is = bind-any IsMade (suffix_written c.suffix o.state) _ (λ more. made _)
-
-pub command-made : (s : State) (c : Command) (given : Option Answer) → Gives IsMade (command s c given)
-command-made s c given =
-    bind-any IsMade (placed c s) _ (λ p.
-    bind-gives IsMade IsMade (effect_of c.verb c.listed p.span p.target p.state given) _ (effect_of-made c.verb c.listed p.span p.target p.state given) (λ e is. completed-made c s e is))

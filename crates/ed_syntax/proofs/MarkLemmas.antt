@@ -1,5 +1,5 @@
 -- What the commands make of lines in which each letter marks at most one line.
-use Rattle.std.proofs.Common.{◌≡◌, ℕ, ◌+◌, ◌≤◌, cond, List, [], ◌∷◌, ◌++◌, map, take, drop, length, Option, Some, None, refl, sym, ap, ◌∙◌, arith}
+use Rattle.std.proofs.Common.{◌≡◌, ℕ, ◌+◌, ◌≤◌, cond, List, [], ◌∷◌, ◌++◌, map, take, drop, length, Option, Some, None, sym, ap, ◌∙◌, arith}
 use Rattle.std.specs.Prelude.{count_by}
 use Rattle.std.proofs.lemmas.List.Sums.{sum_by-append}
 use Rattle.std.proofs.lemmas.List.Elements.{All-nil, All-cons, All-head, All-tail, All-append, All-take, All-drop}
@@ -42,6 +42,9 @@ well-exchanged a b texts xs h marked = record {
   known = known-exchanged a b (map plain_line texts) xs (plain-known texts) marked.known;
   once = counts-once (exchanged a b (map plain_line texts) xs) (λ letter. omega (arith, marked_by-exchanged letter a b (map plain_line texts) xs h, plain-uncounted texts letter, few marked letter));
 }
+
+pub well-plain : (texts : List (List ℕ)) → WellMarked (map plain_line texts)
+well-plain texts = record { known = plain-known texts; once = counts-once (map plain_line texts) (λ letter. omega (arith, plain-uncounted texts letter)) }
 
 pub well-carried : (a b place : ℕ) (xs : List Line) → a ≤ b → WellMarked xs → WellMarked (carried a b place xs)
 well-carried a b place xs h marked =

@@ -1,5 +1,5 @@
 -- How runs end: by faults of their commands, of the script, or of a file that an answer refused.
-use Rattle.std.proofs.Common.{◌≡◌, ℕ, List, [], ◌∷◌, Option, Some, None, Result, Ok, Err, refl, subst}
+use Rattle.std.proofs.Common.{◌≡◌, ℕ, false, List, [], ◌∷◌, Option, Some, None, Result, Ok, Err, refl, subst}
 use Rattle.std.proofs.lemmas.Bool.{false≢true}
 use Rattle.ed_base.specs.declared.fault.Fault.{Fault}
 use Rattle.ed_base.specs.declared.fault.Fault.TheVariants as fault
@@ -13,11 +13,12 @@ use Rattle.ed_syntax.specs.Commands.{Verb, Command, Step, Script}
 use Rattle.ed_syntax.specs.Effects.{Effect, Makes, Asks}
 use Rattle.ed_syntax.specs.Applied.{command}
 use Rattle.ed_syntax.specs.Progress.{Present, Ends, Progress, Hears, asked_of, stop_of, failing, ending, quitting}
-use Rattle.ed_syntax.specs.Runs.{Further, asking, turned, one, step_by, prompted, at_end, steps, started, start, present, run}
-use Rattle.ed_syntax.specs.Laws.{LastUnserved, last, next, NeverEndsBy, FilesHaveACause}
+use Rattle.ed_syntax.specs.Runs.{Further, answered, asking, turned, one, step_by, prompted, at_end, steps, started, start, present, run}
+use Rattle.ed_syntax.specs.Laws.{LastUnserved, last, next, starts, FileCause, at_start, at_command, after_start, NeverEndsBy, FilesHaveACause}
 use Rattle.ed_syntax.proofs.StepLemmas.{either}
 use Rattle.ed_syntax.proofs.FaultSteps.{Gives, Meets}
-use Rattle.ed_syntax.proofs.FaultLemmas.{Own, IsMade, command-own, command-made}
+use Rattle.ed_syntax.proofs.FaultLemmas.{Own}
+use Rattle.ed_syntax.proofs.AnswerLemmas.{IsMade, Answered, Asking, command-asking}
 
 -- a fault is its command's or its script's own, or that of a file with its cause
 pub data Caused : Fault → List Request → List Answer → Type 0 where
@@ -43,29 +44,43 @@ heard : {f : Fault} {asked : List Request} {answers : List Answer} (r : Request)
 heard r a (own f asked answers is) = own f (r ∷ asked) (a ∷ answers) is
 heard r a (refused asked answers is) = refused (r ∷ asked) (a ∷ answers) (next r a asked answers is)
 
+-- a fault after an answer
+unserved : {r : Request} {a : Answer} {f : Fault} → Answered r a f → (answers : List Answer) → Caused f (r ∷ []) (a ∷ answers)
+unserved {r} {a} (Answered.own f is) answers = own f (r ∷ []) (a ∷ answers) is
+unserved {r} {a} (Answered.refused is) answers = refused (r ∷ []) (a ∷ answers) (last r a answers is)
+
+-- a command that has its answer, and the run after it
+answered-well : (m : Present) (r : Request) (a : Answer) (counted : List ℕ) (second : Result Effect Fault) (go : Further) → Meets (Answered r a) second → Gives IsMade second → GoesWell go →
+    (answers : List Answer) → EndsWell (Hears m.help r (answered m counted second go answers)) (a ∷ answers)
+answered-well m r a counted (Err f) go faults once well answers = λ g stops. let e : f ≡ g = cc in subst (λ g. Caused g (r ∷ []) (a ∷ answers)) e (unserved (faults f refl) answers)
+answered-well m r a counted (Ok (Makes o)) go faults once well answers = λ g stops. heard r a (well _ answers g stops)
+answered-well m r a counted (Ok (Asks q)) go faults once well answers = absurd (once (Asks q) refl q refl)
+
 -- a command and the run after it
-asking-well : (m : Present) (first : Result Effect Fault) (again : Answer → Result Effect Fault) (go : Further) → Meets Own first → Gives IsMade first → GoesWell go →
+asking-well : (m : Present) (first : Result Effect Fault) (again : Answer → Result Effect Fault) (go : Further) → Asking first again → GoesWell go →
     (answers : List Answer) → EndsWell (asking m first again go answers) answers
-asking-well m (Err f) again go faults asks well answers = failing-well m f answers (faults f refl)
-asking-well m (Ok (Makes o)) again go faults asks well answers = well _ answers
-asking-well m (Ok (Asks r)) again go faults asks well answers = absurd (asks (Asks r) refl r refl)
+asking-well m (Err f) again go is well answers = failing-well m f answers (is.own f refl)
+asking-well m (Ok (Makes o)) again go is well answers = well _ answers
+asking-well m (Ok (Asks r)) again go is well [] = λ f stops. cc
+asking-well m (Ok (Asks r)) again go is well (a ∷ answers) = answered-well m r a _ (again a) go (is.heard r refl a) (is.once a) well answers
 
 one-well : (c : Command) (m : Present) (go : Further) → GoesWell go → (answers : List Answer) → EndsWell (one c m go answers) answers
 one-well c m go well answers =
-    asking-well m (command m.state c None) (λ a. command m.state c (Some a)) (λ t. go (turned c.verb t)) (command-own m.state c None) (command-made m.state c None)
+    asking-well m (command m.state c None) (λ a. command m.state c (Some a)) (λ t. go (turned c.verb t)) (command-asking m.state c)
     (λ t more. well (turned c.verb t) more) answers
 
+quitting-well : (m : Present) (answers : List Answer) → EndsWell (quitting m) answers
+quitting-well m answers =
+    either (λ p. EndsWell p answers) m.state.changed _ _ (λ changed. failing-well m fault.Unsaved answers refl) (λ saved. ending-well m answers)
+
 step_by-well : (verb : Verb) (x : Step) (m : Present) (go : Further) → GoesWell go → (answers : List Answer) → EndsWell (step_by verb x m go answers) answers
+step_by-well ed.Quit x m go well answers = quitting-well m answers
 step_by-well ed.QuitAnyway x m go well answers = ending-well m answers
 step_by-well _ x m go well answers = one-well x.command m go well answers
 
 prompted-well : (m : Present) (p : Progress) (answers : List Answer) → EndsWell p answers → EndsWell (prompted m p) answers
 prompted-well m p answers well =
     either (λ p. EndsWell p answers) m.prompting _ _ (λ on. well) (λ off. well)
-
-quitting-well : (m : Present) (answers : List Answer) → EndsWell (quitting m) answers
-quitting-well m answers =
-    either (λ p. EndsWell p answers) m.state.changed _ _ (λ changed. failing-well m fault.Unsaved answers refl) (λ saved. ending-well m answers)
 
 at_end-well : (bad : Option ℕ) (m : Present) (answers : List Answer) → EndsWell (at_end bad m) answers
 at_end-well None m answers = quitting-well m answers
@@ -76,37 +91,55 @@ steps-well [] bad m answers = prompted-well m (at_end bad m) answers (at_end-wel
 steps-well (x ∷ xs) bad m answers =
     prompted-well m _ answers (step_by-well x.command.verb x m (λ t more. steps xs bad t more) (λ t more. steps-well xs bad t more) answers)
 
--- the start file's answer, and the run after it
-started-well : (path : List ℕ) (a : Answer) (m : Present) (go : Further) → GoesWell go → (answers : List Answer) → EndsWell (Hears m.help (request.Read path) (started path a m go answers)) (a ∷ answers)
-started-well path (answer.Bytes bytes) m go well answers f stops = heard (request.Read path) (answer.Bytes bytes) (well _ answers f stops)
-started-well path answer.Missing m go well answers f stops = heard (request.Read path) answer.Missing (well _ answers f stops)
-started-well path answer.Refused m go well answers f stops =
-    let e : fault.File ≡ f = cc in
-    subst (λ f. Caused f (request.Read path ∷ []) (answer.Refused ∷ answers)) e
-    (refused (request.Read path ∷ []) (answer.Refused ∷ answers) (last (request.Read path) answer.Refused answers refl))
-started-well path answer.Done m go well answers f stops =
-    let e : fault.File ≡ f = cc in
-    subst (λ f. Caused f (request.Read path ∷ []) (answer.Done ∷ answers)) e
-    (refused (request.Read path ∷ []) (answer.Done ∷ answers) (last (request.Read path) answer.Done answers refl))
+-- a fault is that of a command or of the script, or that of a file with its cause
+pub data StartCaused (path : Option (List ℕ)) : Fault → List Request → List Answer → Type 0 where
+  owned : (f : Fault) (asked : List Request) (answers : List Answer) → Own f → StartCaused path f asked answers
+  by_file : (asked : List Request) (answers : List Answer) → FileCause path asked answers → StartCaused path fault.File asked answers
 
-start-well : (path : Option (List ℕ)) (m : Present) (go : Further) → GoesWell go → (answers : List Answer) → EndsWell (start path m go answers) answers
-start-well None m go well answers = well m answers
+-- what ends a run from its start on has its cause
+abbrev pub StartsWell : Option (List ℕ) → Progress → List Answer → Type 0
+StartsWell path p answers = (f : Fault) → stop_of p ≡ Ends (Err f) → StartCaused path f (asked_of p) answers
+
+without_start : {f : Fault} {asked : List Request} {answers : List Answer} → Caused f asked answers → StartCaused None f asked answers
+without_start (own f asked answers is) = owned f asked answers is
+without_start (refused asked answers is) = by_file asked answers (at_command asked answers is)
+
+behind_start : {f : Fault} {asked : List Request} {answers : List Answer} (path : List ℕ) (a : Answer) → Caused f asked answers → StartCaused (Some path) f (request.Read path ∷ asked) (a ∷ answers)
+behind_start path a (own f asked answers is) = owned f (request.Read path ∷ asked) (a ∷ answers) is
+behind_start path a (refused asked answers is) = by_file (request.Read path ∷ asked) (a ∷ answers) (after_start path a asked answers is)
+
+-- the start's answer is refused
+start-refused : (path : List ℕ) (a : Answer) (m : Present) (answers : List Answer) → starts a ≡ false → StartsWell (Some path) (Hears m.help (request.Read path) (failing m fault.File)) (a ∷ answers)
+start-refused path a m answers is f stops =
+    let e : fault.File ≡ f = cc in
+    subst (λ f. StartCaused (Some path) f (request.Read path ∷ []) (a ∷ answers)) e (by_file (request.Read path ∷ []) (a ∷ answers) (at_start path a answers is))
+
+-- the start file's answer, and the run after it
+started-well : (path : List ℕ) (a : Answer) (m : Present) (go : Further) → GoesWell go → (answers : List Answer) →
+    StartsWell (Some path) (Hears m.help (request.Read path) (started path a m go answers)) (a ∷ answers)
+started-well path (answer.Bytes bytes) m go well answers = λ f stops. behind_start path (answer.Bytes bytes) (well _ answers f stops)
+started-well path answer.Missing m go well answers = λ f stops. behind_start path answer.Missing (well _ answers f stops)
+started-well path answer.Refused m go well answers = start-refused path answer.Refused m answers refl
+started-well path answer.Done m go well answers = start-refused path answer.Done m answers refl
+
+start-well : (path : Option (List ℕ)) (m : Present) (go : Further) → GoesWell go → (answers : List Answer) → StartsWell path (start path m go answers) answers
+start-well None m go well answers = λ f stops. without_start (well m answers f stops)
 start-well (Some path) m go well [] = λ f stops. cc
 start-well (Some path) m go well (a ∷ answers) = started-well path a m go well answers
 
-pub run-well : (script : Script) (o : Options) (answers : List Answer) → EndsWell (run script o answers) answers
+pub run-well : (script : Script) (o : Options) (answers : List Answer) → StartsWell o.path (run script o answers) answers
 run-well script o answers = start-well o.path (present o) (steps script.steps script.fault) (steps-well script.steps script.fault) answers
 
 -- neither memory nor output is a cause
-memory-caused : {asked : List Request} {answers : List Answer} → Caused fault.Memory asked answers → ⊥
-memory-caused (own f asked answers is) = false≢true is
+memory-caused : {path : Option (List ℕ)} {asked : List Request} {answers : List Answer} → StartCaused path fault.Memory asked answers → ⊥
+memory-caused (owned f asked answers is) = false≢true is
 
-output-caused : {asked : List Request} {answers : List Answer} → Caused fault.Output asked answers → ⊥
-output-caused (own f asked answers is) = false≢true is
+output-caused : {path : Option (List ℕ)} {asked : List Request} {answers : List Answer} → StartCaused path fault.Output asked answers → ⊥
+output-caused (owned f asked answers is) = false≢true is
 
-file-caused : {asked : List Request} {answers : List Answer} → Caused fault.File asked answers → LastUnserved asked answers
-file-caused (own f asked answers is) = absurd (false≢true is)
-file-caused (refused asked answers is) = is
+file-caused : {path : Option (List ℕ)} {asked : List Request} {answers : List Answer} → StartCaused path fault.File asked answers → FileCause path asked answers
+file-caused (owned f asked answers is) = absurd (false≢true is)
+file-caused (by_file asked answers is) = is
 
 pub never_memory : NeverEndsBy fault.Memory
 never_memory script o answers ends = memory-caused (run-well script o answers fault.Memory ends)

@@ -1,6 +1,6 @@
 //! What holds of all commands and of all runs.
 ghost use Rattle.ed_base.specs.declared.fault.Fault.TheVariants as fault;
-ghost use Rattle.ed_syntax.specs.Laws.{ListsLeaveUndo, CommandsKeepMarks, NeverEndsBy, FilesHaveACause};
+ghost use Rattle.ed_syntax.specs.Laws.{ListsLeaveUndo, CommandsKeepMarks, UnaskedAnswersDoNothing, NothingIsAskedTwice, NeverEndsBy, FilesHaveACause};
 ghost use Rattle.ed_syntax.specs.Progress.{CutsToAFront, CutsAfter};
 
 /// A command of a list leaves what undo keeps as it is.
@@ -18,6 +18,12 @@ pub fn commands_keep_marks()
 pub fn cut_runs_write_a_front()
     ensures front { CutsToAFront }
     ensures after { CutsAfter }
+{}
+
+/// An answer is looked at only where a file is asked for, and then no more is asked.
+pub fn answers_are_asked_for()
+    ensures unasked { UnaskedAnswersDoNothing }
+    ensures once { NothingIsAskedTwice }
 {}
 
 /// No run ends by memory or output that was lost, and one that ends by a file had an answer that wasn't what it asked for.

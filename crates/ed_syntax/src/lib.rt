@@ -8,6 +8,7 @@ mod heading;
 mod laws;
 mod offsets;
 mod options;
+mod paths;
 mod pattern;
 mod quoting;
 mod reading;
@@ -22,7 +23,8 @@ mod verbs;
 
 pub use command::{Address, Addresses, Base, Command, Form, Verb};
 pub use laws::{
-    commands_keep_marks, cut_runs_write_a_front, listed_commands_leave_undo, runs_end_for_a_cause,
+    answers_are_asked_for, commands_keep_marks, cut_runs_write_a_front, listed_commands_leave_undo,
+    runs_end_for_a_cause,
 };
 pub use options::{Ending, Options};
 pub use pattern::Pattern;
