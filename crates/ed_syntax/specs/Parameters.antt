@@ -25,7 +25,8 @@ pub data SpellsForm : ℕ → Form → Type 0 where
   numbered : SpellsForm letter_n ed.Numbered
   unambiguous : SpellsForm letter_l ed.Unambiguous
 
--- A path, up to the line's end: blanks and a name that doesn't begin with `!`; none where nothing stands there but blanks.
+-- A path, up to the line's end: blanks and a name that doesn't begin with `!`, to which blanks at its end belong (our choice); none
+-- where nothing stands there but blanks.
 pub data SpellsPath : List ℕ → Option (List ℕ) → Type 0 where
   none : (blanks : List ℕ) → Blanks blanks → SpellsPath blanks None
   given : (blank byte : ℕ) (text name : List ℕ) → IsTrue (is_blank blank) → behind_blanks text ≡ byte ∷ name → byte ≢ exclamation_mark →
