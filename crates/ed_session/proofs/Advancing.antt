@@ -16,7 +16,7 @@ use Rattle.ed_syntax.specs.Commands as ed
 use Rattle.ed_syntax.specs.Commands.{Step, Verb}
 use Rattle.ed_syntax.specs.Effects.{Outcome, Effect, Makes, Asks}
 use Rattle.ed_syntax.specs.PublicTypes.{step_value, steps_value}
-use Rattle.ed_syntax.specs.Progress.{Present, Stops, Writes, Hears, Ends, Waits, Wrote, Heard, report, failing, count, stop_of, RunsOut}
+use Rattle.ed_syntax.specs.Progress.{Present, Stops, Writes, Hears, Ends, Waits, Wrote, Heard, report, failing, quitting, count, stop_of, RunsOut}
 use Rattle.ed_syntax.specs.Runs.{Further, with_state, reached, turned, asking, answered, steps, unprompted, started}
 use Rattle.ed_syntax.specs.States.{State, opening}
 use Rattle.ed_commands.specs.declared.editor.Reply.TheVariants as reply
@@ -26,8 +26,8 @@ use Rattle.ed_session.specs.declared.phase.Phase.{Phase}
 use Rattle.ed_session.specs.declared.phase.Phase.TheVariants as phases
 use Rattle.ed_session.specs.Sessions.{SessionValue, rest, awaited, request_of, path_of, is_over, is_waiting, is_started}
 use Rattle.ed_session.specs.Calls.{GoesOn, BreaksOff, Leads, HandsOut, Awaits, Gives, Answers, Starts}
-use Rattle.ed_session.specs.Insides.{holding, bytes_of_write, counted, length_counted, quits_anyway, help_after, prompting_after, Reported, ask_of_output, ask_of_request, AsksFor, AsksFirst, KeepsPhase, state_loaded, AdvancesOrGives}
-use Rattle.ed_session.proofs.Stepping.{step_one, steps_prompted, rest_opens, answered_opens, started_opens, runs_out, hears_and_runs_out}
+use Rattle.ed_session.specs.Insides.{holding, bytes_of_write, counted, length_counted, ends_run, quits, help_after, prompting_after, Reported, ask_of_output, ask_of_request, AsksFor, AsksFirst, KeepsPhase, state_loaded, AdvancesOrGives}
+use Rattle.ed_session.proofs.Stepping.{step_one, step_quits, steps_prompted, rest_opens, answered_opens, started_opens, runs_out, hears_and_runs_out}
 
 -- a session that isn't over stays nowhere
 pub no_end : (old new : SessionValue) → is_over old.phase ≡ false → (result : Result Ending Fault) → old.phase ≡ phases.Over result → new.phase ≡ phases.Over result
@@ -133,7 +133,7 @@ abbrev tail : List Step → Option ℕ → Further
 tail more bad t answers = steps more bad t answers
 
 -- the next step is asked and answered
-next_step : (all more : List Step) (x : Step) (bad : Option ℕ) (m : Present) (answers : List Answer) → all ≡ x ∷ more → quits_anyway x.command.verb ≡ false →
+next_step : (all more : List Step) (x : Step) (bad : Option ℕ) (m : Present) (answers : List Answer) → all ≡ x ∷ more → ends_run x.command.verb ≡ false →
     unprompted all bad m answers ≡ asking m (command m.state x.command None) (λ a. command m.state x.command (Some a)) (λ t. tail more bad (turned x.command.verb t)) answers
 next_step all more x bad m answers left goes = rw left (step_one x m (tail more bad) answers goes)
 
@@ -154,6 +154,11 @@ steps_same a b c d m n answers e f g = rw (e, f, g) refl
 
 unprompted_same : (a b : List Step) (c d : Option ℕ) (m n : Present) (answers : List Answer) → a ≡ b → c ≡ d → m ≡ n → unprompted a c m answers ≡ unprompted b d n answers
 unprompted_same a b c d m n answers e f g = rw (e, f, g) refl
+
+-- `q` is the next step
+pub next_quits : (v : SessionValue) (x : Step) (more : List Step) → v.steps ≡ x ∷ more → quits x.command.verb ≡ true → v.phase ≡ phases.Prompted
+    → (answers : List Answer) → rest v answers ≡ quitting v.present
+next_quits v x more left is at answers = prompted_next v answers at ∙ rw left (step_quits x v.present (tail more v.fault) answers is)
 
 asking_makes : (m : Present) (e : Result Effect Fault) (o : Outcome) (again : Answer → Result Effect Fault) (go : Further) (answers : List Answer) → e ≡ Ok (Makes o)
     → asking m e again go answers ≡ Writes m.help o.output (go (reached o m) answers)
@@ -193,7 +198,7 @@ counted_none true = refl
 counted_none false = refl
 
 -- a command that is done
-pub goes_done : (v new : SessionValue) (x : Step) (more : List Step) (o : Outcome) (output : List ℕ) → v.pending ≡ [] → v.steps ≡ x ∷ more → quits_anyway x.command.verb ≡ false → v.phase ≡ phases.Prompted
+pub goes_done : (v new : SessionValue) (x : Step) (more : List Step) (o : Outcome) (output : List ℕ) → v.pending ≡ [] → v.steps ≡ x ∷ more → ends_run x.command.verb ≡ false → v.phase ≡ phases.Prompted
     → command v.present.state x.command None ≡ Ok (Makes o) → output ≡ o.output → new.phase ≡ phases.Between → new.steps ≡ more → new.fault ≡ v.fault → new.pending ≡ []
     → new.present ≡ turned x.command.verb (with_state o.state v.present) → GoesOn v [] output [] new
 goes_done v new x more o output pending left goes at done is now left_now fault none present = record {
@@ -208,13 +213,13 @@ goes_done v new x more o output pending left goes at done is now left_now fault 
 }
 
 -- a command that fails
-pub next_fails : (v : SessionValue) (x : Step) (more : List Step) (f : Fault) → v.steps ≡ x ∷ more → quits_anyway x.command.verb ≡ false → v.phase ≡ phases.Prompted
+pub next_fails : (v : SessionValue) (x : Step) (more : List Step) (f : Fault) → v.steps ≡ x ∷ more → ends_run x.command.verb ≡ false → v.phase ≡ phases.Prompted
     → command v.present.state x.command None ≡ Err f → (answers : List Answer) → rest v answers ≡ failing v.present f
 next_fails v x more f left goes at is answers =
     prompted_next v answers at ∙ next_step v.steps more x v.fault v.present answers left goes ∙ asking_fails v.present _ f _ (λ t. tail more v.fault (turned x.command.verb t)) answers is
 
 -- a command that asks
-pub goes_asking : (v new : SessionValue) (x : Step) (more : List Step) (r : Request) → v.pending ≡ [] → v.steps ≡ x ∷ more → quits_anyway x.command.verb ≡ false → v.phase ≡ phases.Prompted
+pub goes_asking : (v new : SessionValue) (x : Step) (more : List Step) (r : Request) → v.pending ≡ [] → v.steps ≡ x ∷ more → ends_run x.command.verb ≡ false → v.phase ≡ phases.Prompted
     → command v.present.state x.command None ≡ Ok (Asks r) → new.phase ≡ phases.Waiting → new.steps ≡ v.steps → new.fault ≡ v.fault → new.pending ≡ [] → new.present ≡ v.present → Awaits v r new
 goes_asking v new x more r pending left goes at asks now left_now fault none present =
     let same : (answers : List Answer) → rest new answers ≡ unprompted v.steps v.fault v.present answers
@@ -233,7 +238,7 @@ goes_asking v new x more r pending left goes at asks now left_now fault none pre
           ∙ ap (λ m. Stops m.help (Waits r)) (sym present);
     }
 
-module _ (v : SessionValue) (x : Step) (more : List Step) (r : Request) (pending : v.pending ≡ []) (left : v.steps ≡ x ∷ more) (goes : quits_anyway x.command.verb ≡ false)
+module _ (v : SessionValue) (x : Step) (more : List Step) (r : Request) (pending : v.pending ≡ []) (left : v.steps ≡ x ∷ more) (goes : ends_run x.command.verb ≡ false)
     (at : v.phase ≡ phases.Waiting) (asks : command v.present.state x.command None ≡ Ok (Asks r)) where
   -- what is awaited
   pub awaits_it : awaited v ≡ Some r

@@ -9,31 +9,53 @@ use Rattle.ed_syntax.specs.Applied.{command}
 use Rattle.ed_syntax.specs.Commands as ed
 use Rattle.ed_syntax.specs.Commands.{Step, Verb}
 use Rattle.ed_syntax.specs.Effects.{Effect, Makes, Asks}
-use Rattle.ed_syntax.specs.Progress.{Present, Progress, Writes, Hears, cut, broken_off, report, failing, ending, asked_of, RunsOut}
+use Rattle.ed_syntax.specs.Progress.{Present, Progress, Writes, Hears, cut, broken_off, report, failing, ending, quitting, asked_of, RunsOut}
 use Rattle.ed_syntax.specs.Runs.{Further, answered, asking, one, step_by, step, steps, unprompted, prompted, at_end, start, started}
 use Rattle.ed_session.specs.declared.phase.Phase.{Phase}
 use Rattle.ed_session.specs.declared.phase.Phase.TheVariants as phases
-use Rattle.ed_session.specs.Insides.{quits_anyway}
+use Rattle.ed_session.specs.Insides.{ends_run, quits, quits_anyway}
 use Rattle.ed_session.specs.Sessions.{SessionValue, rest, rest_at, is_over}
 
 -- a step ends the run, or its command is asked and answered
 pub data StepIs (x : Step) (m : Present) (go : Further) (answers : List Answer) : Progress → Type 0 where
-  quits : StepIs x m go answers (ending m)
+  by_end : StepIs x m go answers (ending m)
+  by_quit : StepIs x m go answers (quitting m)
   goes : StepIs x m go answers (one x.command m go answers)
 
 verb_is : (verb : Verb) (x : Step) (m : Present) (go : Further) (answers : List Answer) → StepIs x m go answers (step_by verb x m go answers)
-verb_is ed.QuitAnyway x m go answers = quits
+verb_is ed.QuitAnyway x m go answers = by_end
+verb_is ed.Quit x m go answers = by_quit
 verb_is verb x m go answers = goes
 
 pub step_is : (x : Step) (m : Present) (go : Further) (answers : List Answer) → StepIs x m go answers (step x m go answers)
 step_is x m go answers = verb_is x.command.verb x m go answers
 
-verb_one : (verb : Verb) (x : Step) (m : Present) (go : Further) (answers : List Answer) → quits_anyway verb ≡ false → step_by verb x m go answers ≡ one x.command m go answers
+verb_one : (verb : Verb) (x : Step) (m : Present) (go : Further) (answers : List Answer) → ends_run verb ≡ false → step_by verb x m go answers ≡ one x.command m go answers
 verb_one ed.QuitAnyway x m go answers h = cc
+verb_one ed.Quit x m go answers h = cc
 verb_one verb x m go answers h = refl
 
+-- what ends no run in either way
+pub goes_on : (verb : Verb) → quits_anyway verb ≡ false → quits verb ≡ false → ends_run verb ≡ false
+goes_on verb h k = rw (h, k) refl
+
+-- `Q` ends the run, and `q` as the end of the script does
+verb_ends : (verb : Verb) (x : Step) (m : Present) (go : Further) (answers : List Answer) → quits_anyway verb ≡ true → step_by verb x m go answers ≡ ending m
+verb_ends ed.QuitAnyway x m go answers h = refl
+verb_ends verb x m go answers h = cc
+
+pub step_ends : (x : Step) (m : Present) (go : Further) (answers : List Answer) → quits_anyway x.command.verb ≡ true → step x m go answers ≡ ending m
+step_ends x m go answers h = verb_ends x.command.verb x m go answers h
+
+verb_quits : (verb : Verb) (x : Step) (m : Present) (go : Further) (answers : List Answer) → quits verb ≡ true → step_by verb x m go answers ≡ quitting m
+verb_quits ed.Quit x m go answers h = refl
+verb_quits verb x m go answers h = cc
+
+pub step_quits : (x : Step) (m : Present) (go : Further) (answers : List Answer) → quits x.command.verb ≡ true → step x m go answers ≡ quitting m
+step_quits x m go answers h = verb_quits x.command.verb x m go answers h
+
 -- a command that doesn't end the run is one that is asked and answered
-pub step_one : (x : Step) (m : Present) (go : Further) (answers : List Answer) → quits_anyway x.command.verb ≡ false → step x m go answers ≡ one x.command m go answers
+pub step_one : (x : Step) (m : Present) (go : Further) (answers : List Answer) → ends_run x.command.verb ≡ false → step x m go answers ≡ one x.command m go answers
 step_one x m go answers h = verb_one x.command.verb x m go answers h
 
 -- the steps that are left are those after the prompt
@@ -61,7 +83,8 @@ asking_opens m (Ok (Asks r)) again go [] = refl
 asking_opens m (Ok (Asks r)) again go (a ∷ answers) = refl
 
 step_is_opens : (x : Step) (m : Present) (go : Further) (answers : List Answer) (p : Progress) → StepIs x m go answers p → Opens m.help p
-step_is_opens x m go answers p quits = refl
+step_is_opens x m go answers p by_end = refl
+step_is_opens x m go answers p by_quit = at_end_opens None m
 step_is_opens x m go answers p goes = asking_opens m (command m.state x.command None) _ _ answers
 
 unprompted_opens : (xs : List Step) (bad : Option ℕ) (m : Present) (answers : List Answer) → Opens m.help (unprompted xs bad m answers)
@@ -130,7 +153,8 @@ asking_quiet m (Ok (Makes o)) again go h = h _
 asking_quiet m (Ok (Asks r)) again go h = refl
 
 step_quiet : (x : Step) (m : Present) (go : Further) (p : Progress) → Quiet go → StepIs x m go [] p → asked_of p ≡ []
-step_quiet x m go p h quits = refl
+step_quiet x m go p h by_end = refl
+step_quiet x m go p h by_quit = at_end_quiet None m
 step_quiet x m go p h goes = asking_quiet m (command m.state x.command None) _ _ (λ t. h _)
 
 prompted_quiet : (m : Present) (p : Progress) → asked_of p ≡ [] → asked_of (prompted m p) ≡ []

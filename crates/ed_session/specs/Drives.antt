@@ -1,5 +1,5 @@
 -- What driving a session to its end has done: the files that were asked for, the output that was written, and the end.
-use Rattle.std.specs.Prelude.{ℕ, ◌≡◌, ◌<◌, ◌++◌, ◌⊎◌, List, [], length, map, drop, All, Bool, true, false, Option, Result, Err}
+use Rattle.std.specs.Prelude.{ℕ, ◌≡◌, ◌<◌, ◌++◌, ◌⊎◌, List, [], ◌∷◌, length, map, drop, All, Bool, true, false, Option, Some, Result, Err}
 use Rattle.std.specs.Io.KnownBytes.{Appends}
 use Rattle.ed_base.specs.declared.fault.Fault.{Fault}
 use Rattle.ed_base.specs.declared.fault.Fault.TheVariants.{Memory, Output, File}
@@ -9,6 +9,7 @@ use Rattle.ed_syntax.specs.declared.request.Request.{Request}
 use Rattle.ed_syntax.specs.declared.request.Request.TheVariants as request
 use Rattle.ed_syntax.specs.declared.options.Ending.{Ending}
 use Rattle.ed_syntax.specs.Progress.{Progress, Ends, Event, after, output_of, asked_of, stop_of, RunsOut}
+use Rattle.ed_session.specs.declared.phase.Phase.{Phase}
 use Rattle.ed_session.specs.declared.phase.Phase.TheVariants as phases
 use Rattle.ed_session.specs.Sessions.{SessionValue, rest, is_over}
 use Rattle.ed_session.specs.Calls.{written}
@@ -84,6 +85,18 @@ pub record Closed (now : SessionValue) (result : Result Ending Fault) : Type 0 w
   pub pending : now.pending ≡ []
   pub told : (now.told ≡ true) ⊎ (result ≡ Err Output)
 
--- Where the fault of a file comes from: the outside refused a file in this call, or the run had failed by a file's answer before.
-abbrev pub FileRefused : SessionValue → ℕ → ℕ → Type 0
-FileRefused from failed_before failed = (failed_before < failed) ⊎ (from.phase ≡ phases.Over (Err File))
+-- the last of these was the read of a file that isn't there
+pub data EndsMissing : Log → Type 0 where
+  here : (path : List ℕ) → EndsMissing ((request.Read path, answer.Missing) ∷ [])
+  later : (entry : Request × Answer) (log : Log) → EndsMissing log → EndsMissing (entry ∷ log)
+
+-- what was asked by commands, and not for the start
+abbrev pub of_commands : Phase → Log → Log
+of_commands (phases.Fresh (Some path)) log = drop 1 log
+of_commands at log = log
+
+-- Where the fault of a file comes from: the outside refused a file in this call, or a command read one that isn't there, or the run
+-- had failed by a file's answer before.
+abbrev pub FileRefused : SessionValue → Log → ℕ → ℕ → Type 0
+FileRefused from log failed_before failed =
+    (failed_before < failed) ⊎ (EndsMissing (of_commands from.phase log) ⊎ (from.phase ≡ phases.Over (Err File)))

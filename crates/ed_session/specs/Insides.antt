@@ -1,5 +1,5 @@
 -- What a session keeps inside, and what is true of it in each phase.
-use Rattle.std.specs.Prelude.{ℕ, ◌≡◌, ◌≢◌, ◌≤◌, ◌⊎◌, Bool, true, false, not, List, [], ◌∷◌, ◌++◌, length, decimal, Option, Some, None, Ok}
+use Rattle.std.specs.Prelude.{ℕ, ◌≡◌, ◌≢◌, ◌≤◌, ◌⊎◌, Bool, true, false, not, ◌||◌, List, [], ◌∷◌, ◌++◌, length, decimal, Option, Some, None, Ok}
 use Rattle.ed_base.specs.Lines.{newline}
 use Rattle.ed_base.specs.declared.fault.Fault.{Fault}
 use Rattle.ed_base.specs.declared.fault.Fault.TheVariants.{Memory}
@@ -42,10 +42,19 @@ abbrev pub counted : (silent : Bool) → Option ℕ → List ℕ
 counted false (Some n) = decimal n ++ newline ∷ []
 counted silent n = []
 
--- the command that ends the run by itself
+-- the command that ends the run whether or not changes were written
 abbrev pub quits_anyway : Verb → Bool
 quits_anyway ed.QuitAnyway = true
 quits_anyway verb = false
+
+-- the command that ends the run as the end of the script does
+abbrev pub quits : Verb → Bool
+quits ed.Quit = true
+quits verb = false
+
+-- the commands that end the run by themselves
+abbrev pub ends_run : Verb → Bool
+ends_run verb = quits_anyway verb || quits verb
 
 -- help mode after a command: `H` turns it on or off
 abbrev pub help_after : Verb → Bool → Bool
@@ -79,7 +88,7 @@ pub record AreReady (brief full : List ℕ) : Type 0 where
 
 -- a command asks for a file, with a request that writes so many bytes or reads
 pub record AsksFor (writes : Option ℕ) (s : State) (x : Step) : Type 0 where
-  pub goes : quits_anyway x.command.verb ≡ false
+  pub goes : ends_run x.command.verb ≡ false
   pub request : Request
   pub asks : command s x.command None ≡ Ok (Asks request)
   pub writes_it : writes ≡ bytes_of_write request

@@ -89,7 +89,7 @@ pub fn drive<S: LineStore, O: Outside, W: Sink>(
 
     // Where the faults of files and of output come from.
     ensures file_refused { result ≡ Err Fault.File →
-        FileRefused session.old (O.failures outside.old) (O.failures outside.new) }
+        FileRefused session.old (added (O.log outside.old) (O.log outside.new)) (O.failures outside.old) (O.failures outside.new) }
     ensures output_refused { session.old.phase ≢ phases.Over (Err Fault.Output) → result ≡ Err Fault.Output →
         W.failures sink.old < W.failures sink.new }
 {

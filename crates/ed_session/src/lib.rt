@@ -5,7 +5,6 @@ mod counts;
 mod disk_files;
 mod driving;
 mod kept;
-pub mod laws;
 mod mem_files;
 mod mem_sink;
 mod modes;

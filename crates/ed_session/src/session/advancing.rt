@@ -2,11 +2,11 @@
 ghost use Rattle.std.specs.Prelude.{◌≡◌, ◌≢◌, ◌<◌, List, [], true, false};
 ghost use Rattle.ed_base.specs.declared.fault.Fault.TheVariants.{Memory};
 ghost use Rattle.ed_syntax.specs.declared.request.Answer.{Answer};
-ghost use Rattle.ed_syntax.specs.Progress.{failing};
+ghost use Rattle.ed_syntax.specs.Progress.{failing, quitting};
 ghost use Rattle.ed_syntax.specs.PublicTypes.{verb_value};
 ghost use Rattle.ed_session.specs.declared.phase.Phase.TheVariants as phases;
 ghost use Rattle.ed_session.specs.Calls.{Gives};
-ghost use Rattle.ed_session.specs.Insides.{AdvancesOrGives, ask_of_output, ask_of_request, bytes_of_write, quits_anyway};
+ghost use Rattle.ed_session.specs.Insides.{AdvancesOrGives, ask_of_output, ask_of_request, bytes_of_write, quits, quits_anyway};
 ghost use Rattle.ed_session.specs.Sessions.{is_over, is_started, is_waiting, rest};
 ghost use Rattle.ed_session.specs.Work.{work};
 
@@ -17,11 +17,18 @@ use ed_commands::Reply;
 use ed_syntax::{Ending, Request, Verb};
 use line_store::LineStore;
 
-// The command ends the run by itself.
-fn ends_run(verb: &Verb) -> bool
+// The command ends the run whether or not changes were written.
+fn quits_anyway(verb: &Verb) -> bool
     ensures value { result ≡ quits_anyway (verb_value verb.now) }
 {
     matches!(verb, Verb::QuitAnyway)
+}
+
+// The command ends the run as the end of the script does.
+fn quits(verb: &Verb) -> bool
+    ensures value { result ≡ quits (verb_value verb.now) }
+{
+    matches!(verb, Verb::Quit)
 }
 
 // Some output, if there is any.
@@ -122,6 +129,18 @@ impl<S: LineStore> Session<S> {
         if self.fault.is_some() {
             return Some(self.report(Fault::Syntax));
         }
+        self.quit()
+    }
+
+    // Ends the run where no change is left to be written.
+    fn quit(&mut self) -> Option<Ask>
+        requires prompted { self.old.phase ≡ phases.Prompted }
+        requires handed_out { self.old.pending ≡ [] }
+        ensures given { ((answers : List Answer) → rest self.old answers ≡ quitting self.old.present) →
+            AdvancesOrGives self.old result self.new }
+        ensures started { is_started self.new.phase ≡ true }
+        ensures work { work self.new < work self.old }
+    {
         if self.editor.changed() {
             return Some(self.report(Fault::Unsaved));
         }
@@ -141,7 +160,10 @@ impl<S: LineStore> Session<S> {
         ensures work { work self.new < work self.old }
     {
         let command = &self.commands[self.next];
-        if ends_run(&command.verb) {
+        if quits(&command.verb) {
+            return self.quit();
+        }
+        if quits_anyway(&command.verb) {
             self.phase = Phase::Over(Ok(Ending {
                 lines: self.editor.lines().len(),
             }));

@@ -1,6 +1,6 @@
 use Rattle.std.proofs.Common.{◌∙◌, refl, ap, inl, inr, arith}
 use Rattle.ed_syntax.specs.Progress.{Ends}
-use Rattle.ed_session.proofs.Causes.{rest_no_file, rest_no_output}
+use Rattle.ed_session.proofs.Causes.{rest_by_file, rest_no_output}
 use Rattle.ed_session.proofs.Turning.{driven_output, driven_performs, performed_log, performed_raises, driven_ends, driven_cut_off}
 use Rattle.ed_session.proofs.driving.drive.Goals as goal
 
@@ -66,7 +66,7 @@ returns-in-Ended-clause-file_refused g c = λ is.
     let i = c.turns.invariant in
     elim (driven_ends _ _ _ _ _ _ _ i.driven c.in-Ended.ensures.given) [
       | inl x ↦ elim i.raises [
-        | inl fit ↦ inr (rest_no_file c.args.session.now _ x.asked fit (x.ended ∙ ap Ends is))
+        | inl fit ↦ inr (rest_by_file c.args.session.now _ x.asked fit (x.ended ∙ ap Ends is))
         | inr rise ↦ inl rise
       ]
       | inr x ↦ absurd (let h = x.0 in cc)

@@ -2,8 +2,9 @@ use Rattle.std.proofs.Common.{◌≡◌, ◌≢◌, ◌∙◌, ap, sym, refl, fa
 use Rattle.ed_base.specs.declared.fault.Fault.TheVariants.{Memory}
 use Rattle.ed_syntax.specs.Applied.{command}
 use Rattle.ed_syntax.specs.PublicTypes.{command_value, step_value}
-use Rattle.ed_session.specs.Insides.{quits_anyway, holding}
+use Rattle.ed_session.specs.Insides.{ends_run, holding}
 use Rattle.ed_session.specs.Sessions.{is_over}
+use Rattle.ed_session.proofs.Stepping.{goes_on}
 use Rattle.ed_session.proofs.Advancing.{advances_by, goes_done, goes_asking, gives_request, next_fails, hands_out_report, done_is, wants_is, turned_present, left_next, left_below, is_false, as_goes, as_awaits, as_hands_out}
 use Rattle.ed_session.proofs.session.Session.command.Goals as goal
 
@@ -15,7 +16,7 @@ invariant_of-self-in-Ok-Wants g c =
     let x = c.index-command.result.now in
     let below = left_below i.commands.items i.next (λ e. c.requires.left (ap (λ u. u.steps) (sym v) ∙ e)) in
     let left = left_next i.commands.items i.next x below c.index-command.ensures in
-    let goes : quits_anyway (command_value x).verb ≡ false = sym c.if-ends_run.ensures.value in
+    let goes : ends_run (command_value x).verb ≡ false = goes_on _ (sym c.if-quits_anyway.ensures.value) (sym c.if-quits.ensures.value) in
     let works = c.self.invariant.works live in
     let exact = rw c.in-Ok-Wants.field-0-is at c.in-Ok-Wants.ensures.exact in
     let asks = wants_is _ _ _ c.in-Ok-Wants.request (exact works) in
@@ -37,7 +38,7 @@ returns-in-Ok-Done-clause-given g c =
     let x = c.index-command.result.now in
     let below = left_below i.commands.items i.next (λ e. c.requires.left (ap (λ u. u.steps) (sym v) ∙ e)) in
     let left = left_next i.commands.items i.next x below c.index-command.ensures in
-    let goes : quits_anyway (command_value x).verb ≡ false = sym c.if-ends_run.ensures.value in
+    let goes : ends_run (command_value x).verb ≡ false = goes_on _ (sym c.if-quits_anyway.ensures.value) (sym c.if-quits.ensures.value) in
     let exact = rw c.in-Ok-Done.field-0-is at c.in-Ok-Done.ensures.exact in
     let done = done_is _ i.editor.state _ c.in-Ok-Done.written (exact (c.self.invariant.works live)) in
     let turned = c.after-self-inside.ensures in
@@ -56,7 +57,7 @@ returns-in-Ok-Wants-clause-given g c =
     let x = c.index-command.result.now in
     let below = left_below i.commands.items i.next (λ e. c.requires.left (ap (λ u. u.steps) (sym v) ∙ e)) in
     let left = left_next i.commands.items i.next x below c.index-command.ensures in
-    let goes : quits_anyway (command_value x).verb ≡ false = sym c.if-ends_run.ensures.value in
+    let goes : ends_run (command_value x).verb ≡ false = goes_on _ (sym c.if-quits_anyway.ensures.value) (sym c.if-quits.ensures.value) in
     let exact = rw c.in-Ok-Wants.field-0-is at c.in-Ok-Wants.ensures.exact in
     let asks = wants_is _ _ _ c.in-Ok-Wants.request (exact (c.self.invariant.works live)) in
     rw c.asking.ensures.value (gives_request c.args.self.now _ c.in-Ok-Wants.request
@@ -73,7 +74,7 @@ returns-in-Err-clause-given g c =
     let x = c.index-command.result.now in
     let below = left_below i.commands.items i.next (λ e. c.requires.left (ap (λ u. u.steps) (sym v) ∙ e)) in
     let left = left_next i.commands.items i.next x below c.index-command.ensures in
-    let goes : quits_anyway (command_value x).verb ≡ false = sym c.if-ends_run.ensures.value in
+    let goes : ends_run (command_value x).verb ≡ false = goes_on _ (sym c.if-quits_anyway.ensures.value) (sym c.if-quits.ensures.value) in
     let is : c.in-Err.fault ≢ Memory → command i.editor.state (command_value x) None ≡ Err c.in-Err.fault = c.in-Err.ensures.exact (c.self.invariant.works live) in
     as_hands_out c.args.self.now _ _ _ v
     (hands_out_report _ _ c.in-Err.fault _ _ live pending c.ending-fault.ensures.value
