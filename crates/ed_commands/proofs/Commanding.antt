@@ -7,11 +7,12 @@ use Rattle.ed_syntax.specs.declared.request.Answer.{Answer}
 use Rattle.ed_syntax.specs.Commands as ed
 use Rattle.ed_syntax.specs.States.{State, Kept, kept}
 use Rattle.ed_syntax.specs.Values.{◌>>◌}
+use Rattle.ed_syntax.specs.Ranges.{Span}
 use Rattle.ed_syntax.specs.Effects.{Outcome, Effect, Makes, Asks}
 use Rattle.ed_syntax.specs.Applied.{Placed, command, completed, effect_of, placed, settled, suffix_written}
 use Rattle.ed_commands.specs.declared.editor.past.Before.{Before}
 use Rattle.ed_commands.specs.declared.editor.Reply.TheVariants as reply
-use Rattle.ed_commands.specs.Editors.{Leaves, Replies, suffixed}
+use Rattle.ed_commands.specs.Editors.{Leaves, Replies, asks, suffixed}
 
 -- a command at the lines that it names
 at-lines : (s : State) (c : ed.Command) (p : Placed) (given : Option Answer) → placed c s ≡ Ok p →
@@ -26,6 +27,35 @@ refused s c given fault h = ap (λ r. r >> λ p. effect_of c.verb c.listed p.spa
 pub failed : (s : State) (c : ed.Command) (p : Placed) (given : Option Answer) (fault : Fault) →
     placed c s ≡ Ok p → effect_of c.verb c.listed p.span p.target p.state given ≡ Err fault → command s c given ≡ Err fault
 failed s c p given fault h k = at-lines s c p given h ∙ ap (λ r. r >> completed c s) k
+
+-- an answer that isn't asked for isn't looked at
+unasked-effect : (verb : ed.Verb) (listed : Bool) (x : Span) (target : ℕ) (s : State) (given : Answer) → asks verb ≡ false →
+    effect_of verb listed x target s (Some given) ≡ effect_of verb listed x target s None
+unasked-effect (ed.Append text) listed x target s given unasks = refl
+unasked-effect (ed.Change text) listed x target s given unasks = refl
+unasked-effect ed.Delete listed x target s given unasks = refl
+unasked-effect (ed.Insert text) listed x target s given unasks = refl
+unasked-effect ed.Join listed x target s given unasks = refl
+unasked-effect (ed.Mark letter) listed x target s given unasks = refl
+unasked-effect (ed.Move to) listed x target s given unasks = refl
+unasked-effect (ed.Copy to) listed x target s given unasks = refl
+unasked-effect (ed.Substitute pattern replacement which form) listed x target s given unasks = refl
+unasked-effect ed.LineNumber listed x target s given unasks = refl
+unasked-effect ed.Null listed x target s given unasks = refl
+unasked-effect (ed.Write form) listed x target s given unasks = refl
+unasked-effect (ed.ReadFile path) listed x target s given unasks = absurd cc
+unasked-effect (ed.WriteFile path) listed x target s given unasks = absurd cc
+unasked-effect (ed.Edit path) listed x target s given unasks = absurd cc
+unasked-effect (ed.EditAnyway path) listed x target s given unasks = absurd cc
+unasked-effect verb listed x target s given unasks = refl
+
+unasked-at : (r : Result Placed Fault) (s : State) (c : ed.Command) (given : Answer) → asks c.verb ≡ false →
+    (r >> λ p. effect_of c.verb c.listed p.span p.target p.state (Some given) >> completed c s) ≡ (r >> λ p. effect_of c.verb c.listed p.span p.target p.state None >> completed c s)
+unasked-at (Ok p) s c given unasks = ap (λ e. e >> completed c s) (unasked-effect c.verb c.listed p.span p.target p.state given unasks)
+unasked-at (Err fault) s c given unasks = refl
+
+pub unasked : (s : State) (c : ed.Command) (given : Answer) → asks c.verb ≡ false → command s c (Some given) ≡ command s c None
+unasked s c given = unasked-at (placed c s) s c given
 
 -- a change of the flags alone leaves what a suffix writes
 suffix-settled : (listed : Bool) (before : Kept) (alters : Bool) (s : State) (output : List ℕ) (suffix : Option ed.Form) →

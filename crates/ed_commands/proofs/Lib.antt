@@ -2,8 +2,10 @@ pub mod Commanding
 pub mod Blocks
 pub mod Carrying
 pub mod Changes
+pub mod Filing
 pub mod Held
 pub mod Letters
+pub mod Placing
 pub mod Ranges
 pub mod Rewritten
 pub mod Searching

@@ -1,5 +1,5 @@
 -- An editor as a value: what it holds, and the fault that it has failed by.
-use Rattle.std.specs.Prelude.{ℕ, ◌≡◌, ◌≢◌, ◌+◌, ◌-◌, ◌≤◌, true, false, ◌&&◌, List, [], ◌∷◌, ◌++◌, map, nat_le, Option, Some, None, Result, Ok, Err, IsOkAnd, MatchResult}
+use Rattle.std.specs.Prelude.{ℕ, ◌≡◌, ◌≢◌, ◌+◌, ◌-◌, ◌≤◌, Bool, true, false, ◌&&◌, List, [], ◌∷◌, ◌++◌, map, nat_le, Option, Some, None, Result, Ok, Err, IsOkAnd, MatchResult}
 use Rattle.ed_base.specs.Buffer.{Line, plain_line, texts}
 use Rattle.ed_base.specs.Parts.{exchanged, carried}
 use Rattle.ed_base.specs.declared.fault.Fault.{Fault}
@@ -13,6 +13,7 @@ use Rattle.ed_syntax.specs.declared.verbs.Taking.TheVariants as many
 use Rattle.ed_syntax.specs.Values.{◌>>◌}
 use Rattle.ed_syntax.specs.Ranges as ranges
 use Rattle.ed_syntax.specs.Effects.{Outcome, Effect, Makes, Asks, place_left}
+use Rattle.ed_syntax.specs.Files.{used_path, named_first}
 use Rattle.ed_syntax.specs.Applied.{Placed, settled, suffix_written}
 use Rattle.ed_commands.specs.declared.editor.Reply.{Reply}
 use Rattle.ed_commands.specs.declared.editor.Reply.TheVariants as reply
@@ -119,6 +120,7 @@ Fits many.FirstPlace x last = (1 ≤ x.first) × (x.first ≤ last + 1)
 Fits many.OneLine x last = (1 ≤ x.first) × (x.first ≤ x.last) × (x.last ≤ last)
 Fits many.Lines x last = (1 ≤ x.first) × (x.first ≤ x.last) × (x.last ≤ last)
 Fits many.Range x last = (1 ≤ x.first) × (x.first ≤ x.last) × (x.last ≤ last)
+Fits many.Whole x last = (1 ≤ x.first) × (x.first ≤ x.last + 1) × (x.last ≤ last)
 
 -- lines that no letter marks
 abbrev pub AreNew : List Line → Type 0
@@ -144,3 +146,15 @@ Leaves b old new output (Asks request) = ⊥
 -- some output, and after it what a suffix writes
 abbrev pub suffixed : List ℕ → Option ed.Form → State → Result (List ℕ) Fault
 suffixed output suffix s = suffix_written suffix s >> λ more. Ok (output ++ more)
+
+-- whether a command needs a file
+abbrev pub asks : ed.Verb → Bool
+asks (ed.ReadFile path) = true
+asks (ed.WriteFile path) = true
+asks (ed.Edit path) = true
+asks (ed.EditAnyway path) = true
+asks _ = false
+
+-- the state in which the path that a command uses is remembered where none was, or why there is none
+abbrev pub naming : Option (List ℕ) → State → Result State Fault
+naming path s = used_path path s >> λ used. Ok (named_first used s)

@@ -13,6 +13,7 @@ mod addressing;
 mod blocks;
 mod effects;
 mod entering;
+mod files;
 mod forms;
 mod lines;
 mod past;
@@ -23,10 +24,11 @@ mod substituting;
 
 use ed_base::{Bytes, Fault};
 use ed_syntax::{Answer, Command, Pattern, Replacement, Request};
+use files::asks;
 use line_store::LineStore;
 use lines::file_store;
 use past::{Before, Past};
-use std::alloc::Global;
+use std::alloc::{AllocError, Global};
 use std::marker::Model;
 
 /// What a command answers.
@@ -108,13 +110,23 @@ impl<S: LineStore> Editor<S> {
         if let Some(first) = self.failed {
             return Err(first);
         }
-        let Ok(store) = file_store::<S>(self.alloc, bytes) else {
+        if self.hold_file(bytes, path).is_err() {
             return Err(self.fail(Fault::Memory));
-        };
-        self.current = store.len();
-        self.store = store;
+        }
         self.pattern = None;
         self.replacement = None;
+        Ok(())
+    }
+
+    // The lines of a file's bytes, which they share, come in place of the buffer. Patterns and replacements stay remembered.
+    fn hold_file(&mut self, bytes: Bytes, path: Bytes) -> Result<(), AllocError>
+        ensures loaded { OnOk result (self.new.state ≡ loaded bytes path self.old.state) }
+        ensures unchanged { OnErr result (self.new ≡ self.old) }
+        ensures failed { self.new.failed ≡ self.old.failed }
+    {
+        let store = file_store::<S>(self.alloc, bytes)?;
+        self.current = store.len();
+        self.store = store;
         self.name = Some(path);
         self.changed = false;
         self.past = Past::nothing(self.alloc);
@@ -131,8 +143,8 @@ impl<S: LineStore> Editor<S> {
         first
     }
 
-    /// Carries out a command (XCU ed, "Commands in ed"). No command asks for a file yet, so the answer isn't looked at. After an
-    /// `Err` the editor has failed, and what else it holds isn't said.
+    /// Carries out a command (XCU ed, "Commands in ed"). One that needs a file and has no answer yet asks for it, and is to be
+    /// applied again with the answer. After an `Err` the editor has failed, and what else it holds isn't said.
     pub fn apply(&mut self, command: &Command, answer: Option<Answer>) -> Result<Reply, Fault>
         ensures exact { self.old.failed ≡ None →
             Applied (applied.command self.old.state (command_value command.now) answer) result self.old.state self.new.state }
@@ -142,15 +154,28 @@ impl<S: LineStore> Editor<S> {
         if let Some(fault) = self.failed {
             return Err(fault);
         }
-        match self.perform(command) {
-            Ok(output) => Ok(Reply::Done(output)),
+        match self.perform(command, answer) {
+            Ok(reply) => Ok(reply),
             Err(fault) => Err(self.fail(fault)),
         }
     }
 
+    // What it replies: the file that it needs, where there is no answer yet, or what it did.
+    fn perform(&mut self, command: &Command, answer: Option<Answer>) -> Result<Reply, Fault>
+        ensures exact { Applied (applied.command self.old.state (command_value command.now) answer) result self.old.state self.new.state }
+        ensures failed { self.new.failed ≡ self.old.failed }
+    {
+        match answer {
+            Some(given) => Ok(Reply::Done(self.carry_out(command, given)?)),
+            None if asks(&command.verb) => Ok(Reply::Wants(self.request(command)?)),
+            // An answer that isn't asked for isn't looked at.
+            None => Ok(Reply::Done(self.carry_out(command, Answer::Refused)?)),
+        }
+    }
+
     // The lines that a command is applied to, its effect there, and its suffix.
-    fn perform(&mut self, command: &Command) -> Result<Bytes, Fault>
-        ensures exact { (given : Option Answer) → let effect = applied.command self.old.state (command_value command.now) given in
+    fn carry_out(&mut self, command: &Command, answer: Answer) -> Result<Bytes, Fault>
+        ensures exact { let effect = applied.command self.old.state (command_value command.now) (Some answer) in
             MatchResult result (λ output. IsOkAnd effect (Replies self.old.state self.new.state (reply.Done output)))
             (λ fault. fault ≢ Memory → effect ≡ Err fault) }
         ensures failed { self.new.failed ≡ self.old.failed }
@@ -160,7 +185,7 @@ impl<S: LineStore> Editor<S> {
             listed: command.listed,
         };
         let named = self.addressed(command)?;
-        let output = self.effect(&command.verb, named, before)?;
+        let output = self.effect(&command.verb, named, before, answer)?;
         self.write_suffix(command.suffix, output)
     }
 

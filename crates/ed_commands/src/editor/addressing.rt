@@ -64,8 +64,12 @@ fn spanned(taking: Taking, lines: usize, values: Values) -> Result<Span, Fault>
             first: first.max(1),
             last: from_one,
         }),
-        Taking::Range if first == 0 || last < first => Err(Fault::Address),
-        Taking::Range => Ok(Span { first, last }),
+        Taking::Whole if matches!(values, Values::Without) => Ok(Span {
+            first: 1,
+            last: lines,
+        }),
+        Taking::Range | Taking::Whole if first == 0 || last < first => Err(Fault::Address),
+        Taking::Range | Taking::Whole => Ok(Span { first, last }),
     }
 }
 

@@ -1,7 +1,7 @@
 //! Blocks of lines of a store: made, exchanged, carried to another place. A block is the lines behind line `from` up to line `to`.
 ghost use Rattle.std.specs.Prelude.{◌≡◌, ◌≢◌, ◌+◌, ◌-◌, ◌^◌, ◌<◌, ◌≤◌, [], length, map, min, max, insert, remove, slice_index_or, IfOk, IfErr, OnOk, OnErr, MatchResult};
 ghost use Rattle.std.specs.List.{concat};
-ghost use Rattle.ed_base.specs.Lines.{lines_of};
+ghost use Rattle.ed_base.specs.Lines.{AreLines, bytes_of, lines_of};
 ghost use Rattle.ed_base.specs.Buffer.{plain_line, texts};
 ghost use Rattle.ed_base.specs.Parts.{block, carried, exchanged, inserted};
 ghost use Rattle.ed_syntax.specs.Substitution.{split_at_newlines};
@@ -31,15 +31,31 @@ pub fn copy_block<S: LineStore>(
     requires last { to ≤ length (S.lines store.now) }
     ensures value { IfOk result (λ lines. lines.items ≡ map plain_line (texts (block from to (S.lines store.now)))) }
 {
+    let bytes = file_of(alloc, from, to, store)?;
+    // The law by which the lines are read back from these bytes. It does nothing when it runs.
+    written_lines_are_read_back();
+    file_lines(alloc, bytes)
+}
+
+/// The bytes of a file that has the lines of a block. They are copied once.
+pub fn file_of<S: LineStore>(
+    alloc: Global,
+    from: usize,
+    to: usize,
+    store: &S,
+) -> Result<Bytes, AllocError>
+    requires order { from ≤ to }
+    requires last { to ≤ length (S.lines store.now) }
+    ensures value { IfOk result (λ bytes. bytes ≡ bytes_of (texts (block from to (S.lines store.now)))) }
+    ensures lines { OnOk result (AreLines (texts (block from to (S.lines store.now)))) }
+{
     let mut bytes = Bytes::new(alloc);
     bytes.reserve(text_size(from, to, store).saturating_add(to - from))?;
     for i in from..to {
         bytes.extend_from_slice(store.text(i))?;
         bytes.push(b'\n')?;
     }
-    // The law by which the lines are read back from these bytes. It does nothing when it runs.
-    written_lines_are_read_back();
-    file_lines(alloc, bytes)
+    Ok(bytes)
 }
 
 /// New lines of a text that was split at its newlines. They share its bytes.
@@ -56,8 +72,8 @@ pub fn split_text(alloc: Global, mut text: Bytes) -> Result<Vec<Line>, AllocErro
     file_lines(alloc, text)
 }
 
-// New lines of a file's bytes, which they share.
-fn file_lines(alloc: Global, bytes: Bytes) -> Result<Vec<Line>, AllocError>
+/// New lines of a file's bytes, which they share.
+pub fn file_lines(alloc: Global, bytes: Bytes) -> Result<Vec<Line>, AllocError>
     ensures value { IfOk result (λ lines. lines.items ≡ map plain_line (lines_of bytes)) }
 {
     let mut lines = Vec::new(alloc);

@@ -1,7 +1,6 @@
 //! What each command does to the buffer.
-ghost use Rattle.std.specs.Prelude.{◌≡◌, ◌≢◌, ◌≤◌, Option, IfOk, IsOkAnd, OnOk, MatchResult};
+ghost use Rattle.std.specs.Prelude.{◌≡◌, ◌≢◌, ◌≤◌, Some, IfOk, IsOkAnd, OnOk, MatchResult};
 ghost use Rattle.ed_base.specs.declared.fault.Fault.TheVariants.{Memory};
-ghost use Rattle.ed_syntax.specs.declared.request.Answer.{Answer};
 ghost use Rattle.ed_syntax.specs.PublicTypes.{form_value, suffix_value, verb_value};
 ghost use Rattle.ed_syntax.specs.States.{last};
 ghost use Rattle.ed_syntax.specs.Verbs.{takes};
@@ -15,21 +14,23 @@ use crate::editor::blocks::new_lines;
 use crate::editor::lines::write_lines;
 use crate::editor::past::Before;
 use ed_base::{Bytes, Fault, Letter, Text, push_number};
-use ed_syntax::{Form, Verb};
+use ed_syntax::{Answer, Form, Verb};
 use line_store::LineStore;
 use std::alloc::AllocError;
 
 impl<S: LineStore> Editor<S> {
-    /// Does what a command does at the lines that its addresses name, and tells what it wrote before its suffix.
+    /// Does what a command does at the lines that its addresses name, with the answer of the file that it needs, and tells what it
+    /// wrote before its suffix.
     pub(crate) fn effect(
         &mut self,
         verb: &Verb,
         named: Addressed,
         before: Before,
+        answer: Answer,
     ) -> Result<Bytes, Fault>
         requires fits { Fits (takes (verb_value verb.now)).taking named.span (last self.old.state) }
         requires target { named.target ≤ last self.old.state }
-        ensures exact { (given : Option Answer) → let effect = effect_of (verb_value verb.now) before.listed (span_value named.span) named.target self.old.state given in
+        ensures exact { let effect = effect_of (verb_value verb.now) before.listed (span_value named.span) named.target self.old.state (Some answer) in
             MatchResult result (λ output. IsOkAnd effect (Leaves before self.old.state self.new.state output))
             (λ fault. fault ≢ Memory → effect ≡ Err fault) }
         ensures failed { self.new.failed ≡ self.old.failed }
@@ -53,6 +54,12 @@ impl<S: LineStore> Editor<S> {
             Verb::LineNumber => return Ok(self.line_number(span)?),
             Verb::Null => return Ok(self.write(Form::Plain, span)?),
             Verb::Write(form) => return Ok(self.write(*form, span)?),
+            Verb::ReadFile(path) => self.read_file(path, answer, span, before)?,
+            Verb::WriteFile(path) => self.written(path, answer, span)?,
+            Verb::Edit(path) => self.edit(path, answer)?,
+            Verb::EditAnyway(path) => self.edit_anyway(path, answer)?,
+            Verb::FileName(path) => return self.file_name(path),
+            Verb::Quit => self.saved()?,
             Verb::Help | Verb::HelpMode | Verb::PromptMode | Verb::QuitAnyway => {}
         }
         Ok(Bytes::new(self.alloc))

@@ -1,27 +1,27 @@
--- A command whose lines can't be named is refused, one whose effect meets a fault fails by it, and another replies what its effect
--- and its suffix tell.
-use Rattle.std.proofs.Common.{ap, refl}
+-- Where a command needs no file, it does the same with any answer as without one.
+use Rattle.std.proofs.Common.{◌≡◌, false, ap, subst, sym, ◌∙◌}
 use Rattle.std.proofs.lemmas.Result.{err_from_is_err_and}
-use Rattle.ed_syntax.specs.PublicTypes.{command_value}
-use Rattle.ed_commands.specs.Editors.{placed_value}
-use Rattle.ed_commands.proofs.Commanding.{refused, failed, done}
+use Rattle.std.specs.Prelude.{IsOkAnd}
+use Rattle.ed_syntax.specs.PublicTypes.{command_value, verb_value}
+use Rattle.ed_syntax.specs.declared.request.Answer.TheVariants as answer
+use Rattle.ed_syntax.specs.Applied.{command}
+use Rattle.ed_commands.specs.Editors.{Replies, asks}
+use Rattle.ed_commands.specs.declared.editor.Reply.TheVariants as reply
+use Rattle.ed_commands.proofs.Commanding.{unasked}
 use Rattle.ed_commands.proofs.editor.Editor.perform.Goals as goal
 
-pub returns-in_err-named-clause-exact : goal.returns-in_err-named-clause-exact
-returns-in_err-named-clause-exact g c = λ given.
-    let p = err_from_is_err_and c.from_residual.result c.from_residual.ensures.1 in
-    rw (p.1, p.2) (λ other. refused c.args.self.now.state (command_value c.args.command.now) given _ (c.in_err-named.ensures.exact other))
+pub returns-in_err-carry_out-in-None-2-clause-exact : goal.returns-in_err-carry_out-in-None-2-clause-exact
+returns-in_err-carry_out-in-None-2-clause-exact g c =
+    let s = c.args.self.now.state in
+    let given = command_value c.args.command.now in
+    let unasks : asks (verb_value c.args.command.now.verb) ≡ false = sym c.asks.ensures.value ∙ c.if-asks.false in
+    let p = err_from_is_err_and c.from_residual-in_err-carry_out-in-None-2.result c.from_residual-in_err-carry_out-in-None-2.ensures.1 in
+    rw (p.1, p.2) (λ other. ap (command s given) c.in-None-2.is ∙ sym (unasked s given answer.Refused unasks) ∙ c.in_err-carry_out-in-None-2.ensures.exact other)
 
-pub returns-in_err-output-clause-exact : goal.returns-in_err-output-clause-exact
-returns-in_err-output-clause-exact g c = λ given.
-    let p = err_from_is_err_and c.from_residual-in_err-output.result c.from_residual-in_err-output.ensures.1 in
-    rw (p.1, p.2) (λ other. failed c.args.self.now.state (command_value c.args.command.now)
-    (placed_value c.addressed.new.self.state c.in_ok-named.named) given _ c.in_ok-named.ensures.exact (c.in_err-output.ensures.exact given other))
-
-pub returns-clause-exact : goal.returns-clause-exact
-returns-clause-exact g c = λ given.
-    done c.args.self.now.state c.effect.new.self.state (command_value c.args.command.now)
-    (placed_value c.addressed.new.self.state c.in_ok-named.named)
-    (record { current = c.self.inside.current; listed = c.args.command.now.listed }) given c.in_ok-output.output c.write_suffix.result
-    c.in_ok-named.ensures.lines (ap (λ v. v.state.current) c.self.view_is) refl
-    c.in_ok-named.ensures.exact (c.in_ok-output.ensures.exact given) c.write_suffix.ensures.exact
+pub returns-in_ok-carry_out-in-None-2-clause-exact : goal.returns-in_ok-carry_out-in-None-2-clause-exact
+returns-in_ok-carry_out-in-None-2-clause-exact g c =
+    let s = c.args.self.now.state in
+    let given = command_value c.args.command.now in
+    let unasks : asks (verb_value c.args.command.now.verb) ≡ false = sym c.asks.ensures.value ∙ c.if-asks.false in
+    subst (λ r. IsOkAnd r (Replies s c.carry_out-in-None-2.new.self.state (reply.Done c.in_ok-carry_out-in-None-2.field-0)))
+    (sym (ap (command s given) c.in-None-2.is ∙ sym (unasked s given answer.Refused unasks))) c.in_ok-carry_out-in-None-2.ensures.exact

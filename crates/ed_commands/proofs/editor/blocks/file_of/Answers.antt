@@ -2,7 +2,7 @@
 use Rattle.std.proofs.Common.{◌∙◌, ◌∷◌, ◌++◌, ap, sym, arith, []}
 use Rattle.ed_base.specs.Lines.{newline}
 use Rattle.ed_commands.proofs.Blocks.{copied-more, lines-more}
-use Rattle.ed_commands.proofs.editor.blocks.copy_block.Goals as goal
+use Rattle.ed_commands.proofs.editor.blocks.file_of.Goals as goal
 
 pub loop-i-preserved : goal.loop-i-preserved
 loop-i-preserved g c =

@@ -3,7 +3,7 @@ use Rattle.std.proofs.Common.{◌≡◌}
 use Rattle.ed_base.specs.Buffer.{texts}
 use Rattle.ed_base.specs.Lines.{AreLines, bytes_of}
 use Rattle.ed_base.specs.Parts.{block}
-use Rattle.ed_commands.proofs.editor.blocks.copy_block.Given as goal
+use Rattle.ed_commands.proofs.editor.blocks.file_of.Given as goal
 
 abbrev pub invariant-loop-i : goal.invariant-loop-i
 invariant-loop-i g l =

@@ -1,0 +1,27 @@
+-- A command whose lines can't be named is refused, one whose effect meets a fault fails by it, and another replies what its effect
+-- and its suffix tell.
+use Rattle.std.proofs.Common.{Some, ap, refl}
+use Rattle.std.proofs.lemmas.Result.{err_from_is_err_and}
+use Rattle.ed_syntax.specs.PublicTypes.{command_value}
+use Rattle.ed_commands.specs.Editors.{placed_value}
+use Rattle.ed_commands.proofs.Commanding.{refused, failed, done}
+use Rattle.ed_commands.proofs.editor.Editor.carry_out.Goals as goal
+
+pub returns-in_err-named-clause-exact : goal.returns-in_err-named-clause-exact
+returns-in_err-named-clause-exact g c =
+    let p = err_from_is_err_and c.from_residual.result c.from_residual.ensures.1 in
+    rw (p.1, p.2) (λ other. refused c.args.self.now.state (command_value c.args.command.now) (Some c.args.answer) _ (c.in_err-named.ensures.exact other))
+
+pub returns-in_err-output-clause-exact : goal.returns-in_err-output-clause-exact
+returns-in_err-output-clause-exact g c =
+    let p = err_from_is_err_and c.from_residual-in_err-output.result c.from_residual-in_err-output.ensures.1 in
+    rw (p.1, p.2) (λ other. failed c.args.self.now.state (command_value c.args.command.now)
+    (placed_value c.addressed.new.self.state c.in_ok-named.named) (Some c.args.answer) _ c.in_ok-named.ensures.exact (c.in_err-output.ensures.exact other))
+
+pub returns-clause-exact : goal.returns-clause-exact
+returns-clause-exact g c =
+    done c.args.self.now.state c.effect.new.self.state (command_value c.args.command.now)
+    (placed_value c.addressed.new.self.state c.in_ok-named.named)
+    (record { current = c.self.inside.current; listed = c.args.command.now.listed }) (Some c.args.answer) c.in_ok-output.output c.write_suffix.result
+    c.in_ok-named.ensures.lines (ap (λ v. v.state.current) c.self.view_is) refl
+    c.in_ok-named.ensures.exact c.in_ok-output.ensures.exact c.write_suffix.ensures.exact
