@@ -1,5 +1,5 @@
 //! Files in memory, whose calls are logged.
-ghost use Rattle.std.specs.Prelude.{◌≡◌, ◌≢◌, ◌<◌, ◌≤◌, ◌⊎◌, [], ◌∷◌, ◌++◌, length, IfOk, OnOk, OnErr};
+ghost use Rattle.std.specs.Prelude.{◌≡◌, ◌≢◌, ◌<◌, ◌≤◌, ◌⊎◌, [], ◌∷◌, ◌++◌, length, option_map, IfOk, OnOk, OnErr};
 ghost use Rattle.ed_syntax.specs.declared.request.Answer.TheVariants as answer;
 ghost use Rattle.ed_syntax.specs.declared.request.Request.TheVariants as request;
 ghost use Rattle.ed_session.specs.KeptAnswers.{AllWithin, place_of, answer_of, found};
@@ -59,6 +59,18 @@ impl MemFiles {
         ensures value { ChangesRefused self.old self.new k }
     {
         self.refused = k;
+    }
+
+    /// The bytes of the file at a path, those that were added or written last; none where there is no such file.
+    pub fn file(&self, path: &[u8]) -> Option<&[u8]>
+        ensures value { option_map (λ bytes. bytes.now) result ≡ file_at path.now (files_of self.now) }
+    {
+        'files: for (name, bytes) in self.files.as_slice() {
+            if name.as_slice() == path {
+                return Some(bytes.as_slice());
+            }
+        }
+        None
     }
 
     // The next call is the one that is refused.

@@ -6,6 +6,8 @@ mod disk;
 #[cfg(test)]
 mod driving;
 #[cfg(test)]
+mod files;
+#[cfg(test)]
 mod listing;
 #[cfg(test)]
 mod refusals;
