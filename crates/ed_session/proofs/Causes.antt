@@ -1,5 +1,5 @@
 -- By which faults what is left of a session's run can end.
-use Rattle.std.proofs.Common.{◌≡◌, ◌∙◌, ◌⊎◌, inl, inr, ℕ, List, [], ◌∷◌, true, false, Option, Some, None, Result, Ok, Err, arith, refl, sym, ap, subst}
+use Rattle.std.proofs.Common.{◌≡◌, ◌∙◌, ◌⊎◌, inl, inr, ℕ, List, [], ◌∷◌, true, false, Option, Some, None, Result, Err, arith, refl, sym, ap, subst}
 use Rattle.std.specs.Prelude.{◌≢◌}
 use Rattle.std.proofs.lemmas.Bool.{false≢true}
 use Rattle.std.proofs.lemmas.List.Elements.{All-tail}
@@ -13,7 +13,8 @@ use Rattle.ed_syntax.specs.declared.request.Request.TheVariants as request
 use Rattle.ed_syntax.specs.Commands.{Step}
 use Rattle.ed_syntax.specs.Laws.{LastUnserved, last, next, serves}
 use Rattle.ed_syntax.specs.Progress.{Present, Progress, Writes, Ends, asked_of, stop_of}
-use Rattle.ed_syntax.specs.Runs.{steps, start, started, unprompted, prompted}
+use Rattle.ed_syntax.specs.Files.{loaded}
+use Rattle.ed_syntax.specs.Runs.{steps, started, unprompted, with_state}
 use Rattle.ed_syntax.proofs.RunLemmas.{Caused, own, refused, EndsWell, steps-well}
 use Rattle.ed_session.specs.declared.phase.Phase.{Phase}
 use Rattle.ed_session.specs.declared.phase.Phase.TheVariants as phases
@@ -32,7 +33,7 @@ missing_here (request.Write path bytes) answer.Missing h k = cc
 missing_here (request.Write path bytes) answer.Refused h k = cc
 missing_here (request.Write path bytes) answer.Done h k = cc
 
-Fits : Request × Answer → Type 0
+abbrev Fits : Request × Answer → Type 0
 Fits entry = fits entry.0 entry.1 ≡ true
 
 -- where all fit, the last one was so
@@ -44,7 +45,10 @@ missing (entry ∷ []) (last r a more is) e f fit =
     let told : a ≡ entry.1 = cc in
     missing_here entry.0 entry.1 (fit 0 entry (omega arith)) (ap (λ q. serves q entry.1) (sym same) ∙ ap (serves r) (sym told) ∙ is)
 missing (entry ∷ other ∷ log) (last r a more is) e f fit = cc
-missing (entry ∷ log) (next r a asked given is) e f fit = later entry log (missing log is cc cc (All-tail Fits entry log fit))
+missing (entry ∷ log) (next r a asked given is) e f fit =
+    let rest_asked : asked ≡ requests log = cc in
+    let rest_given : given ≡ answers log = cc in
+    later entry log (missing log is rest_asked rest_given (All-tail Fits entry log fit))
 
 by_answer : {asked : List Request} {given : List Answer} → Caused fault.File asked given → LastUnserved asked given
 by_answer (own f asked given is) = absurd (false≢true is)
@@ -64,10 +68,14 @@ unprompted_well xs bad m given =
 by_file : (p : Progress) (log : Log) → EndsWell p (answers log) → asked_of p ≡ requests log → AllFit log → stop_of p ≡ Ends (Err fault.File) → EndsMissing log
 by_file p log well asked fit ends = missing log (by_answer (well fault.File ends)) asked refl fit
 
+steps_by_file : (xs : List Step) (bad : Option ℕ) (m : Present) (log : Log) → asked_of (steps xs bad m (answers log)) ≡ requests log → AllFit log →
+    stop_of (steps xs bad m (answers log)) ≡ Ends (Err fault.File) → EndsMissing log
+steps_by_file xs bad m log asked fit ends = by_file (steps xs bad m (answers log)) log (steps-well xs bad m (answers log)) asked fit ends
+
 started_by_file : (path : List ℕ) (a : Answer) (m : Present) (xs : List Step) (bad : Option ℕ) (log : Log) → fits (request.Read path) a ≡ true →
     asked_of (started path a m (steps xs bad) (answers log)) ≡ requests log → AllFit log → stop_of (started path a m (steps xs bad) (answers log)) ≡ Ends (Err fault.File) → EndsMissing log
-started_by_file path (answer.Bytes bytes) m xs bad log h asked fit ends = by_file _ log (steps-well xs bad _ (answers log)) asked fit ends
-started_by_file path answer.Missing m xs bad log h asked fit ends = by_file _ log (steps-well xs bad _ (answers log)) asked fit ends
+started_by_file path (answer.Bytes bytes) m xs bad log h asked fit ends = steps_by_file xs bad (with_state (loaded bytes path m.state) m) log asked fit ends
+started_by_file path answer.Missing m xs bad log h asked fit ends = steps_by_file xs bad (with_state (loaded [] path m.state) m) log asked fit ends
 started_by_file path answer.Refused m xs bad log h asked fit ends = cc
 started_by_file path answer.Done m xs bad log h asked fit ends = cc
 
@@ -78,14 +86,15 @@ ends_same e = cc
 -- where it had ended so before
 at_by_file : (p : Phase) (v : SessionValue) (log : Log) → asked_of (rest_at p v (answers log)) ≡ requests log → AllFit log
     → stop_of (rest_at p v (answers log)) ≡ Ends (Err fault.File) → EndsMissing (of_commands p log) ⊎ (p ≡ phases.Over (Err fault.File))
-at_by_file (phases.Fresh None) v log asked fit e = inl (by_file _ log (steps-well v.steps v.fault v.present (answers log)) asked fit e)
+at_by_file (phases.Fresh None) v log asked fit e = inl (steps_by_file v.steps v.fault v.present log asked fit e)
 at_by_file (phases.Fresh (Some path)) v [] asked fit e = cc
 at_by_file (phases.Fresh (Some path)) v (entry ∷ log) asked fit e =
     let same : request.Read path ≡ entry.0 = cc in
-    inl (started_by_file path entry.1 v.present v.steps v.fault log (rw same (fit 0 entry (omega arith))) cc (All-tail Fits entry log fit) e)
-at_by_file phases.Between v log asked fit e = inl (by_file _ log (steps-well v.steps v.fault v.present (answers log)) asked fit e)
-at_by_file phases.Prompted v log asked fit e = inl (by_file _ log (unprompted_well v.steps v.fault v.present (answers log)) asked fit e)
-at_by_file phases.Waiting v log asked fit e = inl (by_file _ log (unprompted_well v.steps v.fault v.present (answers log)) asked fit e)
+    let later_asked : asked_of (started path entry.1 v.present (steps v.steps v.fault) (answers log)) ≡ requests log = cc in
+    inl (started_by_file path entry.1 v.present v.steps v.fault log (rw same (fit 0 entry (omega arith))) later_asked (All-tail Fits entry log fit) e)
+at_by_file phases.Between v log asked fit e = inl (steps_by_file v.steps v.fault v.present log asked fit e)
+at_by_file phases.Prompted v log asked fit e = inl (by_file (unprompted v.steps v.fault v.present (answers log)) log (unprompted_well v.steps v.fault v.present (answers log)) asked fit e)
+at_by_file phases.Waiting v log asked fit e = inl (by_file (unprompted v.steps v.fault v.present (answers log)) log (unprompted_well v.steps v.fault v.present (answers log)) asked fit e)
 at_by_file (phases.Over result) v log asked fit e = inr (ap (λ r. phases.Over r) (ends_same e))
 
 pub rest_by_file : (v : SessionValue) (log : Log) → asked_of (rest v (answers log)) ≡ requests log → AllFit log
@@ -96,20 +105,26 @@ rest_by_file v log asked fit e = at_by_file v.phase v log asked fit e
 no_output : (p : Progress) (given : List Answer) → EndsWell p given → stop_of p ≢ Ends (Err fault.Output)
 no_output p given well ends = by_output (well fault.Output ends)
 
+steps_no_output : (xs : List Step) (bad : Option ℕ) (m : Present) (given : List Answer) → stop_of (steps xs bad m given) ≢ Ends (Err fault.Output)
+steps_no_output xs bad m given = no_output (steps xs bad m given) given (steps-well xs bad m given)
+
+unprompted_no_output : (xs : List Step) (bad : Option ℕ) (m : Present) (given : List Answer) → stop_of (unprompted xs bad m given) ≢ Ends (Err fault.Output)
+unprompted_no_output xs bad m given = no_output (unprompted xs bad m given) given (unprompted_well xs bad m given)
+
 started_no_output : (path : List ℕ) (a : Answer) (m : Present) (xs : List Step) (bad : Option ℕ) (given : List Answer) →
     stop_of (started path a m (steps xs bad) given) ≢ Ends (Err fault.Output)
-started_no_output path (answer.Bytes bytes) m xs bad given = no_output _ given (steps-well xs bad _ given)
-started_no_output path answer.Missing m xs bad given = no_output _ given (steps-well xs bad _ given)
+started_no_output path (answer.Bytes bytes) m xs bad given = steps_no_output xs bad (with_state (loaded bytes path m.state) m) given
+started_no_output path answer.Missing m xs bad given = steps_no_output xs bad (with_state (loaded [] path m.state) m) given
 started_no_output path answer.Refused m xs bad given = λ e. cc
 started_no_output path answer.Done m xs bad given = λ e. cc
 
 at_no_output : (p : Phase) (v : SessionValue) (given : List Answer) → stop_of (rest_at p v given) ≡ Ends (Err fault.Output) → p ≡ phases.Over (Err fault.Output)
-at_no_output (phases.Fresh None) v given e = absurd (no_output _ given (steps-well v.steps v.fault v.present given) e)
+at_no_output (phases.Fresh None) v given e = absurd (steps_no_output v.steps v.fault v.present given e)
 at_no_output (phases.Fresh (Some path)) v [] e = cc
 at_no_output (phases.Fresh (Some path)) v (a ∷ given) e = absurd (started_no_output path a v.present v.steps v.fault given e)
-at_no_output phases.Between v given e = absurd (no_output _ given (steps-well v.steps v.fault v.present given) e)
-at_no_output phases.Prompted v given e = absurd (no_output _ given (unprompted_well v.steps v.fault v.present given) e)
-at_no_output phases.Waiting v given e = absurd (no_output _ given (unprompted_well v.steps v.fault v.present given) e)
+at_no_output phases.Between v given e = absurd (steps_no_output v.steps v.fault v.present given e)
+at_no_output phases.Prompted v given e = absurd (unprompted_no_output v.steps v.fault v.present given e)
+at_no_output phases.Waiting v given e = absurd (unprompted_no_output v.steps v.fault v.present given e)
 at_no_output (phases.Over result) v given e = ap (λ r. phases.Over r) (ends_same e)
 
 pub rest_no_output : (v : SessionValue) (given : List Answer) → stop_of (rest v given) ≡ Ends (Err fault.Output) → v.phase ≡ phases.Over (Err fault.Output)

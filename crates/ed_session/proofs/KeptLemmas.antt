@@ -47,4 +47,4 @@ pub file_here : (path : List ℕ) (files : Files) (i : ℕ) (file : List ℕ × 
     file_at path (drop i files) ≡ Some file.1
 file_here path files i file within is equal =
     let behind : drop i files ≡ file ∷ drop (suc i) files = drop-cons files i file within ∙ ap (λ f. f ∷ drop (suc i) files) (sym is) in
-    rw (behind, equal) refl
+    rw (behind, equal, file_at) refl

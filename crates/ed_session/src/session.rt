@@ -255,10 +255,11 @@ impl<S: LineStore> Session<S> {
         ensures work { work self.new ≤ work self.old }
     {
         let length = length_counted(self.writes, &answer);
-        match self.editor.apply(&self.commands[self.next], Some(answer)) {
+        let command = &self.commands[self.next];
+        match self.editor.apply(command, Some(answer)) {
             Ok(Reply::Done(output)) => match with_count(output, self.silent, length) {
                 Ok(written) => {
-                    self.modes = self.modes.after(&self.commands[self.next].verb);
+                    self.modes = self.modes.after(&command.verb);
                     self.next += 1;
                     self.pending = written;
                     self.phase = Phase::Between;

@@ -1,7 +1,7 @@
-use Rattle.std.proofs.Common.{◌≡◌, ◌∙◌, ap, subst, Some}
+use Rattle.std.proofs.Common.{◌≡◌, ◌∙◌, [], ap, refl, subst, Some}
 use Rattle.ed_syntax.specs.PublicTypes.{step_value}
 use Rattle.ed_session.specs.Sessions.{is_over, awaited}
-use Rattle.ed_session.proofs.Advancing.{waiting_keeps, asks_some, asks_it, awaits_it, wants_is, left_next, left_below}
+use Rattle.ed_session.proofs.Advancing.{as_breaks, breaks_here, waiting_keeps, asks_some, asks_it, awaits_it, wants_is, left_next, left_below}
 use Rattle.ed_session.proofs.session.Session.requested.Goals as goal
 
 pub invariant_of-self : goal.invariant_of-self
@@ -32,3 +32,11 @@ returns-in-Ok-Wants-clause-value g c =
     let exact = rw c.in-Ok-Wants.field-0-is at c.in-Ok-Wants.ensures.exact in
     let asks = wants_is _ _ _ c.in-Ok-Wants.request (exact (c.self.invariant.works (ap is_over at))) in
     (subst (λ u. awaited u ≡ Some c.in-Ok-Wants.request) v (awaits_it _ (step_value x) _ c.in-Ok-Wants.request keeps.1 left first.goes at asks.0), rw asks.1 v)
+
+pub returns-in-Err-clause-broke : goal.returns-in-Err-clause-broke
+returns-in-Err-clause-broke g c =
+    let i = c.self.inside in
+    let v = c.self.view_is in
+    let at = ap (λ u. u.phase) v ∙ c.requires.waiting in
+    let keeps = waiting_keeps i.phase _ _ _ _ at c.self.invariant.keeps in
+    as_breaks c.args.self.now _ [] _ v (breaks_here _ _ [] (ap is_over at) keeps.1 refl c.of_memory.ensures.value)
