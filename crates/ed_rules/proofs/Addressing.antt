@@ -16,7 +16,7 @@ use Rattle.ed_syntax.specs.Values as concrete
 use Rattle.ed_syntax.specs.Ranges.{first_of_two, last_of_two}
 use Rattle.ed_rules.specs.declared.state.State.{State}
 use Rattle.ed_rules.specs.StandsFor.{StandsBy}
-use Rattle.ed_rules.specs.Soundness.{Agrees}
+use Rattle.ed_rules.proofs.Basics.{Agrees}
 use Rattle.ed_rules.proofs.Searching.{forward-finds, backward-finds, Holds-found}
 use Rattle.ed_rules.proofs.Standing.{Stands, Reads-temporary, StandsBy-temporary, StandsBy-current}
 use Rattle.zones.specs.Known.{known}
@@ -168,9 +168,9 @@ pub record Names (one : Type 0) (vs : List ℕ) (lines : List Line) (v : Numbers
   pub last_in : last_of_two vs ≤ length lines
   pub same : one → first_of_two vs ≡ last_of_two vs
 
--- without addresses nothing is said of them
+-- without addresses there are none
 abbrev pub NamesOf : Addresses → List ℕ → List Line → Numbers → Type 0
-NamesOf Without vs lines v = Unit {0}
+NamesOf Without vs lines v = vs ≡ []
 NamesOf (One a) vs lines v = Names (Unit {0}) vs lines v
 NamesOf (Comma a b) vs lines v = Names ⊥ vs lines v
 NamesOf (Semicolon a b) vs lines v = Names ⊥ vs lines v
@@ -199,7 +199,7 @@ addressed-one a s e v st =
     ))
 
 pub addressed-sound : (a : Addresses) (s : State) (e : editor.State) → Stands s e → Agrees (AddressedIn e.lines (NamesOf a)) (addressed a s) (values a e)
-addressed-sound Without s e st = (record { numbers = st.0; stands = st.1; names = tt }, refl)
+addressed-sound Without s e st = (record { numbers = st.0; stands = st.1; names = refl }, refl)
 addressed-sound (One a) s e st = addressed-one a s e st.0 st.1
 addressed-sound (Comma a b) s e st =
     let v : Numbers = st.0 in
@@ -295,7 +295,13 @@ command_addressed Without (ed.Substitute pattern replacement choice form) s e st
 command_addressed Without ed.LineNumber s e st = addressed-sound (takes ed.LineNumber).default s e st
 command_addressed Without ed.Null s e st = addressed-sound (takes ed.Null).default s e st
 command_addressed Without (ed.Write form) s e st = twice-sound s e st
+command_addressed Without (ed.ReadFile path) s e st = addressed-sound (takes (ed.ReadFile path)).default s e st
+command_addressed Without (ed.WriteFile path) s e st = addressed-sound Without s e st
+command_addressed Without (ed.Edit path) s e st = addressed-sound Without s e st
+command_addressed Without (ed.EditAnyway path) s e st = addressed-sound Without s e st
+command_addressed Without (ed.FileName path) s e st = addressed-sound Without s e st
 command_addressed Without ed.Help s e st = addressed-sound Without s e st
 command_addressed Without ed.HelpMode s e st = addressed-sound Without s e st
 command_addressed Without ed.PromptMode s e st = addressed-sound Without s e st
+command_addressed Without ed.Quit s e st = addressed-sound Without s e st
 command_addressed Without ed.QuitAnyway s e st = addressed-sound Without s e st

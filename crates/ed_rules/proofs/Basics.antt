@@ -5,7 +5,12 @@ use Rattle.ed_base.specs.declared.fault.Fault.{Fault}
 use Rattle.zones.specs.Bound.{Obeys, sum_of, negative_of}
 use Rattle.ed_syntax.specs.Values.{◌>>◌}
 use Rattle.ed_rules.specs.Pieces.{needing}
-use Rattle.ed_rules.specs.Soundness.{Agrees}
+
+-- where the first gives a value, so does the second, and the two are related
+abbrev pub Agrees : {A B : Type 0} → (A → B → Type 0) → Result A Fault → Result B Fault → Type 0
+Agrees R (Err f) other = Unit {0}
+Agrees R (Ok a) (Ok b) = R a b
+Agrees R (Ok a) (Err f) = ⊥
 
 pub and-both : (p q : Bool) → p && q ≡ true → (p ≡ true) × (q ≡ true)
 and-both true q e = (refl, e)
@@ -74,3 +79,8 @@ pub Agrees-also : {A B : Type 0} (R : A → B → Type 0) (Q : B → Type 0) (x 
 Agrees-also R Q (Err e) y h k = tt
 Agrees-also R Q (Ok a) (Ok b) h k = (h, k b refl)
 Agrees-also R Q (Ok a) (Err e) h k = absurd h
+
+pub Agrees-weaker : {A B : Type 0} (R S : A → B → Type 0) (x : Result A Fault) (y : Result B Fault) → ((a : A) (b : B) → R a b → S a b) → Agrees R x y → Agrees S x y
+Agrees-weaker R S (Err e) y k h = tt
+Agrees-weaker R S (Ok a) (Ok b) k h = k a b h
+Agrees-weaker R S (Ok a) (Err e) k h = absurd h

@@ -1,5 +1,5 @@
 -- One command: addresses, what it takes, what it does, its end, one after another on both sides.
-use Rattle.std.proofs.Common.{◌≡◌, ◌<◌, ◌≤◌, ◌+◌, ℕ, zero, suc, pos, negsuc, true, List, [], length, Option, Some, Result, Ok, arith, refl, ◌∙◌, sym, ap, subst, ◌&&◌, nat_lt, max}
+use Rattle.std.proofs.Common.{◌≡◌, ◌<◌, ◌≤◌, ◌+◌, ℕ, zero, suc, pos, negsuc, Bool, true, false, List, [], length, Option, Some, Result, Ok, arith, refl, ◌∙◌, sym, ap, subst, ◌&&◌, nat_lt, max}
 use Rattle.std.proofs.lemmas.Int.{ints}
 use Rattle.std.proofs.lemmas.Bool.{le-leb}
 use Rattle.ed_base.specs.declared.fault.Fault.{Fault}
@@ -28,7 +28,7 @@ use Rattle.ed_rules.specs.StandsFor.{StandsBy, AreWhole, AreLettered}
 use Rattle.ed_rules.specs.Move.{moved_lines}
 use Rattle.ed_rules.specs.Substituting.{substituted}
 use Rattle.ed_syntax.specs.SubstitutedLines.{substitute}
-use Rattle.ed_rules.specs.Soundness.{Agrees}
+use Rattle.ed_rules.proofs.Basics.{Agrees}
 use Rattle.ed_rules.proofs.Standing.{Stands, StandsBy-temporary, StandsBy-current, StandsBy-guarded, Reads-temporary}
 use Rattle.ed_rules.proofs.Addressing.{Valued, valued-sound, Names, NamesOf, Addressed, AddressedIn, command_addressed}
 use Rattle.ed_rules.proofs.Spans.{Spans, Ranges}
@@ -37,13 +37,17 @@ use Rattle.std.proofs.lemmas.Bool.{ltb-true}
 use Rattle.ed_rules.proofs.Lifting.{Holds-lifted}
 use Rattle.ed_rules.proofs.Finishing.{Final, Follows, finish-sound}
 use Rattle.ed_rules.proofs.SubstitutionEffects.{substitute-follows}
+use Rattle.ed_rules.proofs.Answering.{Does, Comes, does-agreed, does-bind, finish-does}
+use Rattle.ed_rules.proofs.Filing.{Written, all-written, whole-range, ranges-written, read-does, write-does, edit-does, edit_anyway-does, name-does, quit-does}
+use Rattle.ed_rules.specs.Files.{file_read, whole_or_ranged, changed_by_lines, changed_by_write, file_written, saved, edited, edited_anyway, file_named}
+use Rattle.ed_syntax.specs.Files as file
 use Rattle.zones.specs.Known.{known}
 use Rattle.ed_rules.specs.Pieces.{ended, with_zone, modified, replaced, lifted}
 use Rattle.ed_rules.specs.Addresses.{copied, addressed, standing, last_given, evaluated, ranged}
 use Rattle.ed_rules.specs.Rules.{taken, effect, suffixed, step_at}
 use Rattle.ed_rules.specs.Lines.{appended, put_before}
 use Rattle.zones.proofs.Known.{known-true}
-use Rattle.ed_rules.proofs.Basics.{chain, and-both, Agrees-bind, Agrees-ok, Agrees-map, Agrees-needing, Agrees-need_then}
+use Rattle.ed_rules.proofs.Basics.{chain, and-both, Agrees-bind, Agrees-ok, Agrees-map, Agrees-needing, Agrees-need_then, Agrees-weaker}
 
 -- an address is there
 abbrev IsGiven : Addresses → Type 0
@@ -155,6 +159,7 @@ Suits many.FirstPlace a = IsGiven a
 Suits many.OneLine a = IsGiven a
 Suits many.Lines a = IsGiven a
 Suits many.Range a = IsGiven a
+Suits many.Whole a = a ≡ Without
 
 given_or-given : (a d : Addresses) → IsGiven d → IsGiven (given_or a d)
 given_or-given Without d h = h
@@ -175,9 +180,15 @@ suits (ed.Substitute pattern replacement choice form) = tt
 suits ed.LineNumber = tt
 suits ed.Null = tt
 suits (ed.Write form) = tt
+suits (ed.ReadFile path) = tt
+suits (ed.WriteFile path) = refl
+suits (ed.Edit path) = tt
+suits (ed.EditAnyway path) = tt
+suits (ed.FileName path) = tt
 suits ed.Help = tt
 suits ed.HelpMode = tt
 suits ed.PromptMode = tt
+suits ed.Quit = tt
 suits ed.QuitAnyway = tt
 
 -- 0 stands for 1, for `i`
@@ -338,33 +349,65 @@ targeted-sound to t p vs v st n =
 abbrev At_target : ℕ → Numbers → Type 0
 At_target n v = v 5 ≡ pos n
 
+-- the range of `w`
+given-whole : (a : Addresses) → IsGiven a → (t : State) (p : editor.State × List ℕ) → Addressed (NamesOf a) t p →
+    ((u : State) (x : Span) → changed_by_write a u.zone u.changed ≡ changed_by_lines u.zone u.changed) → Agrees (Written a p.0) (ranged t) (spanned many.Whole (length p.0.lines) p.1)
+given-whole a g t p h by =
+    ranges-written a p.0 (ranged t) (spanned many.Whole (length p.0.lines) p.1) by
+    (whole-range (InRange p.0) (ranged t) (length p.0.lines) p.1
+    (Agrees-weaker (RangeWith Nothing_more p.0) (InRange p.0) (ranged t) (spanned many.Range (length p.0.lines) p.1) (λ u x r. r.0) (range-sound a g t p (length p.0.lines) h)))
+
+-- `w`: given lines, or all
+whole-sound : (given d : Addresses) → d ≡ Without → (t : State) (p : editor.State × List ℕ) → Addressed (NamesOf (given_or given d)) t p →
+    Agrees (Written given p.0) (whole_or_ranged given t) (spanned many.Whole (length p.0.lines) p.1)
+whole-sound Without d none t p h =
+    all-written p.0 t p.1 (h.numbers, h.stands) (let N : Addresses → Type 0 = λ (a : Addresses). NamesOf a p.1 p.0.lines h.numbers in subst N none h.names)
+whole-sound (One a) d none t p h = given-whole (One a) tt t p h (λ u x. refl)
+whole-sound (Comma a b) d none t p h = given-whole (Comma a b) tt t p h (λ u x. refl)
+whole-sound (Semicolon a b) d none t p h = given-whole (Semicolon a b) tt t p h (λ u x. refl)
+
+-- a command on files, or one that ends the run where the buffer is saved
+abbrev pub is_on_files : Verb → Bool
+is_on_files (ed.ReadFile path) = true
+is_on_files (ed.WriteFile path) = true
+is_on_files (ed.Edit path) = true
+is_on_files (ed.EditAnyway path) = true
+is_on_files (ed.FileName path) = true
+is_on_files ed.Quit = true
+is_on_files _ = false
+
 -- the phases after the addresses, a verb at a time
 module _ (c : Command) (answer : Option Answer) (given d : Addresses) (s : State) (e : editor.State) (start : Stands s e) (whole : AreWhole e.lines) (known_letters : KnowLetters e.lines) (once : AtMostOnce e.lines) (t : State) (p : editor.State × List ℕ) (same_lines : p.0.lines ≡ e.lines) (h : Addressed (NamesOf (given_or given d)) t p) where
-  pub after_addresses : (verb : Verb) → Suits (takes verb).taking d →
-      Agrees Final
-      (addresses.targeted (takes verb).target t >> λ q. taken (takes verb).taking given (given_or given d) q >> λ u. effect c.listed given verb s u >> λ r. suffixed c.suffix (with_zone (ended r.marks r.zone) r))
-      (targeted (takes verb).target p.0 >> λ q. spanned (takes verb).taking (length e.lines) p.1 >> λ x. effect_of verb c.listed x q.1 q.0 answer >> completed c e)
-  after_addresses (ed.Append text) g =
+  abbrev rule_after : Verb → Result State Fault
+  rule_after verb =
+      addresses.targeted (takes verb).target t >> λ q. taken (takes verb).taking given (given_or given d) q >> λ u. effect c.listed given verb s u >> λ r. suffixed c.suffix (with_zone (ended r.marks r.zone) r)
+
+  abbrev command_after : Verb → Result Effect Fault
+  command_after verb = targeted (takes verb).target p.0 >> λ q. spanned (takes verb).taking (length e.lines) p.1 >> λ x. effect_of verb c.listed x q.1 q.0 answer >> completed c e
+
+  after_addresses : (verb : Verb) → is_on_files verb ≡ false → Suits (takes verb).taking d →
+      Agrees Final (rule_after verb) (command_after verb)
+  after_addresses (ed.Append text) f g =
       finish-sound c e (appended c.listed s (length text) (last_given (given_or given d) t)) (Makes (effects.append text (span (last_of_two p.1) (last_of_two p.1)) p.0))
       (append-follows c.listed text s e start (last_given (given_or given d) t) p.0 (span (last_of_two p.1) (last_of_two p.1)) (last_given-spans (given_or given d) (given_or-given given d g) t p h))
-  after_addresses (ed.Insert text) g =
+  after_addresses (ed.Insert text) f g =
       Agrees-bind (FirstPlaces p.0) Final (taken many.FirstPlace given (given_or given d) t) (spanned many.FirstPlace (length e.lines) p.1) _ _ (first_place-sound given (given_or given d) (given_or-given given d g) t p (length e.lines) h)
       (λ u x r. finish-sound c e (put_before c.listed s (length text) u) (Makes (effects.insert text x p.0)) (insert-follows c.listed text s e start u p.0 x r.0 r.1 r.2 r.3 r.4))
-  after_addresses (ed.Change text) g =
+  after_addresses (ed.Change text) f g =
       Agrees-bind (InRange p.0) Final (taken many.Lines given (given_or given d) t) (spanned many.Lines (length e.lines) p.1) _ _
       (subst (λ (ls : List Line). Agrees (InRange p.0) (taken many.Lines given (given_or given d) t) (spanned many.Lines (length ls) p.1)) same_lines (lines-sound given d g t p h))
       (λ u x r. finish-sound c e (modified c.listed s (replaced (length text) u)) (Makes (effects.change text x p.0)) (change-follows c.listed text s e start u p.0 x r))
-  after_addresses ed.Delete g =
+  after_addresses ed.Delete f g =
       Agrees-bind (RangeWith Nothing_more p.0) Final (ranged t) (spanned many.Range (length e.lines) p.1) _ _ (range-sound (given_or given d) (given_or-given given d g) t p (length e.lines) h)
       (λ u x r. finish-sound c e (modified c.listed s (replaced 0 u)) (Makes (effects.delete x p.0)) (delete-follows c.listed s e start u p.0 x r.0))
-  after_addresses ed.Join g = join-sound c given d g s e start t p h
-  after_addresses (ed.Mark letter) g =
+  after_addresses ed.Join f g = join-sound c given d g s e start t p h
+  after_addresses (ed.Mark letter) f g =
       Agrees-bind (AtLine p.0) Final (taken many.OneLine given (given_or given d) t) (spanned many.OneLine (length e.lines) p.1) _ _ (one_line-sound given (given_or given d) (given_or-given given d g) t p (length e.lines) h)
       (λ u x r. Agrees-need_then Final (nat_lt letter 26 && known u.zone 3 2 (pos 0)) fault.Address (marked letter u) (λ w. suffixed c.suffix (with_zone (ended w.marks w.zone) w)) (completed c e (Makes (effects.mark letter x p.0)))
       (λ k. finish-sound c e (marked letter u) (Makes (effects.mark letter x p.0))
       (mark-follows c.listed letter e u p.0 x r.0 r.1 (ltb-true letter 26 (and-both (nat_lt letter 26) (known u.zone 3 2 (pos 0)) k).0)
       (subst (λ (ls : List Line). KnowLetters ls) (sym same_lines) known_letters))))
-  after_addresses (ed.Move to) g =
+  after_addresses (ed.Move to) f g =
       let n = names-given (given_or given d) (given_or-given given d g) p.1 p.0.lines h.numbers h.names in
       Agrees-bind (Targeted p.0 p.1) Final (evaluated 5 to t) (targeted (Some to) p.0) _ _ (targeted-sound to t p.0 p.1 h.numbers h.stands n)
       (λ u q k. Agrees-bind (RangeWith (At_target q.1) q.0) Final (ranged u) (spanned many.Range (length e.lines) p.1) _ _
@@ -372,38 +415,71 @@ module _ (c : Command) (answer : Option Answer) (given d : Addresses) (s : State
       (λ w x r. Agrees-bind (Follows c.listed e) Final (moved_lines c.listed s w) (making (effects.move x q.1 q.0)) _ _
       (move-follows c.listed s e start w q.0 x q.1 r.0 r.1 k.target_in (subst (λ (ls : List Line). AtMostOnce ls) (sym (k.same_lines ∙ same_lines)) once))
       (λ m f i. finish-sound c e m f i)))
-  after_addresses (ed.Copy to) g =
+  after_addresses (ed.Copy to) f g =
       let n = names-given (given_or given d) (given_or-given given d g) p.1 p.0.lines h.numbers h.names in
       Agrees-bind (Targeted p.0 p.1) Final (evaluated 5 to t) (targeted (Some to) p.0) _ _ (targeted-sound to t p.0 p.1 h.numbers h.stands n)
       (λ u q k. Agrees-bind (RangeWith (At_target q.1) q.0) Final (ranged u) (spanned many.Range (length e.lines) p.1) _ _
       (range-with (At_target q.1) u q.0 p.1 k.numbers (length e.lines) k.stands k.names k.target_is)
       (λ w x r. finish-sound c e (copied_lines c.listed s w) (Makes (effects.copy x q.1 q.0))
       (copy-follows c.listed s e start w q.0 x q.1 r.0 r.1 k.target_in)))
-  after_addresses (ed.Substitute pattern replacement choice form) g =
+  after_addresses (ed.Substitute pattern replacement choice form) f g =
       Agrees-bind (RangeWith Nothing_more p.0) Final (ranged t) (spanned many.Range (length e.lines) p.1) _ _ (range-sound (given_or given d) (given_or-given given d g) t p (length e.lines) h)
       (λ u x r. Agrees-bind (Follows c.listed e) Final (substituted c.listed pattern replacement choice s u) (making (substitute c.listed pattern replacement choice form x p.0)) _ _
       (substitute-follows c.listed pattern replacement choice form s e start u p.0 x r.0 (subst (λ (ls : List Line). AreWhole ls) (sym same_lines) whole))
       (λ m f i. finish-sound c e m f i))
-  after_addresses ed.LineNumber g =
+  after_addresses ed.LineNumber f g =
       let r = last_given-spans (given_or given d) (given_or-given given d g) t p h in
       finish-sound c e (last_given (given_or given d) t) (Makes (effects.line_number (span (last_of_two p.1) (last_of_two p.1)) p.0)) (r.numbers, r.stands)
-  after_addresses ed.Null g =
+  after_addresses ed.Null f g =
       Agrees-bind (AtLine p.0) Final (taken many.OneLine given (given_or given d) t) (spanned many.OneLine (length e.lines) p.1) _ _ (one_line-sound given (given_or given d) (given_or-given given d g) t p (length e.lines) h)
       (λ u x r.
       let f = r.0.spans.first_is in
       let same = r.1 in
       finish-sound c e (copied 1 3 u) (Makes (effects.write ed.Plain x p.0))
       (updated r.0.spans.numbers 1 (pos x.last), StandsBy-current u p.0 r.0.spans.numbers 3 (pos 0) x.last (omega arith) (omega (arith, ints)) r.0.spans.last_in r.0.spans.stands))
-  after_addresses (ed.Write form) g =
+  after_addresses (ed.Write form) f g =
       Agrees-bind (RangeWith Nothing_more p.0) Final (ranged t) (spanned many.Range (length e.lines) p.1) _ _ (range-sound (given_or given d) (given_or-given given d g) t p (length e.lines) h)
       (λ u x r.
       let l = r.0.spans.last_is in
       finish-sound c e (copied 1 4 u) (Makes (effects.write form x p.0))
       (updated r.0.spans.numbers 1 (pos x.last), StandsBy-current u p.0 r.0.spans.numbers 4 (pos 0) x.last (omega arith) (omega (arith, ints)) r.0.spans.last_in r.0.spans.stands))
-  after_addresses ed.Help g = finish-sound c e t (Makes (effects.only p.0 [])) (h.numbers, h.stands)
-  after_addresses ed.HelpMode g = finish-sound c e t (Makes (effects.only p.0 [])) (h.numbers, h.stands)
-  after_addresses ed.PromptMode g = finish-sound c e t (Makes (effects.only p.0 [])) (h.numbers, h.stands)
-  after_addresses ed.QuitAnyway g = finish-sound c e t (Makes (effects.only p.0 [])) (h.numbers, h.stands)
+  after_addresses (ed.ReadFile path) f g = absurd cc
+  after_addresses (ed.WriteFile path) f g = absurd cc
+  after_addresses (ed.Edit path) f g = absurd cc
+  after_addresses (ed.EditAnyway path) f g = absurd cc
+  after_addresses (ed.FileName path) f g = absurd cc
+  after_addresses ed.Help f g = finish-sound c e t (Makes (effects.only p.0 [])) (h.numbers, h.stands)
+  after_addresses ed.HelpMode f g = finish-sound c e t (Makes (effects.only p.0 [])) (h.numbers, h.stands)
+  after_addresses ed.PromptMode f g = finish-sound c e t (Makes (effects.only p.0 [])) (h.numbers, h.stands)
+  after_addresses ed.Quit f g = absurd cc
+  after_addresses ed.QuitAnyway f g = finish-sound c e t (Makes (effects.only p.0 [])) (h.numbers, h.stands)
+
+  after_addresses_on_files : (verb : Verb) → is_on_files verb ≡ true → Suits (takes verb).taking d → Does Comes answer (rule_after verb) (command_after verb)
+  after_addresses_on_files (ed.ReadFile path) f g =
+      let x : Span = span (last_of_two p.1) (last_of_two p.1) in
+      let u : State = last_given (given_or given d) t in
+      finish-does c answer e (file_read c.listed path s u) (file.read path answer x p.0)
+      (read-does c.listed path answer s e start u p.0 x (last_given-spans (given_or given d) (given_or-given given d g) t p h))
+  after_addresses_on_files (ed.WriteFile path) f g =
+      does-bind (Written given p.0) Comes answer (whole_or_ranged given t) (spanned many.Whole (length e.lines) p.1) _ _
+      (subst (λ (ls : List Line). Agrees (Written given p.0) (whole_or_ranged given t) (spanned many.Whole (length ls) p.1)) same_lines (whole-sound given d g t p h))
+      (λ u x r. finish-does c answer e (file_written given path u) (file.write path answer x p.0) (write-does c.listed given path answer e u p.0 x r))
+  after_addresses_on_files (ed.Edit path) f g =
+      finish-does c answer e (edited path t) (file.edit path answer p.0) (edit-does c.listed path answer e t p.0 (h.numbers, h.stands))
+  after_addresses_on_files (ed.EditAnyway path) f g =
+      finish-does c answer e (edited_anyway path t) (file.edit_anyway path answer p.0) (edit_anyway-does c.listed path answer e t p.0 (h.numbers, h.stands))
+  after_addresses_on_files (ed.FileName path) f g =
+      finish-does c answer e (file_named path t) (making (file.file_name path p.0)) (name-does c.listed path answer e t p.0 (h.numbers, h.stands))
+  after_addresses_on_files ed.Quit f g =
+      finish-does c answer e (saved t) (making (file.quit p.0)) (quit-does c.listed answer e t p.0 (h.numbers, h.stands))
+  after_addresses_on_files _ f g = absurd cc
+
+  pub all_after_addresses : (verb : Verb) → Suits (takes verb).taking d → Does Comes answer (rule_after verb) (command_after verb)
+  all_after_addresses verb g =
+      (elim (is_on_files verb) as (λ b. is_on_files verb ≡ b → Does Comes answer (rule_after verb) (command_after verb)) [
+        | true ↦ λ f. after_addresses_on_files verb f g
+        | false ↦ λ f. does-agreed answer (rule_after verb) (command_after verb) (after_addresses verb f g)
+      ]) refl
 
 -- a command as one chain of phases
 pub command-is : (c : Command) (e : editor.State) (answer : Option Answer) →
@@ -413,10 +489,10 @@ command-is c e answer =
     (λ v q x. record { state = q.0; span = x; target = q.1 }) (λ r. effect_of c.verb c.listed r.span r.target r.state answer >> completed c e)
 
 pub phases_sound : (c : Command) (s : State) (e : editor.State) (answer : Option Answer) → AreLettered e.lines → Stands s e →
-    Agrees Final (step_at (given_or c.addresses (standing (takes c.verb).default)) c s) (command e c answer)
+    Does Comes answer (step_at (given_or c.addresses (standing (takes c.verb).default)) c s) (command e c answer)
 phases_sound c s e answer letters st =
     let d : Addresses = standing (takes c.verb).default in
     let a : Addresses = given_or c.addresses d in
-    subst (λ (y : Result Effect Fault). Agrees Final (step_at a c s) y) (sym (command-is c e answer))
-    (Agrees-bind (AddressedIn e.lines (NamesOf a)) Final (addressed a s) (values (given_or c.addresses (takes c.verb).default) e) _ _ (command_addressed c.addresses c.verb s e st)
-    (λ t p h. after_addresses c answer c.addresses d s e st letters.whole letters.known letters.once t p h.1 h.0 c.verb (suits c.verb)))
+    subst (λ (y : Result Effect Fault). Does Comes answer (step_at a c s) y) (sym (command-is c e answer))
+    (does-bind (AddressedIn e.lines (NamesOf a)) Comes answer (addressed a s) (values (given_or c.addresses (takes c.verb).default) e) _ _ (command_addressed c.addresses c.verb s e st)
+    (λ t p h. all_after_addresses c answer c.addresses d s e st letters.whole letters.known letters.once t p h.1 h.0 c.verb (suits c.verb)))

@@ -16,7 +16,7 @@ use Rattle.ed_base.specs.declared.fault.Fault.{Fault}
 use Rattle.ed_base.specs.declared.fault.Fault.TheVariants as fault
 use Rattle.ed_base.specs.Buffer.{AtMostOnce}
 use Rattle.ed_rules.specs.Move.{moved_up, moved_down, moved_lines}
-use Rattle.ed_rules.specs.Soundness.{Agrees}
+use Rattle.ed_rules.proofs.Basics.{Agrees}
 use Rattle.ed_rules.proofs.Basics.{Agrees-ok}
 use Rattle.ed_rules.proofs.Moving.{up-all, down-all, length-carried}
 use Rattle.ed_rules.proofs.Inserting.{Pushed}

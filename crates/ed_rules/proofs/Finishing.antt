@@ -17,7 +17,7 @@ use Rattle.ed_syntax.specs.Forms.{lines_written}
 use Rattle.ed_syntax.specs.Applied.{settled, suffix_written, completed}
 use Rattle.ed_rules.specs.declared.state.State.{State}
 use Rattle.ed_rules.specs.StandsFor.{Reads, StandsBy}
-use Rattle.ed_rules.specs.Soundness.{Agrees}
+use Rattle.ed_rules.proofs.Basics.{Agrees}
 use Rattle.zones.specs.Known.{known}
 use Rattle.ed_rules.specs.Marks.{for_each_sure}
 use Rattle.ed_rules.specs.Pieces.{mark_bounded, ended, with_zone}

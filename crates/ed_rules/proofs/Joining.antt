@@ -55,17 +55,17 @@ kept-both_other (Some one) (Some other) k h = (
       (λ letter l e. (both-sure one.marks other.marks letter l e).1) (Holds-join_of_other one.zone other.zone h.0 h.1.holds) h.1,
 )
 
-past-both : (one other : Undo) (p : Past) → AllowsPast one p → AllowsPast (undo_of_both one other) p
+pub past-both : (one other : Undo) (p : Past) → AllowsPast one p → AllowsPast (undo_of_both one other) p
 past-both one other Nothing h = or-left one.nothing other.nothing h
 past-both one other Same h = or-left one.same other.same h
 past-both one other (Was k) h = kept-both one.was other.was k h
 
-past-both_other : (one other : Undo) (p : Past) → AllowsPast other p → AllowsPast (undo_of_both one other) p
+pub past-both_other : (one other : Undo) (p : Past) → AllowsPast other p → AllowsPast (undo_of_both one other) p
 past-both_other one other Nothing h = or-right one.nothing other.nothing h
 past-both_other one other Same h = or-right one.same other.same h
 past-both_other one other (Was k) h = kept-both_other one.was other.was k h
 
-change-both : (one other : Changed) (b : Bool) → allows_change one b ≡ true → allows_change (changed_of_both one other) b ≡ true
+pub change-both : (one other : Changed) (b : Bool) → allows_change one b ≡ true → allows_change (changed_of_both one other) b ≡ true
 change-both one other true h = or-left one.yes other.yes h
 change-both one other false h = or-left one.no other.no h
 

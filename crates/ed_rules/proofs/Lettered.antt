@@ -12,6 +12,9 @@ use Rattle.ed_syntax.specs.declared.replacement.Part.{Part}
 use Rattle.ed_syntax.specs.declared.replacement.Which.{Which}
 use Rattle.ed_syntax.specs.SubstitutedLines.{made_of, Results, each, used_replacement, made, substitute}
 use Rattle.ed_syntax.specs.declared.request.Answer.{Answer}
+use Rattle.ed_syntax.specs.declared.request.Answer.TheVariants as file_answer
+use Rattle.ed_syntax.specs.Files as file
+use Rattle.ed_syntax.specs.Files.{used_path, with_bytes, with_lines}
 use Rattle.ed_syntax.specs.declared.verbs.Taking.{Taking}
 use Rattle.ed_syntax.specs.declared.verbs.Taking.TheVariants as many
 use Rattle.ed_syntax.specs.Commands as ed
@@ -24,18 +27,19 @@ use Rattle.ed_syntax.specs.Ranges.{Span, span, ordered, single, from_first, span
 use Rattle.ed_syntax.specs.Effects as effects
 use Rattle.ed_syntax.specs.Effects.{Outcome, Effect, Makes, Asks}
 use Rattle.ed_syntax.specs.Applied.{making, completed, targeted, effect_of, command, settled, past_after, suffix_written}
-use Rattle.ed_base.specs.Lines.{IsLine, AreLines}
+use Rattle.ed_base.specs.Lines.{lines_of, IsLine, AreLines}
+use Rattle.ed_base.proofs.LineLemmas.{HoldsLines-lines, HoldsLines-lines_of}
 use Rattle.ed_rules.specs.Rules.{enters_lines}
 use Rattle.ed_rules.specs.StandsFor.{AreLettered, KeepsLettered}
 use Rattle.ed_rules.proofs.Basics.{and-both}
 use Rattle.ed_rules.proofs.LettersInLines.{KnowLetters-plain, KnowLetters-inserted, KnowLetters-replaced, KnowLetters-marked, KnowLetters-carried}
-use Rattle.ed_rules.proofs.Keeping.{marks_of-plain, once-replaced, once-exchanged, once-moved, once-marked}
+use Rattle.ed_rules.proofs.Keeping.{marks_of-plain, once-by_count, once-replaced, once-exchanged, once-moved, once-marked}
 use Rattle.ed_rules.proofs.Results.{Maker, results-known, results-few, results-whole, made-lines}
 use Rattle.ed_rules.proofs.Commanding.{command-is}
 use Rattle.ed_rules.proofs.Whole.{lines-are, whole-plain, whole-exchanged, whole-block, whole-carried, whole-texts, line-concat, whole-marked}
 
 -- what is said of a value, or of what a command makes, where there is no fault
-abbrev OnValue : {A : Type 0} → (A → Type 0) → Result A Fault → Type 0
+abbrev pub OnValue : {A : Type 0} → (A → Type 0) → Result A Fault → Type 0
 OnValue P (Ok a) = P a
 OnValue P (Err f) = Unit {0}
 
@@ -44,7 +48,7 @@ OnMade P (Ok (Makes o)) = P o
 OnMade P (Ok (Asks r)) = Unit {0}
 OnMade P (Err f) = Unit {0}
 
-OnValue-bind : {A B : Type 0} (Q : A → Type 0) (P : B → Type 0) (x : Result A Fault) (f : A → Result B Fault) → OnValue Q x → ((a : A) → Q a → OnValue P (f a)) → OnValue P (x >> f)
+pub OnValue-bind : {A B : Type 0} (Q : A → Type 0) (P : B → Type 0) (x : Result A Fault) (f : A → Result B Fault) → OnValue Q x → ((a : A) → Q a → OnValue P (f a)) → OnValue P (x >> f)
 OnValue-bind Q P (Ok a) f q h = h a q
 OnValue-bind Q P (Err e) f q h = tt
 
@@ -52,37 +56,37 @@ OnMade-bind : {A : Type 0} (Q : A → Type 0) (P : Outcome → Type 0) (x : Resu
 OnMade-bind Q P (Ok a) f q h = h a q
 OnMade-bind Q P (Err e) f q h = tt
 
-always : {A : Type 0} (x : Result A Fault) → OnValue (λ (_ : A). Unit {0}) x
+pub always : {A : Type 0} (x : Result A Fault) → OnValue (λ (_ : A). Unit {0}) x
 always (Ok a) = tt
 always (Err e) = tt
 
 -- addresses change the current line and the pattern alone
-abbrev SameBuffer : editor.State → editor.State → Type 0
-SameBuffer e t = (t.lines ≡ e.lines) × (t.past ≡ e.past)
+abbrev pub SameBuffer : editor.State → editor.State → Type 0
+SameBuffer e t = (t.lines ≡ e.lines) × (t.past ≡ e.past) × (t.name ≡ e.name)
 
-values-same : (a : Addresses) (e : editor.State) → OnValue (λ (v : editor.State × List ℕ). SameBuffer e v.0) (values a e)
-values-same Without e = (refl, refl)
-values-same (One a) e = OnValue-bind (λ (_ : ℕ). Unit {0}) (λ (v : editor.State × List ℕ). SameBuffer e v.0) (value a e) _ (always (value a e)) (λ n _. (refl, refl))
+pub values-same : (a : Addresses) (e : editor.State) → OnValue (λ (v : editor.State × List ℕ). SameBuffer e v.0) (values a e)
+values-same Without e = (refl, refl, refl)
+values-same (One a) e = OnValue-bind (λ (_ : ℕ). Unit {0}) (λ (v : editor.State × List ℕ). SameBuffer e v.0) (value a e) _ (always (value a e)) (λ n _. (refl, refl, refl))
 values-same (Comma a b) e =
     OnValue-bind (λ (_ : ℕ). Unit {0}) (λ (v : editor.State × List ℕ). SameBuffer e v.0) (value a e) _ (always (value a e))
-    (λ n _. OnValue-bind (λ (_ : ℕ). Unit {0}) (λ (v : editor.State × List ℕ). SameBuffer e v.0) (value b (evaluated a e)) _ (always (value b (evaluated a e))) (λ m _. (refl, refl)))
-values-same (Semicolon a None) e = OnValue-bind (λ (_ : ℕ). Unit {0}) (λ (v : editor.State × List ℕ). SameBuffer e v.0) (value a e) _ (always (value a e)) (λ n _. (refl, refl))
+    (λ n _. OnValue-bind (λ (_ : ℕ). Unit {0}) (λ (v : editor.State × List ℕ). SameBuffer e v.0) (value b (evaluated a e)) _ (always (value b (evaluated a e))) (λ m _. (refl, refl, refl)))
+values-same (Semicolon a None) e = OnValue-bind (λ (_ : ℕ). Unit {0}) (λ (v : editor.State × List ℕ). SameBuffer e v.0) (value a e) _ (always (value a e)) (λ n _. (refl, refl, refl))
 values-same (Semicolon a (Some b)) e =
     OnValue-bind (λ (_ : ℕ). Unit {0}) (λ (v : editor.State × List ℕ). SameBuffer e v.0) (value a e) _ (always (value a e))
-    (λ n _. OnValue-bind (λ (_ : ℕ). Unit {0}) (λ (v : editor.State × List ℕ). SameBuffer e v.0) (value b (record (evaluated a e) { current = n })) _ (always (value b (record (evaluated a e) { current = n }))) (λ m _. (refl, refl)))
+    (λ n _. OnValue-bind (λ (_ : ℕ). Unit {0}) (λ (v : editor.State × List ℕ). SameBuffer e v.0) (value b (record (evaluated a e) { current = n })) _ (always (value b (record (evaluated a e) { current = n }))) (λ m _. (refl, refl, refl)))
 
-targeted-same : (to : Option Address) (e : editor.State) → OnValue (λ (v : editor.State × ℕ). SameBuffer e v.0) (targeted to e)
-targeted-same None e = (refl, refl)
-targeted-same (Some a) e = OnValue-bind (λ (_ : ℕ). Unit {0}) (λ (v : editor.State × ℕ). SameBuffer e v.0) (value a e) _ (always (value a e)) (λ n _. (refl, refl))
+pub targeted-same : (to : Option Address) (e : editor.State) → OnValue (λ (v : editor.State × ℕ). SameBuffer e v.0) (targeted to e)
+targeted-same None e = (refl, refl, refl)
+targeted-same (Some a) e = OnValue-bind (λ (_ : ℕ). Unit {0}) (λ (v : editor.State × ℕ). SameBuffer e v.0) (value a e) _ (always (value a e)) (λ n _. (refl, refl, refl))
 
--- the first line of a span isn't after its last
+-- the first line of a span isn't after its last, or it is the one after it, where `w` writes no line
 abbrev InOrder : Span → Type 0
-InOrder x = x.first ≤ x.last
+InOrder x = x.first ≤ x.last + 1
 
 ordered-inner : (a b : ℕ) → OnValue InOrder (elim (nat_le a b) as (λ _. Result Span Fault) [ true ↦ Ok (span a b) | false ↦ Err fault.Address ])
 ordered-inner a b =
     (elim (nat_le a b) as (λ c. nat_le a b ≡ c → OnValue InOrder (elim c as (λ _. Result Span Fault) [ true ↦ Ok (span a b) | false ↦ Err fault.Address ])) [
-      | true ↦ λ e. leb-true a b e
+      | true ↦ λ e. let h : a ≤ b = leb-true a b e in omega arith
       | false ↦ λ e. tt
     ]) refl
 
@@ -111,10 +115,12 @@ spanned-order many.FirstPlace count vs = omega arith
 spanned-order many.OneLine count vs = single-order (last_of_two vs)
 spanned-order many.Lines count vs = from_first-order (first_of_two vs) (last_of_two vs) count
 spanned-order many.Range count vs = ordered-order (first_of_two vs) (last_of_two vs)
+spanned-order many.Whole count [] = omega arith
+spanned-order many.Whole count (a ∷ vs) = ordered-order a (last_of_two (a ∷ vs))
 
--- what an effect leaves: lettered lines, and what undo kept
+-- what an effect leaves: lettered lines, and so in what undo keeps
 abbrev Lettered : editor.State → Outcome → Type 0
-Lettered e o = AreLettered o.state.lines × (o.state.past ≡ e.past)
+Lettered e o = AreLettered o.state.lines × (KeepsLettered e.past → KeepsLettered o.state.past)
 
 lettered-inserted : (place : ℕ) (ts : List (List ℕ)) (ls : List Line) → AreLines ts → AreLettered ls → AreLettered (parts.inserted place (map plain_line ts) ls)
 lettered-inserted place ts ls w h = record {
@@ -123,7 +129,7 @@ lettered-inserted place ts ls w h = record {
   once = once-replaced ls (map plain_line ts) place place (omega arith) (λ x. marks_of-plain x ts) h.once;
 }
 
-lettered-replaced : (a b : ℕ) (ts : List (List ℕ)) (ls : List Line) → a ≤ b → AreLines ts → AreLettered ls → AreLettered (parts.replaced a b (map plain_line ts) ls)
+lettered-replaced : (a b : ℕ) (ts : List (List ℕ)) (ls : List Line) → a ≤ b + 1 → AreLines ts → AreLettered ls → AreLettered (parts.replaced a b (map plain_line ts) ls)
 lettered-replaced a b ts ls le w h = record {
   whole = whole-exchanged (a - 1) b (map plain_line ts) ls (whole-plain ts w) h.whole;
   known = KnowLetters-replaced a b (map plain_line ts) ls (KnowLetters-plain ts) h.known;
@@ -131,28 +137,28 @@ lettered-replaced a b ts ls le w h = record {
 }
 
 entered-lettered : (a : ℕ) (ts : List (List ℕ)) (e : editor.State) → AreLines ts → AreLettered e.lines → Lettered e (effects.entered a ts e)
-entered-lettered a [] e w h = (h, refl)
-entered-lettered a (t ∷ ts) e w h = (lettered-inserted a (t ∷ ts) e.lines w h, refl)
+entered-lettered a [] e w h = (h, λ k. k)
+entered-lettered a (t ∷ ts) e w h = (lettered-inserted a (t ∷ ts) e.lines w h, λ k. k)
 
 insert-lettered : (ts : List (List ℕ)) (x : Span) (e : editor.State) → AreLines ts → AreLettered e.lines → Lettered e (effects.insert ts x e)
-insert-lettered [] x e w h = (h, refl)
-insert-lettered (t ∷ ts) x e w h = (lettered-inserted (x.first - 1) (t ∷ ts) e.lines w h, refl)
+insert-lettered [] x e w h = (h, λ k. k)
+insert-lettered (t ∷ ts) x e w h = (lettered-inserted (x.first - 1) (t ∷ ts) e.lines w h, λ k. k)
 
-change-lettered : (ts : List (List ℕ)) (x : Span) (e : editor.State) → x.first ≤ x.last → AreLines ts → AreLettered e.lines → Lettered e (effects.change ts x e)
-change-lettered [] x e le w h = (lettered-replaced x.first x.last [] e.lines le w h, refl)
-change-lettered (t ∷ ts) x e le w h = (lettered-replaced x.first x.last (t ∷ ts) e.lines le w h, refl)
+change-lettered : (ts : List (List ℕ)) (x : Span) (e : editor.State) → x.first ≤ x.last + 1 → AreLines ts → AreLettered e.lines → Lettered e (effects.change ts x e)
+change-lettered [] x e le w h = (lettered-replaced x.first x.last [] e.lines le w h, λ k. k)
+change-lettered (t ∷ ts) x e le w h = (lettered-replaced x.first x.last (t ∷ ts) e.lines le w h, λ k. k)
 
-join-lettered : (x : Span) (e : editor.State) → x.first ≤ x.last → AreLettered e.lines → Lettered e (effects.join x e)
+join-lettered : (x : Span) (e : editor.State) → x.first ≤ x.last + 1 → AreLettered e.lines → Lettered e (effects.join x e)
 join-lettered x e le h =
     let old : List (List ℕ) = texts (parts.between x.first x.last e.lines) in
     let line : List ℕ = concat old in
     let one : AreLines (line ∷ []) = All-cons IsLine line [] (line-concat old (whole-texts (parts.between x.first x.last e.lines) (whole-block (x.first - 1) x.last e.lines h.whole))) (All-nil IsLine) in
     elim (nat_lt x.first x.last) as (λ c. Lettered e (elim c as (λ _. Outcome) [ true ↦ effects.altered (parts.replaced x.first x.last (plain_line line ∷ []) e.lines) x.first e | false ↦ effects.only e [] ])) [
-      | true ↦ (lettered-replaced x.first x.last (line ∷ []) e.lines le one h, refl)
-      | false ↦ (h, refl)
+      | true ↦ (lettered-replaced x.first x.last (line ∷ []) e.lines le one h, λ k. k)
+      | false ↦ (h, λ k. k)
     ]
 
-move-lettered : (x : Span) (target : ℕ) (e : editor.State) → x.first ≤ x.last → AreLettered e.lines → OnMade (Lettered e) (making (effects.move x target e))
+move-lettered : (x : Span) (target : ℕ) (e : editor.State) → x.first ≤ x.last + 1 → AreLettered e.lines → OnMade (Lettered e) (making (effects.move x target e))
 move-lettered x target e le h =
     let place : ℕ = effects.place_left x target in
     elim (nat_le x.first target && nat_le target x.last) as (λ c. OnMade (Lettered e) (making (elim c as (λ _. Result Outcome Fault) [
@@ -166,12 +172,12 @@ move-lettered x target e le h =
           known = KnowLetters-carried (x.first - 1) x.last place e.lines h.known;
           once = once-moved e.lines (x.first - 1) x.last place (omega arith) h.once;
         },
-        refl,
+        λ k. k,
       )
     ]
 
 -- what comes of lines by a substitution
-lettered-each : (a b : ℕ) (text : List ℕ) (replacement : List Part) (choice : Which) (ls : List Line) → a ≤ b → AreLettered ls →
+lettered-each : (a b : ℕ) (text : List ℕ) (replacement : List Part) (choice : Which) (ls : List Line) → a ≤ b + 1 → AreLettered ls →
     AreLettered (parts.replaced a b (each (made_of text replacement choice) (parts.between a b ls)).0 ls)
 lettered-each a b text replacement choice ls le h =
     let f : Maker = made_of text replacement choice in
@@ -184,40 +190,114 @@ lettered-each a b text replacement choice ls le h =
       once = once-exchanged ls new (a - 1) b (omega arith) (λ x. results-few f x block) h.once;
     }
 
-made-lettered : (listed : Bool) (form : Option Form) (x : Span) (e t : editor.State) (new : Results) → t.past ≡ e.past → AreLettered t.lines → AreLettered (parts.replaced x.first x.last new.0 t.lines) →
+made-lettered : (listed : Bool) (form : Option Form) (x : Span) (e t : editor.State) (new : Results) → (KeepsLettered e.past → KeepsLettered t.past) → AreLettered t.lines → AreLettered (parts.replaced x.first x.last new.0 t.lines) →
     OnValue (Lettered e) (made listed form x t new)
 made-lettered true form x e t (lines, None) same h k = (h, same)
 made-lettered false form x e t (lines, None) same h k = tt
 made-lettered listed form x e t (lines, Some n) same h k = (k, same)
 
-substitute-lettered : (listed : Bool) (pattern : Option (List ℕ)) (replacement : Option (List Part)) (choice : Which) (form : Option Form) (x : Span) (e : editor.State) → x.first ≤ x.last → AreLettered e.lines →
+substitute-lettered : (listed : Bool) (pattern : Option (List ℕ)) (replacement : Option (List Part)) (choice : Which) (form : Option Form) (x : Span) (e : editor.State) → x.first ≤ x.last + 1 → AreLettered e.lines →
     OnMade (Lettered e) (making (substitute listed pattern replacement choice form x e))
 substitute-lettered listed pattern replacement choice form x e le h =
     OnMade-bind (Lettered e) (Lettered e) (substitute listed pattern replacement choice form x e) (λ (o : Outcome). Ok (Makes o))
     (OnValue-bind (λ (_ : List Part). Unit {0}) (Lettered e) (used_replacement listed replacement e) _ (always (used_replacement listed replacement e))
     (λ parts _. OnValue-bind (λ (_ : List ℕ). Unit {0}) (Lettered e) (used_pattern pattern e) _ (always (used_pattern pattern e))
-    (λ text _. made-lettered listed form x e (record e { pattern = Some text; replacement = Some parts }) (each (made_of text parts choice) (between x.first x.last e.lines)) refl h
+    (λ text _. made-lettered listed form x e (record e { pattern = Some text; replacement = Some parts }) (each (made_of text parts choice) (between x.first x.last e.lines)) (λ k. k) h
     (lettered-each x.first x.last text parts choice e.lines le h))))
     (λ o q. q)
 
-effect-lettered : (verb : Verb) (listed : Bool) (x : Span) (target : ℕ) (e : editor.State) (answer : Option Answer) → x.first ≤ x.last → enters_lines verb ≡ true → AreLettered e.lines → OnMade (Lettered e) (effect_of verb listed x target e answer)
+-- the lines of a file
+
+lines-of : (bytes : List ℕ) → AreLines (lines_of bytes)
+lines-of bytes = HoldsLines-lines (HoldsLines-lines_of bytes)
+
+lettered-plain : (ts : List (List ℕ)) → AreLines ts → AreLettered (map plain_line ts)
+lettered-plain ts w = record {
+  whole = whole-plain ts w;
+  known = KnowLetters-plain ts;
+  once = once-by_count (map plain_line ts) (λ x. let q = marks_of-plain x ts in omega arith);
+}
+
+bytes-lettered : (P : Outcome → Type 0) (path : List ℕ) (answer : Option Answer) (make : List ℕ → Outcome) → ((bytes : List ℕ) → P (make bytes)) → OnMade P (with_bytes path answer make)
+bytes-lettered P path None make h = tt
+bytes-lettered P path (Some (file_answer.Bytes bytes)) make h = h bytes
+bytes-lettered P path (Some file_answer.Missing) make h = tt
+bytes-lettered P path (Some file_answer.Refused) make h = tt
+bytes-lettered P path (Some file_answer.Done) make h = tt
+
+read-lettered : (path : Option (List ℕ)) (answer : Option Answer) (x : Span) (e : editor.State) → AreLettered e.lines → OnMade (Lettered e) (file.read path answer x e)
+read-lettered path answer x e h =
+    OnMade-bind (λ (_ : List ℕ). Unit {0}) (Lettered e) (used_path path e) _ (always (used_path path e))
+    (λ used _. bytes-lettered (Lettered e) used answer (λ bytes. effects.entered x.first (lines_of bytes) (file.named_first used e))
+    (λ bytes. entered-lettered x.first (lines_of bytes) (file.named_first used e) (lines-of bytes) h))
+
+lines-lettered : (used : List ℕ) (answer : Option Answer) (x : Span) (e : editor.State) → AreLettered e.lines → OnMade (Lettered e) (with_lines used answer x e)
+lines-lettered used None x e h = tt
+lines-lettered used (Some file_answer.Done) x e h = (h, λ k. k)
+lines-lettered used (Some (file_answer.Bytes bytes)) x e h = tt
+lines-lettered used (Some file_answer.Missing) x e h = tt
+lines-lettered used (Some file_answer.Refused) x e h = tt
+
+write-lettered : (path : Option (List ℕ)) (answer : Option Answer) (x : Span) (e : editor.State) → AreLettered e.lines → OnMade (Lettered e) (file.write path answer x e)
+write-lettered path answer x e h =
+    OnMade-bind (λ (_ : List ℕ). Unit {0}) (Lettered e) (used_path path e) _ (always (used_path path e)) (λ used _. lines-lettered used answer x e h)
+
+edit_anyway-lettered : (path : Option (List ℕ)) (answer : Option Answer) (e : editor.State) → OnMade (Lettered e) (file.edit_anyway path answer e)
+edit_anyway-lettered path answer e =
+    OnMade-bind (λ (_ : List ℕ). Unit {0}) (Lettered e) (used_path path e) _ (always (used_path path e))
+    (λ used _. bytes-lettered (Lettered e) used answer (λ bytes. effects.only (file.loaded bytes used e) []) (λ bytes. (lettered-plain (lines_of bytes) (lines-of bytes), λ k. tt)))
+
+-- a saved buffer is the buffer
+saved-same : (e : editor.State) → OnValue (λ (t : editor.State). t ≡ e) (file.saved e)
+saved-same e =
+    elim e.changed as (λ c. OnValue (λ (t : editor.State). t ≡ e) (elim c as (λ _. Result editor.State Fault) [ true ↦ Err fault.Unsaved | false ↦ Ok e ])) [
+      | true ↦ tt
+      | false ↦ refl
+    ]
+
+edit-lettered : (path : Option (List ℕ)) (answer : Option Answer) (e : editor.State) → OnMade (Lettered e) (file.edit path answer e)
+edit-lettered path answer e =
+    OnMade-bind (λ (_ : List ℕ). Unit {0}) (Lettered e) (used_path path e) _ (always (used_path path e))
+    (λ used _. OnMade-bind (λ (t : editor.State). t ≡ e) (Lettered e) (file.saved e) _ (saved-same e)
+    (λ t same. subst (λ (u : editor.State). OnMade (Lettered e) (file.edit_anyway (Some used) answer u)) (sym same) (edit_anyway-lettered (Some used) answer e)))
+
+name-lettered : (path : Option (List ℕ)) (e : editor.State) → AreLettered e.lines → OnMade (Lettered e) (making (file.file_name path e))
+name-lettered path e h =
+    OnMade-bind (Lettered e) (Lettered e) (file.file_name path e) (λ (o : Outcome). Ok (Makes o))
+    (OnValue-bind (λ (_ : List ℕ). Unit {0}) (Lettered e) (used_path path e) _ (always (used_path path e)) (λ used _. (h, λ k. k)))
+    (λ o q. q)
+
+quit-lettered : (e : editor.State) → AreLettered e.lines → OnMade (Lettered e) (making (file.quit e))
+quit-lettered e h =
+    OnMade-bind (Lettered e) (Lettered e) (file.quit e) (λ (o : Outcome). Ok (Makes o))
+    (OnValue-bind (λ (t : editor.State). t ≡ e) (Lettered e) (file.saved e) _ (saved-same e)
+    (λ t same. subst (λ (u : editor.State). Lettered e (effects.only u [])) (sym same) (h, λ k. k)))
+    (λ o q. q)
+
+effect-lettered : (verb : Verb) (listed : Bool) (x : Span) (target : ℕ) (e : editor.State) (answer : Option Answer) → x.first ≤ x.last + 1 → enters_lines verb ≡ true → AreLettered e.lines → OnMade (Lettered e) (effect_of verb listed x target e answer)
 effect-lettered (ed.Append text) listed x target e answer le w h = entered-lettered x.first text e (lines-are text w) h
 effect-lettered (ed.Change text) listed x target e answer le w h = change-lettered text x e le (lines-are text w) h
-effect-lettered ed.Delete listed x target e answer le w h = (lettered-replaced x.first x.last [] e.lines le (All-nil IsLine) h, refl)
+effect-lettered ed.Delete listed x target e answer le w h = (lettered-replaced x.first x.last [] e.lines le (All-nil IsLine) h, λ k. k)
 effect-lettered (ed.Insert text) listed x target e answer le w h = insert-lettered text x e (lines-are text w) h
 effect-lettered ed.Join listed x target e answer le w h = join-lettered x e le h
 effect-lettered (ed.Mark letter) listed x target e answer le w h =
-    (record { whole = whole-marked (x.last - 1) letter e.lines h.whole; known = KnowLetters-marked (x.last - 1) letter e.lines h.known; once = once-marked letter e.lines (x.last - 1) h.once }, refl)
+    (record { whole = whole-marked (x.last - 1) letter e.lines h.whole; known = KnowLetters-marked (x.last - 1) letter e.lines h.known; once = once-marked letter e.lines (x.last - 1) h.once }, λ k. k)
 effect-lettered (ed.Move to) listed x target e answer le w h = move-lettered x target e le h
 effect-lettered (ed.Copy to) listed x target e answer le w h = entered-lettered target (texts (parts.between x.first x.last e.lines)) e (whole-texts (parts.between x.first x.last e.lines) (whole-block (x.first - 1) x.last e.lines h.whole)) h
 effect-lettered (ed.Substitute pattern replacement choice form) listed x target e answer le w h = substitute-lettered listed pattern replacement choice form x e le h
-effect-lettered ed.LineNumber listed x target e answer le w h = (h, refl)
-effect-lettered ed.Null listed x target e answer le w h = (h, refl)
-effect-lettered (ed.Write form) listed x target e answer le w h = (h, refl)
-effect-lettered ed.Help listed x target e answer le w h = (h, refl)
-effect-lettered ed.HelpMode listed x target e answer le w h = (h, refl)
-effect-lettered ed.PromptMode listed x target e answer le w h = (h, refl)
-effect-lettered ed.QuitAnyway listed x target e answer le w h = (h, refl)
+effect-lettered ed.LineNumber listed x target e answer le w h = (h, λ k. k)
+effect-lettered ed.Null listed x target e answer le w h = (h, λ k. k)
+effect-lettered (ed.Write form) listed x target e answer le w h = (h, λ k. k)
+effect-lettered (ed.ReadFile path) listed x target e answer le w h = read-lettered path answer x e h
+effect-lettered (ed.WriteFile path) listed x target e answer le w h = write-lettered path answer x e h
+effect-lettered (ed.Edit path) listed x target e answer le w h = edit-lettered path answer e
+effect-lettered (ed.EditAnyway path) listed x target e answer le w h = edit_anyway-lettered path answer e
+effect-lettered (ed.FileName path) listed x target e answer le w h = name-lettered path e h
+effect-lettered ed.Help listed x target e answer le w h = (h, λ k. k)
+effect-lettered ed.HelpMode listed x target e answer le w h = (h, λ k. k)
+effect-lettered ed.PromptMode listed x target e answer le w h = (h, λ k. k)
+effect-lettered ed.Quit listed x target e answer le w h = quit-lettered e h
+effect-lettered ed.QuitAnyway listed x target e answer le w h = (h, λ k. k)
 
 -- what a command leaves
 abbrev pub LeavesLettered : Outcome → Type 0
@@ -244,7 +324,7 @@ effect-then : (c : Command) (e t : editor.State) (y : Result Effect Fault) → S
 effect-then c e t (Err f) same h k m = tt
 effect-then c e t (Ok (Asks r)) same h k m = tt
 effect-then c e t (Ok (Makes o)) same h k m =
-    completed-lettered c e (Makes o) h (m.0, subst (λ (p : Past). KeepsLettered p) (sym (m.1 ∙ same.1)) k)
+    completed-lettered c e (Makes o) h (m.0, m.1 (subst (λ (p : Past). KeepsLettered p) (sym same.1) k))
 
 pub command-lettered : (c : Command) (e : editor.State) (answer : Option Answer) → enters_lines c.verb ≡ true → AreLettered e.lines → KeepsLettered e.past → OnMade LeavesLettered (command e c answer)
 command-lettered c e answer w h k =
@@ -254,5 +334,5 @@ command-lettered c e answer w h k =
     (λ q still. OnMade-bind InOrder LeavesLettered (spanned (takes c.verb).taking (length e.lines) v.1) _ (spanned-order (takes c.verb).taking (length e.lines) v.1)
     (λ x le.
     let lines : q.0.lines ≡ e.lines = still.0 ∙ same.0 in
-    effect-then c e q.0 (effect_of c.verb c.listed x q.1 q.0 answer) (lines, still.1 ∙ same.1) h k
+    effect-then c e q.0 (effect_of c.verb c.listed x q.1 q.0 answer) (lines, still.1 ∙ same.1, still.2 ∙ same.2) h k
     (effect-lettered c.verb c.listed x q.1 q.0 answer le w (subst (λ (ls : List Line). AreLettered ls) (sym lines) h))))))

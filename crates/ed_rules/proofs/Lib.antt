@@ -20,7 +20,12 @@ pub mod Whole
 pub mod Results
 pub mod Substituting
 pub mod SubstitutionEffects
+pub mod Answering
+pub mod Reading
+pub mod Filing
 pub mod Lettered
+pub mod Asking
 pub mod Sound
 pub mod Weaker
 mod SubstitutingRows
+mod FilesRows

@@ -1,52 +1,76 @@
 -- Soundness of one command.
-use Rattle.std.proofs.Common.{◌≡◌, true, false, Option, None, Result, Ok, Err, IsOk, refl, subst}
+use Rattle.std.proofs.Common.{◌≡◌, Bool, true, false, Option, None, Some, Result, Ok, Err, IfErr, refl, subst}
 use Rattle.ed_base.specs.declared.fault.Fault.{Fault}
+use Rattle.ed_base.specs.declared.fault.Fault.TheVariants as fault
 use Rattle.ed_syntax.specs.declared.request.Answer.{Answer}
 use Rattle.ed_syntax.specs.Commands.{Command}
 use Rattle.ed_syntax.specs.States as editor
 use Rattle.ed_syntax.specs.Effects.{Effect, Makes, Asks}
 use Rattle.ed_syntax.specs.Applied.{command}
-use Rattle.ed_rules.specs.declared.state.State.{State}
-use Rattle.ed_base.specs.declared.fault.Fault.TheVariants as fault
 use Rattle.ed_syntax.specs.Values.{◌>>◌}
 use Rattle.ed_syntax.specs.Verbs.{takes, given_or}
+use Rattle.ed_rules.specs.declared.state.State.{State}
 use Rattle.ed_rules.specs.Pieces.{needing}
 use Rattle.ed_rules.specs.Addresses.{standing}
 use Rattle.ed_rules.specs.Rules.{enters_lines, step_at, step, fault_of}
-use Rattle.ed_rules.specs.Soundness.{Agrees, Leaves, IsDone, CommandIsSound}
+use Rattle.ed_rules.specs.Soundness.{IsUnserved, IsDone, CommandIsSound}
 use Rattle.ed_rules.specs.StandsFor.{StandsFor}
-use Rattle.ed_rules.proofs.Finishing.{Final}
+use Rattle.ed_rules.proofs.Answering.{Does, Comes}
 use Rattle.ed_rules.proofs.Commanding.{phases_sound}
 use Rattle.ed_rules.proofs.Lettered.{OnMade, LeavesLettered, command-lettered}
+use Rattle.ed_rules.proofs.Asking.{may-ask, is-unserved}
 
-leaves-lettered : (x : Result State Fault) (y : Result Effect Fault) → Agrees Final x y → OnMade LeavesLettered y → Agrees Leaves x y
-leaves-lettered (Err f) y a l = tt
-leaves-lettered (Ok t) (Err f) a l = absurd a
-leaves-lettered (Ok t) (Ok (Asks r)) a l = absurd a
-leaves-lettered (Ok t) (Ok (Makes o)) a l = record { numbers = a.0; stands = a.1; lines = l.0; kept = l.1 }
+-- a text that holds a newline is refused by the rule
+abbrev Entered : Command → Type 0
+Entered c = enters_lines c.verb ≡ true
+
+step-does : (c : Command) (s : State) (e : editor.State) (given : Option Answer) → StandsFor s e → Does Comes given (step c s) (command e c given)
+step-does c s e given st =
+    elim (enters_lines c.verb) as (λ b. Does Comes given (needing b fault.Syntax s >> step_at (given_or c.addresses (standing (takes c.verb).default)) c) (command e c given)) [
+      | true ↦ phases_sound c s e given st.lines (st.numbers, st.stands)
+      | false ↦ tt
+    ]
+
+entered-by : (b : Bool) (s t : State) (k : State → Result State Fault) → needing b fault.Syntax s >> k ≡ Ok t → b ≡ true
+entered-by true s t k is = refl
+entered-by false s t k is = absurd cc
+
+entered : (c : Command) (s t : State) → step c s ≡ Ok t → Entered c
+entered c s t is = entered-by (enters_lines c.verb) s t (step_at (given_or c.addresses (standing (takes c.verb).default)) c) is
+
+-- without an answer there is no fault
+never-fails : (t : State) (y : Result Effect Fault) (f : Fault) → Does Comes None (Ok t) y → y ≡ Err f → ⊥
+never-fails t (Err g) f h is = h
+never-fails t (Ok (Makes o)) f h is = absurd cc
+never-fails t (Ok (Asks r)) f h is = absurd cc
+
+module _ (c : Command) (s t : State) (e : editor.State) (st : StandsFor s e) (is : step c s ≡ Ok t) where
+  does : (given : Option Answer) → Does Comes given (Ok t) (command e c given)
+  does given = subst (λ (x : Result State Fault). Does Comes given x (command e c given)) is (step-does c s e given st)
+
+  fails-well : (given : Option Answer) (f : Fault) → Does Comes given (Ok t) (Err f) → command e c given ≡ Err f → IsUnserved c e given f
+  fails-well None f h same = h
+  fails-well (Some a) f h same = is-unserved c e a f (λ g. never-fails t (command e c None) g (does None)) h same
+
+  done-by : (given : Option Answer) (y : Result Effect Fault) → command e c given ≡ y → Does Comes given (Ok t) y → OnMade LeavesLettered y → IsDone c s t e given y
+  done-by given (Err f) same h l = fails-well given f h same
+  done-by given (Ok (Asks r)) same h l = may-ask c s e given r st.stands.remembered.2 same
+  done-by given (Ok (Makes o)) same h l = record { numbers = h.0; stands = h.1; lines = l.0; kept = l.1 }
 
 pub command_sound : CommandIsSound
-command_sound c s e given st =
-    let rest : Result State Fault = step_at (given_or c.addresses (standing (takes c.verb).default)) c s in
-    (elim (enters_lines c.verb) as (λ b. enters_lines c.verb ≡ b → Agrees Leaves (needing b fault.Syntax s >> step_at (given_or c.addresses (standing (takes c.verb).default)) c) (command e c given)) [
-      | true ↦ λ w. leaves-lettered rest (command e c given) (phases_sound c s e given st.lines (st.numbers, st.stands)) (command-lettered c e given w st.lines st.kept)
-      | false ↦ λ w. tt
-    ]) refl
+command_sound c s t e given st is =
+    done-by c s t e st is given (command e c given) refl (does c s t e st is given) (command-lettered c e given (entered c s t is) st.lines st.kept)
 
-done-by : (t : State) (y : Result Effect Fault) → Agrees Leaves (Ok t) y → IsDone t y
-done-by t (Ok f) a = a
-done-by t (Err f) a = a
+-- where the needs hold, the command meets no fault but that of a file
+fault-unserved : (c : Command) (s t : State) (e : editor.State) (given : Option Answer) (y : Result Effect Fault) → IsDone c s t e given y → IfErr y (IsUnserved c e given)
+fault-unserved c s t e given (Err f) h = h
+fault-unserved c s t e given (Ok f) h = tt
 
--- the same of a state that the rule gives
-pub command-done : (c : Command) (s t : State) (e : editor.State) (given : Option Answer) → step c s ≡ Ok t → StandsFor s e → IsDone t (command e c given)
-command-done c s t e given is st =
-    done-by t (command e c given) (subst (λ (x : Result State Fault). Agrees Leaves x (command e c given)) is (command_sound c s e given st))
+value-of : (x : Result State Fault) → fault_of x ≡ None → (t : State) × (x ≡ Ok t)
+value-of (Err f) h = absurd cc
+value-of (Ok t) h = (t, refl)
 
-made-by : (x : Result State Fault) (y : Result Effect Fault) → Agrees Leaves x y → fault_of x ≡ None → IsOk y
-made-by (Err f) y a h = absurd cc
-made-by (Ok t) (Ok f) a h = refl
-made-by (Ok t) (Err f) a h = absurd a
-
--- where the needs hold, the command meets no fault
-pub needs-met : (c : Command) (s : State) (e : editor.State) (given : Option Answer) → fault_of (step c s) ≡ None → StandsFor s e → IsOk (command e c given)
-needs-met c s e given h st = made-by (step c s) (command e c given) (command_sound c s e given st) h
+pub needs-met : (c : Command) (s : State) (e : editor.State) (given : Option Answer) → fault_of (step c s) ≡ None → StandsFor s e → IfErr (command e c given) (IsUnserved c e given)
+needs-met c s e given h st =
+    let v = value-of (step c s) h in
+    fault-unserved c s v.0 e given (command e c given) (command_sound c s v.0 e given st v.1)

@@ -28,7 +28,7 @@ use Rattle.ed_rules.specs.StandsFor.{ends_line, allows_replacement, AreWhole}
 use Rattle.ed_rules.specs.Order.{join}
 use Rattle.ed_rules.specs.Pieces.{with_zone, modified}
 use Rattle.ed_rules.specs.Addresses.{is_always, possible_patterns}
-use Rattle.ed_rules.specs.Soundness.{Agrees}
+use Rattle.ed_rules.proofs.Basics.{Agrees}
 use Rattle.ed_rules.specs.Substituting.{kind_of, has_usable, replacement_used, pattern_used, takes_first, is_sure_to_match, marks_substituted, current_split, current_substituted, surely_substituted, partly_substituted, substituted_if, substituted}
 use Rattle.ed_rules.proofs.Basics.{and-both, Agrees-bind, Agrees-needing, Agrees-map, Agrees-ok, bind-twice}
 use Rattle.ed_rules.proofs.Choosing.{has_choice-only, has_choice-all, or-right}
@@ -62,7 +62,7 @@ split-ends (part.Literal byte ∷ parts) h = or-right (nat_eq byte newline) (lis
 split-ends (part.Match ∷ parts) h = split-ends parts h
 split-ends (part.Group group ∷ parts) h = split-ends parts h
 
-not-true : (b : Bool) → not b ≡ true → b ≡ true → ⊥
+pub not-true : (b : Bool) → not b ≡ true → b ≡ true → ⊥
 not-true true h k = absurd cc
 not-true false h k = absurd cc
 

@@ -9,6 +9,7 @@ pub mod Addresses
 pub mod Lines
 pub mod Move
 pub mod Substituting
+pub mod Files
 pub mod Rules
 pub mod Soundness
 -- what only serves clauses inside the crate

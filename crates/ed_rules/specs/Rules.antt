@@ -19,6 +19,7 @@ use Rattle.ed_rules.specs.Addresses.{addressed, standing, last_given, targeted, 
 use Rattle.ed_rules.specs.Lines.{appended, put_before, lifted_range, changed_to, deleted, joined_given, marked, current_at, copied_lines}
 use Rattle.ed_rules.specs.Move.{moved_lines}
 use Rattle.ed_rules.specs.Substituting.{substituted}
+use Rattle.ed_rules.specs.Files.{file_read, whole_or_ranged, file_written, saved, edited, edited_anyway, file_named}
 
 -- what a command needs of its lines, by how many it takes
 abbrev pub taken : Taking → (given a : Addresses) → State → Result State Fault
@@ -29,6 +30,7 @@ taken many.OneLine given a s = let t = last_given a s in needing (known t.zone n
 taken many.Lines given a s =
     needing (known s.zone first_address second_address (pos 0)) fault.Address (with_zone (lifted_range given s.zone) s) >> ranged
 taken many.Range given a s = ranged s
+taken many.Whole given a s = whole_or_ranged given s
 
 -- what a command does that began in the state `start`, its lines taken
 abbrev pub effect : (listed : Bool) → (given : Addresses) → Verb → (start : State) → State → Result State Fault
@@ -48,6 +50,12 @@ effect listed given ed.PromptMode start s = Ok s
 effect listed given (ed.Move to) start s = moved_lines listed start s
 effect listed given (ed.Copy to) start s = Ok (copied_lines listed start s)
 effect listed given (ed.Substitute pattern replacement choice form) start s = substituted listed pattern replacement choice start s
+effect listed given (ed.ReadFile path) start s = file_read listed path start s
+effect listed given (ed.WriteFile path) start s = file_written given path s
+effect listed given (ed.Edit path) start s = edited path s
+effect listed given (ed.EditAnyway path) start s = edited_anyway path s
+effect listed given (ed.FileName path) start s = file_named path s
+effect listed given ed.Quit start s = saved s
 effect listed given ed.QuitAnyway start s = Ok s
 
 -- a suffix writes the current line, so there has to be one

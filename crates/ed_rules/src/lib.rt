@@ -4,6 +4,7 @@
 mod addresses;
 mod change;
 mod choices;
+mod files;
 mod laws;
 mod lines;
 mod marks;

@@ -95,7 +95,7 @@ fn old_covers(weak: &Option<Old>, strong: &Option<Old>) -> bool
     }
 }
 
-fn changed_of_both(one: &Changed, other: &Changed) -> Changed
+pub(crate) fn changed_of_both(one: &Changed, other: &Changed) -> Changed
     ensures value { result ≡ changed_of_both one.now other.now }
 {
     Changed {
@@ -114,7 +114,7 @@ fn replacements_of_both(one: &Replacements, other: &Replacements) -> Replacement
     }
 }
 
-fn undo_of_both(one: &Undo, other: &Undo) -> Undo
+pub(crate) fn undo_of_both(one: &Undo, other: &Undo) -> Undo
     ensures value { result ≡ undo_of_both one.now other.now }
 {
     Undo {

@@ -1,6 +1,6 @@
 //! The rules: the state after a command, or the need that fails.
 
-ghost use Rattle.std.specs.Prelude.{◌≡◌, true, Ok, Option, None, IfOk, IsOk};
+ghost use Rattle.std.specs.Prelude.{◌≡◌, true, Ok, Option, None, IfOk, IfErr};
 ghost use Rattle.ed_syntax.specs.PublicTypes.{addresses_value, verb_value, suffix_value, command_value};
 ghost use Rattle.ed_syntax.specs.States as editor;
 ghost use Rattle.ed_syntax.specs.Applied as editing;
@@ -9,7 +9,7 @@ ghost use Rattle.ed_rules.specs.Pieces.{with_zone, ended};
 ghost use Rattle.ed_rules.specs.Rules.{taken, effect, suffixed, are_lines, enters_lines, step_at, step, fault_of};
 ghost use Rattle.ed_rules.specs.Reaching.{Reaches, Steps};
 ghost use Rattle.ed_rules.specs.StandsFor.{StandsFor};
-ghost use Rattle.ed_rules.specs.Soundness.{IsDone};
+ghost use Rattle.ed_rules.specs.Soundness.{IsUnserved, IsDone};
 ghost use Rattle.ed_rules.specs.declared.state.State.{State};
 
 use crate::addresses::standing;
@@ -79,6 +79,7 @@ impl State {
                 self.need_range()
             }
             Taking::Range => self.need_range(),
+            Taking::Whole => self.need_given_range(given),
         }
     }
 
@@ -116,6 +117,12 @@ impl State {
                 which,
                 ..
             } => self.substitute(listed, pattern, replacement, *which, before)?,
+            Verb::ReadFile(path) => self.read_file(listed, path, before)?,
+            Verb::WriteFile(path) => self.write_file(given, path)?,
+            Verb::Edit(path) => self.edit(path)?,
+            Verb::EditAnyway(path) => self.edit_anyway(path)?,
+            Verb::FileName(path) => self.name_file(path)?,
+            Verb::Quit => self.need_saved()?,
             Verb::QuitAnyway => {}
         }
         Ok(())
@@ -174,9 +181,11 @@ impl State {
 pub fn needs(command: &Command, state: &State) -> Result<Option<Fault>, AllocError>
     ensures exact { IfOk result (λ need. need ≡ fault_of (step (command_value command.now) state.now)) }
 
-    // Where none fails, the command meets no fault in any editor that the state stands for, whatever it is answered.
+    // Where none fails, the command meets no fault in any editor that the state stands for, but that of a file whose answer
+    // doesn't serve what was asked for.
     ensures sound { IfOk result (λ need. need ≡ None → (e : editor.State) (given : Option Answer) →
-        StandsFor state.now e → IsOk (editing.command e (command_value command.now) given)) }
+        StandsFor state.now e →
+        IfErr (editing.command e (command_value command.now) given) (IsUnserved (command_value command.now) e given)) }
 {
     match state.step(command) {
         Ok(_) => Ok(None),
@@ -190,10 +199,10 @@ pub fn after(command: &Command, state: &State) -> Result<State, AllocError>
     requires needed { fault_of (step (command_value command.now) state.now) ≡ None }
     ensures exact { IfOk result (λ after. step (command_value command.now) state.now ≡ Ok after) }
 
-    // Of any editor that the state stands for, and whatever it is answered: the command meets no fault, and the result stands
-    // for what it leaves.
+    // Of any editor that the state stands for, and whatever it is answered: the command meets no fault but that of a file, it
+    // asks to write only what its rule tells, and the result stands for what it leaves.
     ensures sound { IfOk result (λ after. (e : editor.State) (given : Option Answer) → StandsFor state.now e →
-        IsDone after (editing.command e (command_value command.now) given)) }
+        IsDone (command_value command.now) state.now after e given (editing.command e (command_value command.now) given)) }
 {
     match state.step(command) {
         Ok(after) => Ok(after),

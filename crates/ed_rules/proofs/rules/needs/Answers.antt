@@ -9,5 +9,5 @@ pub returns-clause-sound : goal.returns-clause-sound
 returns-clause-sound c = elim c.match-step.branch [
   | in-Ok w ↦ rw w.result-is (λ none e given st. needs-met (command_value c.args.command.now) c.args.state.now e given (ap fault_of w.in-Ok.ensures.exact) st)
   | in-Err-Memory w ↦ rw w.result-is tt
-  | in-Err w ↦ rw w.result-is (λ none e given st. cc)
+  | in-Err w ↦ rw w.result-is (λ none e given st. absurd cc)
 ]
