@@ -1,33 +1,39 @@
 -- Accepted commands run to their end, from each state that what comes in stands for.
-use Rattle.std.proofs.Common.{◌≡◌, ◌<◌, ◌≤◌, ℕ, ◌+◌, ℤ, pos, neg_ℤ, ◌-ℤ◌, ◌≤ℤ◌, Bool, true, false, not, ◌||◌, List, [], ◌∷◌, length, Option, None, Some, Result, Ok, Err, IsTrue, ◌↔◌, arith, refl, sym, ap, subst}
-use Rattle.std.specs.List.{All}
+use Rattle.std.proofs.Common.{◌≡◌, ◌<◌, ◌≤◌, inl, inr, ℕ, suc, ◌+◌, ℤ, pos, neg_ℤ, ◌-ℤ◌, ◌≤ℤ◌, Bool, true, false, not, ◌||◌, List, [], ◌∷◌, length, Option, None, Some, Result, Ok, Err, IsTrue, ◌↔◌, arith, refl, sym, ap, subst}
+use Rattle.std.specs.Prelude.{nat_eq}
+use Rattle.std.specs.List.{All, Contains, list_any}
+use Rattle.std.specs.Cmp.Lexicographic.{pointwise, bytes_decides}
 use Rattle.std.proofs.lemmas.Int.{ints}
-use Rattle.std.proofs.lemmas.List.Elements.{All-nil}
+use Rattle.std.proofs.lemmas.List.Elements.{All-nil, All-cons}
 use Rattle.ed_base.specs.declared.fault.Fault.{Fault}
 use Rattle.ed_base.specs.declared.fault.Fault.TheVariants as fault
 use Rattle.zones.specs.Zone.{Bounds, Numbers, Holds}
 use Rattle.zones.specs.Known.{known}
 use Rattle.ed_syntax.specs.declared.request.Answer.{Answer}
+use Rattle.ed_syntax.specs.declared.request.Request.{Request}
+use Rattle.ed_syntax.specs.declared.request.Request.TheVariants as request
 use Rattle.ed_syntax.specs.Commands as ed
 use Rattle.ed_syntax.specs.Commands.{Verb, Command, Step}
 use Rattle.ed_syntax.specs.States as editor
 use Rattle.ed_syntax.specs.Effects.{Effect, Makes, Asks}
 use Rattle.ed_syntax.specs.Applied.{command}
-use Rattle.ed_syntax.specs.Progress.{Present, Progress, Writes, asked_of, stop_of, failing, ending, quitting}
-use Rattle.ed_syntax.specs.Runs.{Further, with_state, asking, turned, one, step_by, prompted, at_end, steps}
+use Rattle.ed_syntax.specs.Progress.{Present, Progress, Writes, asked_of, stop_of, failing, ending, quitting, count}
+use Rattle.ed_syntax.specs.Runs.{Further, with_state, answered, asking, turned, one, step_by, prompted, at_end, steps}
 use Rattle.ed_rules.specs.declared.state.State.{State}
 use Rattle.ed_rules.specs.Order.{Covers}
 use Rattle.cert_check.specs.Covering.{covers}
-use Rattle.ed_rules.specs.Soundness.{Agrees, Leaves, CommandIsSound}
+use Rattle.ed_rules.specs.Soundness.{MayAskFor, IsDone, CommandIsSound}
+use Rattle.ed_rules.specs.Files.{written_paths}
+use Rattle.ed_rules.proofs.Choosing.{or-cases, has_choice-all}
 use Rattle.ed_rules.specs.StandsFor.{StandsFor, allows_change}
 use Rattle.cert_check.specs.Opening.{IsAtMost, IsWithin, StartIsSound}
 use Rattle.cert_check.specs.declared.certificate.Note.{Note}
 use Rattle.cert_check.specs.declared.verdict.Verdict.TheVariants.{Accepted}
 use Rattle.cert_check.specs.Certificates.{Certificate}
-use Rattle.cert_check.specs.Valid.{verdict_of, quits, has_quit, counted, are_met, left_by, knows_least, knows_most, end_checks, checks_from}
+use Rattle.cert_check.specs.Valid.{verdict_of, quits, has_quit, counted, are_met, left_by, is_listed, are_listed, knows_least, knows_most, end_checks, checks_from}
 use Rattle.cert_check.specs.Sound.{MayAsk, StopsWell}
 use Rattle.cert_check.proofs.Checks.{first-holds, EndsSo, end-holds, met-gives}
-use Rattle.cert_check.proofs.Quitting.{OnValue, SameMade, quit-leaves}
+use Rattle.cert_check.proofs.Quitting.{OnValue, SameMade, SavedMade, quit-leaves, saved-leaves}
 
 -- the laws of the crates below
 pub record Laws : Type 0 where
@@ -95,66 +101,100 @@ at_end-well : Laws → (bad : Option ℕ) (c : Certificate) (s : State) (m : Pre
 at_end-well k None c s m h st = quitting-well k None c s m h st
 at_end-well k (Some line) c s m h st = let f : false ≡ true = h.readable in absurd cc
 
+-- a listed path may be asked for
+listed-contained : (writes : List (List ℕ)) (path : List ℕ) → list_any (λ listed. pointwise nat_eq listed path) writes ≡ true → Contains writes path
+listed-contained [] path h = absurd cc
+listed-contained (w ∷ writes) path h = elim (or-cases (pointwise nat_eq w path) (list_any (λ listed. pointwise nat_eq listed path) writes) h) [
+  | inl e ↦ let same : w ≡ path = (bytes_decides w path).0 e in (0, omega arith, same)
+  | inr e ↦ let q = listed-contained writes path e in let k = q.1 in (suc q.0, omega arith, q.2)
+]
+
+may-listed : (c : Certificate) (x : Command) (s : State) (r : Request) → are_listed c.writes x s ≡ true → MayAskFor x s None r → MayAsk c r
+may-listed c x s (request.Read path) l h = tt
+may-listed c x s (request.Write path bytes) l h = listed-contained c.writes path (has_choice-all (is_listed c.writes) (written_paths x.verb s) (Some path) l h)
+
+-- what is made of an answer, and the run after it
+answered-well : (c : Certificate) (x : Command) (s t : State) (m : Present) (a : Answer) (counted : List ℕ) (y : Result Effect Fault) (go : Further) (answers : List Answer) → IsDone x s t m.state (Some a) y →
+    ((e : editor.State) (more : List Answer) → StandsFor t e → RunsWell c (go (with_state e m) more)) → RunsWell c (answered m counted y go answers)
+answered-well c x s t m a counted (Err f) go answers done h = (All-nil (MayAsk c), done.3)
+answered-well c x s t m a counted (Ok (Makes o)) go answers done h = h o.state answers done
+answered-well c x s t m a counted (Ok (Asks r)) go answers done h = absurd done
+
 -- a command that its rule vouches for, and the run after it
-asking-well : (c : Certificate) (t : State) (m : Present) (y : Result Effect Fault) (again : Answer → Result Effect Fault) (go : Further) (answers : List Answer) →
-    Agrees Leaves (Ok t) y → ((e : editor.State) → StandsFor t e → RunsWell c (go (with_state e m) answers)) → RunsWell c (asking m y again go answers)
-asking-well c t m (Err f) again go answers a h = absurd a
-asking-well c t m (Ok (Makes o)) again go answers a h = h o.state a
-asking-well c t m (Ok (Asks r)) again go answers a h = absurd a
+asking-well : (c : Certificate) (x : Command) (s t : State) (m : Present) (y : Result Effect Fault) (again : Answer → Result Effect Fault) (go : Further) (answers : List Answer) → are_listed c.writes x s ≡ true →
+    IsDone x s t m.state None y → ((a : Answer) → IsDone x s t m.state (Some a) (again a)) → ((e : editor.State) (more : List Answer) → StandsFor t e → RunsWell c (go (with_state e m) more)) →
+    RunsWell c (asking m y again go answers)
+asking-well c x s t m (Err f) again go answers l done later h = absurd done
+asking-well c x s t m (Ok (Makes o)) again go answers l done later h = h o.state answers done
+asking-well c x s t m (Ok (Asks r)) again go [] l done later h = (All-nil (MayAsk c), may-listed c x s r l done)
+asking-well c x s t m (Ok (Asks r)) again go (a ∷ answers) l done later h =
+    let well = answered-well c x s t m a (count m.silent r a) (again a) go answers (later a) h in
+    (All-cons (MayAsk c) r _ (may-listed c x s r l done) well.0, well.1)
 
 turned-state : (v : Verb) (m : Present) → (turned v m).state ≡ m.state
 turned-state ed.HelpMode m = refl
 turned-state ed.PromptMode m = refl
 turned-state _ m = refl
 
-one-well : Laws → (c : Certificate) (x : Command) (s : State) (m : Present) (go : Further) (answers : List Answer) → are_met x s ≡ true → StandsFor s m.state →
-    ((q : Present) → StandsFor (left_by x s) q.state → RunsWell c (go q answers)) → RunsWell c (one x m go answers)
-one-well k c x s m go answers met st h =
+one-well : Laws → (c : Certificate) (x : Command) (s : State) (m : Present) (go : Further) (answers : List Answer) → are_met x s ≡ true → are_listed c.writes x s ≡ true → StandsFor s m.state →
+    ((q : Present) (more : List Answer) → StandsFor (left_by x s) q.state → RunsWell c (go q more)) → RunsWell c (one x m go answers)
+one-well k c x s m go answers met l st h =
     let t : State = left_by x s in
-    asking-well c t m (command m.state x None) (λ a. command m.state x (Some a)) (λ q. go (turned x.verb q)) answers
-    (subst (λ (r : Result State Fault). Agrees Leaves r (command m.state x None)) (met-gives x s met) (k.command x s m.state None st))
-    (λ e stands. h (turned x.verb (with_state e m)) (subst (λ (u : editor.State). StandsFor t u) (sym (turned-state x.verb (with_state e m))) stands))
+    let step = met-gives x s met in
+    asking-well c x s t m (command m.state x None) (λ a. command m.state x (Some a)) (λ q. go (turned x.verb q)) answers l
+    (k.command x s t m.state None st step) (λ a. k.command x s t m.state (Some a) st step)
+    (λ e more stands. h (turned x.verb (with_state e m)) more (subst (λ (u : editor.State). StandsFor t u) (sym (turned-state x.verb (with_state e m))) stands))
 
 -- a command that doesn't end the run
 going-on : (v : Verb) (x : Step) (m : Present) (go : Further) (answers : List Answer) → quits v ≡ false → step_by v x m go answers ≡ one x.command m go answers
+going-on ed.Quit x m go answers e = absurd cc
 going-on ed.QuitAnyway x m go answers e = absurd cc
 going-on _ x m go answers e = refl
 
--- a command that ends it
-ended : (v : Verb) (x : Step) (m : Present) (go : Further) (answers : List Answer) → quits v ≡ true → step_by v x m go answers ≡ ending m
-ended ed.QuitAnyway x m go answers e = refl
-ended _ x m go answers e = absurd cc
-
-is-quit : (v : Verb) → quits v ≡ true → v ≡ ed.QuitAnyway
-is-quit ed.QuitAnyway e = refl
-is-quit _ e = absurd cc
-
 -- the lines of what its rule stands for are those of the run
-quit-within : (c : Certificate) (t : State) (e : editor.State) (y : Result Effect Fault) → Agrees Leaves (Ok t) y → OnValue (SameMade e) y →
+quit-within : (c : Certificate) (x : Command) (s t : State) (e : editor.State) (y : Result Effect Fault) → IsDone x s t e None y → OnValue (SameMade e) y →
     ((u : editor.State) → StandsFor t u → IsWithin c.low c.high (length u.lines)) → IsWithin c.low c.high (length e.lines)
-quit-within c t e (Err f) a same h = absurd a
-quit-within c t e (Ok (Asks r)) a same h = absurd a
-quit-within c t e (Ok (Makes o)) a same h =
+quit-within c x s t e (Err f) a same h = absurd a
+quit-within c x s t e (Ok (Asks r)) a same h = absurd same
+quit-within c x s t e (Ok (Makes o)) a same h =
     let lines : o.state.lines ≡ e.lines = same in
     subst (λ (n : ℕ). IsWithin c.low c.high n) (ap length lines) (h o.state a)
 
-same-made : (x : Command) (e : editor.State) → quits x.verb ≡ true → OnValue (SameMade e) (command e x None)
-same-made x e q =
-    subst (λ (v : Verb). OnValue (SameMade e) (command e (record { addresses = x.addresses; verb = v; suffix = x.suffix; listed = x.listed }) None))
-    (sym (is-quit x.verb q)) (quit-leaves x.addresses x.suffix x.listed e None)
+-- a command without a fault that is refused where the buffer is changed
+saved-made : (x : Command) (s t : State) (e : editor.State) (y : Result Effect Fault) → IsDone x s t e None y → OnValue (SavedMade e) y → OnValue (SameMade e) y × (e.changed ≡ false)
+saved-made x s t e (Err f) a made = absurd a
+saved-made x s t e (Ok f) a made = made
 
-quit-well : Laws → (quit : Bool) (bad : Option ℕ) (c : Certificate) (x : Command) (s : State) (m : Present) → quits x.verb ≡ true → are_met x s ≡ true → StandsFor s m.state →
+quit-well : Laws → (quit : Bool) (bad : Option ℕ) (c : Certificate) (x : Command) (s : State) (m : Present) → OnValue (SameMade m.state) (command m.state x None) → are_met x s ≡ true → StandsFor s m.state →
     EndsSo quit bad c (left_by x s) → RunsWell c (ending m)
-quit-well k quit bad c x s m q met st h =
+quit-well k quit bad c x s m same met st h =
     let t : State = left_by x s in
     ending-well c m
-    (quit-within c t m.state (command m.state x None)
-    (subst (λ (r : Result State Fault). Agrees Leaves r (command m.state x None)) (met-gives x s met) (k.command x s m.state None st))
-    (same-made x m.state q) (λ u stands. within-end k quit bad c t u h stands))
+    (quit-within c x s t m.state (command m.state x None) (k.command x s t m.state None st (met-gives x s met)) same
+    (λ u stands. within-end k quit bad c t u h stands))
+
+quitting-saved : (m : Present) → m.state.changed ≡ false → quitting m ≡ ending m
+quitting-saved m e = ap (λ (b : Bool). elim b as (λ _. Progress) [ true ↦ failing m fault.Unsaved | false ↦ ending m ]) e
+
+-- a command that ends it
+ended-well : Laws → (quit : Bool) (bad : Option ℕ) (c : Certificate) (x : Step) (s : State) (m : Present) (go : Further) (answers : List Answer) (v : Verb) → x.command.verb ≡ v → quits v ≡ true →
+    are_met x.command s ≡ true → StandsFor s m.state → EndsSo quit bad c (left_by x.command s) → RunsWell c (step_by v x m go answers)
+ended-well k quit bad c x s m go answers ed.QuitAnyway is e met st h =
+    let d : Command = x.command in
+    quit-well k quit bad c d s m
+    (subst (λ (v : Verb). OnValue (SameMade m.state) (command m.state (record { addresses = d.addresses; verb = v; suffix = d.suffix; listed = d.listed }) None)) (sym is)
+    (quit-leaves d.addresses d.suffix d.listed m.state None)) met st h
+ended-well k quit bad c x s m go answers ed.Quit is e met st h =
+    let d : Command = x.command in
+    let made = saved-made d s (left_by d s) m.state (command m.state d None) (k.command d s (left_by d s) m.state None st (met-gives d s met))
+    (subst (λ (v : Verb). OnValue (SavedMade m.state) (command m.state (record { addresses = d.addresses; verb = v; suffix = d.suffix; listed = d.listed }) None)) (sym is)
+    (saved-leaves d.addresses d.suffix d.listed m.state None)) in
+    subst (λ (p : Progress). RunsWell c p) (sym (quitting-saved m made.1)) (quit-well k quit bad c d s m made.0 met st h)
+ended-well k quit bad c x s m go answers _ is e met st h = absurd cc
 
 -- the steps that are left, of which the counted ones and the end are accepted
 pub steps-well : Laws → (c : Certificate) (bad : Option ℕ) (quit : Bool) (xs : List Step) (number : ℕ) (s : State) (notes : List Note) → quit ≡ has_quit xs →
-    length notes ≡ length (counted xs) → verdict_of (checks_from (end_checks quit bad c) number s (counted xs) notes) ≡ Accepted →
+    length notes ≡ length (counted xs) → verdict_of (checks_from c.writes (end_checks quit bad c) number s (counted xs) notes) ≡ Accepted →
     (m : Present) → StandsFor s m.state → (answers : List Answer) → RunsWell c (steps xs bad m answers)
 steps-well k c bad quit [] number s notes q size h m st answers =
     prompted-well c m (at_end bad m)
@@ -165,16 +205,15 @@ steps-well k c bad quit (x ∷ xs) number s (n ∷ notes) q size h m st answers 
     let go : Further = λ t more. steps xs bad t more in
     let covered = first-holds (covers n.state s) _ _ h in
     let met = first-holds (are_met x.command n.state) _ _ covered.1 in
+    let listed = first-holds (are_listed c.writes x.command n.state) _ _ met.1 in
     let before : StandsFor n.state m.state = covers-stands k n.state s m.state covered.0 st in
     prompted-well c m (step_by v x m go answers)
     ((elim (quits v) as (λ b. quits v ≡ b → quit ≡ b || has_quit xs → length (n ∷ notes) ≡ length (x ∷ (elim b as (λ _. List Step) [ true ↦ [] | false ↦ counted xs ])) →
-    verdict_of (checks_from (end_checks quit bad c) (number + 1) (left_by x.command n.state) (elim b as (λ _. List Step) [ true ↦ [] | false ↦ counted xs ]) notes) ≡ Accepted →
+    verdict_of (checks_from c.writes (end_checks quit bad c) (number + 1) (left_by x.command n.state) (elim b as (λ _. List Step) [ true ↦ [] | false ↦ counted xs ]) notes) ≡ Accepted →
     RunsWell c (step_by v x m go answers)) [
-      | true ↦ λ e r l a.
-          subst (λ (p : Progress). RunsWell c p) (sym (ended v x m go answers e))
-          (quit-well k quit bad c x.command n.state m e met.0 before (end-holds quit bad c (number + 1) (left_by x.command n.state) a))
+      | true ↦ λ e r l a. ended-well k quit bad c x n.state m go answers v refl e met.0 before (end-holds quit bad c (number + 1) (left_by x.command n.state) a)
       | false ↦ λ e r l a.
           subst (λ (p : Progress). RunsWell c p) (sym (going-on v x m go answers e))
-          (one-well k c x.command n.state m go answers met.0 before
-          (λ t stands. steps-well k c bad quit xs (number + 1) (left_by x.command n.state) notes r (omega arith) a t stands answers))
-    ]) refl q size met.1)
+          (one-well k c x.command n.state m go answers met.0 listed.0 before
+          (λ t more stands. steps-well k c bad quit xs (number + 1) (left_by x.command n.state) notes r (omega arith) a t stands more))
+    ]) refl q size listed.1)

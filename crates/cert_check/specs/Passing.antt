@@ -9,7 +9,7 @@ use Rattle.cert_check.specs.declared.passing.Passage.TheVariants.{Left, Fails}
 use Rattle.cert_check.specs.declared.verdict.Verdict.{Verdict}
 use Rattle.cert_check.specs.declared.verdict.Verdict.TheVariants.{Accepted, Refused}
 use Rattle.cert_check.specs.Certificates.{Certificate}
-use Rattle.cert_check.specs.Valid.{Check, verdict_of, are_met, left_by, knows_least, knows_most, checks_from}
+use Rattle.cert_check.specs.Valid.{Check, verdict_of, are_met, left_by, are_listed, knows_least, knows_most, checks_from}
 
 -- the verdict where all checks of a number hold, or where one fails
 abbrev pub verdict_at : (number : ℕ) → Bool → Verdict
@@ -20,9 +20,9 @@ verdict_at number false = Refused (record { command = number; inner = None })
 abbrev pub left_where_met : Command → State → Option State
 left_where_met c note = if are_met c note then Some (left_by c note) else None
 
--- the same, where both checks of the command hold
-abbrev pub passed : Command → (note coming : State) → Option State
-passed c note coming = if covers note coming then left_where_met c note else None
+-- the same, where all checks of the command hold
+abbrev pub passed : (writes : List (List ℕ)) → Command → (note coming : State) → Option State
+passed writes c note coming = if covers note coming then (if are_listed writes c note then left_where_met c note else None) else None
 
 -- all checks of the end hold
 abbrev pub ends_well : (quit : Bool) → (fault : Option ℕ) → Certificate → (coming : State) → Bool
@@ -30,9 +30,9 @@ ends_well quit fault c coming =
     (quit || is_none fault) && (covers c.last coming && ((quit || not c.last.changed.yes) && (knows_least c.last.zone c.low && knows_most c.last.zone c.high)))
 
 -- what the checks of these commands come to, whatever those of the end are
-abbrev pub GoesTo : List Step → List Note → (start : State) → Passage → Type 0
-GoesTo xs notes s (Left t) = (end : ℕ → State → List Check) → verdict_of (checks_from end 1 s xs notes) ≡ verdict_of (end (length notes + 1) t)
-GoesTo xs notes s (Fails number) = (end : ℕ → State → List Check) → verdict_of (checks_from end 1 s xs notes) ≡ verdict_at number false
+abbrev pub GoesTo : (writes : List (List ℕ)) → List Step → List Note → (start : State) → Passage → Type 0
+GoesTo writes xs notes s (Left t) = (end : ℕ → State → List Check) → verdict_of (checks_from writes end 1 s xs notes) ≡ verdict_of (end (length notes + 1) t)
+GoesTo writes xs notes s (Fails number) = (end : ℕ → State → List Check) → verdict_of (checks_from writes end 1 s xs notes) ≡ verdict_at number false
 
 -- the verdict where the checks of the commands came to this
 abbrev pub verdict_after : Passage → (quit : Bool) → (fault : Option ℕ) → Certificate → Verdict

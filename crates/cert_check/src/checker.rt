@@ -63,7 +63,8 @@ fn judge(script: &Script, certificate: &Certificate) -> Result<Verdict, AllocErr
         certificate.min,
         certificate.max,
     )?;
-    let passage = go_through(commands, notes, start)?;
+    let writes = certificate.writes.as_slice();
+    let passage = go_through(writes, commands, notes, start)?;
     let verdict = verdict_after(passage, counted.quit, script.fault, certificate);
     Ok(verdict)
 }

@@ -1,14 +1,16 @@
 //! The checks of commands and of the end.
 
 ghost use Rattle.std.specs.Prelude.{◌≡◌, length, option_map, IfOk};
+ghost use Rattle.std.specs.List.{list_all};
 ghost use Rattle.ed_syntax.specs.PublicTypes.{verb_value, command_value, steps_value};
 ghost use Rattle.cert_check.specs.Covering.{covers};
 ghost use Rattle.cert_check.specs.Certificates.{certificate_value};
-ghost use Rattle.cert_check.specs.Valid.{quits, counted, has_quit, knows_least, knows_most};
+ghost use Rattle.cert_check.specs.Valid.{quits, is_listed, are_listed, counted, has_quit, knows_least, knows_most};
 ghost use Rattle.cert_check.specs.Passing.{left_where_met, passed, ends_well, GoesTo};
 
 use crate::certificate::{Certificate, Note};
 use crate::laws::covering_is_decided;
+use ed_base::Bytes;
 use ed_rules::{State, after, needs};
 use ed_syntax::{Command, Verb};
 use std::alloc::AllocError;
@@ -32,7 +34,7 @@ fn quits(verb: &Verb) -> bool
     ensures value { result ≡ quits (verb_value verb.now) }
 {
     match verb {
-        Verb::QuitAnyway => true,
+        Verb::Quit | Verb::QuitAnyway => true,
         _ => false,
     }
 }
@@ -74,11 +76,52 @@ fn left_by(command: &Command, note: &State) -> Result<Option<State>, AllocError>
     Ok(Some(left))
 }
 
-/// The same, where the note also says no more than what comes in.
-fn passed(command: &Command, note: &State, coming: &State) -> Result<Option<State>, AllocError>
-    ensures value { IfOk result (λ left. left ≡ passed (command_value command.now) note.now coming.now) }
+/// A path that may be written is among those that are listed.
+fn is_listed(writes: &[Bytes], path: &Option<Bytes>) -> bool
+    ensures value { result ≡ is_listed writes.now path.now }
 {
-    if is_covered(note, coming) {
+    match path {
+        Some(path) => writes.contains(path),
+        None => true,
+    }
+}
+
+/// All choices of a set are listed.
+fn are_all_listed(writes: &[Bytes], paths: &[Option<Bytes>]) -> bool
+    ensures value { result ≡ list_all (is_listed writes.now) paths.now }
+{
+    for path in paths {
+        if !is_listed(writes, path) {
+            return false;
+        }
+    }
+    true
+}
+
+/// Each path that a command may write is listed.
+fn are_listed(writes: &[Bytes], command: &Command, note: &State) -> bool
+    ensures value { result ≡ are_listed writes.now (command_value command.now) note.now }
+{
+    match &command.verb {
+        Verb::WriteFile(path) => match path {
+            Some(_) => is_listed(writes, path),
+            None => are_all_listed(writes, note.names.members()),
+        },
+        _ => true,
+    }
+}
+
+/// The same, where the note also says no more than what comes in, and the paths that may be written are listed.
+fn passed(
+    writes: &[Bytes],
+    command: &Command,
+    note: &State,
+    coming: &State,
+) -> Result<Option<State>, AllocError>
+    ensures value { IfOk result (λ left. left ≡
+        passed writes.now (command_value command.now) note.now coming.now) }
+{
+    if is_covered(note, coming) && are_listed(writes, command, note) {
         left_by(command, note)
     } else {
         Ok(None)
@@ -87,16 +130,17 @@ fn passed(command: &Command, note: &State, coming: &State) -> Result<Option<Stat
 
 /// Goes through the counted commands with their notes, from the state at the start.
 pub(crate) fn go_through(
+    writes: &[Bytes],
     commands: &[Command],
     notes: &[Note],
     start: State,
 ) -> Result<Passage, AllocError>
     requires shape { length notes.now ≡ length (counted (steps_value commands.now)) }
-    ensures value { IfOk result (λ passage. GoesTo (counted (steps_value commands.now)) notes.now start passage) }
+    ensures value { IfOk result (λ passage. GoesTo writes.now (counted (steps_value commands.now)) notes.now start passage) }
 {
     let mut coming = start;
     for (index, note) in notes.iter().enumerate() {
-        let left = passed(&commands[index], &note.state, &coming)?;
+        let left = passed(writes, &commands[index], &note.state, &coming)?;
         match left {
             Some(state) => coming = state,
             None => return Ok(Passage::Fails(index + 1)),

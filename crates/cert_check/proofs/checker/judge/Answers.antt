@@ -19,8 +19,8 @@ pub returns : goal.returns
 returns c = record {
   exact =
       c.verdict_after-verdict.ensures.value
-      ∙ judged-by (script_value c.args.script.now) (certificate_value c.args.certificate.now) (counted (steps_value c.as_slice-commands.result.now)) c.as_slice-notes.result.now
+      ∙ judged-by (script_value c.args.script.now) (certificate_value c.args.certificate.now) c.as_slice-writes.result.now (counted (steps_value c.as_slice-commands.result.now)) c.as_slice-notes.result.now
       c.in_ok-start.start c.count-counted.result.quit c.in_ok-passage.passage
-      (ap (λ l. counted (steps_value l)) c.as_slice-commands.ensures.value) c.as_slice-notes.ensures.value c.in_ok-start.ensures.value
+      c.as_slice-writes.ensures.value (ap (λ l. counted (steps_value l)) c.as_slice-commands.ensures.value) c.as_slice-notes.ensures.value c.in_ok-start.ensures.value
       (c.count-counted.ensures.quit ∙ ap (λ l. has_quit (steps_value l)) c.as_slice-commands.ensures.value) (search rules) c.in_ok-passage.ensures.value;
 }

@@ -12,14 +12,14 @@ bounds-commands-index c = omega (arith, counted-bounded c.args.commands.now)
 pub loop-index-preserved : goal.loop-index-preserved
 loop-index-preserved c = λ end.
     c.loop-index.invariant end
-    ∙ go-on end c.args.commands.now c.args.notes.now c.loop-index.index c.index-commands-index.result c.index-notes-index.result c.loop-index.coming c.in-Some.state
+    ∙ go-on c.args.writes.now end c.args.commands.now c.args.notes.now c.loop-index.index c.index-commands-index.result c.index-notes-index.result c.loop-index.coming c.in-Some.state
     (omega arith) c.requires.shape c.index-commands-index.is c.index-notes-index.is (sym c.in_ok-left.ensures.value ∙ c.in-Some.is)
 
 pub returns-in-None : goal.returns-in-None
 returns-in-None c = record {
   value = λ end.
       c.loop-index.invariant end
-      ∙ stop-here end c.args.commands.now c.args.notes.now c.loop-index.index c.index-commands-index.result c.index-notes-index.result c.loop-index.coming
+      ∙ stop-here c.args.writes.now end c.args.commands.now c.args.notes.now c.loop-index.index c.index-commands-index.result c.index-notes-index.result c.loop-index.coming
       (omega arith) c.requires.shape c.index-commands-index.is c.index-notes-index.is (sym c.in_ok-left.ensures.value ∙ c.in-None.is);
 }
 
@@ -27,5 +27,5 @@ pub returns : goal.returns
 returns c = record {
   value = λ end.
       c.loop-index.invariant end
-      ∙ gone-through end c.args.commands.now c.args.notes.now c.loop-index.index c.loop-index.coming (omega arith) c.requires.shape;
+      ∙ gone-through c.args.writes.now end c.args.commands.now c.args.notes.now c.loop-index.index c.loop-index.coming (omega arith) c.requires.shape;
 }

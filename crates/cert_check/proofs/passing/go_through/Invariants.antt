@@ -7,5 +7,5 @@ use Rattle.cert_check.proofs.passing.go_through.Given as goal
 -- the checks before this note hold
 abbrev pub invariant-loop-index : goal.invariant-loop-index
 invariant-loop-index l = (end : ℕ → State → List Check) →
-    verdict_of (checks_from end 1 l.fn.start (counted (steps_value l.commands)) l.notes)
-    ≡ verdict_of (checks_from end (l.index + 1) l.coming (drop l.index (counted (steps_value l.commands))) (drop l.index l.notes))
+    verdict_of (checks_from l.writes end 1 l.fn.start (counted (steps_value l.commands)) l.notes)
+    ≡ verdict_of (checks_from l.writes end (l.index + 1) l.coming (drop l.index (counted (steps_value l.commands))) (drop l.index l.notes))
