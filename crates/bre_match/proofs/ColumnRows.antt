@@ -8,7 +8,9 @@ use Rattle.std.proofs.lemmas.List.{get_or_read}
 use Rattle.bre_parse.proofs.Sequences.{sequence_of-drop, sequence_of-all, tree_of-Sequence}
 use Rattle.bre_match.specs.Parts.{Part, Nothing, Never, One, AtStart, AtEnd, Both, Maybe, Star, needed, up_to, written_out, part_of}
 use Rattle.bre_match.specs.Columns.{less_of, peek, step}
-use Rattle.bre_match.specs.Marks.{fill, past, marks_of, other_marks}
+use Rattle.bre_match.specs.declared.column.Asked.{Asked}
+use Rattle.bre_match.specs.declared.column.Asked.TheVariants as kind
+use Rattle.bre_match.specs.Marks.{asked_for, fill, past, marks_of, other_marks}
 use Rattle.bre_match.specs.Ends.{columns}
 
 pub mark_passed : (marks : List (Option ℕ)) (at : ℕ) → at < length marks → drop (at + 1) marks ≡ other_marks (drop at marks)
@@ -104,25 +106,40 @@ lead_on t a left s x ms now next w v u least new h e f g = record {
 pub lead_left : (t left other : Part) (s : List ℕ) (x : ℕ) (ms now : List (Option ℕ)) (w v least : Option ℕ) → left ≡ other → Leads t left s x ms now w v least → Leads t other s x ms now w v least
 lead_left t left other s x ms now w v least e h = subst (λ (p : Part). Leads t p s x ms now w v least) e h
 
--- The marks of the next column so far, and those that the rest adds
-pub record Puts (t left : Part) (s : List ℕ) (x : ℕ) (ms now : List (Option ℕ)) (w v : Option ℕ) (old out : List (Option ℕ)) : Type 0 where
-  pub marks : out ++ marks_of (step (fill left now) s x v) ≡ old ++ marks_of (step (fill t ms) s x w)
+-- The marks of the next column so far, and those that the rest adds, if they are asked for
 
-pub put_on : (t a left : Part) (s : List ℕ) (x : ℕ) (ms now next : List (Option ℕ)) (w v u : Option ℕ) (old out new : List (Option ℕ)) → Puts t (Both a left) s x ms now w v old out → u ≡ peek (fill a now) s x v → next ≡ past a now → new ≡ out ++ marks_of (step (fill a now) s x v) → Puts t left s x ms next w u old new
-put_on t a left s x ms now next w v u old out new h e f g = record {
+asked_append : (asked : Asked) (xs ys : List (Option ℕ)) → asked_for asked (xs ++ ys) ≡ asked_for asked xs ++ asked_for asked ys
+asked_append kind.Weight xs ys = refl
+asked_append kind.Marks xs ys = refl
+
+abbrev pub marks_put : Asked → Part → List ℕ → ℕ → Option ℕ → List (Option ℕ)
+marks_put asked t s x w = asked_for asked (marks_of (step t s x w))
+
+pub record Puts (asked : Asked) (t left : Part) (s : List ℕ) (x : ℕ) (ms now : List (Option ℕ)) (w v : Option ℕ) (old out : List (Option ℕ)) : Type 0 where
+  pub marks : out ++ marks_put asked (fill left now) s x v ≡ old ++ marks_put asked (fill t ms) s x w
+
+pub put_on : (asked : Asked) (t a left : Part) (s : List ℕ) (x : ℕ) (ms now next : List (Option ℕ)) (w v u : Option ℕ) (old out new : List (Option ℕ)) → Puts asked t (Both a left) s x ms now w v old out → u ≡ peek (fill a now) s x v → next ≡ past a now → new ≡ out ++ marks_put asked (fill a now) s x v → Puts asked t left s x ms next w u old new
+put_on asked t a left s x ms now next w v u old out new h e f g = record {
   marks =
-      ap (λ z. z ++ marks_of (step (fill left next) s x u)) g
-      ∙ ap (λ z. (out ++ marks_of (step (fill a now) s x v)) ++ marks_of (step (fill left next) s x z)) e
-      ∙ ap (λ z. (out ++ marks_of (step (fill a now) s x v)) ++ marks_of (step (fill left z) s x (peek (fill a now) s x v))) f
-      ∙ append_assoc out (marks_of (step (fill a now) s x v)) (marks_of (step (fill left (past a now)) s x (peek (fill a now) s x v)))
+      ap (λ z. z ++ marks_put asked (fill left next) s x u) g
+      ∙ ap (λ z. (out ++ marks_put asked (fill a now) s x v) ++ marks_put asked (fill left next) s x z) e
+      ∙ ap (λ z. (out ++ marks_put asked (fill a now) s x v) ++ marks_put asked (fill left z) s x (peek (fill a now) s x v)) f
+      ∙ append_assoc out (marks_put asked (fill a now) s x v) (marks_put asked (fill left (past a now)) s x (peek (fill a now) s x v))
+      ∙ ap (λ z. out ++ z) (sym (asked_append asked (marks_of (step (fill a now) s x v)) (marks_of (step (fill left (past a now)) s x (peek (fill a now) s x v)))))
       ∙ h.marks;
 }
 
-pub put_left : (t left other : Part) (s : List ℕ) (x : ℕ) (ms now : List (Option ℕ)) (w v : Option ℕ) (old out : List (Option ℕ)) → left ≡ other → Puts t left s x ms now w v old out → Puts t other s x ms now w v old out
-put_left t left other s x ms now w v old out e h = subst (λ (p : Part). Puts t p s x ms now w v old out) e h
+pub put_left : (asked : Asked) (t left other : Part) (s : List ℕ) (x : ℕ) (ms now : List (Option ℕ)) (w v : Option ℕ) (old out : List (Option ℕ)) → left ≡ other → Puts asked t left s x ms now w v old out → Puts asked t other s x ms now w v old out
+put_left asked t left other s x ms now w v old out e h =
+    subst (λ (p : Part). Puts asked t p s x ms now w v old out) e h
 
-pub put_maybe : (t left : Part) (s : List ℕ) (x : ℕ) (ms now : List (Option ℕ)) (w v : Option ℕ) (old out : List (Option ℕ)) → Puts t (Maybe left) s x ms now w v old out → Puts t left s x ms now w v old out
-put_maybe t left s x ms now w v old out h = record { marks = h.marks }
+pub put_maybe : (asked : Asked) (t left : Part) (s : List ℕ) (x : ℕ) (ms now : List (Option ℕ)) (w v : Option ℕ) (old out : List (Option ℕ)) → Puts asked t (Maybe left) s x ms now w v old out → Puts asked t left s x ms now w v old out
+put_maybe asked t left s x ms now w v old out h = record { marks = h.marks }
+
+needed_put : (asked : Asked) (n : ℕ) (c rest : Part) (s : List ℕ) (x : ℕ) (ms : List (Option ℕ)) (w : Option ℕ) → marks_put asked (fill (needed n c rest) ms) s x w ≡ marks_put asked (fill (some_of n c) ms) s x w ++ marks_put asked (fill rest (past (some_of n c) ms)) s x (peek (fill (some_of n c) ms) s x w)
+needed_put asked n c rest s x ms w =
+    ap (asked_for asked) (needed_marks n c rest s x ms w)
+    ∙ asked_append asked (marks_of (step (fill (some_of n c) ms) s x w)) (marks_of (step (fill rest (past (some_of n c) ms)) s x (peek (fill (some_of n c) ms) s x w)))
 
 -- A whole column
 
@@ -200,26 +217,28 @@ more_at l most' more most c ms now next m d n e =
     e ∙ ap (λ z. past (up_to z c) now) d ∙ ap (λ z. past (up_to (most' - l) c) z) n ∙ sym (needed_past l c (up_to (most' - l) c) ms)
     ∙ ap (λ z. past (written_out l z c) ms) (sym m)
 
-pub star_marks : (l : ℕ) (most : Option ℕ) (c : Part) (s : List ℕ) (x : ℕ) (ms now : List (Option ℕ)) (w begun turn new : Option ℕ) (old out all : List (Option ℕ)) → most ≡ None → begun ≡ peek (fill (needed l c Nothing) ms) s x w → now ≡ past (needed l c Nothing) ms → turn ≡ peek (fill c now) s x begun → new ≡ less_of begun turn → out ≡ old ++ marks_of (step (fill (needed l c Nothing) ms) s x w) → all ≡ out ++ marks_of (step (fill c now) s x new) → all ≡ old ++ marks_of (step (fill (written_out l most c) ms) s x w)
-star_marks l most c s x ms now w begun turn new old out all m b n t e o a =
+-- only asked what comes out behind it, the turn puts no marks
+pub star_marks : (asked : Asked) (l : ℕ) (most : Option ℕ) (c : Part) (s : List ℕ) (x : ℕ) (ms now : List (Option ℕ)) (w begun turn new : Option ℕ) (old out same all : List (Option ℕ)) → most ≡ None → begun ≡ peek (fill (needed l c Nothing) ms) s x w → now ≡ past (needed l c Nothing) ms → turn ≡ peek (fill c now) s x begun → new ≡ less_of begun turn → out ≡ old ++ marks_put asked (fill (needed l c Nothing) ms) s x w → same ≡ out ++ [] → all ≡ same ++ marks_put asked (fill c now) s x new → all ≡ old ++ marks_put asked (fill (written_out l most c) ms) s x w
+star_marks asked l most c s x ms now w begun turn new old out same all m b n t e o k a =
     a
-    ∙ ap (λ z. out ++ marks_of (step (fill c now) s x z)) (e ∙ ap (λ z. less_of begun z) t)
-    ∙ ap (λ z. out ++ marks_of (step (fill c z) s x (less_of begun (peek (fill c z) s x begun)))) n
-    ∙ ap (λ z. out ++ marks_of (step (fill (Star c) (past (needed l c Nothing) ms)) s x z)) b
-    ∙ ap (λ z. z ++ marks_of (step (fill (Star c) (past (needed l c Nothing) ms)) s x (peek (fill (needed l c Nothing) ms) s x w))) o
-    ∙ append_assoc old (marks_of (step (fill (needed l c Nothing) ms) s x w)) _
-    ∙ ap (λ z. old ++ z) (sym (needed_marks l c (Star c) s x ms w))
-    ∙ ap (λ z. old ++ marks_of (step (fill (written_out l z c) ms) s x w)) (sym m)
+    ∙ ap (λ z. z ++ marks_put asked (fill c now) s x new) (k ∙ append-nil out)
+    ∙ ap (λ z. out ++ marks_put asked (fill c now) s x z) (e ∙ ap (λ z. less_of begun z) t)
+    ∙ ap (λ z. out ++ marks_put asked (fill c z) s x (less_of begun (peek (fill c z) s x begun))) n
+    ∙ ap (λ z. out ++ marks_put asked (fill (Star c) (past (needed l c Nothing) ms)) s x z) b
+    ∙ ap (λ z. z ++ marks_put asked (fill (Star c) (past (needed l c Nothing) ms)) s x (peek (fill (needed l c Nothing) ms) s x w)) o
+    ∙ append_assoc old (marks_put asked (fill (needed l c Nothing) ms) s x w) _
+    ∙ ap (λ z. old ++ z) (sym (needed_put asked l c (Star c) s x ms w))
+    ∙ ap (λ z. old ++ marks_put asked (fill (written_out l z c) ms) s x w) (sym m)
 
-pub more_marks : (l most' more : ℕ) (most : Option ℕ) (c : Part) (s : List ℕ) (x : ℕ) (ms now : List (Option ℕ)) (w begun : Option ℕ) (old out all : List (Option ℕ)) → most ≡ Some most' → more ≡ most' - l → begun ≡ peek (fill (needed l c Nothing) ms) s x w → now ≡ past (needed l c Nothing) ms → out ≡ old ++ marks_of (step (fill (needed l c Nothing) ms) s x w) → all ≡ out ++ marks_of (step (fill (up_to more c) now) s x begun) → all ≡ old ++ marks_of (step (fill (written_out l most c) ms) s x w)
-more_marks l most' more most c s x ms now w begun old out all m d b n o a =
+pub more_marks : (asked : Asked) (l most' more : ℕ) (most : Option ℕ) (c : Part) (s : List ℕ) (x : ℕ) (ms now : List (Option ℕ)) (w begun : Option ℕ) (old out all : List (Option ℕ)) → most ≡ Some most' → more ≡ most' - l → begun ≡ peek (fill (needed l c Nothing) ms) s x w → now ≡ past (needed l c Nothing) ms → out ≡ old ++ marks_put asked (fill (needed l c Nothing) ms) s x w → all ≡ out ++ marks_put asked (fill (up_to more c) now) s x begun → all ≡ old ++ marks_put asked (fill (written_out l most c) ms) s x w
+more_marks asked l most' more most c s x ms now w begun old out all m d b n o a =
     a
-    ∙ ap (λ z. out ++ marks_of (step (fill (up_to z c) now) s x begun)) d
-    ∙ ap (λ z. out ++ marks_of (step (fill (up_to (most' - l) c) z) s x begun)) n
-    ∙ ap (λ z. out ++ marks_of (step (fill (up_to (most' - l) c) (past (needed l c Nothing) ms)) s x z)) b
-    ∙ ap (λ z. z ++ marks_of (step (fill (up_to (most' - l) c) (past (needed l c Nothing) ms)) s x (peek (fill (needed l c Nothing) ms) s x w))) o
-    ∙ append_assoc old (marks_of (step (fill (needed l c Nothing) ms) s x w)) _
-    ∙ ap (λ z. old ++ z) (sym (needed_marks l c (up_to (most' - l) c) s x ms w))
-    ∙ ap (λ z. old ++ marks_of (step (fill (written_out l z c) ms) s x w)) (sym m)
+    ∙ ap (λ z. out ++ marks_put asked (fill (up_to z c) now) s x begun) d
+    ∙ ap (λ z. out ++ marks_put asked (fill (up_to (most' - l) c) z) s x begun) n
+    ∙ ap (λ z. out ++ marks_put asked (fill (up_to (most' - l) c) (past (needed l c Nothing) ms)) s x z) b
+    ∙ ap (λ z. z ++ marks_put asked (fill (up_to (most' - l) c) (past (needed l c Nothing) ms)) s x (peek (fill (needed l c Nothing) ms) s x w)) o
+    ∙ append_assoc old (marks_put asked (fill (needed l c Nothing) ms) s x w) _
+    ∙ ap (λ z. old ++ z) (sym (needed_put asked l c (up_to (most' - l) c) s x ms w))
+    ∙ ap (λ z. old ++ marks_put asked (fill (written_out l z c) ms) s x w) (sym m)
 
 pub ruleset refer_laws = (tree_of-Sequence, sequence_of-drop, sequence_of-all, get_or_read)

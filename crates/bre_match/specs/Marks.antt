@@ -1,5 +1,7 @@
 -- The marks of a part in a row.
 use Rattle.std.specs.Prelude.{ℕ, List, [], ◌∷◌, Option, None, ◌++◌}
+use Rattle.bre_match.specs.declared.column.Asked.{Asked}
+use Rattle.bre_match.specs.declared.column.Asked.TheVariants as kind
 use Rattle.bre_match.specs.Parts.{AtEnd, AtStart, Both, Maybe, Never, Nothing, One, Part, Star}
 
 abbrev pub first_mark : List (Option ℕ) → Option ℕ
@@ -36,3 +38,8 @@ marks_of (Both first rest) = marks_of first ++ marks_of rest
 marks_of (Maybe content) = marks_of content
 marks_of (Star content) = marks_of content
 marks_of _ = []
+
+-- marks, if they are asked for
+abbrev pub asked_for : Asked → List (Option ℕ) → List (Option ℕ)
+asked_for kind.Weight marks = []
+asked_for kind.Marks marks = marks

@@ -1,17 +1,25 @@
 //! Columns: at a place of a text the least weight with which one stands just behind each byte set of a part, the turns of
 //! its repeats written out. A place costs one step of each of them, whatever the text.
 
-ghost use Rattle.std.specs.Prelude.{◌≡◌, ℕ, ◌≤◌, ◌++◌, List, Option, Some, drop, IfOk, OnOk, length};
+ghost use Rattle.std.specs.Prelude.{◌≡◌, ℕ, ◌≤◌, ◌∷◌, ◌++◌, [], List, Option, Some, drop, IfOk, OnOk, length, slice_get};
 ghost use Rattle.bre_parse.specs.Tree.{tree_of, sequence_of};
 ghost use Rattle.bre_match.specs.Parts.{part_of, needed, up_to, written_out, Nothing};
-ghost use Rattle.bre_match.specs.Columns.{less_of, peek, step};
-ghost use Rattle.bre_match.specs.Marks.{fill, past, marks_of, first_mark, other_marks};
+ghost use Rattle.bre_parse.specs.Ways.{has_byte_in};
+ghost use Rattle.bre_match.specs.Columns.{less_of, where_true, peek, step};
+ghost use Rattle.bre_match.specs.Marks.{fill, past, marks_of, asked_for, first_mark, other_marks};
 
 use crate::run::has_byte_in;
-use bre_parse::tree::Node;
+use bre_parse::tree::{ByteSet, Node};
 use std::alloc::AllocError;
 
-/// What comes out behind a part: the least weight, and the place of the next part's marks.
+/// What is asked of a part at a place: only what comes out behind it, or its marks at the next place too.
+#[derive(Clone, Copy)]
+pub(crate) enum Asked {
+    Weight,
+    Marks,
+}
+
+/// What comes out before or behind a part: the least weight, and the place of the next part's marks.
 #[derive(Clone, Copy)]
 pub(crate) struct Passed {
     pub weight: Option<usize>,
@@ -45,186 +53,80 @@ fn behind_mark(marks: &[Option<usize>], at: usize) -> usize
     if at < marks.len() { at + 1 } else { at }
 }
 
-// What comes out behind a part at a place, where one enters it there with this weight.
-#[cycle(peek)]
-fn peek(
-    node: &Node,
-    marks: &[Option<usize>],
-    at: usize,
-    text: &[u8],
-    place: usize,
-    weight: Option<usize>,
-) -> Passed
-    ensures weight { result.weight ≡ peek (fill (part_of (tree_of node.now)) (drop at marks.now)) text.now place weight }
-    ensures at { drop result.at marks.now ≡ past (part_of (tree_of node.now)) (drop at marks.now) }
+// What comes out behind a part that takes no byte: what came out before it, where it may.
+fn passed_if(may: bool, before: Passed) -> Passed
+    ensures weight { result.weight ≡ where_true may before.weight }
+    ensures at { result.at ≡ before.at }
 {
-    match node {
-        Node::Sequence(items) => peek_all(items, marks, at, text, place, weight),
-        Node::Set(_) => {
-            let weight = mark_at(marks, at);
-            let at = behind_mark(marks, at);
-            Passed { weight, at }
-        }
-        Node::TextStart => {
-            let weight = if place == 0 { weight } else { None };
-            Passed { weight, at }
-        }
-        Node::TextEnd => {
-            let weight = if place == text.len() { weight } else { None };
-            Passed { weight, at }
-        }
-        Node::BackReference(_) => {
-            let weight = None;
-            Passed { weight, at }
-        }
-        Node::Group(_, content) => peek(content, marks, at, text, place, weight),
-        Node::Repeat(least, most, content) => {
-            peek_repeat(content, *least, *most, marks, at, text, place, weight)
-        }
+    Passed {
+        weight: if may { before.weight } else { None },
+        at: before.at,
     }
 }
 
-#[cycle(peek)]
-fn peek_all(
-    items: &[Node],
-    marks: &[Option<usize>],
-    at: usize,
-    text: &[u8],
-    place: usize,
-    weight: Option<usize>,
-) -> Passed
-    ensures weight { result.weight ≡ peek (fill (part_of (sequence_of items.now)) (drop at marks.now)) text.now place weight }
-    ensures at { drop result.at marks.now ≡ past (part_of (sequence_of items.now)) (drop at marks.now) }
-{
-    let mut passed = Passed { weight, at };
-    for item in items {
-        passed = peek(item, marks, passed.at, text, place, passed.weight);
-    }
-    passed
-}
-
-#[cycle(peek)]
-fn peek_repeat(
-    content: &Node,
-    least: u8,
-    most: Option<u8>,
-    marks: &[Option<usize>],
-    at: usize,
-    text: &[u8],
-    place: usize,
-    weight: Option<usize>,
-) -> Passed
-    ensures weight { result.weight ≡ peek (fill (written_out least most (part_of (tree_of content.now))) (drop at marks.now)) text.now place weight }
-    ensures at { drop result.at marks.now ≡ past (written_out least most (part_of (tree_of content.now))) (drop at marks.now) }
-{
-    let begun = peek_needed(content, least as usize, marks, at, text, place, weight);
-    match most {
-        None => {
-            let turn = peek(content, marks, begun.at, text, place, begun.weight);
-            let weight = less_of(begun.weight, turn.weight);
-            let at = turn.at;
-            Passed { weight, at }
-        }
-        Some(most) => {
-            let more = (most as usize).saturating_sub(least as usize);
-            peek_up_to(content, more, marks, begun.at, text, place, begun.weight)
-        }
-    }
-}
-
-#[cycle(peek)]
-fn peek_needed(
-    content: &Node,
-    count: usize,
-    marks: &[Option<usize>],
-    at: usize,
-    text: &[u8],
-    place: usize,
-    weight: Option<usize>,
-) -> Passed
-    ensures weight { result.weight ≡ peek (fill (needed count (part_of (tree_of content.now)) Nothing) (drop at marks.now)) text.now place weight }
-    ensures at { drop result.at marks.now ≡ past (needed count (part_of (tree_of content.now)) Nothing) (drop at marks.now) }
-{
-    let mut passed = Passed { weight, at };
-    for turn in 0..count {
-        passed = peek(content, marks, passed.at, text, place, passed.weight);
-    }
-    passed
-}
-
-#[cycle(peek)]
-fn peek_up_to(
-    content: &Node,
-    count: usize,
-    marks: &[Option<usize>],
-    at: usize,
-    text: &[u8],
-    place: usize,
-    weight: Option<usize>,
-) -> Passed
-    ensures weight { result.weight ≡ peek (fill (up_to count (part_of (tree_of content.now))) (drop at marks.now)) text.now place weight }
-    ensures at { drop result.at marks.now ≡ past (up_to count (part_of (tree_of content.now))) (drop at marks.now) }
-{
-    let mut passed = Passed { weight, at };
-    let mut least = None;
-    for turn in 0..count {
-        least = less_of(least, passed.weight);
-        passed = peek(content, marks, passed.at, text, place, passed.weight);
-    }
-    let weight = less_of(least, passed.weight);
-    let at = passed.at;
-    Passed { weight, at }
-}
-
-/// Puts a part's marks at the next place behind others, where one enters it at this place with this weight.
-#[cycle(step)]
-pub(crate) fn step(
+// Puts the mark of a byte set at the next place behind others, if it is asked for.
+fn put_mark(
     out: &mut Vec<Option<usize>>,
-    node: &Node,
-    marks: &[Option<usize>],
-    at: usize,
+    asked: Asked,
+    set: &ByteSet,
     text: &[u8],
     place: usize,
     weight: Option<usize>,
-) -> Result<Passed, AllocError>
-    ensures weight { IfOk result (λ passed. passed.weight ≡ peek (fill (part_of (tree_of node.now)) (drop at marks.now)) text.now place weight) }
-    ensures at { IfOk result (λ passed. drop passed.at marks.now ≡ past (part_of (tree_of node.now)) (drop at marks.now)) }
-    ensures marks { OnOk result (out.new.items ≡ out.old.items ++ marks_of (step (fill (part_of (tree_of node.now)) (drop at marks.now)) text.now place weight)) }
+) -> Result<(), AllocError>
+    ensures value { OnOk result (out.new.items ≡ out.old.items ++ asked_for asked (where_true (has_byte_in set.now.negated set.now.ranges.items (slice_get text.now place)) weight ∷ [])) }
 {
-    match node {
-        Node::Sequence(items) => {
-            let passed = step_all(out, items, marks, at, text, place, weight)?;
-            Ok(passed)
-        }
-        Node::Set(set) => {
+    match asked {
+        Asked::Weight => Ok(()),
+        Asked::Marks => {
             let next = if has_byte_in(text, place, set) {
                 weight
             } else {
                 None
             };
             out.push(next)?;
-            let weight = mark_at(marks, at);
-            let at = behind_mark(marks, at);
+            Ok(())
+        }
+    }
+}
+
+/// What comes out behind a part at a place, where one enters it there with what came out before it. If they are asked for,
+/// its marks at the next place are put behind others.
+#[cycle(step)]
+pub(crate) fn step(
+    out: &mut Vec<Option<usize>>,
+    asked: Asked,
+    node: &Node,
+    marks: &[Option<usize>],
+    text: &[u8],
+    place: usize,
+    before: Passed,
+) -> Result<Passed, AllocError>
+    ensures weight { IfOk result (λ passed. passed.weight ≡ peek (fill (part_of (tree_of node.now)) (drop before.at marks.now)) text.now place before.weight) }
+    ensures at { IfOk result (λ passed. drop passed.at marks.now ≡ past (part_of (tree_of node.now)) (drop before.at marks.now)) }
+    ensures marks { OnOk result (out.new.items ≡ out.old.items ++ asked_for asked (marks_of (step (fill (part_of (tree_of node.now)) (drop before.at marks.now)) text.now place before.weight))) }
+{
+    match node {
+        Node::Sequence(items) => {
+            let passed = step_all(out, asked, items, marks, text, place, before)?;
+            Ok(passed)
+        }
+        Node::Set(set) => {
+            put_mark(out, asked, set, text, place, before.weight)?;
+            let weight = mark_at(marks, before.at);
+            let at = behind_mark(marks, before.at);
             Ok(Passed { weight, at })
         }
-        Node::TextStart => {
-            let weight = if place == 0 { weight } else { None };
-            Ok(Passed { weight, at })
-        }
-        Node::TextEnd => {
-            let weight = if place == text.len() { weight } else { None };
-            Ok(Passed { weight, at })
-        }
-        Node::BackReference(_) => {
-            let weight = None;
-            Ok(Passed { weight, at })
-        }
+        Node::TextStart => Ok(passed_if(place == 0, before)),
+        Node::TextEnd => Ok(passed_if(place == text.len(), before)),
+        Node::BackReference(_) => Ok(passed_if(false, before)),
         Node::Group(_, content) => {
-            let passed = step(out, content, marks, at, text, place, weight)?;
+            let passed = step(out, asked, content, marks, text, place, before)?;
             Ok(passed)
         }
         Node::Repeat(least, most, content) => {
-            let passed = step_repeat(out, content, *least, *most, marks, at, text, place, weight)?;
+            let passed = step_repeat(
+                out, asked, content, *least, *most, marks, text, place, before,
+            )?;
             Ok(passed)
         }
     }
@@ -233,20 +135,20 @@ pub(crate) fn step(
 #[cycle(step)]
 pub(crate) fn step_all(
     out: &mut Vec<Option<usize>>,
+    asked: Asked,
     items: &[Node],
     marks: &[Option<usize>],
-    at: usize,
     text: &[u8],
     place: usize,
-    weight: Option<usize>,
+    before: Passed,
 ) -> Result<Passed, AllocError>
-    ensures weight { IfOk result (λ passed. passed.weight ≡ peek (fill (part_of (sequence_of items.now)) (drop at marks.now)) text.now place weight) }
-    ensures at { IfOk result (λ passed. drop passed.at marks.now ≡ past (part_of (sequence_of items.now)) (drop at marks.now)) }
-    ensures marks { OnOk result (out.new.items ≡ out.old.items ++ marks_of (step (fill (part_of (sequence_of items.now)) (drop at marks.now)) text.now place weight)) }
+    ensures weight { IfOk result (λ passed. passed.weight ≡ peek (fill (part_of (sequence_of items.now)) (drop before.at marks.now)) text.now place before.weight) }
+    ensures at { IfOk result (λ passed. drop passed.at marks.now ≡ past (part_of (sequence_of items.now)) (drop before.at marks.now)) }
+    ensures marks { OnOk result (out.new.items ≡ out.old.items ++ asked_for asked (marks_of (step (fill (part_of (sequence_of items.now)) (drop before.at marks.now)) text.now place before.weight))) }
 {
-    let mut passed = Passed { weight, at };
+    let mut passed = before;
     for item in items {
-        passed = step(out, item, marks, passed.at, text, place, passed.weight)?;
+        passed = step(out, asked, item, marks, text, place, passed)?;
     }
     Ok(passed)
 }
@@ -254,40 +156,38 @@ pub(crate) fn step_all(
 #[cycle(step)]
 fn step_repeat(
     out: &mut Vec<Option<usize>>,
+    asked: Asked,
     content: &Node,
     least: u8,
     most: Option<u8>,
     marks: &[Option<usize>],
-    at: usize,
     text: &[u8],
     place: usize,
-    weight: Option<usize>,
+    before: Passed,
 ) -> Result<Passed, AllocError>
-    ensures weight { IfOk result (λ passed. passed.weight ≡ peek (fill (written_out least most (part_of (tree_of content.now))) (drop at marks.now)) text.now place weight) }
-    ensures at { IfOk result (λ passed. drop passed.at marks.now ≡ past (written_out least most (part_of (tree_of content.now))) (drop at marks.now)) }
-    ensures marks { OnOk result (out.new.items ≡ out.old.items ++ marks_of (step (fill (written_out least most (part_of (tree_of content.now))) (drop at marks.now)) text.now place weight)) }
+    ensures weight { IfOk result (λ passed. passed.weight ≡ peek (fill (written_out least most (part_of (tree_of content.now))) (drop before.at marks.now)) text.now place before.weight) }
+    ensures at { IfOk result (λ passed. drop passed.at marks.now ≡ past (written_out least most (part_of (tree_of content.now))) (drop before.at marks.now)) }
+    ensures marks { OnOk result (out.new.items ≡ out.old.items ++ asked_for asked (marks_of (step (fill (written_out least most (part_of (tree_of content.now))) (drop before.at marks.now)) text.now place before.weight))) }
 {
-    let begun = step_needed(out, content, least as usize, marks, at, text, place, weight)?;
+    let count = least as usize;
+    let begun = step_needed(out, asked, content, count, marks, text, place, before)?;
     match most {
         None => {
-            let turn = peek(content, marks, begun.at, text, place, begun.weight);
+            let turn = step(out, Asked::Weight, content, marks, text, place, begun)?;
             let weight = less_of(begun.weight, turn.weight);
-            let again = step(out, content, marks, begun.at, text, place, weight)?;
-            let at = again.at;
-            Ok(Passed { weight, at })
+            let turned = Passed {
+                weight,
+                at: begun.at,
+            };
+            let again = step(out, asked, content, marks, text, place, turned)?;
+            Ok(Passed {
+                weight,
+                at: again.at,
+            })
         }
         Some(most) => {
             let more = (most as usize).saturating_sub(least as usize);
-            let passed = step_up_to(
-                out,
-                content,
-                more,
-                marks,
-                begun.at,
-                text,
-                place,
-                begun.weight,
-            )?;
+            let passed = step_up_to(out, asked, content, more, marks, text, place, begun)?;
             Ok(passed)
         }
     }
@@ -296,21 +196,21 @@ fn step_repeat(
 #[cycle(step)]
 fn step_needed(
     out: &mut Vec<Option<usize>>,
+    asked: Asked,
     content: &Node,
     count: usize,
     marks: &[Option<usize>],
-    at: usize,
     text: &[u8],
     place: usize,
-    weight: Option<usize>,
+    before: Passed,
 ) -> Result<Passed, AllocError>
-    ensures weight { IfOk result (λ passed. passed.weight ≡ peek (fill (needed count (part_of (tree_of content.now)) Nothing) (drop at marks.now)) text.now place weight) }
-    ensures at { IfOk result (λ passed. drop passed.at marks.now ≡ past (needed count (part_of (tree_of content.now)) Nothing) (drop at marks.now)) }
-    ensures marks { OnOk result (out.new.items ≡ out.old.items ++ marks_of (step (fill (needed count (part_of (tree_of content.now)) Nothing) (drop at marks.now)) text.now place weight)) }
+    ensures weight { IfOk result (λ passed. passed.weight ≡ peek (fill (needed count (part_of (tree_of content.now)) Nothing) (drop before.at marks.now)) text.now place before.weight) }
+    ensures at { IfOk result (λ passed. drop passed.at marks.now ≡ past (needed count (part_of (tree_of content.now)) Nothing) (drop before.at marks.now)) }
+    ensures marks { OnOk result (out.new.items ≡ out.old.items ++ asked_for asked (marks_of (step (fill (needed count (part_of (tree_of content.now)) Nothing) (drop before.at marks.now)) text.now place before.weight))) }
 {
-    let mut passed = Passed { weight, at };
+    let mut passed = before;
     for turn in 0..count {
-        passed = step(out, content, marks, passed.at, text, place, passed.weight)?;
+        passed = step(out, asked, content, marks, text, place, passed)?;
     }
     Ok(passed)
 }
@@ -318,23 +218,23 @@ fn step_needed(
 #[cycle(step)]
 fn step_up_to(
     out: &mut Vec<Option<usize>>,
+    asked: Asked,
     content: &Node,
     count: usize,
     marks: &[Option<usize>],
-    at: usize,
     text: &[u8],
     place: usize,
-    weight: Option<usize>,
+    before: Passed,
 ) -> Result<Passed, AllocError>
-    ensures weight { IfOk result (λ passed. passed.weight ≡ peek (fill (up_to count (part_of (tree_of content.now))) (drop at marks.now)) text.now place weight) }
-    ensures at { IfOk result (λ passed. drop passed.at marks.now ≡ past (up_to count (part_of (tree_of content.now))) (drop at marks.now)) }
-    ensures marks { OnOk result (out.new.items ≡ out.old.items ++ marks_of (step (fill (up_to count (part_of (tree_of content.now))) (drop at marks.now)) text.now place weight)) }
+    ensures weight { IfOk result (λ passed. passed.weight ≡ peek (fill (up_to count (part_of (tree_of content.now))) (drop before.at marks.now)) text.now place before.weight) }
+    ensures at { IfOk result (λ passed. drop passed.at marks.now ≡ past (up_to count (part_of (tree_of content.now))) (drop before.at marks.now)) }
+    ensures marks { OnOk result (out.new.items ≡ out.old.items ++ asked_for asked (marks_of (step (fill (up_to count (part_of (tree_of content.now))) (drop before.at marks.now)) text.now place before.weight))) }
 {
-    let mut passed = Passed { weight, at };
+    let mut passed = before;
     let mut least = None;
     for turn in 0..count {
         least = less_of(least, passed.weight);
-        passed = step(out, content, marks, passed.at, text, place, passed.weight)?;
+        passed = step(out, asked, content, marks, text, place, passed)?;
     }
     let weight = less_of(least, passed.weight);
     let at = passed.at;

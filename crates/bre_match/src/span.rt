@@ -7,7 +7,7 @@ ghost use Rattle.bre_parse.specs.Match.{match_from};
 ghost use Rattle.bre_parse.specs.Groups.{refers};
 ghost use Rattle.bre_match.specs.Spans.{better, is_over, start_and_end, SpansWithin};
 
-use crate::column::step_all;
+use crate::column::{Asked, Passed, step_all};
 use bre_parse::tree::Node;
 use std::alloc::{AllocError, Global};
 use std::mem;
@@ -71,7 +71,11 @@ pub(crate) fn span(
     let mut place = from;
     while place <= text.len() {
         next.clear();
-        let passed = step_all(&mut next, items, &marks, 0, text, place, Some(place))?;
+        let before = Passed {
+            weight: Some(place),
+            at: 0,
+        };
+        let passed = step_all(&mut next, Asked::Marks, items, &marks, text, place, before)?;
         best = better(best, passed.weight, place);
         if is_over(best, &next) {
             return Ok(best);

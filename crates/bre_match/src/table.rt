@@ -8,7 +8,7 @@ ghost use Rattle.bre_match.specs.Parts.{part_of, Star};
 ghost use Rattle.bre_match.specs.Ends.{leads_on, entered, out_of, LastEnds};
 
 use crate::backwards::{Edges, piece_of, turned};
-use crate::column::step;
+use crate::column::{Asked, Passed, step};
 use bre_parse::tree::Node;
 use std::alloc::{AllocError, Global};
 use std::mem;
@@ -62,7 +62,11 @@ fn nearest(
     while place <= piece.len() {
         after.clear();
         let entry = entry_at(stops, next, place);
-        let passed = step(&mut after, back, &marks, 0, piece, place, entry)?;
+        let before = Passed {
+            weight: entry,
+            at: 0,
+        };
+        let passed = step(&mut after, Asked::Marks, back, &marks, piece, place, before)?;
         all.push(passed.weight)?;
         mem::swap(&mut marks, &mut after);
         place += 1;

@@ -31,8 +31,8 @@ step_all-loop-item-preserved t c =
           look_on _ (part_of (tree_of c.item-item.result)) _ _ _ _ (drop c.loop-item.passed.at c.args.marks.now) _ _ c.loop-item.passed.weight _
           (same_left _ _ _ _ _ _ _ _ _ left c.loop-item.invariant.behind) c.in_ok-passed.ensures.weight c.in_ok-passed.ensures.at;
       put =
-          put_on _ (part_of (tree_of c.item-item.result)) _ _ _ _ (drop c.loop-item.passed.at c.args.marks.now) _ _ c.loop-item.passed.weight _ _ c.loop-item.out.items _
-          (put_left _ _ _ _ _ _ _ _ _ _ _ left c.loop-item.invariant.put) c.in_ok-passed.ensures.weight c.in_ok-passed.ensures.at c.in_ok-passed.ensures.marks;
+          put_on c.args.asked _ (part_of (tree_of c.item-item.result)) _ _ _ _ (drop c.loop-item.passed.at c.args.marks.now) _ _ c.loop-item.passed.weight _ _ c.loop-item.out.items _
+          (put_left c.args.asked _ _ _ _ _ _ _ _ _ _ _ left c.loop-item.invariant.put) c.in_ok-passed.ensures.weight c.in_ok-passed.ensures.at c.in_ok-passed.ensures.marks;
     }
 
 pub step_needed-loop-turn-preserved : goal.step_needed-loop-turn-preserved
@@ -43,8 +43,8 @@ step_needed-loop-turn-preserved t c =
           look_on _ (part_of (tree_of c.args.content.now)) _ _ _ _ (drop c.loop-turn.passed.at c.args.marks.now) _ _ c.loop-turn.passed.weight _
           (same_left _ _ _ _ _ _ _ _ _ left c.loop-turn.invariant.behind) c.in_ok-passed.ensures.weight c.in_ok-passed.ensures.at;
       put =
-          put_on _ (part_of (tree_of c.args.content.now)) _ _ _ _ (drop c.loop-turn.passed.at c.args.marks.now) _ _ c.loop-turn.passed.weight _ _ c.loop-turn.out.items _
-          (put_left _ _ _ _ _ _ _ _ _ _ _ left c.loop-turn.invariant.put) c.in_ok-passed.ensures.weight c.in_ok-passed.ensures.at c.in_ok-passed.ensures.marks;
+          put_on c.args.asked _ (part_of (tree_of c.args.content.now)) _ _ _ _ (drop c.loop-turn.passed.at c.args.marks.now) _ _ c.loop-turn.passed.weight _ _ c.loop-turn.out.items _
+          (put_left c.args.asked _ _ _ _ _ _ _ _ _ _ _ left c.loop-turn.invariant.put) c.in_ok-passed.ensures.weight c.in_ok-passed.ensures.at c.in_ok-passed.ensures.marks;
     }
 
 pub step_up_to-loop-turn-preserved : goal.step_up_to-loop-turn-preserved
@@ -55,36 +55,36 @@ step_up_to-loop-turn-preserved t c =
           lead_on _ (part_of (tree_of c.args.content.now)) _ _ _ _ (drop c.loop-turn.passed.at c.args.marks.now) _ _ c.loop-turn.passed.weight _ c.loop-turn.least _
           (lead_left _ _ _ _ _ _ _ _ _ _ left c.loop-turn.invariant.behind) c.in_ok-passed.ensures.weight c.in_ok-passed.ensures.at c.less_of-least.ensures.value;
       put =
-          put_on _ (part_of (tree_of c.args.content.now)) _ _ _ _ (drop c.loop-turn.passed.at c.args.marks.now) _ _ c.loop-turn.passed.weight _ _ c.loop-turn.out.items _
-          (put_maybe _ _ _ _ _ _ _ _ _ _ (put_left _ _ _ _ _ _ _ _ _ _ _ left c.loop-turn.invariant.put)) c.in_ok-passed.ensures.weight c.in_ok-passed.ensures.at c.in_ok-passed.ensures.marks;
+          put_on c.args.asked _ (part_of (tree_of c.args.content.now)) _ _ _ _ (drop c.loop-turn.passed.at c.args.marks.now) _ _ c.loop-turn.passed.weight _ _ c.loop-turn.out.items _
+          (put_maybe c.args.asked _ _ _ _ _ _ _ _ _ _ (put_left c.args.asked _ _ _ _ _ _ _ _ _ _ _ left c.loop-turn.invariant.put)) c.in_ok-passed.ensures.weight c.in_ok-passed.ensures.at c.in_ok-passed.ensures.marks;
     }
 
 pub step_repeat-returns-in_ok-again-in-None-clause-weight : goal.step_repeat-returns-in_ok-again-in-None-clause-weight
 step_repeat-returns-in_ok-again-in-None-clause-weight t c =
-    star_weight c.args.least c.args.most (part_of (tree_of c.args.content.now)) c.args.text.now c.args.place (drop c.args.at c.args.marks.now) (drop c.in_ok-begun.begun.at c.args.marks.now) c.args.weight c.in_ok-begun.begun.weight c.peek-turn.result.weight c.less_of-weight.result
-    c.in-None.is c.in_ok-begun.ensures.weight c.in_ok-begun.ensures.at c.peek-turn.ensures.weight c.less_of-weight.ensures.value
+    star_weight c.args.least c.args.most (part_of (tree_of c.args.content.now)) c.args.text.now c.args.place (drop c.args.before.at c.args.marks.now) (drop c.in_ok-begun.begun.at c.args.marks.now) c.args.before.weight c.in_ok-begun.begun.weight c.in_ok-turn-in-None.turn.weight c.less_of-weight.result
+    c.in-None.is c.in_ok-begun.ensures.weight c.in_ok-begun.ensures.at c.in_ok-turn-in-None.ensures.weight c.less_of-weight.ensures.value
 
 pub step_repeat-returns-in_ok-again-in-None-clause-at : goal.step_repeat-returns-in_ok-again-in-None-clause-at
 step_repeat-returns-in_ok-again-in-None-clause-at t c =
-    star_at c.args.least c.args.most (part_of (tree_of c.args.content.now)) (drop c.args.at c.args.marks.now) (drop c.in_ok-begun.begun.at c.args.marks.now) _
+    star_at c.args.least c.args.most (part_of (tree_of c.args.content.now)) (drop c.args.before.at c.args.marks.now) (drop c.in_ok-begun.begun.at c.args.marks.now) _
     c.in-None.is c.in_ok-begun.ensures.at c.in_ok-again-in-None.ensures.at
 
 pub step_repeat-returns-in_ok-again-in-None-clause-marks : goal.step_repeat-returns-in_ok-again-in-None-clause-marks
 step_repeat-returns-in_ok-again-in-None-clause-marks t c =
-    star_marks c.args.least c.args.most (part_of (tree_of c.args.content.now)) c.args.text.now c.args.place (drop c.args.at c.args.marks.now) (drop c.in_ok-begun.begun.at c.args.marks.now) c.args.weight c.in_ok-begun.begun.weight c.peek-turn.result.weight c.less_of-weight.result c.args.out.now.items c.step_needed.new.out.items c.step.new.out.items
-    c.in-None.is c.in_ok-begun.ensures.weight c.in_ok-begun.ensures.at c.peek-turn.ensures.weight c.less_of-weight.ensures.value c.in_ok-begun.ensures.marks c.in_ok-again-in-None.ensures.marks
+    star_marks c.args.asked c.args.least c.args.most (part_of (tree_of c.args.content.now)) c.args.text.now c.args.place (drop c.args.before.at c.args.marks.now) (drop c.in_ok-begun.begun.at c.args.marks.now) c.args.before.weight c.in_ok-begun.begun.weight c.in_ok-turn-in-None.turn.weight c.less_of-weight.result c.args.out.now.items c.step_needed.new.out.items c.step.new.out.items c.step-in-None.new.out.items
+    c.in-None.is c.in_ok-begun.ensures.weight c.in_ok-begun.ensures.at c.in_ok-turn-in-None.ensures.weight c.less_of-weight.ensures.value c.in_ok-begun.ensures.marks c.in_ok-turn-in-None.ensures.marks c.in_ok-again-in-None.ensures.marks
 
 pub step_repeat-returns-in_ok-passed-in-Some-clause-weight : goal.step_repeat-returns-in_ok-passed-in-Some-clause-weight
 step_repeat-returns-in_ok-passed-in-Some-clause-weight t c =
-    more_weight c.args.least c.in-Some.most c.saturating_sub-more.result c.args.most (part_of (tree_of c.args.content.now)) c.args.text.now c.args.place (drop c.args.at c.args.marks.now) (drop c.in_ok-begun.begun.at c.args.marks.now) c.args.weight c.in_ok-begun.begun.weight _
+    more_weight c.args.least c.in-Some.most c.saturating_sub-more.result c.args.most (part_of (tree_of c.args.content.now)) c.args.text.now c.args.place (drop c.args.before.at c.args.marks.now) (drop c.in_ok-begun.begun.at c.args.marks.now) c.args.before.weight c.in_ok-begun.begun.weight _
     c.in-Some.is c.saturating_sub-more.ensures c.in_ok-begun.ensures.weight c.in_ok-begun.ensures.at c.in_ok-passed-in-Some.ensures.weight
 
 pub step_repeat-returns-in_ok-passed-in-Some-clause-at : goal.step_repeat-returns-in_ok-passed-in-Some-clause-at
 step_repeat-returns-in_ok-passed-in-Some-clause-at t c =
-    more_at c.args.least c.in-Some.most c.saturating_sub-more.result c.args.most (part_of (tree_of c.args.content.now)) (drop c.args.at c.args.marks.now) (drop c.in_ok-begun.begun.at c.args.marks.now) _
+    more_at c.args.least c.in-Some.most c.saturating_sub-more.result c.args.most (part_of (tree_of c.args.content.now)) (drop c.args.before.at c.args.marks.now) (drop c.in_ok-begun.begun.at c.args.marks.now) _
     c.in-Some.is c.saturating_sub-more.ensures c.in_ok-begun.ensures.at c.in_ok-passed-in-Some.ensures.at
 
 pub step_repeat-returns-in_ok-passed-in-Some-clause-marks : goal.step_repeat-returns-in_ok-passed-in-Some-clause-marks
 step_repeat-returns-in_ok-passed-in-Some-clause-marks t c =
-    more_marks c.args.least c.in-Some.most c.saturating_sub-more.result c.args.most (part_of (tree_of c.args.content.now)) c.args.text.now c.args.place (drop c.args.at c.args.marks.now) (drop c.in_ok-begun.begun.at c.args.marks.now) c.args.weight c.in_ok-begun.begun.weight c.args.out.now.items c.step_needed.new.out.items c.step_up_to.new.out.items
+    more_marks c.args.asked c.args.least c.in-Some.most c.saturating_sub-more.result c.args.most (part_of (tree_of c.args.content.now)) c.args.text.now c.args.place (drop c.args.before.at c.args.marks.now) (drop c.in_ok-begun.begun.at c.args.marks.now) c.args.before.weight c.in_ok-begun.begun.weight c.args.out.now.items c.step_needed.new.out.items c.step_up_to.new.out.items
     c.in-Some.is c.saturating_sub-more.ensures c.in_ok-begun.ensures.weight c.in_ok-begun.ensures.at c.in_ok-begun.ensures.marks c.in_ok-passed-in-Some.ensures.marks
