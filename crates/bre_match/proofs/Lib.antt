@@ -21,3 +21,4 @@ pub mod EndTables
 pub mod RowTables
 pub mod TurnTables
 pub mod Words
+pub mod Needs

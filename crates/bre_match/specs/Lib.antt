@@ -7,6 +7,7 @@ pub mod Runs
 pub mod Order
 pub mod Turns
 pub mod Starts
+pub mod Needs
 pub mod Parts
 pub mod Columns
 pub mod Marks

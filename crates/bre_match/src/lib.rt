@@ -14,6 +14,7 @@ mod backwards;
 mod column;
 mod grouping;
 pub mod laws;
+mod needed;
 mod order;
 mod row;
 mod run;
@@ -25,9 +26,10 @@ mod turn;
 mod word;
 
 use crate::grouping::set_row;
+use crate::needed::lacks_needed;
 use crate::row::{is_quick_row, is_too_wide};
 use crate::span::span;
-use crate::start::{longest_from, starts_without};
+use crate::start::{begins_at_start, longest_from, starts_without};
 use crate::word::find_word;
 use bre_parse::Bre;
 use bre_parse::tree::{Groups, Node};
@@ -104,6 +106,10 @@ fn first_match(
     ensures value { IfOk result (λ found. option_map spans found ≡ match_from (sequence_of items.now) text.now from) }
     ensures within { IfOk result (λ found. IfSome found (LiesWithin from (length text.now))) }
 {
+    // Where each match begins at the start of the text, it is found or not with less.
+    if !begins_at_start(items) && lacks_needed(items, text, from) {
+        return Ok(None);
+    }
     let mut left = Vec::new(alloc);
     let mut start = from;
     while start <= text.len() {

@@ -1,0 +1,113 @@
+-- Where a sequence lacks bytes that it needs, it has no way.
+use Rattle.std.proofs.Common.{◌≡◌, ℕ, zero, suc, ◌+◌, ◌-◌, ◌<◌, ◌≤◌, Bool, true, false, List, [], ◌∷◌, ◌++◌, flat_map, length, drop, get_or, Option, Some, None, refl, ap, sym, ◌∙◌, subst, append-nil, arith}
+use Rattle.std.specs.Prelude.{slice_get}
+use Rattle.bre_parse.specs.declared.tree.Node.{Node}
+use Rattle.bre_parse.specs.Tree.{Tree, Empty, Then, Set, TextStart, TextEnd, BackReference, Group, Repeat, in_set, tree_of, sequence_of}
+use Rattle.bre_parse.proofs.Sequences.{sequence_of-drop, sequence_of-all}
+use Rattle.bre_parse.specs.Groups.{Groups, no_groups}
+use Rattle.bre_parse.specs.Ways.{Way, ways, by_end, from_way, only_if, has_byte_in}
+use Rattle.bre_parse.specs.Match.{match_from}
+use Rattle.bre_parse.specs.Laws.{EndBetween}
+use Rattle.bre_parse.proofs.Within.{byte_there, in_by_end, ways_end_within}
+use Rattle.bre_match.specs.Laws.{Has}
+use Rattle.bre_match.specs.Starts.{one_byte_of}
+use Rattle.bre_match.specs.Needs.{behind_if, behind_first, behind_item, lacks_behind, lacks_needed}
+use Rattle.bre_match.proofs.FirstWay.{match_absent}
+
+-- the first byte of a set is no later than any other
+least_behind : (n : Bool) (rs : List (ℕ × ℕ)) (at k : ℕ) (bytes : List ℕ) → has_byte_in n rs (slice_get bytes k) ≡ true → (p : ℕ) × (behind_first n rs at bytes ≡ Some p) × (p ≤ at + k + 1)
+least_behind n rs at k [] h = absurd cc
+least_behind n rs at zero (byte ∷ bytes) h =
+    (at + 1, ap (λ c. behind_if c at (behind_first n rs (at + 1) bytes)) h, omega arith)
+least_behind n rs at (suc k) (byte ∷ bytes) h = by_cases (in_set n rs byte) (least_behind n rs (at + 1) k bytes h)
+  where
+    by_cases : (c : Bool) → ((p : ℕ) × (behind_first n rs (at + 1) bytes ≡ Some p) × (p ≤ at + 1 + k + 1)) → (p : ℕ) × (behind_if c at (behind_first n rs (at + 1) bytes) ≡ Some p) × (p ≤ at + suc k + 1)
+    by_cases true i = (at + 1, refl, omega arith)
+    by_cases false i = (i.0, i.1, let l = i.2 in omega arith)
+
+get_dropped : (s : List ℕ) (from k : ℕ) → slice_get (drop from s) k ≡ slice_get s (from + k)
+get_dropped s zero k = ap (slice_get s) (let e : k ≡ 0 + k = omega arith in e)
+get_dropped [] (suc from) k = refl
+get_dropped (byte ∷ s) (suc from) k =
+    let e : suc from + k ≡ suc (from + k) = omega arith in
+    get_dropped s from k ∙ sym (ap (slice_get (byte ∷ s)) e)
+
+none_through : (f : Way → List Way) (low high : ℕ) (ws : List Way) → EndBetween low high ws → ((w : Way) → low ≤ w.0 → w.0 ≤ high → f w ≡ []) → flat_map f ws ≡ []
+none_through f low high [] b all = refl
+none_through f low high (w ∷ ws) b all =
+    ap (λ l. l ++ flat_map f ws) (all w b.0 b.1) ∙ none_through f low high ws b.2 all
+
+abbrev set_told : Option (Bool × List (ℕ × ℕ)) → Tree
+set_told None = Empty
+set_told (Some set) = Set set.0 set.1
+
+set_is : (tree : Tree) (set : Bool × List (ℕ × ℕ)) → one_byte_of tree ≡ Some set → tree ≡ Set set.0 set.1
+set_is (Set n rs) set e = ap set_told e
+set_is Empty set e = absurd cc
+set_is (Then a b) set e = absurd cc
+set_is TextStart set e = absurd cc
+set_is TextEnd set e = absurd cc
+set_is (BackReference i) set e = absurd cc
+set_is (Group i a) set e = absurd cc
+set_is (Repeat l m a) set e = absurd cc
+
+-- no way of the rest where it lacks bytes
+abbrev NoneLater : Tree → List ℕ → Type 0
+NoneLater b s =
+    (low q : ℕ) (h : Groups) → low ≤ q → q ≤ length s → lacks_needed b s low ≡ true → ways b s q h ≡ []
+
+none_behind_set : (n : Bool) (rs : List (ℕ × ℕ)) (b : Tree) (s : List ℕ) (from p : ℕ) (g : Groups) → from ≤ p → NoneLater b s → lacks_behind (lacks_needed b s) (behind_first n rs from (drop from s)) ≡ true → ways (Then (Set n rs) b) s p g ≡ []
+none_behind_set n rs b s from p g le rest e = by_byte (has_byte_in n rs (slice_get s p)) refl
+  where
+    by_byte : (there : Bool) → has_byte_in n rs (slice_get s p) ≡ there → flat_map (from_way (ways b s)) (by_end (only_if there (p + 1, g))) ≡ []
+    by_byte false is = refl
+    by_byte true is =
+        let same : from + (p - from) ≡ p = (let h = le in omega arith) in
+        let here : has_byte_in n rs (slice_get (drop from s) (p - from)) ≡ true =
+        ap (has_byte_in n rs) (get_dropped s from (p - from) ∙ ap (slice_get s) same) ∙ is in
+        let l = least_behind n rs from (p - from) (drop from s) here in
+        let lacking : lacks_needed b s l.0 ≡ true = ap (lacks_behind (lacks_needed b s)) (sym l.1) ∙ e in
+        let low : l.0 ≤ p + 1 = (let m = l.2 in let h = le in omega arith) in
+        append-nil (ways b s (p + 1) g) ∙ rest l.0 (p + 1) g low (byte_there s p n rs is) lacking
+
+none_of_item : (a b : Tree) (s : List ℕ) (from p : ℕ) (g : Groups) → from ≤ p → p ≤ length s → NoneLater b s → lacks_behind (lacks_needed b s) (behind_item (one_byte_of a) s from) ≡ true → ways (Then a b) s p g ≡ []
+none_of_item a b s from p g le high rest e = by_item (one_byte_of a) refl e
+  where
+    by_item : (set : Option (Bool × List (ℕ × ℕ))) → one_byte_of a ≡ set → lacks_behind (lacks_needed b s) (behind_item set s from) ≡ true → ways (Then a b) s p g ≡ []
+    by_item None is lacks =
+        none_through (from_way (ways b s)) p (length s) (by_end (ways a s p g)) (in_by_end p (length s) (ways a s p g) (ways_end_within a s p g high)) (λ w lo hi. rest from w.0 w.1 (let h = le in omega arith) hi lacks)
+    by_item (Some set) is lacks =
+        subst (λ (x : Tree). ways (Then x b) s p g ≡ []) (sym (set_is a set is)) (none_behind_set set.0 set.1 b s from p g le rest lacks)
+
+no_way : (t : Tree) (s : List ℕ) (from p : ℕ) (g : Groups) → from ≤ p → p ≤ length s → lacks_needed t s from ≡ true → ways t s p g ≡ []
+no_way (Then a b) s from p g le high e =
+    none_of_item a b s from p g le high (λ low q h lo hi lacks. no_way b s low q h lo hi lacks) e
+no_way Empty s from p g le high e = absurd cc
+no_way (Set n rs) s from p g le high e = absurd cc
+no_way TextStart s from p g le high e = absurd cc
+no_way TextEnd s from p g le high e = absurd cc
+no_way (BackReference i) s from p g le high e = absurd cc
+no_way (Group i a) s from p g le high e = absurd cc
+no_way (Repeat l m a) s from p g le high e = absurd cc
+
+-- A sequence that lacks bytes from a place on has no match at or behind it.
+pub no_match : (t : Tree) (s : List ℕ) (from : ℕ) → from ≤ length s → lacks_needed t s from ≡ true → match_from t s from ≡ None
+no_match t s from le e =
+    match_absent t s from le (λ p m lo hi h. subst (λ (l : List Way). Has m l) (no_way t s from p no_groups lo hi e) h)
+
+-- Item after item
+
+what_is_left : (items : List Node) (i : ℕ) (item : Node) (s : List ℕ) (at : ℕ) → i < length items → item ≡ get_or items i item → lacks_needed (sequence_of (drop i items)) s at ≡ lacks_behind (lacks_needed (sequence_of (drop (i + 1) items)) s) (behind_item (one_byte_of (tree_of item)) s at)
+what_is_left items i item s at lt e = ap (λ t. lacks_needed t s at) (sequence_of-drop items i item lt e)
+
+pub item_lacks : (items : List Node) (i : ℕ) (item : Node) (s : List ℕ) (at : ℕ) (whole : Bool) → i < length items → item ≡ get_or items i item → None ≡ behind_item (one_byte_of (tree_of item)) s at → lacks_needed (sequence_of (drop i items)) s at ≡ whole → true ≡ whole
+item_lacks items i item s at whole lt e none so_far =
+    ap (lacks_behind (lacks_needed (sequence_of (drop (i + 1) items)) s)) none ∙ sym (what_is_left items i item s at lt e) ∙ so_far
+
+pub item_there : (items : List Node) (i : ℕ) (item : Node) (s : List ℕ) (at behind : ℕ) (whole : Bool) → i < length items → item ≡ get_or items i item → Some behind ≡ behind_item (one_byte_of (tree_of item)) s at → lacks_needed (sequence_of (drop i items)) s at ≡ whole → lacks_needed (sequence_of (drop (i + 1) items)) s behind ≡ whole
+item_there items i item s at behind whole lt e there so_far =
+    ap (lacks_behind (lacks_needed (sequence_of (drop (i + 1) items)) s)) there ∙ sym (what_is_left items i item s at lt e) ∙ so_far
+
+pub nothing_lacks : (items : List Node) (i : ℕ) (s : List ℕ) (at : ℕ) (whole : Bool) → length items ≤ i → lacks_needed (sequence_of (drop i items)) s at ≡ whole → false ≡ whole
+nothing_lacks items i s at whole le so_far =
+    sym (ap (λ t. lacks_needed t s at) (sequence_of-all items i le)) ∙ so_far

@@ -1,0 +1,47 @@
+//! The bytes that a pattern needs, by which a text without a match is told soon.
+
+ghost use Rattle.std.specs.Prelude.{◌≡◌, ◌≤◌, None, IsTrue, drop, length};
+ghost use Rattle.bre_parse.specs.Tree.{tree_of, sequence_of};
+ghost use Rattle.bre_parse.specs.Match.{match_from};
+ghost use Rattle.bre_match.specs.Starts.{one_byte_of};
+ghost use Rattle.bre_match.specs.Needs.{behind_first, behind_item, lacks_needed};
+
+use crate::start::one_byte_of;
+use bre_parse::tree::{ByteSet, Node};
+
+// The place behind the first byte of a set, from a place on.
+fn behind_first(set: &ByteSet, text: &[u8], from: usize) -> Option<usize>
+    ensures value { result ≡ behind_first set.now.negated set.now.ranges.items from (drop from text.now) }
+{
+    for at in from..text.len() {
+        if set.contains(text[at]) {
+            return Some(at + 1);
+        }
+    }
+    None
+}
+
+// Where what comes after an item is looked for.
+fn behind_item(item: &Node, text: &[u8], from: usize) -> Option<usize>
+    ensures value { result ≡ behind_item (one_byte_of (tree_of item.now)) text.now from }
+{
+    match one_byte_of(item) {
+        Some(set) => behind_first(set, text, from),
+        None => Some(from),
+    }
+}
+
+/// Whether the bytes that the items need, one of each set among them, don't stand in their order from a place on.
+pub(crate) fn lacks_needed(items: &[Node], text: &[u8], from: usize) -> bool
+    ensures exact { result ≡ lacks_needed (sequence_of items.now) text.now from }
+    ensures sound { from ≤ length text.now → IsTrue result → match_from (sequence_of items.now) text.now from ≡ None }
+{
+    let mut at = from;
+    for item in items {
+        match behind_item(item, text, at) {
+            Some(behind) => at = behind,
+            None => return true,
+        }
+    }
+    false
+}
