@@ -1,0 +1,137 @@
+#!/usr/bin/env python3
+"""Compares where bre_bench finds random patterns in random texts with where reference.py does.
+
+    python3 compare.py COUNT SEED
+
+Patterns are small and hostile: groups in groups, optional groups of two or three bytes side by side, repeats of repeats,
+turns that may be empty, anchors within groups and repeats, and back-references, also to groups in repeats. A pattern with a
+back-reference whose ways are too many for the reference is left out. Build crates/bre_bench first.
+"""
+import collections
+import os
+import random
+import subprocess
+import sys
+
+sys.dont_write_bytecode = True
+import reference
+
+PROGRAM = os.path.join(os.path.dirname(os.path.abspath(__file__)), '../../crates/bre_bench/out/bre_bench')
+REPEATS = [(0, None)] * 4 + [(0, 1)] * 4 + [(1, 2), (0, 2), (2, None), (1, None), (2, 2), (2, 3), (3, 5), (0, 0), (1, 1)]
+
+
+class Maker:
+    """A random pattern of one kind."""
+
+    def __init__(self, kind, chance):
+        self.kind = kind
+        self.chance = chance
+        self.opened = 0
+        self.closed = []
+
+    def word(self):
+        letters = [('set', False, self.chance.choice('aab')) for _ in range(self.chance.choice((1, 2, 2, 3)))]
+        return ('sequence', letters)
+
+    def group(self, content):
+        number = self.opened
+        self.opened += 1
+        made = ('group', number, content())
+        if number < 9:
+            self.closed.append(number)
+        return made
+
+    def atom(self, depth):
+        chance = self.chance.random()
+        if self.kind == 'reference' and self.closed and chance < 0.35:
+            return ('reference', self.chance.choice(self.closed[-3:]))
+        if depth > 0 and self.opened < 11 and chance < (0.7 if self.kind in ('nested', 'empty') else 0.55):
+            return self.group(lambda: self.content(depth - 1))
+        negated = self.chance.random() < 0.1
+        members = self.chance.choice(['a', 'a', 'b', 'b', 'c', 'ab', '' if not negated else 'c'])
+        return ('set', negated or not members, members)
+
+    def item(self, depth):
+        made = self.atom(depth)
+        repeated = {'repeats': 0.75, 'empty': 0.7}.get(self.kind, 0.4)
+        while self.chance.random() < repeated:
+            least, most = self.chance.choice(REPEATS)
+            made = ('repeat', least, most, made)
+            repeated /= 1.6 if self.kind == 'repeats' else 3
+        return made
+
+    def optional(self):
+        made = self.group(self.word) if self.opened < 9 else self.word()[1][0]
+        return ('repeat', 0, self.chance.choice((1, 1, 1, 2, None)), made)
+
+    def content(self, depth):
+        anchored = 0.25 if self.kind == 'anchors' else 0.03
+        items = []
+        if self.chance.random() < anchored:
+            items.append(('text start',))
+        for _ in range(self.chance.choice((0, 1, 1, 2) if self.kind == 'empty' else (1, 1, 2, 2, 3))):
+            items.append(self.optional() if self.kind == 'optional' and self.chance.random() < 0.5 else self.item(depth))
+        if self.chance.random() < anchored:
+            items.append(('text end',))
+        return ('sequence', items)
+
+    def pattern(self):
+        return self.content(self.chance.choice((1, 2, 2, 3)))
+
+
+KINDS = ('mixed', 'nested', 'optional', 'repeats', 'empty', 'anchors', 'reference', 'reference')
+
+
+def cases(count, seed):
+    """So many cases: the kind, the pattern, the text and the place to begin at."""
+    chance = random.Random(seed)
+    for number in range(count):
+        kind = KINDS[number % len(KINDS)]
+        tree = Maker(kind, chance).pattern()
+        text = ''.join(chance.choice('aaabbc') for _ in range(chance.choice((0, 1, 2, 3, 4, 5, 6, 7, 8, 10))))
+        begin = 0 if chance.random() < 0.8 else chance.randrange(len(text) + 1)
+        yield kind, tree, text, begin
+
+
+def expected(tree, text, begin):
+    """What bre_bench is to print, or None where that takes too long."""
+    try:
+        found = reference.Match(text).find(tree, begin)
+    except (reference.TooSlow, RecursionError):
+        return None
+    if found is None:
+        return 'none'
+    start, (end, groups) = found
+    return ' '.join([f'{start}-{end}'] + ['-' if span is None else f'{span[0]}-{span[1]}' for span in groups])
+
+
+def main():
+    count, seed = int(sys.argv[1]), int(sys.argv[2])
+    lines, wanted, tally = [], [], collections.Counter()
+    for kind, tree, text, begin in cases(count, seed):
+        answer = expected(tree, text, begin)
+        tally['too slow for the reference'] += answer is None
+        tally['with a back-reference'] += reference.refers(tree)
+        if answer is None and reference.refers(tree):
+            tally['left out'] += 1
+            continue
+        lines.append(f'{begin}\t{reference.spelled(tree)}\t{text}')
+        wanted.append(answer)
+    told = subprocess.run([PROGRAM, 'places'], input='\n'.join(lines) + '\n', capture_output=True, text=True, check=True)
+    found = told.stdout.splitlines()
+    if len(found) != len(lines):
+        sys.exit(f'{len(lines)} lines given, {len(found)} answered: {told.stderr}')
+    for line, right, answer in zip(lines, wanted, found):
+        if right is None:
+            continue
+        tally['equal' if right == answer else 'different'] += 1
+        tally['of them without a match'] += right == answer == 'none'
+        if right != answer and tally['different'] <= 20:
+            print(f'{line}\n  reference {right}\n  bre_bench {answer}')
+    print(f'seed {seed}, {count} cases: ' + ', '.join(f'{tally[name]} {name}' for name in (
+        'equal', 'of them without a match', 'different', 'with a back-reference', 'too slow for the reference', 'left out')))
+    sys.exit(tally['different'] > 0)
+
+
+if __name__ == '__main__':
+    main()

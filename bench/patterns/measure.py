@@ -1,0 +1,145 @@
+#!/usr/bin/env python3
+"""Measures bre_bench beside sed, perl and grep in one run: lines made to be slow, many short lines, and long lines.
+
+Each figure is processor seconds, the least of three runs, and the most memory in MB. `^` is how the time grows with the
+line: 1 is in proportion, 2 is with its square; it is told where both times are above what starting takes. A program that
+takes more than 20 seconds is stopped. The counts of lines have to agree. Build crates/bre_bench first.
+"""
+import math
+import os
+import resource
+import subprocess
+import sys
+import tempfile
+import time
+
+HERE = os.path.dirname(os.path.abspath(__file__))
+PROGRAM = os.path.join(HERE, '../../crates/bre_bench/out/bre_bench')
+MOST = 20  # seconds
+
+EQUALS = r'\(.*\)=\(.*\)=\1$'
+
+
+def hostile():
+    """Patterns with texts of one line: the pattern, the name of the text, and the texts."""
+    for pattern in (r'\(a*\)*[bc]', 'a*a*a*a*a*[bc]', r'\(a\)*b', r'\(a*\)*', r'\(\(a*\)*b\)*'):
+        yield pattern, 'a', ['a' * size for size in (5_000, 10_000, 20_000)]
+    yield r'\(a\{0,99\}\)\{0,99\}[bc]', 'a', ['a' * 20, 'a' * 60]
+    yield r'\(a*\)\1b', 'a', ['a' * size for size in (500, 1_000, 2_000)]
+    yield r'\(a*\)\1b', 'a, cb', ['a' * size + 'cb' for size in (500, 1_000, 2_000)]
+    yield EQUALS, 'a', ['a' * size for size in (250, 500)]
+    yield EQUALS, 'a=', ['a=' * (size // 2) for size in (250, 500)]
+    yield EQUALS, 'nine a and =, x', [('a' * 9 + '=') * (size // 10) + 'x' for size in (250, 500)]
+    yield EQUALS, 'a=, x', ['a=' * (size // 2) + 'x' for size in (250, 500)]
+    yield EQUALS, '=, x', ['=' * size + 'x' for size in (250, 500)]
+
+
+def extended(pattern):
+    """A basic regular expression as perl takes it."""
+    for mark in '(){}':
+        pattern = pattern.replace('\\' + mark, mark)
+    return pattern
+
+
+def commands(pattern):
+    count = '$n++ if /' + extended(pattern) + '/; END { print $n + 0, "\n" }'
+    return {
+        'bre_bench': [PROGRAM, 'count', pattern],
+        'sed -n': ['sed', '-n', f'/{pattern}/p'],
+        'perl': ['perl', '-ne', count],
+        'grep -c': ['grep', '-c', '--', pattern],
+    }
+
+
+def run(command, path):
+    """Processor seconds, MB and what was printed, or None after too long a time."""
+    with open(path) as text, tempfile.TemporaryFile() as out:
+        child = subprocess.Popen(
+            command, stdin=text, stdout=out, stderr=subprocess.DEVNULL, env={**os.environ, 'LC_ALL': 'C'},
+            preexec_fn=lambda: resource.setrlimit(resource.RLIMIT_CPU, (MOST, MOST)))
+        _, status, used = os.wait4(child.pid, 0)
+        child.returncode = status
+        out.seek(0)
+        if os.WIFSIGNALED(status):
+            return None
+        return used.ru_utime + used.ru_stime, used.ru_maxrss / 1024, out.read()
+
+
+def best(command, path):
+    runs = []
+    for _ in range(3):
+        runs.append(run(command, path))
+        if runs[-1] is None or runs[-1][0] > 5:
+            break
+    return None if None in runs else min(runs, key=lambda figures: figures[0])
+
+
+def counted(name, out):
+    """How many lines matched; sed prints them, the others their number."""
+    return out.count(b'\n') if name == 'sed -n' else int(out)
+
+
+def compare(pattern, texts, starting):
+    """The figures of each program on each of some files."""
+    rows = {}
+    for name, command in commands(pattern).items():
+        figures, last = [], None
+        for path, size in texts:
+            found = best(command, path)
+            if found is None:
+                figures.append(f'over {MOST} s')
+                break
+            seconds, memory, out = found
+            told = f'{seconds:.3f} s {memory:.0f} MB'
+            net = seconds - starting[name]
+            if last and net > 0.02 and last[0] > 0.005:
+                told += f' ^{math.log(net / last[0]) / math.log(size / last[1]):.1f}'
+            last = (net, size)
+            figures.append(told)
+            rows.setdefault(path, {})[name] = counted(name, out)
+        print(f'  {name:10}' + '  '.join(f'{told:24}' for told in figures).rstrip())
+    for path, counts in rows.items():
+        if len(set(counts.values())) > 1:
+            print(f'  THE COUNTS DIFFER: {counts}')
+    sys.stdout.flush()
+
+
+def written(folder, name, text):
+    path = os.path.join(folder, name)
+    with open(path, 'w') as file:
+        file.write(text)
+    return path, len(text)
+
+
+def many_lines(folder):
+    path = os.path.join(folder, 'lines')
+    with open(path, 'w') as file:
+        subprocess.run(['awk', '-f', os.path.join(HERE, 'lines.awk')], stdout=file, check=True)
+    return path, os.path.getsize(path)
+
+
+def main():
+    print(time.strftime('%Y-%m-%d'))
+    with tempfile.TemporaryDirectory() as folder:
+        empty = written(folder, 'empty', '')
+        starting = {name: best(command, empty[0])[0] for name, command in commands('a').items()}
+        print('starting: ' + ', '.join(f'{name} {seconds:.3f} s' for name, seconds in starting.items()))
+        print('\nOne line')
+        for pattern, name, texts in hostile():
+            print(f"{pattern}  on {name}, {' and '.join(str(len(text)) for text in texts)} bytes")
+            compare(pattern, [written(folder, str(len(text)), text + '\n') for text in texts], starting)
+        print('\n200,000 lines of 50 bytes')
+        lines = many_lines(folder)
+        for pattern in ('needle', '[0-9][0-9]*', 'foo[0-9]*bar', '^#', '[ ]*$', r'\([a-z]*\) \1', r'x.*y.*z'):
+            print(pattern)
+            compare(pattern, [lines], starting)
+        print('\nOne line of 50,000,000 bytes')
+        for word in ('a', 'ax'):
+            line = written(folder, 'long', word * (50_000_000 // len(word)) + '\n')
+            for pattern in ('.*', '[a-z]*x', '[a-z][a-z]*x'):
+                print(f'{pattern}  on {word}')
+                compare(pattern, [line], starting)
+
+
+if __name__ == '__main__':
+    main()
