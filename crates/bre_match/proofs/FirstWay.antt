@@ -2,7 +2,7 @@
 use Rattle.std.proofs.Common.{◌≡◌, ℕ, zero, suc, ◌+◌, ◌-◌, ◌<◌, ◌≤◌, ◌⊎◌, inl, inr, List, [], ◌∷◌, ◌++◌, map, flat_map, length, Option, Some, None, Bool, true, false, cond, leb, eqb, refl, ap, sym, ◌∙◌, subst, arith}
 use Rattle.std.proofs.lemmas.Bool.Decides.{nat_tests}
 use Rattle.bre_parse.specs.Tree.{Tree, Then}
-use Rattle.bre_parse.specs.Groups.{Groups, no_groups, refers}
+use Rattle.bre_parse.specs.Groups.{Groups, no_groups}
 use Rattle.bre_parse.specs.Ways.{Way, Body, ways, turns, next_turn, after_turn, from_way, with_group, below, only_if, by_end}
 use Rattle.bre_parse.specs.Match.{first, longest_from, or_later, match_among, match_from}
 use Rattle.bre_parse.specs.Laws.{ends, first_to, EndBetween}

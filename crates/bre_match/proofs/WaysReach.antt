@@ -3,7 +3,7 @@ use Rattle.std.proofs.Common.{◌≡◌, ℕ, zero, suc, ◌+◌, ◌-◌, ◌<�
 use Rattle.std.proofs.lemmas.Bool.Decides.{nat_tests}
 use Rattle.std.specs.Prelude.{◌&&◌}
 use Rattle.bre_parse.specs.Groups.{Groups}
-use Rattle.bre_parse.specs.Ways.{Way, Body, ways, turns, next_turn, after_turn, stopped_or_on, below, only_if, by_end, insert_way}
+use Rattle.bre_parse.specs.Ways.{Way, Body, turns, next_turn, after_turn, stopped_or_on, below, only_if, by_end, insert_way}
 use Rattle.bre_match.specs.Laws.{Has}
 use Rattle.bre_match.specs.Parts.{Power}
 use Rattle.bre_match.specs.Tables.{Within, Turned}

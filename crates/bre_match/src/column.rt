@@ -175,15 +175,24 @@ fn step_repeat(
         None => {
             let turn = step(out, Asked::Weight, content, marks, text, place, begun)?;
             let weight = less_of(begun.weight, turn.weight);
-            let turned = Passed {
-                weight,
-                at: begun.at,
-            };
-            let again = step(out, asked, content, marks, text, place, turned)?;
-            Ok(Passed {
-                weight,
-                at: again.at,
-            })
+            match asked {
+                // A second walk would double the time at each level of nested repeats.
+                Asked::Weight => Ok(Passed {
+                    weight,
+                    at: turn.at,
+                }),
+                Asked::Marks => {
+                    let entered = Passed {
+                        weight,
+                        at: begun.at,
+                    };
+                    let again = step(out, asked, content, marks, text, place, entered)?;
+                    Ok(Passed {
+                        weight,
+                        at: again.at,
+                    })
+                }
+            }
         }
         Some(most) => {
             let more = (most as usize).saturating_sub(least as usize);

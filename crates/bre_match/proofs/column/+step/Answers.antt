@@ -59,20 +59,30 @@ step_up_to-loop-turn-preserved t c =
           (put_maybe c.args.asked _ _ _ _ _ _ _ _ _ _ (put_left c.args.asked _ _ _ _ _ _ _ _ _ _ _ left c.loop-turn.invariant.put)) c.in_ok-passed.ensures.weight c.in_ok-passed.ensures.at c.in_ok-passed.ensures.marks;
     }
 
-pub step_repeat-returns-in_ok-again-in-None-clause-weight : goal.step_repeat-returns-in_ok-again-in-None-clause-weight
-step_repeat-returns-in_ok-again-in-None-clause-weight t c =
+pub step_repeat-returns-in-Weight-clause-weight : goal.step_repeat-returns-in-Weight-clause-weight
+step_repeat-returns-in-Weight-clause-weight t c =
     star_weight c.args.least c.args.most (part_of (tree_of c.args.content.now)) c.args.text.now c.args.place (drop c.args.before.at c.args.marks.now) (drop c.in_ok-begun.begun.at c.args.marks.now) c.args.before.weight c.in_ok-begun.begun.weight c.in_ok-turn-in-None.turn.weight c.less_of-weight.result
     c.in-None.is c.in_ok-begun.ensures.weight c.in_ok-begun.ensures.at c.in_ok-turn-in-None.ensures.weight c.less_of-weight.ensures.value
 
-pub step_repeat-returns-in_ok-again-in-None-clause-at : goal.step_repeat-returns-in_ok-again-in-None-clause-at
-step_repeat-returns-in_ok-again-in-None-clause-at t c =
+pub step_repeat-returns-in-Weight-clause-at : goal.step_repeat-returns-in-Weight-clause-at
+step_repeat-returns-in-Weight-clause-at t c =
     star_at c.args.least c.args.most (part_of (tree_of c.args.content.now)) (drop c.args.before.at c.args.marks.now) (drop c.in_ok-begun.begun.at c.args.marks.now) _
-    c.in-None.is c.in_ok-begun.ensures.at c.in_ok-again-in-None.ensures.at
+    c.in-None.is c.in_ok-begun.ensures.at c.in_ok-turn-in-None.ensures.at
 
-pub step_repeat-returns-in_ok-again-in-None-clause-marks : goal.step_repeat-returns-in_ok-again-in-None-clause-marks
-step_repeat-returns-in_ok-again-in-None-clause-marks t c =
-    star_marks c.args.asked c.args.least c.args.most (part_of (tree_of c.args.content.now)) c.args.text.now c.args.place (drop c.args.before.at c.args.marks.now) (drop c.in_ok-begun.begun.at c.args.marks.now) c.args.before.weight c.in_ok-begun.begun.weight c.in_ok-turn-in-None.turn.weight c.less_of-weight.result c.args.out.now.items c.step_needed.new.out.items c.step.new.out.items c.step-in-None.new.out.items
-    c.in-None.is c.in_ok-begun.ensures.weight c.in_ok-begun.ensures.at c.in_ok-turn-in-None.ensures.weight c.less_of-weight.ensures.value c.in_ok-begun.ensures.marks c.in_ok-turn-in-None.ensures.marks c.in_ok-again-in-None.ensures.marks
+pub step_repeat-returns-in_ok-again-in-Marks-clause-weight : goal.step_repeat-returns-in_ok-again-in-Marks-clause-weight
+step_repeat-returns-in_ok-again-in-Marks-clause-weight t c =
+    star_weight c.args.least c.args.most (part_of (tree_of c.args.content.now)) c.args.text.now c.args.place (drop c.args.before.at c.args.marks.now) (drop c.in_ok-begun.begun.at c.args.marks.now) c.args.before.weight c.in_ok-begun.begun.weight c.in_ok-turn-in-None.turn.weight c.less_of-weight.result
+    c.in-None.is c.in_ok-begun.ensures.weight c.in_ok-begun.ensures.at c.in_ok-turn-in-None.ensures.weight c.less_of-weight.ensures.value
+
+pub step_repeat-returns-in_ok-again-in-Marks-clause-at : goal.step_repeat-returns-in_ok-again-in-Marks-clause-at
+step_repeat-returns-in_ok-again-in-Marks-clause-at t c =
+    star_at c.args.least c.args.most (part_of (tree_of c.args.content.now)) (drop c.args.before.at c.args.marks.now) (drop c.in_ok-begun.begun.at c.args.marks.now) _
+    c.in-None.is c.in_ok-begun.ensures.at c.in_ok-again-in-Marks.ensures.at
+
+pub step_repeat-returns-in_ok-again-in-Marks-clause-marks : goal.step_repeat-returns-in_ok-again-in-Marks-clause-marks
+step_repeat-returns-in_ok-again-in-Marks-clause-marks t c =
+    star_marks c.args.asked c.args.least c.args.most (part_of (tree_of c.args.content.now)) c.args.text.now c.args.place (drop c.args.before.at c.args.marks.now) (drop c.in_ok-begun.begun.at c.args.marks.now) c.args.before.weight c.in_ok-begun.begun.weight c.in_ok-turn-in-None.turn.weight c.less_of-weight.result c.args.out.now.items c.step_needed.new.out.items c.step.new.out.items c.step-in-Marks.new.out.items
+    c.in-None.is c.in_ok-begun.ensures.weight c.in_ok-begun.ensures.at c.in_ok-turn-in-None.ensures.weight c.less_of-weight.ensures.value c.in_ok-begun.ensures.marks c.in_ok-turn-in-None.ensures.marks c.in_ok-again-in-Marks.ensures.marks
 
 pub step_repeat-returns-in_ok-passed-in-Some-clause-weight : goal.step_repeat-returns-in_ok-passed-in-Some-clause-weight
 step_repeat-returns-in_ok-passed-in-Some-clause-weight t c =

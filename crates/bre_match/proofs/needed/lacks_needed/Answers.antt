@@ -1,4 +1,4 @@
-use Rattle.std.proofs.Common.{sym, arith}
+use Rattle.std.proofs.Common.{sym}
 use Rattle.bre_parse.specs.Tree.{sequence_of}
 use Rattle.bre_match.specs.Needs.{lacks_needed}
 use Rattle.bre_match.proofs.Needs.{item_lacks, item_there, nothing_lacks, no_match}
