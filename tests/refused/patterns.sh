@@ -1,5 +1,6 @@
 #!/bin/sh
-# Refuses each allocation of bre_bench in turn, on matches whose ways take memory: each run has to print nothing at all.
+# Refuses each allocation of bre_bench in turn, while it tells where patterns match: each run has to print nothing at all or,
+# where the library under it can do without, the match with its groups, as the run does in which none is refused.
 # It runs the program that `make test` or `make bench` built, from anywhere, and needs a C compiler. The last line counts the runs.
 cd "$(dirname "$0")" || exit 1
 program=$(cd ../.. && pwd)/crates/bre_bench/out/bre_bench
@@ -13,20 +14,25 @@ fi
 passed=0
 failed=0
 
-# Refuses the allocations of a match one after the other, until none is left to refuse.
-each_is_refused() { # PATTERN LINE
-    refused=0
-    while :; do
-        printf '%s\n' "$2" | REFUSE=$((refused + 1)) LD_PRELOAD="$work/refuse.so" "$program" "$1" > "$work/out" 2> "$work/err"
-        grep -q '^refused$' "$work/err" || break
-        refused=$((refused + 1))
-        [ -s "$work/out" ] && return 1
-    done
-    [ "$refused" -gt 0 ]
+is_told() { # SPANS: the match and its first two groups
+    [ "$(cut -d ' ' -f 1-3 "$work/out")" = "$1" ]
 }
 
-on() { # PATTERN LINE
-    if each_is_refused "$1" "$2"; then
+# Refuses the allocations of a match one after the other, until none is left to refuse.
+each_is_refused() { # PATTERN LINE SPANS
+    refused=0
+    while :; do
+        printf '0\t%s\t%s\n' "$1" "$2" |
+            REFUSE=$((refused + 1)) LD_PRELOAD="$work/refuse.so" "$program" places > "$work/out" 2> "$work/err"
+        grep -q '^refused$' "$work/err" || break
+        refused=$((refused + 1))
+        if [ -s "$work/out" ] && ! is_told "$3"; then return 1; fi
+    done
+    [ "$refused" -gt 0 ] && is_told "$3"
+}
+
+on() { # PATTERN LINE SPANS
+    if each_is_refused "$1" "$2" "$3"; then
         printf '%s: %d allocations, each refused once\n' "$1" "$refused"
         passed=$((passed + 1))
     else
@@ -35,8 +41,10 @@ on() { # PATTERN LINE
     fi
 }
 
-on '\(ab\)*\1' ababab
-on '\(a*\)*b' caaab
-on 'a\{0,1\}\(ab\)\{0,1\}' ab
+on '\(ab\)*\1' ababab '0-6 2-4 -'
+on '\(a*\)*b' caaab '1-5 1-4 -'
+on 'a\{0,1\}\(ab\)\{0,1\}' ab '0-2 0-2 -'
+on '\(a\{0,1\}\(ab\)\{0,1\}\)b*' abb '0-3 0-2 0-2'
+on '\(.*\)=\(.*\)=\1$' ab=c=ab '0-7 0-2 3-4'
 echo "$passed passed, $failed failed"
 [ "$failed" -eq 0 ]

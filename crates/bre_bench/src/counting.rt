@@ -1,5 +1,6 @@
 //! How many lines of standard input a pattern matches.
 
+use crate::pattern;
 use bre_match::matches;
 use bre_parse::Bre;
 use std::alloc::{AllocError, Global};
@@ -26,7 +27,7 @@ fn count_matched(alloc: Global, pattern: &Bre, text: &[u8]) -> Result<usize, All
 
 /// Prints the number of lines in which the pattern has a match.
 pub fn count(rt: &(impl Input + Print + AllocGlobal), word: &[u8]) -> io::Result<()> {
-    let Ok(pattern) = Bre::read(rt.alloc(), word) else {
+    let Some(pattern) = pattern::read(rt.alloc(), word)? else {
         return println!(rt; "not a pattern");
     };
     let mut text = Vec::new(rt.alloc());

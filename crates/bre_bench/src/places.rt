@@ -1,7 +1,7 @@
 //! Where patterns match texts, line by line.
 
+use crate::pattern;
 use bre_match::{Match, find};
-use bre_parse::Bre;
 use std::alloc::{AllocError, Global};
 use std::io;
 use std::io::{BufRead, BufReader};
@@ -28,7 +28,7 @@ fn told(alloc: Global, line: &str) -> Result<String, AllocError> {
     let Ok(from) = fields[0].parse::<usize>() else {
         return String::from_str(alloc, "no such place");
     };
-    let Ok(pattern) = Bre::read(alloc, fields[1].as_bytes()) else {
+    let Some(pattern) = pattern::read(alloc, fields[1].as_bytes())? else {
         return String::from_str(alloc, "not a pattern");
     };
     let text = fields[2].as_bytes();
