@@ -1,6 +1,8 @@
 -- Where a sequence lacks bytes that it needs, it has no way.
 use Rattle.std.proofs.Common.{◌≡◌, ℕ, zero, suc, ◌+◌, ◌-◌, ◌<◌, ◌≤◌, Bool, true, false, List, [], ◌∷◌, ◌++◌, flat_map, length, drop, get_or, Option, Some, None, refl, ap, sym, ◌∙◌, subst, append-nil, arith}
-use Rattle.std.specs.Prelude.{slice_get}
+use Rattle.std.specs.Prelude.{slice_get, slice_index, nat_le, ◌&&◌, ◌||◌, ◌==◌, option_map}
+use Rattle.std.proofs.lemmas.Bool.Decides.{nat_tests}
+use Rattle.memchr.specs.Find.{IsFirstByte, is_byte}
 use Rattle.bre_parse.specs.declared.tree.Node.{Node}
 use Rattle.bre_parse.specs.Tree.{Tree, Empty, Then, Set, TextStart, TextEnd, BackReference, Group, Repeat, in_set, tree_of, sequence_of}
 use Rattle.bre_parse.proofs.Sequences.{sequence_of-drop, sequence_of-all}
@@ -24,6 +26,44 @@ least_behind n rs at (suc k) (byte ∷ bytes) h = by_cases (in_set n rs byte) (l
     by_cases : (c : Bool) → ((p : ℕ) × (behind_first n rs (at + 1) bytes ≡ Some p) × (p ≤ at + 1 + k + 1)) → (p : ℕ) × (behind_if c at (behind_first n rs (at + 1) bytes) ≡ Some p) × (p ≤ at + suc k + 1)
     by_cases true i = (at + 1, refl, omega arith)
     by_cases false i = (i.0, i.1, let l = i.2 in omega arith)
+
+-- a byte that none is
+none_there : (n : Bool) (rs : List (ℕ × ℕ)) (at : ℕ) (bytes : List ℕ) → ((k : ℕ) → k < length bytes → in_set n rs (slice_index bytes k) ≡ false) → behind_first n rs at bytes ≡ None
+none_there n rs at [] h = refl
+none_there n rs at (byte ∷ bytes) h =
+    ap (λ c. behind_if c at (behind_first n rs (at + 1) bytes)) (h 0 (omega arith))
+    ∙ none_there n rs (at + 1) bytes (λ k lt. h (suc k) (omega arith))
+
+first_there : (n : Bool) (rs : List (ℕ × ℕ)) (at k : ℕ) (bytes : List ℕ) → k < length bytes → in_set n rs (slice_index bytes k) ≡ true → ((j : ℕ) → j < k → in_set n rs (slice_index bytes j) ≡ false) → behind_first n rs at bytes ≡ Some (at + k + 1)
+first_there n rs at k [] lt is before = absurd (omega arith)
+first_there n rs at zero (byte ∷ bytes) lt is before =
+    ap (λ c. behind_if c at (behind_first n rs (at + 1) bytes)) is
+    ∙ ap Some (let e : at + 1 ≡ at + 0 + 1 = omega arith in e)
+first_there n rs at (suc k) (byte ∷ bytes) lt is before =
+    ap (λ c. behind_if c at (behind_first n rs (at + 1) bytes)) (before 0 (omega arith))
+    ∙ first_there n rs (at + 1) k bytes (omega arith) is (λ j l. before (suc j) (omega arith))
+    ∙ ap Some (let e : at + 1 + k + 1 ≡ at + suc k + 1 = omega arith in e)
+
+one_range : (low high byte : ℕ) → in_set false ((low, high) ∷ []) byte ≡ (nat_le low byte && nat_le byte high)
+one_range low high byte = by_cases (nat_le low byte && nat_le byte high)
+  where
+    by_cases : (c : Bool) → (c || false) ≡ c
+    by_cases true = refl
+    by_cases false = refl
+
+same_byte : (byte other : ℕ) → (other == byte) ≡ true → in_set false ((byte, byte) ∷ []) other ≡ true
+same_byte byte other e = one_range byte byte other ∙ grind (arith, nat_tests)
+
+other_byte : (byte other : ℕ) → ¬ ((other == byte) ≡ true) → in_set false ((byte, byte) ∷ []) other ≡ false
+other_byte byte other e = one_range byte byte other ∙ grind (arith, nat_tests)
+
+-- What a search for a byte finds
+pub byte_found : (byte at : ℕ) (bytes : List ℕ) (found : Option ℕ) → IsFirstByte (is_byte byte) bytes found → behind_first false ((byte, byte) ∷ []) at bytes ≡ option_map (λ k. at + k + 1) found
+byte_found byte at bytes None h =
+    none_there false ((byte, byte) ∷ []) at bytes (λ k lt. other_byte byte (slice_index bytes k) (h k (omega arith) lt))
+byte_found byte at bytes (Some k) h =
+    let before = h.0 in
+    first_there false ((byte, byte) ∷ []) at k bytes before.high (same_byte byte (slice_index bytes k) h.1) (λ j l. other_byte byte (slice_index bytes j) (before.before j (omega arith) l))
 
 get_dropped : (s : List ℕ) (from k : ℕ) → slice_get (drop from s) k ≡ slice_get s (from + k)
 get_dropped s zero k = ap (slice_get s) (let e : k ≡ 0 + k = omega arith in e)

@@ -1,6 +1,6 @@
 //! The bytes that a pattern needs, by which a text without a match is told soon.
 
-ghost use Rattle.std.specs.Prelude.{◌≡◌, ◌≤◌, None, IsTrue, drop, length};
+ghost use Rattle.std.specs.Prelude.{◌≡◌, ◌≤◌, ◌∷◌, [], None, false, IfSome, IsTrue, drop, length};
 ghost use Rattle.bre_parse.specs.Tree.{tree_of, sequence_of};
 ghost use Rattle.bre_parse.specs.Match.{match_from};
 ghost use Rattle.bre_match.specs.Starts.{one_byte_of};
@@ -8,9 +8,46 @@ ghost use Rattle.bre_match.specs.Needs.{behind_first, behind_item, lacks_needed}
 
 use crate::start::one_byte_of;
 use bre_parse::tree::{ByteSet, Node};
+use memchr::memchr;
 
-// The place behind the first byte of a set, from a place on.
-fn behind_first(set: &ByteSet, text: &[u8], from: usize) -> Option<usize>
+// The ends of a set that is spelled as one range.
+fn only_range(set: &ByteSet) -> Option<(u8, u8)>
+    ensures sound { IfSome result (λ range. (set.now.negated ≡ false) × (set.now.ranges.items ≡ range ∷ [])) }
+{
+    if !set.negated && set.ranges.len() == 1 {
+        Some(set.ranges[0])
+    } else {
+        None
+    }
+}
+
+// The place behind the first such byte.
+fn behind_byte(byte: u8, text: &[u8], from: usize) -> Option<usize>
+    ensures value { result ≡ behind_first false ((byte, byte) ∷ []) from (drop from text.now) }
+{
+    if from >= text.len() {
+        return None;
+    }
+    match memchr(byte, &text[from..]) {
+        Some(passed) => Some(from + passed + 1),
+        None => None,
+    }
+}
+
+// The place behind the first byte in a range.
+fn behind_range(low: u8, high: u8, text: &[u8], from: usize) -> Option<usize>
+    ensures value { result ≡ behind_first false ((low, high) ∷ []) from (drop from text.now) }
+{
+    for at in from..text.len() {
+        if low <= text[at] && text[at] <= high {
+            return Some(at + 1);
+        }
+    }
+    None
+}
+
+// The place behind the first byte of any set.
+fn behind_member(set: &ByteSet, text: &[u8], from: usize) -> Option<usize>
     ensures value { result ≡ behind_first set.now.negated set.now.ranges.items from (drop from text.now) }
 {
     for at in from..text.len() {
@@ -19,6 +56,20 @@ fn behind_first(set: &ByteSet, text: &[u8], from: usize) -> Option<usize>
         }
     }
     None
+}
+
+// The place behind the first byte of a set, from a place on.
+fn behind_first(set: &ByteSet, text: &[u8], from: usize) -> Option<usize>
+    ensures value { result ≡ behind_first set.now.negated set.now.ranges.items from (drop from text.now) }
+{
+    match only_range(set) {
+        Some((low, high)) => if low == high {
+            behind_byte(low, text, from)
+        } else {
+            behind_range(low, high, text, from)
+        },
+        None => behind_member(set, text, from),
+    }
 }
 
 // Where what comes after an item is looked for.
