@@ -22,3 +22,4 @@ pub mod RowTables
 pub mod TurnTables
 pub mod Words
 pub mod Needs
+pub mod Beginnings
