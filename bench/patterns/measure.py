@@ -1,9 +1,12 @@
 #!/usr/bin/env python3
 """Measures bre_bench beside sed, perl and grep in one run: lines made to be slow, many short lines, and long lines.
 
-Each figure is processor seconds, the least of three runs, and the most memory in MB. `^` is how the time grows with the
-line: 1 is in proportion, 2 is with its square; it is told where both times are above what starting takes. A program that
-takes more than 20 seconds is stopped. The counts of lines have to agree. Build crates/bre_bench first.
+    python3 measure.py [hostile] [growth] [lines] [long]
+
+Each figure is processor seconds, the least of three runs, and the most memory in MB; what runs the programs has 11 MB
+itself, so no less is told. `^` is how the time grows with the line: 1 is in proportion, 2 is with its square; it is told
+where both times are above what starting takes. A program that takes more than 20 seconds is stopped. The counts of lines
+have to agree. Build crates/bre_bench first.
 """
 import math
 import os
@@ -20,9 +23,12 @@ MOST = 20  # seconds
 EQUALS = r'\(.*\)=\(.*\)=\1$'
 
 
+NESTED = (r'\(a*\)*[bc]', 'a*a*a*a*a*[bc]', r'\(a\)*b', r'\(a*\)*', r'\(\(a*\)*b\)*')
+
+
 def hostile():
     """Patterns with texts of one line: the pattern, the name of the text, and the texts."""
-    for pattern in (r'\(a*\)*[bc]', 'a*a*a*a*a*[bc]', r'\(a\)*b', r'\(a*\)*', r'\(\(a*\)*b\)*'):
+    for pattern in NESTED:
         yield pattern, 'a', ['a' * size for size in (5_000, 10_000, 20_000)]
     yield r'\(a\{0,99\}\)\{0,99\}[bc]', 'a', ['a' * 20, 'a' * 60]
     yield r'\(a*\)\1b', 'a', ['a' * size for size in (500, 1_000, 2_000)]
@@ -79,10 +85,12 @@ def counted(name, out):
     return out.count(b'\n') if name == 'sed -n' else int(out)
 
 
-def compare(pattern, texts, starting):
+def compare(pattern, texts, starting, programs=None):
     """The figures of each program on each of some files."""
     rows = {}
     for name, command in commands(pattern).items():
+        if programs and name not in programs:
+            continue
         figures, last = [], None
         for path, size in texts:
             found = best(command, path)
@@ -118,27 +126,53 @@ def many_lines(folder):
     return path, os.path.getsize(path)
 
 
+def measure_hostile(folder, starting):
+    print('\nOne line')
+    for pattern, name, texts in hostile():
+        print(f"{pattern}  on {name}, {' and '.join(str(len(text)) for text in texts)} bytes")
+        compare(pattern, [written(folder, str(len(text)), text + '\n') for text in texts], starting)
+
+
+def measure_growth(folder, starting):
+    """How the time grows, on lines so long that a start doesn't count, and with 64 repeats in one another."""
+    print('\nOne line, 500,000 and 1,000,000 and 2,000,000 bytes')
+    lines = [written(folder, str(size), 'a' * size + '\n') for size in (500_000, 1_000_000, 2_000_000)]
+    for pattern in NESTED:
+        print(f'{pattern}  on a')
+        compare(pattern, lines, starting, ('bre_bench',))
+    print('a, 64 times *, b  on a, 5000 and 10000 and 20000 bytes')
+    lines = [written(folder, str(size), 'a' * size + '\n') for size in (5_000, 10_000, 20_000)]
+    compare('a' + '*' * 64 + 'b', lines, starting, ('bre_bench', 'sed -n', 'grep -c'))
+
+
+def measure_lines(folder, starting):
+    print('\n200,000 lines of 50 bytes')
+    lines = many_lines(folder)
+    for pattern in ('needle', '[0-9][0-9]*', 'foo[0-9]*bar', '^#', '[ ]*$', r'\([a-z]*\) \1', r'x.*y.*z'):
+        print(pattern)
+        compare(pattern, [lines], starting)
+
+
+def measure_long(folder, starting):
+    print('\nOne line of 50,000,000 bytes')
+    for word in ('a', 'ax'):
+        line = written(folder, 'long', word * (50_000_000 // len(word)) + '\n')
+        for pattern in ('.*', '[a-z]*x', '[a-z][a-z]*x'):
+            print(f'{pattern}  on {word}')
+            compare(pattern, [line], starting)
+
+
+PARTS = {'hostile': measure_hostile, 'growth': measure_growth, 'lines': measure_lines, 'long': measure_long}
+
+
 def main():
     print(time.strftime('%Y-%m-%d'))
     with tempfile.TemporaryDirectory() as folder:
         empty = written(folder, 'empty', '')
         starting = {name: best(command, empty[0])[0] for name, command in commands('a').items()}
         print('starting: ' + ', '.join(f'{name} {seconds:.3f} s' for name, seconds in starting.items()))
-        print('\nOne line')
-        for pattern, name, texts in hostile():
-            print(f"{pattern}  on {name}, {' and '.join(str(len(text)) for text in texts)} bytes")
-            compare(pattern, [written(folder, str(len(text)), text + '\n') for text in texts], starting)
-        print('\n200,000 lines of 50 bytes')
-        lines = many_lines(folder)
-        for pattern in ('needle', '[0-9][0-9]*', 'foo[0-9]*bar', '^#', '[ ]*$', r'\([a-z]*\) \1', r'x.*y.*z'):
-            print(pattern)
-            compare(pattern, [lines], starting)
-        print('\nOne line of 50,000,000 bytes')
-        for word in ('a', 'ax'):
-            line = written(folder, 'long', word * (50_000_000 // len(word)) + '\n')
-            for pattern in ('.*', '[a-z]*x', '[a-z][a-z]*x'):
-                print(f'{pattern}  on {word}')
-                compare(pattern, [line], starting)
+        for part in sys.argv[1:] or PARTS:
+            PARTS[part](folder, starting)
 
 
 if __name__ == '__main__':

@@ -3,6 +3,7 @@
 use crate::pattern;
 use bre_match::matches;
 use bre_parse::Bre;
+use memchr::memchr;
 use std::alloc::{AllocError, Global};
 use std::io;
 use std::io::Read;
@@ -11,16 +12,16 @@ use std::io::Read;
 fn count_matched(alloc: Global, pattern: &Bre, text: &[u8]) -> Result<usize, AllocError> {
     let mut count = 0;
     let mut start = 0;
-    for end in 0..text.len() {
-        if text[end] == b'\n' {
-            if matches(alloc, pattern, &text[start..end])? {
-                count += 1;
-            }
-            start = end + 1;
+    while start < text.len() {
+        let rest = &text[start..];
+        let size = match memchr(b'\n', rest) {
+            Some(size) => size,
+            None => rest.len(),
+        };
+        if matches(alloc, pattern, &rest[..size])? {
+            count += 1;
         }
-    }
-    if start < text.len() && matches(alloc, pattern, &text[start..])? {
-        count += 1;
+        start += size + 1;
     }
     Ok(count)
 }
