@@ -1,16 +1,16 @@
 -- Where an item can't begin, a sequence has no way.
-use Rattle.std.proofs.Common.{◌≡◌, ℕ, zero, suc, ◌+◌, ◌-◌, ◌<◌, ◌≤◌, Bool, true, false, List, [], ◌∷◌, ◌++◌, flat_map, length, drop, get_or, Option, Some, None, cond, refl, ap, sym, ◌∙◌, append-nil, arith}
+use Rattle.std.proofs.Common.{◌≡◌, ℕ, zero, suc, ◌+◌, ◌<◌, Bool, true, false, List, [], ◌∷◌, flat_map, length, drop, get_or, Some, None, cond, refl, ap, sym, ◌∙◌, append-nil, arith}
 use Rattle.std.specs.Prelude.{nat_eq, slice_get}
 use Rattle.bre_parse.specs.declared.tree.Node.{Node}
 use Rattle.bre_parse.specs.Tree.{Tree, Empty, Then, Set, TextStart, TextEnd, BackReference, Group, Repeat, tree_of, sequence_of}
 use Rattle.bre_parse.specs.Groups.{Groups, no_groups}
 use Rattle.bre_parse.specs.Ways.{ways, by_end, from_way, only_if, has_byte_in}
 use Rattle.bre_parse.specs.Match.{first, longest_from}
-use Rattle.bre_parse.proofs.Sequences.{sequence_of-drop, sequence_of-all}
+use Rattle.bre_parse.proofs.Sequences.{sequence_of-drop}
 use Rattle.bre_match.specs.declared.start.Beginning.{Beginning}
 use Rattle.bre_match.specs.declared.start.Beginning.TheVariants as kind
 use Rattle.bre_match.specs.Runs.{members}
-use Rattle.bre_match.specs.Starts.{one_byte_of, one_of, repeat_beginning, begins, has_no_way, cannot_begin}
+use Rattle.bre_match.specs.Starts.{one_of, begins, has_no_way, cannot_begin}
 use Rattle.bre_match.proofs.Rows.{bytes_row, row, row_there, members_step}
 
 -- where no byte of the set is, any number of them is none

@@ -1,5 +1,5 @@
 -- Where a sequence lacks bytes that it needs, it has no way.
-use Rattle.std.proofs.Common.{◌≡◌, ℕ, zero, suc, ◌+◌, ◌-◌, ◌<◌, ◌≤◌, Bool, true, false, List, [], ◌∷◌, ◌++◌, flat_map, length, drop, get_or, Option, Some, None, refl, ap, sym, ◌∙◌, subst, append-nil, arith}
+use Rattle.std.proofs.Common.{◌≡◌, ◌≢◌, ltb, ℕ, zero, suc, ◌+◌, ◌-◌, ◌<◌, ◌≤◌, Bool, true, false, List, [], ◌∷◌, ◌++◌, flat_map, length, drop, get_or, Option, Some, None, refl, ap, sym, ◌∙◌, subst, append-nil, arith}
 use Rattle.std.specs.Prelude.{slice_get, slice_index, nat_le, ◌&&◌, ◌||◌, ◌==◌, option_map}
 use Rattle.std.proofs.lemmas.Bool.Decides.{nat_tests}
 use Rattle.memchr.specs.Find.{IsFirstByte, is_byte}
@@ -8,13 +8,14 @@ use Rattle.bre_parse.specs.Tree.{Tree, Empty, Then, Set, TextStart, TextEnd, Bac
 use Rattle.bre_parse.proofs.Sequences.{sequence_of-drop, sequence_of-all}
 use Rattle.bre_parse.specs.Groups.{Groups, no_groups}
 use Rattle.bre_parse.specs.Ways.{Way, ways, by_end, from_way, only_if, has_byte_in}
-use Rattle.bre_parse.specs.Match.{match_from}
+use Rattle.bre_parse.specs.Match.{first, longest_from, match_among, match_from}
 use Rattle.bre_parse.specs.Laws.{EndBetween}
 use Rattle.bre_parse.proofs.Within.{byte_there, in_by_end, ways_end_within}
 use Rattle.bre_match.specs.Laws.{Has}
 use Rattle.bre_match.specs.Starts.{one_byte_of}
 use Rattle.bre_match.specs.Needs.{behind_if, behind_first, behind_item, lacks_behind, lacks_needed}
 use Rattle.bre_match.proofs.FirstWay.{match_absent}
+use Rattle.bre_match.proofs.Starts.{skip_starts}
 
 -- the first byte of a set is no later than any other
 least_behind : (n : Bool) (rs : List (ℕ × ℕ)) (at k : ℕ) (bytes : List ℕ) → has_byte_in n rs (slice_get bytes k) ≡ true → (p : ℕ) × (behind_first n rs at bytes ≡ Some p) × (p ≤ at + k + 1)
@@ -151,3 +152,36 @@ item_there items i item s at behind whole lt e there so_far =
 pub nothing_lacks : (items : List Node) (i : ℕ) (s : List ℕ) (at : ℕ) (whole : Bool) → length items ≤ i → lacks_needed (sequence_of (drop i items)) s at ≡ whole → false ≡ whole
 nothing_lacks items i s at whole le so_far =
     sym (ap (λ t. lacks_needed t s at) (sequence_of-all items i le)) ∙ so_far
+
+-- Before the first byte of the first item's set no start has a way.
+pub none_before : (items : List Node) (part : Node) (s : List ℕ) (from behind start : ℕ) (n : Bool) (rs : List (ℕ × ℕ)) → length items ≢ 0 → part ≡ get_or items 0 part → Some (n, rs) ≡ one_byte_of (tree_of part) → Some behind ≡ behind_first n rs from (drop from s) → from ≤ start → start + 1 < behind → longest_from (sequence_of items) s start ≡ None
+none_before [] part s from behind start n rs some at is told le lt = absurd (some refl)
+none_before (item ∷ items) part s from behind start n rs some at is told le lt =
+    let t : tree_of item ≡ Set n rs = ap tree_of (sym at) ∙ set_is (tree_of part) (n, rs) (sym is) in
+    ap (λ x. longest_from (Then x (sequence_of items)) s start) t ∙ by_byte (has_byte_in n rs (slice_get s start)) refl
+  where
+    by_byte : (there : Bool) → has_byte_in n rs (slice_get s start) ≡ there → longest_from (Then (Set n rs) (sequence_of items)) s start ≡ None
+    by_byte false e =
+        ap (λ c. first (by_end (flat_map (from_way (ways (sequence_of items) s)) (by_end (only_if c (start + 1, no_groups)))))) e
+    by_byte true e =
+        let same : from + (start - from) ≡ start = (let h = le in omega arith) in
+        let here : has_byte_in n rs (slice_get (drop from s) (start - from)) ≡ true =
+        ap (has_byte_in n rs) (get_dropped s from (start - from) ∙ ap (slice_get s) same) ∙ e in
+        let l = least_behind n rs from (start - from) (drop from s) here in
+        let both : Some behind ≡ Some l.0 = told ∙ l.1 in
+        let equal : behind ≡ l.0 = cc in
+        let early : l.0 ≤ from + (start - from) + 1 = l.2 in
+        absurd (omega arith)
+
+-- So the search may begin there.
+pub passed_to : (t : Tree) (s : List ℕ) (from start : ℕ) → from ≤ start → start ≤ length s → ((k : ℕ) → from ≤ k → k < start → longest_from t s k ≡ None) → match_from t s from ≡ match_among (length s + 1 - start) t s start
+passed_to t s from start le high none = by_order (ltb from start) refl
+  where
+    by_order : (later : Bool) → ltb from start ≡ later → match_from t s from ≡ match_among (length s + 1 - start) t s start
+    by_order true e =
+        let lt : from < start = grind (arith, nat_tests) in
+        skip_starts (start - from - 1) (length s + 1 - start) (suc (length s - from)) t s from start (omega arith) (omega arith) (λ j small. none (from + j) (omega arith) (omega arith))
+    by_order false e =
+        let same : from ≡ start = grind (arith, nat_tests) in
+        let count : suc (length s - from) ≡ length s + 1 - start = omega arith in
+        ap (λ n. match_among n t s from) count ∙ ap (match_among (length s + 1 - start) t s) same

@@ -26,7 +26,7 @@ mod turn;
 mod word;
 
 use crate::grouping::set_row;
-use crate::needed::lacks_needed;
+use crate::needed::{first_start, lacks_needed};
 use crate::row::{is_quick_row, is_too_wide};
 use crate::span::span;
 use crate::start::{begins_at_start, longest_from, starts_without};
@@ -111,7 +111,7 @@ fn first_match(
         return Ok(None);
     }
     let mut left = Vec::new(alloc);
-    let mut start = from;
+    let mut start = first_start(items, text, from);
     while start <= text.len() {
         match longest_from(&mut left, alloc, items, text, start)? {
             Some(way) => {

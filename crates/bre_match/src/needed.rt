@@ -1,8 +1,8 @@
 //! The bytes that a pattern needs, by which a text without a match is told soon.
 
-ghost use Rattle.std.specs.Prelude.{◌≡◌, ◌≤◌, ◌∷◌, [], None, false, IfSome, IsTrue, drop, length};
+ghost use Rattle.std.specs.Prelude.{◌≡◌, ℕ, ◌<◌, ◌≤◌, ◌∷◌, [], None, false, IfSome, IsTrue, drop, length};
 ghost use Rattle.bre_parse.specs.Tree.{tree_of, sequence_of};
-ghost use Rattle.bre_parse.specs.Match.{match_from};
+ghost use Rattle.bre_parse.specs.Match.{longest_from, match_from};
 ghost use Rattle.bre_match.specs.Starts.{one_byte_of};
 ghost use Rattle.bre_match.specs.Needs.{behind_first, behind_item, lacks_needed};
 
@@ -95,4 +95,23 @@ pub(crate) fn lacks_needed(items: &[Node], text: &[u8], from: usize) -> bool
         }
     }
     false
+}
+
+/// The first start from a place on that doesn't lack the first item's byte, as far as that is told.
+pub(crate) fn first_start(items: &[Node], text: &[u8], from: usize) -> usize
+    requires place { from ≤ length text.now }
+    ensures behind { from ≤ result }
+    ensures within { result ≤ length text.now }
+    ensures sound { (start : ℕ) → from ≤ start → start < result → longest_from (sequence_of items.now) text.now start ≡ None }
+{
+    if items.is_empty() {
+        return from;
+    }
+    match one_byte_of(&items[0]) {
+        None => from,
+        Some(set) => match behind_first(set, text, from) {
+            None => from,
+            Some(behind) => behind.saturating_sub(1).min(text.len()).max(from),
+        },
+    }
 }
