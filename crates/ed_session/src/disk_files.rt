@@ -11,7 +11,6 @@ use std::alloc::{AllocError, Global};
 use std::fs::{File, OpenFile, OpenOptions};
 use std::io;
 use std::io::{ErrorKind, Read, Write};
-use std::os::fd::IntoRawFd;
 use std::rt::Files;
 
 /// An outside whose files are those of the system.
@@ -133,19 +132,13 @@ fn write_answer<R: Files<File = File>>(
     }
 }
 
-// Gives an open file just these bytes. What isn't a file on a disk, as a pipe or a terminal, has nothing to be cut off.
+// Gives an open file just these bytes. They are synced, since a disk that can't take them may say so only then, and closing a file
+// tells nothing. What isn't a file on a disk, as a pipe or a terminal, has nothing to be cut off or synced.
 fn overwrite(mut file: File, bytes: &[u8]) -> io::Result<()> {
     file.write_all(bytes)?;
     if file.metadata()?.is_file() {
         file.set_len(bytes.len() as u64)?;
+        file.sync_all()?;
     }
-    close(file)
-}
-
-// Closes a file. Dropping it would hide an error that is found only then.
-fn close(file: File) -> io::Result<()> {
-    match libc::close(file.into_raw_fd()) {
-        0 => Ok(()),
-        _ => Err(io::Error::from(ErrorKind::Other)),
-    }
+    Ok(())
 }
