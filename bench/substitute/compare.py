@@ -120,6 +120,9 @@ def main():
     folder = tempfile.mkdtemp()
     path = os.path.join(folder, 'F')
     for kind, tree, parts, which, lines, first, last in cases(count, seed):
+        if not reference.spelled(tree):
+            # No pattern is the remembered one, and there is none.
+            continue
         try:
             right = expected(tree, parts, which, lines, first, last)
         except (reference.TooSlow, RecursionError):
