@@ -27,7 +27,7 @@ fn count_matched(alloc: Global, pattern: &Bre, text: &[u8]) -> Result<usize, All
 }
 
 /// Prints the number of lines in which the pattern has a match.
-pub fn count(rt: &(impl Input + Print + AllocGlobal), word: &[u8]) -> io::Result<()> {
+pub(crate) fn count(rt: &(impl Input + Print + AllocGlobal), word: &[u8]) -> io::Result<()> {
     let Some(pattern) = pattern::read(rt.alloc(), word)? else {
         return println!(rt; "not a pattern");
     };

@@ -5,7 +5,7 @@ use bre_parse::fault::BreFault;
 use std::alloc::{AllocError, Global};
 
 /// The pattern, if the bytes are one.
-pub fn read(alloc: Global, bytes: &[u8]) -> Result<Option<Bre>, AllocError> {
+pub(crate) fn read(alloc: Global, bytes: &[u8]) -> Result<Option<Bre>, AllocError> {
     match Bre::read(alloc, bytes) {
         Ok(pattern) => Ok(Some(pattern)),
         Err(BreFault::Memory) => Err(AllocError),

@@ -42,7 +42,7 @@ fn told(alloc: Global, line: &str) -> Result<String, AllocError> {
 }
 
 /// Prints for each line of standard input where its pattern matches its text.
-pub fn tell(rt: &(impl Input + Print + AllocGlobal)) -> io::Result<()> {
+pub(crate) fn tell(rt: &(impl Input + Print + AllocGlobal)) -> io::Result<()> {
     for line in BufReader::new(rt.alloc(), rt.reader())?.lines(rt.alloc()) {
         let line = line?;
         let told = told(rt.alloc(), line.as_str())?;
