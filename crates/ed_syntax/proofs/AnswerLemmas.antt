@@ -16,10 +16,11 @@ use Rattle.ed_syntax.specs.Effects.{Outcome, Effect, Makes, Asks}
 use Rattle.ed_syntax.specs.SubstitutedLines.{substitute}
 use Rattle.ed_syntax.specs.Files as file
 use Rattle.ed_syntax.specs.Files.{used_path, with_bytes, written_to, with_lines, saved}
+use Rattle.ed_syntax.specs.Globals.{flagged}
 use Rattle.ed_syntax.specs.Applied.{placed, making, effect_of, suffix_written, completed, command}
 use Rattle.ed_syntax.specs.Laws.{serves, UnaskedAnswersDoNothing, NothingIsAskedTwice}
 use Rattle.ed_syntax.proofs.FaultSteps.{Gives, Meets, gives, gives-none, meets, meets-none, bind-gives, bind-any, bind-meets}
-use Rattle.ed_syntax.proofs.FaultLemmas.{Own, fine, placed-own, move-own, substitute-own, making-own, used_path-own, saved-own, file_name-own, quit-own, suffix-own}
+use Rattle.ed_syntax.proofs.FaultLemmas.{Own, fine, placed-own, flagged-own, undo-own, move-own, substitute-own, making-own, used_path-own, saved-own, file_name-own, quit-own, suffix-own}
 
 -- it asks for no file
 abbrev pub IsMade : Effect → Type 0
@@ -114,6 +115,9 @@ effect_of-asking (ed.WriteFile path) listed x target s = asking-after (used_path
 effect_of-asking (ed.Edit path) listed x target s = edit-asking path s
 effect_of-asking (ed.EditAnyway path) listed x target s = edit_anyway-asking path s
 effect_of-asking (ed.FileName path) listed x target s = making-never (file.file_name path s) (file_name-own path s)
+effect_of-asking (ed.Global which pattern) listed x target s =
+    never _ (bind-meets Own (flagged which pattern x s) _ (flagged-own which pattern x s) (λ t. fine _)) (bind-any IsMade (flagged which pattern x s) _ (λ t. made _))
+effect_of-asking ed.Undo listed x target s = making-never (effect.undo s.past s) (undo-own s.past s)
 effect_of-asking ed.Quit listed x target s = making-never (file.quit s) (quit-own s)
 effect_of-asking verb listed x target s = never _ (fine _) (made _)
 

@@ -1,20 +1,24 @@
--- Commands: what is read is spelled so, and what is spelled so is read.
-use Rattle.std.proofs.Common.{◌≡◌, ℕ, ◌+◌, Bool, true, false, List, [], ◌∷◌, ◌++◌, length, Option, Some, refl, sym, ap, ◌∙◌, subst, arith, append_assoc, append-nil}
+-- Commands without a list: what is read is spelled so, and what is spelled so is read.
+use Rattle.std.proofs.Common.{◌≡◌, ℕ, ◌+◌, Bool, true, false, List, [], ◌∷◌, ◌++◌, length, Option, Some, None, refl, sym, ap, ◌∙◌, subst, arith, append_assoc, append-nil}
 use Rattle.std.proofs.lemmas.List.{length-append}
 use Rattle.ed_base.specs.Lines.{newline, IsLine, AreLines, lines_of, bytes_of}
 use Rattle.ed_base.proofs.LineLemmas.{lines_of-whole}
 use Rattle.std.proofs.lemmas.List.Elements.{All-cons, All-head, All-tail}
 use Rattle.ed_syntax.specs.Commands as ed
 use Rattle.ed_syntax.specs.Characters.{equals_sign}
-use Rattle.ed_syntax.specs.Letters.{capital_e, capital_h, capital_p, capital_q, letter_a, letter_c, letter_d, letter_e, letter_f, letter_h, letter_i, letter_j, letter_m, letter_q, letter_r, letter_s, letter_t, letter_w}
-use Rattle.ed_syntax.specs.Commands.{Addresses, Form, Verb, Command, Step, alone}
-use Rattle.ed_syntax.specs.Verbs.{Takes, takes, takes_any, may_have}
-use Rattle.ed_syntax.specs.Parameters.{SpellsText, SpellsPath}
-use Rattle.ed_syntax.specs.Spellings.{SpellsVerb, SpellsCommand, Spells}
-use Rattle.ed_syntax.specs.Tokens.{◌>>=◌}
-use Rattle.ed_syntax.specs.Reading.{Heading, Headed, text, entering, with_text, finished, heading, command_at, step_at}
+use Rattle.ed_syntax.specs.Letters.{capital_e, capital_h, capital_p, capital_q, letter_a, letter_c, letter_d, letter_e, letter_f, letter_h, letter_i, letter_j, letter_m, letter_q, letter_r, letter_s, letter_t, letter_u, letter_w}
+use Rattle.ed_syntax.specs.Commands.{Addresses, Form, Verb, Command}
+use Rattle.ed_syntax.specs.Verbs.{Takes, takes, takes_any, may_have, may_stand}
+use Rattle.ed_syntax.specs.Parameters.{SpellsText, SpellsForm, SpellsPath}
+use Rattle.ed_syntax.specs.Spellings.{SpellsVerb, SpellsCommand}
+use Rattle.ed_syntax.specs.Addressing.{SpellsAddresses}
+use Rattle.ed_syntax.specs.Tokens.{Parsed, ◌>>=◌, addresses}
+use Rattle.ed_syntax.specs.ReadCommands.{Heading, Headed, text, entering, with_text, heading_behind, finished, Behind, command_behind, command_at}
+use Rattle.ed_syntax.specs.ReadGlobals.{sense_at}
 use Rattle.ed_syntax.proofs.StepLemmas.{Some-same, bind-some}
 use Rattle.ed_syntax.proofs.LineParts.{bytes_of-append, same_lines, taken-length}
+use Rattle.ed_syntax.proofs.AddressesLemmas.{addresses-sound, addresses-complete}
+use Rattle.ed_syntax.proofs.StandLemmas.{text-may}
 use Rattle.ed_syntax.proofs.VerbLemmas.{PlainVerb, FileVerb, SpellsLetter}
 use Rattle.ed_syntax.proofs.SubstitutionLemmas.{SpellsSubstitution, substitution-left}
 use Rattle.ed_syntax.proofs.HeadLemmas.{SpellsHead}
@@ -51,6 +55,7 @@ plain-sound {b} PlainVerb.delete more lines are = verb_alone (b ∷ more) more e
 plain-sound {b} PlainVerb.join more lines are = verb_alone (b ∷ more) more ed.Join lines are (SpellsVerb.join more (bytes_of lines))
 plain-sound {b} PlainVerb.line_number more lines are = verb_alone (b ∷ more) more ed.LineNumber lines are (SpellsVerb.line_number more (bytes_of lines))
 plain-sound (PlainVerb.write b form is) more lines are = verb_alone (b ∷ more) more (ed.Write form) lines are (SpellsVerb.write b more (bytes_of lines) form is)
+plain-sound {b} PlainVerb.undo more lines are = verb_alone (b ∷ more) more ed.Undo lines are (SpellsVerb.undo more (bytes_of lines))
 plain-sound {b} PlainVerb.help more lines are = verb_alone (b ∷ more) more ed.Help lines are (SpellsVerb.help more (bytes_of lines))
 plain-sound {b} PlainVerb.help_mode more lines are = verb_alone (b ∷ more) more ed.HelpMode lines are (SpellsVerb.help_mode more (bytes_of lines))
 plain-sound {b} PlainVerb.prompt_mode more lines are = verb_alone (b ∷ more) more ed.PromptMode lines are (SpellsVerb.prompt_mode more (bytes_of lines))
@@ -180,6 +185,7 @@ verb-complete (SpellsVerb.write_file own rest path is) lines are same = file_rea
 verb-complete (SpellsVerb.edit own rest path is) lines are same = file_read letter_e own path (ed.Edit path) lines rest are same FileVerb.edit is refl
 verb-complete (SpellsVerb.edit_anyway own rest path is) lines are same = file_read capital_e own path (ed.EditAnyway path) lines rest are same FileVerb.edit_anyway is refl
 verb-complete (SpellsVerb.file_name own rest path is) lines are same = file_read letter_f own path (ed.FileName path) lines rest are same FileVerb.file_name is refl
+verb-complete (SpellsVerb.undo more rest) lines are same = plain_read letter_u more ed.Undo lines rest are same PlainVerb.undo refl
 verb-complete (SpellsVerb.help more rest) lines are same = plain_read letter_h more ed.Help lines rest are same PlainVerb.help refl
 verb-complete (SpellsVerb.help_mode more rest) lines are same = plain_read capital_h more ed.HelpMode lines rest are same PlainVerb.help_mode refl
 verb-complete (SpellsVerb.prompt_mode more rest) lines are same = plain_read capital_p more ed.PromptMode lines rest are same PlainVerb.prompt_mode refl
@@ -217,11 +223,12 @@ pub record ReadsFirst {A : Type 0} (Spells : List ℕ → List ℕ → A → Typ
   pub counted : length (lines_of bytes) + length r.1 ≡ length lines
   pub are : AreLines r.1
 
-finished-sound : (listed : Bool) (line : List ℕ) (later : List (List ℕ)) (h : Headed) → IsLine line → ReadsHeading line later h →
+-- what was read behind addresses, with its text, is spelled so
+finished-sound : (listed : Bool) (line own : List ℕ) (given : Addresses) (later : List (List ℕ)) (h : Headed) → IsLine line → SpellsAddresses line own given → ReadsHeading listed given own later h →
     ReadsFirst (SpellsCommand listed) (line ∷ later) (finished listed h.0 h.1)
-finished-sound listed line later h is_line is =
-    let own = is.spells in
-    let text = head-sound own.head h.1 is.are in
+finished-sound listed line own given later h is_line addressed is =
+    let here = is.spells in
+    let text = head-sound here.head h.1 is.are in
     let verb = (with_text h.0.verb h.1).0 in
     let rest = (with_text h.0.verb h.1).1 in
     let front = bytes_of is.taken in
@@ -230,36 +237,31 @@ finished-sound listed line later h is_line is =
     record {
       bytes = line ++ newline ∷ (front ++ text.bytes);
       split = ap (λ bytes. line ++ newline ∷ bytes) all ∙ sym (append_assoc line (newline ∷ (front ++ text.bytes)) (bytes_of rest));
-      spells = SpellsCommand.command line own.own own.more (front ++ text.bytes) (bytes_of rest) h.0.addresses verb h.0.suffix is_line own.given text.spells
-          (may_have-text h.0.addresses h.0.verb h.1 ∙ own.allowed) (suffix-same own.end verb (suffix-text h.0.verb h.1));
+      spells = SpellsCommand.command line own here.more (front ++ text.bytes) (bytes_of rest) h.0.addresses verb h.0.suffix is_line
+          (subst (SpellsAddresses line own) (sym is.addresses) addressed) text.spells
+          (may_have-text h.0.addresses h.0.verb h.1 ∙ here.allowed) (text-may listed h.0.verb h.1 ∙ here.standing) (suffix-same here.end verb (suffix-text h.0.verb h.1));
       counted = ap (λ lines. length lines + length rest) (lines_of-whole line (front ++ text.bytes) is_line)
           ∙ omega (arith, text.counted, taken-length is.taken text.bytes is.taken_are, ap length is.split, length-append is.taken h.1);
       are = text.are;
     }
 
+-- a command that is read behind its addresses is spelled so
+pub command_behind-sound : (listed : Bool) (line own : List ℕ) (given : Addresses) (later : List (List ℕ)) (r : Command × List (List ℕ)) → AreLines (line ∷ later) → SpellsAddresses line own given →
+    command_behind listed given own later ≡ Some r → ReadsFirst (SpellsCommand listed) (line ∷ later) r
+command_behind-sound listed line own given later r are addressed is =
+    let h = bind-some (heading_behind listed given own later) (λ h. Some (finished listed h.0 h.1)) r is in
+    subst (ReadsFirst (SpellsCommand listed) (line ∷ later)) (Some-same (finished listed h.0.0 h.0.1) r h.2)
+    (finished-sound listed line own given later h.0 (All-head IsLine line later are) addressed (heading-sound listed given own later h.0 (All-tail IsLine line later are) h.1))
+
 -- a command that is read is spelled so
 pub command-sound : (listed : Bool) (line : List ℕ) (later : List (List ℕ)) (r : Command × List (List ℕ)) → AreLines (line ∷ later) → command_at listed line later ≡ Some r →
     ReadsFirst (SpellsCommand listed) (line ∷ later) r
 command-sound listed line later r are is =
-    let h = bind-some (heading line later) (λ h. Some (finished listed h.0 h.1)) r is in
-    subst (ReadsFirst (SpellsCommand listed) (line ∷ later)) (Some-same (finished listed h.0.0 h.0.1) r h.2)
-    (finished-sound listed line later h.0 (All-head IsLine line later are) (heading-sound line later h.0 (All-tail IsLine line later are) h.1))
-
--- a step that is read is spelled so
-pub step-sound : (line : List ℕ) (later : List (List ℕ)) (r : Step × List (List ℕ)) → AreLines (line ∷ later) → step_at line later ≡ Some r → ReadsFirst Spells (line ∷ later) r
-step-sound line later r are is =
-    let c = bind-some (command_at false line later) (λ c. Some (alone c.0, c.1)) r is in
-    let read = command-sound false line later c.0 are c.1 in
-    subst (ReadsFirst Spells (line ∷ later)) (Some-same (alone c.0.0, c.0.1) r c.2) (record {
-      bytes = read.bytes;
-      split = read.split;
-      spells = Spells.single read.bytes (bytes_of c.0.1) c.0.0 read.spells;
-      counted = read.counted;
-      are = read.are;
-    })
+    let given = bind-some (addresses line) (λ a. command_behind listed a.0 a.1 later) r is in
+    command_behind-sound listed line given.0.1 given.0.0 later r are (addresses-sound line given.0 given.1) given.2
 
 -- what is spelled so: the lines from its own on, and what is read there
-pub record FirstRead {A : Type 0} (read_at : List ℕ → List (List ℕ) → Option (A × List (List ℕ))) (lines : List (List ℕ)) (rest : List ℕ) (x : A) : Type 0 where
+pub record FirstRead {A : Type 0} (read_at : List ℕ → List (List ℕ) → Behind A) (lines : List (List ℕ)) (rest : List ℕ) (x : A) : Type 0 where
   pub line : List ℕ
   pub later : List (List ℕ)
   pub split : lines ≡ line ∷ later
@@ -267,40 +269,90 @@ pub record FirstRead {A : Type 0} (read_at : List ℕ → List (List ℕ) → Op
   pub left : LeftLines rest
   pub read : read_at line later ≡ Some (x, left.lines)
 
+-- a command that is spelled so: the lines from its own on, its addresses, and what is read behind them
+pub record CommandRead (listed : Bool) (lines : List (List ℕ)) (rest : List ℕ) (c : Command) : Type 0 where
+  pub line : List ℕ
+  pub own : List ℕ
+  pub given : Addresses
+  pub later : List (List ℕ)
+  pub split : lines ≡ line ∷ later
+  pub are : AreLines (line ∷ later)
+  pub left : LeftLines rest
+  pub addressed : addresses line ≡ Some (given, own)
+  pub unsensed : sense_at own ≡ None
+  pub read : command_behind listed given own later ≡ Some (c, left.lines)
+
+-- no letter but `g` and `v` is that of a global command
+form-unsensed : {letter : ℕ} {form : Form} (more : List ℕ) → SpellsForm letter form → sense_at (letter ∷ more) ≡ None
+form-unsensed more SpellsForm.plain = refl
+form-unsensed more SpellsForm.numbered = refl
+form-unsensed more SpellsForm.unambiguous = refl
+
+verb-unsensed : {own more text rest : List ℕ} {verb : Verb} → SpellsVerb own more text rest verb → sense_at own ≡ None
+verb-unsensed (SpellsVerb.write letter more rest form is) = form-unsensed more is
+verb-unsensed (SpellsVerb.append more text rest entered is) = refl
+verb-unsensed (SpellsVerb.change more text rest entered is) = refl
+verb-unsensed (SpellsVerb.insert more text rest entered is) = refl
+verb-unsensed (SpellsVerb.delete more rest) = refl
+verb-unsensed (SpellsVerb.mark letter more rest small) = refl
+verb-unsensed (SpellsVerb.join more rest) = refl
+verb-unsensed (SpellsVerb.move own more rest target is) = refl
+verb-unsensed (SpellsVerb.copy own more rest target is) = refl
+verb-unsensed (SpellsVerb.substitute delimiter own after_pattern after_replacement more text rest pattern replacement which form good quoted replaced end) = refl
+verb-unsensed (SpellsVerb.line_number more rest) = refl
+verb-unsensed (SpellsVerb.null rest) = refl
+verb-unsensed (SpellsVerb.read_file own rest path is) = refl
+verb-unsensed (SpellsVerb.write_file own rest path is) = refl
+verb-unsensed (SpellsVerb.edit own rest path is) = refl
+verb-unsensed (SpellsVerb.edit_anyway own rest path is) = refl
+verb-unsensed (SpellsVerb.file_name own rest path is) = refl
+verb-unsensed (SpellsVerb.undo more rest) = refl
+verb-unsensed (SpellsVerb.help more rest) = refl
+verb-unsensed (SpellsVerb.help_mode more rest) = refl
+verb-unsensed (SpellsVerb.prompt_mode more rest) = refl
+verb-unsensed (SpellsVerb.quit more rest) = refl
+verb-unsensed (SpellsVerb.quit_anyway more rest) = refl
+
 abbrev command_with : Bool → Addresses → Option Form → Verb × List (List ℕ) → Command × List (List ℕ)
 command_with listed given suffix r = (record { addresses = given; verb = r.0; suffix = suffix; listed = listed }, r.1)
 
--- a command that is spelled so is read
-pub command-complete : (listed : Bool) {bytes rest : List ℕ} {c : Command} → SpellsCommand listed bytes rest c → (lines : List (List ℕ)) → AreLines lines → bytes ++ rest ≡ bytes_of lines →
-    FirstRead (command_at listed) lines rest c
-command-complete listed (SpellsCommand.command line own more text rest given verb suffix is_line addresses is allowed end) lines are same =
+-- a command that is spelled so is read behind its addresses
+pub command_behind-complete : (listed : Bool) {bytes rest : List ℕ} {c : Command} → SpellsCommand listed bytes rest c → (lines : List (List ℕ)) → AreLines lines → bytes ++ rest ≡ bytes_of lines →
+    CommandRead listed lines rest c
+command_behind-complete listed (SpellsCommand.command line own more text rest given verb suffix is_line addressed is allowed standing end) lines are same =
     let first = first_line line (text ++ rest) lines is_line are (sym (append_assoc line (newline ∷ text) rest) ∙ same) in
     let behind = verb-complete is first.later first.are first.behind in
     let fits : may_have given behind.entered ≡ true = sym (may_have-text given behind.entered behind.behind) ∙ ap (λ r. may_have given r.0) behind.read ∙ allowed in
+    let stands : may_stand listed behind.entered ≡ true = sym (text-may listed behind.entered behind.behind) ∙ ap (λ r. may_stand listed r.0) behind.read ∙ standing in
     let suffixed : (takes behind.entered).suffix ≡ (takes verb).suffix = sym (suffix-text behind.entered behind.behind) ∙ ap (λ r. (takes r.0).suffix) behind.read in
     let h : Heading = record { addresses = given; verb = behind.entered; suffix = suffix } in
-    let spells : SpellsHeading line behind.before h =
-    record { own = own; more = more; given = addresses; head = behind.head; allowed = fits; end = suffix-same end behind.entered suffixed } in
-    let read = heading-complete line behind.before h spells first.later (bytes_of behind.behind) first.are behind.split in
+    let spells : SpellsHeading listed own behind.before h =
+    record { more = more; head = behind.head; allowed = fits; standing = stands; end = suffix-same end behind.entered suffixed } in
+    let read = heading-complete listed own behind.before h spells first.later (bytes_of behind.behind) first.are behind.split in
     let left : read.0.lines ≡ behind.behind = same_lines read.0.lines behind.behind read.0.are behind.behind_are (sym read.0.split) in
     record {
       line = line;
+      own = own;
+      given = given;
       later = first.later;
       split = first.split;
       are = All-cons IsLine line first.later is_line first.are;
       left = behind.left;
+      addressed = addresses-complete addressed;
+      unsensed = verb-unsensed is;
       read = ap (λ (o : Option Headed). o >>= λ h. Some (finished listed h.0 h.1)) (read.1 ∙ ap (λ lines. Some (h, lines)) left) ∙ ap (λ r. Some (command_with listed given suffix r)) behind.read;
     }
 
--- a step that is spelled so is read
-pub step-complete : {bytes rest : List ℕ} {x : Step} → Spells bytes rest x → (lines : List (List ℕ)) → AreLines lines → bytes ++ rest ≡ bytes_of lines → FirstRead step_at lines rest x
-step-complete (Spells.single bytes rest c is) lines are same =
-    let found = command-complete false is lines are same in
+-- a command that is spelled so is read
+pub command-complete : (listed : Bool) {bytes rest : List ℕ} {c : Command} → SpellsCommand listed bytes rest c → (lines : List (List ℕ)) → AreLines lines → bytes ++ rest ≡ bytes_of lines →
+    FirstRead (command_at listed) lines rest c
+command-complete listed is lines are same =
+    let found = command_behind-complete listed is lines are same in
     record {
       line = found.line;
       later = found.later;
       split = found.split;
       are = found.are;
       left = found.left;
-      read = ap (λ (o : Option (Command × List (List ℕ))). o >>= λ r. Some (alone r.0, r.1)) found.read;
+      read = ap (λ (o : Parsed Addresses). o >>= λ r. command_behind listed r.0 r.1 found.later) found.addressed ∙ found.read;
     }

@@ -6,6 +6,7 @@ use Rattle.ed_base.specs.Buffer.{marked_place}
 use Rattle.ed_base.specs.Parts.{between}
 use Rattle.ed_base.specs.declared.fault.Fault.{Fault}
 use Rattle.ed_base.specs.declared.fault.Fault.TheVariants as fault
+use Rattle.ed_syntax.specs.declared.command.Sense.{Sense}
 use Rattle.ed_syntax.specs.declared.replacement.Part.{Part}
 use Rattle.ed_syntax.specs.declared.replacement.Which.{Which}
 use Rattle.ed_syntax.specs.declared.verbs.Taking.{Taking}
@@ -13,7 +14,7 @@ use Rattle.ed_syntax.specs.declared.verbs.Taking.TheVariants as many
 use Rattle.ed_syntax.specs.Commands as ed
 use Rattle.ed_syntax.specs.Commands.{Base, Address, Addresses, Form, Command}
 use Rattle.ed_syntax.specs.Verbs.{takes, given_or, is_split}
-use Rattle.ed_syntax.specs.States.{State, last}
+use Rattle.ed_syntax.specs.States.{State, Past, Nothing, Same, Was, last}
 use Rattle.ed_syntax.specs.Values.{◌>>◌, sought, searched, matches_line, line_at, lines_forward, lines_backward, base_number, within, value, evaluated, moved, values, used_pattern}
 use Rattle.ed_syntax.specs.Ranges.{Span, span, spanned, first_of_two, last_of_two, not_before, ordered, single, whole}
 use Rattle.ed_syntax.specs.Forms.{lines_written}
@@ -22,6 +23,7 @@ use Rattle.ed_syntax.specs.Effects.{Outcome, Makes}
 use Rattle.ed_syntax.specs.SubstitutedLines as substitution
 use Rattle.ed_syntax.specs.SubstitutedLines.{Results, made_of, each, used_replacement, substitute}
 use Rattle.ed_syntax.specs.Files.{used_path, saved, file_name, quit}
+use Rattle.ed_syntax.specs.Globals.{flagged}
 use Rattle.ed_syntax.specs.Applied.{placed, targeted, making, suffix_written}
 use Rattle.ed_syntax.proofs.StepLemmas.{either}
 use Rattle.ed_syntax.proofs.FaultSteps.{Meets, meets, meets-none, bind-meets, ok_or-meets}
@@ -161,3 +163,12 @@ written-own (suc k) written = fine written
 pub suffix-own : (suffix : Option Form) (s : State) → Meets Own (suffix_written suffix s)
 suffix-own None s = fine []
 suffix-own (Some form) s = written-own s.current (lines_written form s.current s.current s.lines)
+
+-- a global command before its list, and undo
+pub flagged-own : (which : Sense) (pattern : Option (List ℕ)) (x : Span) (s : State) → Meets Own (flagged which pattern x s)
+flagged-own which pattern x s = bind-meets Own (used_pattern pattern s) _ (ok_or-meets Own (sought pattern s) fault.Pattern refl) (λ text. fine _)
+
+pub undo-own : (past : Past) (s : State) → Meets Own (effect.undo past s)
+undo-own Nothing s = meets Own fault.Undo refl
+undo-own Same s = fine _
+undo-own (Was before) s = fine _

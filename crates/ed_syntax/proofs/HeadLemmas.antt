@@ -12,7 +12,7 @@ use Rattle.ed_syntax.specs.Tokens.{Parsed, ◌>>=◌}
 use Rattle.ed_syntax.specs.ReadParameters as reading
 use Rattle.ed_syntax.specs.ReadParameters.{Place, ParsedAt, place}
 use Rattle.ed_syntax.specs.ReadVerbs.{path_at, verb_at}
-use Rattle.ed_syntax.specs.Reading.{verb_from}
+use Rattle.ed_syntax.specs.ReadCommands.{verb_from}
 use Rattle.ed_syntax.proofs.StepLemmas.{Some-same, none_some, bind-some, chosen, either}
 use Rattle.ed_syntax.proofs.TextLemmas.{LeftLines}
 use Rattle.ed_syntax.proofs.LineParts.{ReadsOver}

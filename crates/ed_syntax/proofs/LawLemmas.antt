@@ -1,14 +1,18 @@
 -- Scripts: what is read is spelled so, and what is spelled so is read.
-use Rattle.std.proofs.Common.{◌≡◌, ◌≢◌, ℕ, zero, suc, ◌+◌, ◌-◌, ◌≤◌, List, [], ◌∷◌, ◌++◌, length, Option, Some, None, refl, sym, ap, ◌∙◌, subst, arith, append-nil}
+use Rattle.std.proofs.Common.{◌≡◌, ◌≢◌, ℕ, zero, suc, ◌+◌, ◌-◌, ◌≤◌, true, List, [], ◌∷◌, ◌++◌, length, Option, Some, None, refl, sym, ap, ◌∙◌, subst, arith, append-nil}
+use Rattle.std.specs.List.{list_all}
+use Rattle.std.proofs.lemmas.Bool.{and_from, and_parts}
+use Rattle.std.proofs.lemmas.List.Folds.{list_all-append}
 use Rattle.ed_base.specs.Lines.{AreLines, lines_of, bytes_of}
 use Rattle.ed_base.proofs.LineLemmas.{HoldsLines-lines, HoldsLines-lines_of, lines_of-bytes_of}
 use Rattle.ed_syntax.specs.Commands.{Step, Script}
+use Rattle.ed_syntax.specs.Verbs.{is_step}
 use Rattle.ed_syntax.specs.Spellings as spelled
 use Rattle.ed_syntax.specs.Spellings.{Spells, SpellsEach, SpellsSteps, SpellsWhatIsRead, ReadsWhatIsSpelled, line_at_rest}
 use Rattle.ed_syntax.specs.Reading.{step_at, script, script_of, followed}
 use Rattle.ed_syntax.proofs.StepLemmas.{none_some}
 use Rattle.ed_syntax.proofs.TextLemmas.{LeftLines, no_lines}
-use Rattle.ed_syntax.proofs.CommandLemmas.{step-sound, step-complete}
+use Rattle.ed_syntax.proofs.ScriptSteps.{step-sound, step-complete}
 use Rattle.ed_syntax.proofs.ScriptLemmas.{all_before, from_step, step_at-later, script-next}
 
 -- no front of these lines spells a step
@@ -52,7 +56,7 @@ step_spelled n number line later are enough behind None is =
     subst (λ n. SpellsLines number (line ∷ later) (record { steps = []; fault = Some n })) same
     (stuck (line ∷ later) [] (spelled.over (bytes_of (line ∷ later))) are (omega arith) (λ same. cc) (no_front line later are is))
 step_spelled n number line later are enough behind (Some r) is =
-    let read = step-sound line later r are is in
+    let read = (step-sound line later r are is).first in
     let short = step_at-later line later r is in
     let next = number + (suc (length later) - length r.1) in
     spelled_next number next (line ∷ later) r.1 read.bytes r.0 (script n next r.1) read.split read.spells (omega (arith, short)) refl
@@ -120,7 +124,7 @@ stuck_step : (number n : ℕ) (line : List ℕ) (later : List (List ℕ)) → Ar
     from_step n number later o ≡ record { steps = []; fault = Some number }
 stuck_step number n line later are refused None is = refl
 stuck_step number n line later are refused (Some r) is =
-    let read = step-sound line later r are is in
+    let read = (step-sound line later r are is).first in
     absurd (refused read.bytes (bytes_of r.1) r.0 read.split read.spells)
 
 stuck_left : (number : ℕ) (left : List (List ℕ)) → AreLines left → left ≢ [] → Stuck left → script (length left) number left ≡ record { steps = []; fault = Some number }
@@ -146,6 +150,31 @@ script-complete (spelled.stuck text rest xs each some refused) lines are same =
 -- the lines of bytes are lines
 are_lines : (bytes : List ℕ) → AreLines (lines_of bytes)
 are_lines bytes = HoldsLines-lines (HoldsLines-lines_of bytes)
+
+-- the steps of a script that is read may be such
+from_step-stands : (n number : ℕ) (line : List ℕ) (later : List (List ℕ)) → AreLines (line ∷ later) →
+    ((next : ℕ) (rest : List (List ℕ)) → AreLines rest → list_all is_step (script n next rest).steps ≡ true) →
+    (o : Option (Step × List (List ℕ))) → step_at line later ≡ o → list_all is_step (from_step n number later o).steps ≡ true
+from_step-stands n number line later are behind None is = refl
+from_step-stands n number line later are behind (Some r) is =
+    let read = step-sound line later r are is in
+    let next = number + (suc (length later) - length r.1) in
+    and_from (is_step r.0) (list_all is_step (script n next r.1).steps) read.stands (behind next r.1 read.first.are)
+
+script-stands : (n number : ℕ) (lines : List (List ℕ)) → AreLines lines → list_all is_step (script n number lines).steps ≡ true
+script-stands n number [] are = refl
+script-stands zero number (line ∷ later) are = refl
+script-stands (suc n) number (line ∷ later) are =
+    from_step-stands n number line later are (λ next rest rest_are. script-stands n next rest rest_are) (step_at line later) refl
+
+script_of-stands : (bytes : List ℕ) → list_all is_step (script_of bytes).steps ≡ true
+script_of-stands bytes = script-stands (length (lines_of bytes)) 1 (lines_of bytes) (are_lines bytes)
+
+-- and so may the first ones
+pub first-stand : (bytes : List ℕ) (xs : List Step) (s : Script) → all_before xs s ≡ script_of bytes → list_all is_step xs ≡ true
+first-stand bytes xs s is =
+    let all : list_all is_step (xs ++ s.steps) ≡ true = ap (λ (s : Script). list_all is_step s.steps) is ∙ script_of-stands bytes in
+    (and_parts (list_all is_step xs) (list_all is_step s.steps) (sym (list_all-append is_step xs s.steps) ∙ all)).0
 
 pub what_is_read : SpellsWhatIsRead script_of
 what_is_read bytes =

@@ -7,9 +7,15 @@ mod FileRows
 pub mod CutLemmas
 mod SubstitutionRows
 mod SubstituteRows
+mod GlobalRows
+mod UndoRows
+mod SpellingRows
 pub mod StepLemmas
+pub mod ListedLemmas
 pub mod FaultSteps
+pub mod CountLemmas
 pub mod MarkLemmas
+pub mod GlobalLemmas
 pub mod CommandSteps
 pub mod FaultLemmas
 pub mod AnswerLemmas
@@ -36,6 +42,11 @@ pub mod HeadLemmas
 pub mod StandLemmas
 pub mod HeadingLemmas
 pub mod CommandLemmas
+pub mod EndLemmas
+pub mod SplitLemmas
+pub mod JoinedLemmas
+pub mod ListSteps
+pub mod ScriptSteps
 pub mod LawLemmas
 pub mod TextLemmas
 pub mod Fronts

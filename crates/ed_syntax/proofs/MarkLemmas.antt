@@ -1,31 +1,20 @@
 -- What the commands make of lines in which each letter marks at most one line.
-use Rattle.std.proofs.Common.{◌≡◌, ℕ, ◌+◌, ◌≤◌, cond, List, [], ◌∷◌, ◌++◌, map, take, drop, length, Option, Some, None, sym, ap, ◌∙◌, arith}
-use Rattle.std.specs.Prelude.{count_by}
-use Rattle.std.proofs.lemmas.List.Sums.{sum_by-append}
+use Rattle.std.proofs.Common.{◌≡◌, ℕ, ◌+◌, ◌≤◌, List, [], ◌∷◌, ◌++◌, map, take, drop, length, Option, Some, None, ap, ◌∙◌, arith}
+use Rattle.std.specs.Prelude.{false, count_by, slice_index_or}
 use Rattle.std.proofs.lemmas.List.Elements.{All-nil, All-cons, All-head, All-tail, All-append, All-take, All-drop}
 use Rattle.ed_base.specs.Buffer.{Line, plain_line, has_letter, marked_at, KnowLetters}
 use Rattle.ed_base.specs.Parts.{block, exchanged, carried}
 use Rattle.ed_base.proofs.Letters.{once-counts, counts-once, plain-known, plain-uncounted, marked_at-once, marked_at-known}
-use Rattle.ed_base.proofs.PartLemmas.{whole}
 use Rattle.ed_syntax.specs.Laws.{WellMarked}
 use Rattle.ed_syntax.specs.SubstitutedLines.{Results, onto, each}
+use Rattle.ed_syntax.proofs.CountLemmas.{counted-exchanged, counted-each, counted-mapped}
 
 -- how many of these lines a letter marks
 abbrev marked_by : ℕ → List Line → ℕ
 marked_by letter lines = count_by (has_letter letter) lines
 
-marked_by-append : (letter : ℕ) (xs ys : List Line) → marked_by letter (xs ++ ys) ≡ marked_by letter xs + marked_by letter ys
-marked_by-append letter = sum_by-append (λ (line : Line). cond (has_letter letter line) 1 0)
-
-marked_by-whole : (letter a b : ℕ) (xs : List Line) → a ≤ b → marked_by letter (take a xs) + (marked_by letter (block a b xs) + marked_by letter (drop b xs)) ≡ marked_by letter xs
-marked_by-whole letter a b xs h =
-    ap (λ n. marked_by letter (take a xs) + n) (sym (marked_by-append letter (block a b xs) (drop b xs)))
-    ∙ sym (marked_by-append letter (take a xs) (block a b xs ++ drop b xs))
-    ∙ ap (marked_by letter) (whole a b xs h)
-
 marked_by-exchanged : (letter a b : ℕ) (new xs : List Line) → a ≤ b → marked_by letter (exchanged a b new xs) + marked_by letter (block a b xs) ≡ marked_by letter xs + marked_by letter new
-marked_by-exchanged letter a b new xs h =
-    omega (arith, marked_by-whole letter a b xs h, marked_by-append letter (take a xs) (new ++ drop b xs), marked_by-append letter new (drop b xs))
+marked_by-exchanged letter = counted-exchanged (has_letter letter)
 
 -- of a line it is known of each letter whether it marks it
 abbrev Knows : Line → Type 0
@@ -59,16 +48,8 @@ pub well-marked_at : (place letter : ℕ) (xs : List Line) → WellMarked xs →
 well-marked_at place letter xs marked = record { known = marked_at-known place letter xs marked.known; once = marked_at-once place letter xs marked.once }
 
 -- what results of lines by a substitution: no letter marks more of them, and all letters are known
-marked_by-onto : (letter : ℕ) (line : Line) (made : Option (List (List ℕ))) (later : Results) (lines : List Line) → marked_by letter later.0 ≤ marked_by letter lines →
-    marked_by letter (onto line made later).0 ≤ marked_by letter (line ∷ lines)
-marked_by-onto letter line None later lines fewer =
-    omega (arith, fewer, marked_by-append letter (line ∷ []) later.0, marked_by-append letter (line ∷ []) lines)
-marked_by-onto letter line (Some texts) later lines fewer =
-    omega (arith, fewer, marked_by-append letter (map plain_line texts) later.0, plain-uncounted texts letter, marked_by-append letter (line ∷ []) lines)
-
 marked_by-each : (letter : ℕ) (f : List ℕ → Option (List (List ℕ))) (lines : List Line) → marked_by letter (each f lines).0 ≤ marked_by letter lines
-marked_by-each letter f [] = omega arith
-marked_by-each letter f (line ∷ lines) = marked_by-onto letter line (f line.bytes) (each f lines) lines (marked_by-each letter f lines)
+marked_by-each letter = counted-each (has_letter letter) (λ texts. plain-uncounted texts letter)
 
 known-onto : (line : Line) (made : Option (List (List ℕ))) (later : Results) → Knows line → KnowLetters later.0 → KnowLetters (onto line made later).0
 known-onto line None later one others = All-cons Knows line later.0 one others
@@ -84,4 +65,30 @@ well-substituted a b f xs h marked =
     record {
       known = known-exchanged a b new xs (known-each f (block a b xs) (All-drop Knows a (take b xs) (All-take Knows b xs marked.known))) marked.known;
       once = counts-once (exchanged a b new xs) (λ letter. omega (arith, marked_by-exchanged letter a b new xs h, marked_by-each letter f (block a b xs), few marked letter));
+    }
+
+-- lines that are changed, but not in their letters
+abbrev pub KeepsLetters : (Line → Line) → Type 0
+KeepsLetters f = (line : Line) → (f line).letters ≡ line.letters
+
+known-mapped : (f : Line → Line) → KeepsLetters f → (xs : List Line) → KnowLetters xs → KnowLetters (map f xs)
+known-mapped f same [] all = All-nil Knows
+known-mapped f same (line ∷ lines) all =
+    All-cons Knows (f line) (map f lines) (ap length (same line) ∙ All-head Knows line lines all) (known-mapped f same lines (All-tail Knows line lines all))
+
+marked_by-mapped : (letter : ℕ) (f : Line → Line) → KeepsLetters f → (xs : List Line) → marked_by letter (map f xs) ≡ marked_by letter xs
+marked_by-mapped letter f same = counted-mapped (has_letter letter) f (λ line. ap (λ letters. slice_index_or letters letter false) (same line))
+
+pub well-mapped : (f : Line → Line) → KeepsLetters f → (xs : List Line) → WellMarked xs → WellMarked (map f xs)
+well-mapped f same xs marked = record {
+  known = known-mapped f same xs marked.known;
+  once = counts-once (map f xs) (λ letter. omega (arith, marked_by-mapped letter f same xs, few marked letter));
+}
+
+pub well-mapped_block : (a b : ℕ) (f : Line → Line) → KeepsLetters f → (xs : List Line) → a ≤ b → WellMarked xs → WellMarked (exchanged a b (map f (block a b xs)) xs)
+well-mapped_block a b f same xs h marked =
+    let new = map f (block a b xs) in
+    record {
+      known = known-exchanged a b new xs (known-mapped f same (block a b xs) (All-drop Knows a (take b xs) (All-take Knows b xs marked.known))) marked.known;
+      once = counts-once (exchanged a b new xs) (λ letter. omega (arith, marked_by-exchanged letter a b new xs h, marked_by-mapped letter f same (block a b xs), few marked letter));
     }

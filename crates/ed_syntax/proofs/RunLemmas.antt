@@ -1,5 +1,5 @@
 -- How runs end: by faults of their commands, of the script, or of a file that an answer refused.
-use Rattle.std.proofs.Common.{◌≡◌, ℕ, false, List, [], ◌∷◌, Option, Some, None, Result, Ok, Err, refl, subst}
+use Rattle.std.proofs.Common.{◌≡◌, ℕ, zero, suc, false, List, [], ◌∷◌, Option, Some, None, Result, Ok, Err, refl, subst}
 use Rattle.std.proofs.lemmas.Bool.{false≢true}
 use Rattle.ed_base.specs.declared.fault.Fault.{Fault}
 use Rattle.ed_base.specs.declared.fault.Fault.TheVariants as fault
@@ -10,10 +10,12 @@ use Rattle.ed_syntax.specs.declared.request.Request.{Request}
 use Rattle.ed_syntax.specs.declared.request.Request.TheVariants as request
 use Rattle.ed_syntax.specs.Commands as ed
 use Rattle.ed_syntax.specs.Commands.{Verb, Command, Step, Script}
+use Rattle.ed_syntax.specs.States.{State, kept}
 use Rattle.ed_syntax.specs.Effects.{Effect, Makes, Asks}
+use Rattle.ed_syntax.specs.Globals.{flags, next_taken, closed}
 use Rattle.ed_syntax.specs.Applied.{command}
-use Rattle.ed_syntax.specs.Progress.{Present, Ends, Progress, Hears, asked_of, stop_of, failing, ending, quitting}
-use Rattle.ed_syntax.specs.Runs.{Further, answered, asking, turned, one, step_by, prompted, at_end, steps, started, start, present, run}
+use Rattle.ed_syntax.specs.Progress.{Present, Ends, Progress, Hears, Rest, asked_of, stop_of, failing, ending, quitting}
+use Rattle.ed_syntax.specs.Runs.{Further, answered, asking, turned, one, with_state, listed, turn, turns, global, step_by, prompted, at_end, steps, started, start, present, run}
 use Rattle.ed_syntax.specs.Laws.{LastUnserved, last, next, starts, FileCause, at_start, at_command, after_start, NeverEndsBy, FilesHaveACause}
 use Rattle.ed_syntax.proofs.StepLemmas.{either}
 use Rattle.ed_syntax.proofs.FaultSteps.{Gives, Meets}
@@ -69,6 +71,23 @@ one-well c m go well answers =
     asking-well m (command m.state c None) (λ a. command m.state c (Some a)) (λ t. go (turned c.verb t)) (command-asking m.state c)
     (λ t more. well (turned c.verb t) more) answers
 
+-- the commands of a list that are left, and the list for each line that is taken
+pub listed-well : (cs : List Command) (m : Present) (go : Further) → GoesWell go → (answers : List Answer) → EndsWell (listed cs m go answers) answers
+listed-well [] m go well answers = well m answers
+listed-well (c ∷ cs) m go well answers = one-well c m (λ t. listed cs t go) (λ t more. listed-well cs t go well more) answers
+
+turn-well : (taken : Option State) (again : State → Rest) (over : Rest) → ((s : State) (answers : List Answer) → EndsWell (again s answers) answers) →
+    ((answers : List Answer) → EndsWell (over answers) answers) → (answers : List Answer) → EndsWell (turn taken again over answers) answers
+turn-well None again over more done answers = done answers
+turn-well (Some s) again over more done answers = more s answers
+
+pub turns-well : (lines : ℕ) (list : List Command) (m : Present) (go : Further) → GoesWell go → (answers : List Answer) → EndsWell (turns lines list m go answers) answers
+turns-well zero list m go well answers = well _ answers
+turns-well (suc lines) list m go well answers =
+    turn-well (next_taken m.state) (λ s. listed list (with_state s m) (λ t. turns lines list t go)) (go (with_state (closed m.state) m))
+    (λ s more. listed-well list (with_state s m) (λ t. turns lines list t go) (λ t later. turns-well lines list t go well later) more)
+    (λ more. well _ more) answers
+
 quitting-well : (m : Present) (answers : List Answer) → EndsWell (quitting m) answers
 quitting-well m answers =
     either (λ p. EndsWell p answers) m.state.changed _ _ (λ changed. failing-well m fault.Unsaved answers refl) (λ saved. ending-well m answers)
@@ -76,6 +95,8 @@ quitting-well m answers =
 step_by-well : (verb : Verb) (x : Step) (m : Present) (go : Further) → GoesWell go → (answers : List Answer) → EndsWell (step_by verb x m go answers) answers
 step_by-well ed.Quit x m go well answers = quitting-well m answers
 step_by-well ed.QuitAnyway x m go well answers = ending-well m answers
+step_by-well (ed.Global sense pattern) x m go well answers =
+    one-well x.command m (λ t. global (kept m.state) x.list t go) (λ t more. turns-well (flags t.state) x.list _ go well more) answers
 step_by-well _ x m go well answers = one-well x.command m go well answers
 
 prompted-well : (m : Present) (p : Progress) (answers : List Answer) → EndsWell p answers → EndsWell (prompted m p) answers

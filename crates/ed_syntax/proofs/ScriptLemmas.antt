@@ -1,13 +1,17 @@
 -- The script of the lines that are left, one command at a time.
-use Rattle.std.proofs.Common.{◌≡◌, ℕ, zero, suc, ◌+◌, ◌-◌, ◌≤◌, Bool, true, false, List, [], ◌∷◌, ◌++◌, length, Option, Some, None, refl, sym, ap, ◌∙◌, subst, arith, append_assoc}
-use Rattle.std.specs.List.{list_all}
-use Rattle.std.proofs.lemmas.Bool.{and_from}
-use Rattle.std.proofs.lemmas.List.Folds.{list_all-append}
-use Rattle.ed_syntax.specs.Commands.{Verb, Command, Step, Script, alone}
-use Rattle.ed_syntax.specs.Verbs.{takes, is_step}
-use Rattle.ed_syntax.specs.Reading.{is_dot, text, entering, with_text, finished, heading, command_at, step_at, script, followed}
-use Rattle.ed_syntax.proofs.StepLemmas.{Some-same, bind-some}
+use Rattle.std.proofs.Common.{◌≡◌, ℕ, zero, suc, ◌+◌, ◌-◌, ◌≤◌, Bool, true, false, List, [], ◌∷◌, ◌++◌, length, drop, Option, Some, None, refl, sym, ap, ◌∙◌, subst, arith, append_assoc}
+use Rattle.ed_syntax.specs.declared.command.Sense.{Sense}
+use Rattle.ed_syntax.specs.Characters.{is_delimiter}
+use Rattle.ed_syntax.specs.Commands.{Addresses, Verb, Command, Step, Script, alone}
+use Rattle.ed_syntax.specs.Spellings.{global_of}
+use Rattle.ed_syntax.specs.Tokens.{pattern_at, addresses}
+use Rattle.ed_syntax.specs.Verbs.{takes}
+use Rattle.ed_syntax.specs.ReadCommands.{is_dot, text, entering, with_text, heading_behind, finished, Behind, command_behind, command_at}
+use Rattle.ed_syntax.specs.ReadGlobals.{joined, list_of, with_list, global_by, global_behind, sense_at}
+use Rattle.ed_syntax.specs.Reading.{step_by, step_behind, step_at, script, followed}
+use Rattle.ed_syntax.proofs.StepLemmas.{Some-same, none_some, bind-some, either}
 use Rattle.ed_syntax.proofs.LaterLemmas.{heading-later}
+use Rattle.ed_syntax.proofs.JoinedLemmas.{joined-later}
 
 -- steps before a script
 abbrev pub all_before : List Step → Script → Script
@@ -31,18 +35,46 @@ with_text-later verb later =
     ]
 
 -- the same of a command
-command_at-later : (listed : Bool) (line : List ℕ) (later : List (List ℕ)) (r : Command × List (List ℕ)) → command_at listed line later ≡ Some r → length r.1 ≤ length later
-command_at-later listed line later r is =
-    let h = bind-some (heading line later) (λ h. Some (finished listed h.0 h.1)) r is in
+command_behind-later : (listed : Bool) (given : Addresses) (own : List ℕ) (later : List (List ℕ)) (r : Command × List (List ℕ)) → command_behind listed given own later ≡ Some r → length r.1 ≤ length later
+command_behind-later listed given own later r is =
+    let h = bind-some (heading_behind listed given own later) (λ h. Some (finished listed h.0 h.1)) r is in
     let P : Command × List (List ℕ) → Type 0 = λ r. length r.1 ≤ length later in
-    subst P (Some-same (finished listed h.0.0 h.0.1) r h.2) (omega (arith, with_text-later h.0.0.verb h.0.1, heading-later line later h.0 h.1))
+    subst P (Some-same (finished listed h.0.0 h.0.1) r h.2) (omega (arith, with_text-later h.0.0.verb h.0.1, heading-later listed given own later h.0 h.1))
+
+pub command_at-later : (listed : Bool) (line : List ℕ) (later : List (List ℕ)) (r : Command × List (List ℕ)) → command_at listed line later ≡ Some r → length r.1 ≤ length later
+command_at-later listed line later r is =
+    let given = bind-some (addresses line) (λ a. command_behind listed a.0 a.1 later) r is in
+    command_behind-later listed given.0.0 given.0.1 later r given.2
+
+-- the same of a global command
+abbrev StepLater : List (List ℕ) → Behind Step → Type 0
+StepLater later read = (r : Step × List (List ℕ)) → read ≡ Some r → length r.1 ≤ length later
+
+global_by-later : (given : Addresses) (which : Sense) (delimiter : ℕ) (bs : List ℕ) (later : List (List ℕ)) → StepLater later (global_by given which delimiter bs later)
+global_by-later given which delimiter bs later r is =
+    let q = bind-some (pattern_at delimiter bs) (λ q. with_list given which q.0 (joined (drop 1 q.1) later)) r is in
+    let list = joined (drop 1 q.0.1) later in
+    let cs = bind-some (list_of list.0) (λ cs. Some (record { command = global_of given which q.0.0; list = cs }, list.1)) r q.2 in
+    let P : Step × List (List ℕ) → Type 0 = λ r. length r.1 ≤ length later in
+    subst P (Some-same (record { command = global_of given which q.0.0; list = cs.0 }, list.1) r cs.2) (joined-later (drop 1 q.0.1) later)
+
+global-later : (given : Addresses) (which : Sense) (bs : List ℕ) (later : List (List ℕ)) → StepLater later (global_behind given which bs later)
+global-later given which [] later = λ r is. absurd (none_some is)
+global-later given which (b ∷ bs) later =
+    either (StepLater later) (is_delimiter b) (global_by given which b bs later) None (λ good. global_by-later given which b bs later) (λ bad r is. absurd (none_some is))
 
 -- the same of a step
+step_by-later : (o : Option (Sense × List ℕ)) (given : Addresses) (own : List ℕ) (later : List (List ℕ)) → StepLater later (step_by o given own later)
+step_by-later (Some g) given own later = global-later given g.0 g.1 later
+step_by-later None given own later = λ r is.
+    let c = bind-some (command_behind false given own later) (λ c. Some (alone c.0, c.1)) r is in
+    let P : Step × List (List ℕ) → Type 0 = λ r. length r.1 ≤ length later in
+    subst P (Some-same (alone c.0.0, c.0.1) r c.2) (command_behind-later false given own later c.0 c.1)
+
 pub step_at-later : (line : List ℕ) (later : List (List ℕ)) (r : Step × List (List ℕ)) → step_at line later ≡ Some r → length r.1 ≤ length later
 step_at-later line later r is =
-    let c = bind-some (command_at false line later) (λ c. Some (alone c.0, c.1)) r is in
-    let P : Step × List (List ℕ) → Type 0 = λ r. length r.1 ≤ length later in
-    subst P (Some-same (alone c.0.0, c.0.1) r c.2) (command_at-later false line later c.0 c.1)
+    let given = bind-some (addresses line) (λ a. step_behind a.0 a.1 later) r is in
+    step_by-later (sense_at given.0.1) given.0.0 given.0.1 later r given.2
 
 -- the script from a step on
 abbrev pub from_step : ℕ → ℕ → List (List ℕ) → Option (Step × List (List ℕ)) → Script
@@ -90,14 +122,3 @@ all_before-next before line later lines rest x number next split is counted =
     let all : next + length rest ≡ number + suc (length later) = counted ∙ ap (λ ls. number + length ls) split in
     ap (λ xs. record { steps = xs; fault = behind.fault }) (append_assoc before (x ∷ []) behind.steps)
     ∙ ap (all_before before) (sym (script-next line later rest x number next is all) ∙ ap (λ ls. script (length ls) number ls) (sym split))
-
--- what is read outside of lists isn't listed
-pub command_at-listed : (listed : Bool) (line : List ℕ) (later : List (List ℕ)) (r : Command × List (List ℕ)) → command_at listed line later ≡ Some r → r.0.listed ≡ listed
-command_at-listed listed line later r is =
-    let h = bind-some (heading line later) (λ h. Some (finished listed h.0 h.1)) r is in
-    ap (λ (r : Command × List (List ℕ)). r.0.listed) (sym (Some-same (finished listed h.0.0 h.0.1) r h.2))
-
--- one step more of a script
-pub steps-more : (xs : List Step) (x : Step) → list_all is_step xs ≡ true → is_step x ≡ true → list_all is_step (xs ++ x ∷ []) ≡ true
-steps-more xs x all one =
-    list_all-append is_step xs (x ∷ []) ∙ and_from (list_all is_step xs) (list_all is_step (x ∷ [])) all (and_from (is_step x) true one refl)

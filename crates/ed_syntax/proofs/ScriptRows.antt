@@ -1,6 +1,7 @@
 -- Worked scripts, computed from their bytes.
-use Rattle.std.specs.Prelude.{◌≡◌, refl, ℕ, map, pos, false, List, [], ◌∷◌, Some, None, codes}
-use Rattle.ed_syntax.specs.Commands.{Number, Current, Last, Forward, Addresses, Without, One, Comma, Form, Plain, Numbered, Unambiguous, Verb, Append, Change, Delete, Insert, Mark, Move, Copy, Write, HelpMode, QuitAnyway, Command, Script, alone, at_base}
+use Rattle.std.specs.Prelude.{◌≡◌, refl, ℕ, map, pos, true, false, List, [], ◌∷◌, Some, None, codes}
+use Rattle.ed_syntax.specs.declared.command.Sense.TheVariants as sense
+use Rattle.ed_syntax.specs.Commands.{Number, Current, Last, Forward, Addresses, Without, One, Comma, Form, Plain, Numbered, Unambiguous, Verb, Append, Change, Delete, Insert, Mark, Move, Copy, LineNumber, Write, Global, HelpMode, QuitAnyway, Command, Script, alone, at_base}
 use Rattle.ed_syntax.specs.Reading.{script_of}
 
 abbrev command : Addresses → Verb → Command
@@ -8,6 +9,9 @@ command given verb = record { addresses = given; verb = verb; suffix = None; lis
 
 abbrev with_suffix : Addresses → Verb → Form → Command
 with_suffix given verb suffix = record { addresses = given; verb = verb; suffix = Some suffix; listed = false }
+
+abbrev listed : Addresses → Verb → Command
+listed given verb = record { addresses = given; verb = verb; suffix = None; listed = true }
 
 abbrev whole : List Command → Script
 whole commands = record { steps = map alone commands; fault = None }
@@ -88,3 +92,19 @@ suffix_behind_mode = refl
 
 suffix_before_text : script_of (codes "2cp\nx\n.\n0i\ny") ≡ whole (with_suffix (One (at_base (Number 2))) (Change (codes "x" ∷ [])) Plain ∷ command (One (at_base (Number 0))) (Insert (codes "y" ∷ [])) ∷ [])
 suffix_before_text = refl
+
+-- the fault of a list is one of its global command
+fault_in_a_list : script_of (codes "p\ng/a/p\\\nx\\\np\nQ\n") ≡ faulty (command Without (Write Plain) ∷ []) 2
+fault_in_a_list = refl
+
+global_with_a_list : script_of (codes "1,2v//d\\\n.=") ≡ record {
+  steps = record {
+    command = command (Comma (at_base (Number 1)) (at_base (Number 2))) (Global sense.Others None);
+    list = listed Without Delete ∷ listed (One (at_base Current)) LineNumber ∷ [];
+  } ∷ [];
+  fault = None;
+}
+global_with_a_list = refl
+
+list_left_out : script_of (codes "g/a") ≡ record { steps = record { command = command Without (Global sense.Matching (Some (codes "a"))); list = listed Without (Write Plain) ∷ [] } ∷ []; fault = None }
+list_left_out = refl

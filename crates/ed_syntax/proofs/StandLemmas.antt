@@ -1,7 +1,7 @@
--- What is read has letters for its marks, and counts from 1.
-use Rattle.std.proofs.Common.{◌≡◌, ℕ, nat_eq, true, false, List, [], ◌∷◌, Option, Some, None, refl, sym, ap, ◌∙◌, subst, arith}
+-- What is read as a command by itself has no list, letters for its marks, and counts from 1.
+use Rattle.std.proofs.Common.{◌≡◌, ℕ, nat_eq, Bool, true, false, not, ◌&&◌, List, [], ◌∷◌, Option, Some, None, refl, sym, ap, ◌∙◌, subst, arith}
 use Rattle.std.specs.Prelude.{nat_lt}
-use Rattle.std.proofs.lemmas.Bool.{lt-ltb, le-leb, and_from}
+use Rattle.std.proofs.lemmas.Bool.{lt-ltb, le-leb, and_from, and_parts}
 use Rattle.ed_syntax.specs.declared.replacement.Part.{Part}
 use Rattle.ed_syntax.specs.declared.replacement.Which.{Which}
 use Rattle.ed_syntax.specs.declared.replacement.Which.TheVariants as which
@@ -9,17 +9,26 @@ use Rattle.ed_syntax.specs.Characters.{is_delimiter}
 use Rattle.ed_syntax.specs.Letters.{letter_s}
 use Rattle.ed_syntax.specs.Commands as ed
 use Rattle.ed_syntax.specs.Commands.{Addresses, Form, Verb, Command}
-use Rattle.ed_syntax.specs.Verbs.{takes, is_sound}
+use Rattle.ed_syntax.specs.Verbs.{takes, may_have, may_stand, is_sound}
 use Rattle.ed_syntax.specs.Parameters.{SpellsWhich, SpellsFlags}
-use Rattle.ed_syntax.specs.Tokens.{◌>>=◌, pattern_at, addresses}
+use Rattle.ed_syntax.specs.Tokens.{◌>>=◌, pattern_at}
 use Rattle.ed_syntax.specs.ReadParameters.{Place, ParsedAt, place, replacement, end_at, substitution_with, substitution}
 use Rattle.ed_syntax.specs.ReadVerbs.{verb_at}
-use Rattle.ed_syntax.specs.Reading.{Heading, Headed, verb_from, suffix_with, text, entering, with_text, heading_with, headed, heading_behind, heading, finished, command_at}
+use Rattle.ed_syntax.specs.ReadCommands.{Heading, Headed, verb_from, suffix_at, suffix_with, text, entering, with_text, heading_with, headed, heading_behind, finished, command_behind}
 use Rattle.ed_syntax.proofs.StepLemmas.{Some-same, none_some, bind-some, either}
 use Rattle.ed_syntax.proofs.VerbLemmas.{PlainVerb, FileVerb, SpellsLetter, verb_at-sound}
 use Rattle.ed_syntax.proofs.FlagsLemmas.{flags-sound}
 
-plain-stands : {b : ℕ} {verb : Verb} → PlainVerb b verb → is_sound verb ≡ true
+-- a command that has a list
+abbrev pub is_global : Verb → Bool
+is_global (ed.Global sense pattern) = true
+is_global _ = false
+
+-- it has no list, and its letter and its count are such
+abbrev pub stands : Verb → Bool
+stands verb = not (is_global verb) && is_sound verb
+
+plain-stands : {b : ℕ} {verb : Verb} → PlainVerb b verb → stands verb ≡ true
 plain-stands PlainVerb.append = refl
 plain-stands PlainVerb.change = refl
 plain-stands PlainVerb.insert = refl
@@ -27,20 +36,21 @@ plain-stands PlainVerb.delete = refl
 plain-stands PlainVerb.join = refl
 plain-stands PlainVerb.line_number = refl
 plain-stands (PlainVerb.write b form is) = refl
+plain-stands PlainVerb.undo = refl
 plain-stands PlainVerb.help = refl
 plain-stands PlainVerb.help_mode = refl
 plain-stands PlainVerb.prompt_mode = refl
 plain-stands PlainVerb.quit = refl
 plain-stands PlainVerb.quit_anyway = refl
 
-file-stands : {path : Option (List ℕ)} {b : ℕ} {verb : Verb} → FileVerb path b verb → is_sound verb ≡ true
+file-stands : {path : Option (List ℕ)} {b : ℕ} {verb : Verb} → FileVerb path b verb → stands verb ≡ true
 file-stands FileVerb.read_file = refl
 file-stands FileVerb.write_file = refl
 file-stands FileVerb.edit = refl
 file-stands FileVerb.edit_anyway = refl
 file-stands FileVerb.file_name = refl
 
-letter-stands : {own more : List ℕ} {verb : Verb} → SpellsLetter own more verb → is_sound verb ≡ true
+letter-stands : {own more : List ℕ} {verb : Verb} → SpellsLetter own more verb → stands verb ≡ true
 letter-stands SpellsLetter.null = refl
 letter-stands (SpellsLetter.plain b more verb is) = plain-stands is
 letter-stands (SpellsLetter.mark letter more small) = and_from (nat_lt letter 26) true (lt-ltb letter 26 small) refl
@@ -49,31 +59,31 @@ letter-stands (SpellsLetter.copy own more target is) = refl
 letter-stands (SpellsLetter.file b own path verb is spells) = file-stands is
 
 module _ (pattern : Option (List ℕ)) (replaced : Option (List Part)) where
-  which-stands : {text rest : List ℕ} {w : Which} (form : Option Form) → SpellsWhich text rest w → is_sound (ed.Substitute pattern replaced w form) ≡ true
+  which-stands : {text rest : List ℕ} {w : Which} (form : Option Form) → SpellsWhich text rest w → stands (ed.Substitute pattern replaced w form) ≡ true
   which-stands form (SpellsWhich.all rest) = refl
   which-stands form (SpellsWhich.nth text rest n is some) = le-leb 1 n (omega (arith, some))
 
-  flags-stands : {text rest : List ℕ} {w : Which} {form : Option Form} → SpellsFlags text rest w form → is_sound (ed.Substitute pattern replaced w form) ≡ true
+  flags-stands : {text rest : List ℕ} {w : Which} {form : Option Form} → SpellsFlags text rest w form → stands (ed.Substitute pattern replaced w form) ≡ true
   flags-stands (SpellsFlags.none rest) = refl
   flags-stands (SpellsFlags.choice text rest w is) = which-stands None is
   flags-stands (SpellsFlags.form letter rest form is) = refl
   flags-stands (SpellsFlags.choice_form letter text rest w form is spells) = which-stands (Some form) is
   flags-stands (SpellsFlags.form_choice letter text rest w form spells is) = which-stands (Some form) is
 
-  end-stands : (text : List ℕ) (e : (Which × Option Form) × List ℕ) → end_at text ≡ Some e → is_sound (ed.Substitute pattern replaced e.0.0 e.0.1) ≡ true
-  end-stands [] e is = subst (λ (e : (Which × Option Form) × List ℕ). is_sound (ed.Substitute pattern replaced e.0.0 e.0.1) ≡ true) (Some-same ((which.First, Some ed.Plain), []) e is) refl
+  end-stands : (text : List ℕ) (e : (Which × Option Form) × List ℕ) → end_at text ≡ Some e → stands (ed.Substitute pattern replaced e.0.0 e.0.1) ≡ true
+  end-stands [] e is = subst (λ (e : (Which × Option Form) × List ℕ). stands (ed.Substitute pattern replaced e.0.0 e.0.1) ≡ true) (Some-same ((which.First, Some ed.Plain), []) e is) refl
   end-stands (b ∷ bs) e is = flags-stands (flags-sound bs e is)
 
 -- all that may be read stands
 abbrev Stands : ParsedAt Verb → Type 0
-Stands read = (r : Verb × Place) → read ≡ Some r → is_sound r.0 ≡ true
+Stands read = (r : Verb × Place) → read ≡ Some r → stands r.0 ≡ true
 
 with-stands : (delimiter : ℕ) (pattern : Option (List ℕ)) (bs : List ℕ) (lines : List (List ℕ)) → Stands (substitution_with delimiter pattern bs lines)
 with-stands delimiter pattern [] lines r is = absurd (none_some is)
 with-stands delimiter pattern (b ∷ bs) lines r is =
     let found = bind-some (replacement delimiter bs lines) (λ r. end_at r.1.line >>= λ e. Some (ed.Substitute pattern r.0 e.0.0 e.0.1, place e.1 r.1.later)) r is in
     let end = bind-some (end_at found.0.1.line) (λ e. Some (ed.Substitute pattern found.0.0 e.0.0 e.0.1, place e.1 found.0.1.later)) r found.2 in
-    subst (λ (r : Verb × Place). is_sound r.0 ≡ true) (Some-same (ed.Substitute pattern found.0.0 end.0.0.0 end.0.0.1, place end.0.1 found.0.1.later) r end.2)
+    subst (λ (r : Verb × Place). stands r.0 ≡ true) (Some-same (ed.Substitute pattern found.0.0 end.0.0.0 end.0.0.1, place end.0.1 found.0.1.later) r end.2)
     (end-stands pattern found.0.0 found.0.1.line end.0 end.1)
 
 substitution-stands : (own : List ℕ) (lines : List (List ℕ)) → Stands (substitution own lines)
@@ -86,43 +96,74 @@ substitution-stands (b ∷ bs) lines =
     (λ bad r is. absurd (none_some is))
 
 verb-stands : (own : List ℕ) (lines : List (List ℕ)) → Stands (verb_from own lines)
-verb-stands [] lines = λ r is. subst (λ (r : Verb × Place). is_sound r.0 ≡ true) (Some-same (ed.Null, place [] lines) r is) refl
+verb-stands [] lines = λ r is. subst (λ (r : Verb × Place). stands r.0 ≡ true) (Some-same (ed.Null, place [] lines) r is) refl
 verb-stands (b ∷ bs) lines =
     either Stands (nat_eq b letter_s) _ _ (λ yes. substitution-stands bs lines)
     (λ no r is.
     let found = bind-some (verb_at (b ∷ bs)) (λ r. Some (r.0, place r.1 lines)) r is in
-    subst (λ (r : Verb × Place). is_sound r.0 ≡ true) (Some-same (found.0.0, place found.0.1 lines) r found.2) (letter-stands (verb_at-sound (b ∷ bs) found.0 found.1)))
+    subst (λ (r : Verb × Place). stands r.0 ≡ true) (Some-same (found.0.0, place found.0.1 lines) r found.2) (letter-stands (verb_at-sound (b ∷ bs) found.0 found.1)))
 
-heading_with-verb : (given : Addresses) (more : List ℕ) (verb : Verb) (h : Heading) → heading_with given more verb ≡ Some h → h.verb ≡ verb
-heading_with-verb given more verb h is =
-    let found = bind-some (suffix_with given verb more) (λ suffix. Some (record { addresses = given; verb = verb; suffix = suffix })) h is in
-    ap (λ (h : Heading). h.verb) (sym (Some-same (record { addresses = given; verb = verb; suffix = found.0 }) h found.2))
+-- the verb of a heading, and that it may stand there
+suffix_with-may : (listed : Bool) (given : Addresses) (verb : Verb) (more : List ℕ) (suffix : Option Form) → suffix_with listed given verb more ≡ Some suffix → may_stand listed verb ≡ true
+suffix_with-may listed given verb more suffix =
+    either (λ (o : Option (Option Form)). o ≡ Some suffix → may_stand listed verb ≡ true) (may_have given verb && may_stand listed verb) (suffix_at verb more) None
+    (λ both is. (and_parts (may_have given verb) (may_stand listed verb) both).1)
+    (λ no is. absurd (none_some is))
 
-heading-stands : (line : List ℕ) (lines : List (List ℕ)) (h : Headed) → heading line lines ≡ Some h → is_sound h.0.verb ≡ true
-heading-stands line lines h is =
-    let given = bind-some (addresses line) (λ r. heading_behind r.0 r.1 lines) h is in
-    let verb = bind-some (verb_from given.0.1 lines) (λ r. headed r.1.later (heading_with given.0.0 r.1.line r.0)) h given.2 in
-    let found = bind-some (heading_with given.0.0 verb.0.1.line verb.0.0) (λ h. Some (h, verb.0.1.later)) h verb.2 in
-    ap (λ (h : Headed). is_sound h.0.verb) (sym (Some-same (found.0, verb.0.1.later) h found.2))
-    ∙ ap is_sound (heading_with-verb given.0.0 verb.0.1.line verb.0.0 found.0 found.1)
-    ∙ verb-stands given.0.1 lines verb.0 verb.1
+heading_with-verb : (listed : Bool) (given : Addresses) (more : List ℕ) (verb : Verb) (h : Heading) → heading_with listed given more verb ≡ Some h → (h.verb ≡ verb) × (may_stand listed verb ≡ true)
+heading_with-verb listed given more verb h is =
+    let found = bind-some (suffix_with listed given verb more) (λ suffix. Some (record { addresses = given; verb = verb; suffix = suffix })) h is in (
+      ap (λ (h : Heading). h.verb) (sym (Some-same (record { addresses = given; verb = verb; suffix = found.0 }) h found.2)),
+      suffix_with-may listed given verb more found.0 found.1,
+    )
 
-entering-stands : (entered : List (List ℕ)) (verb : Verb) → is_sound (entering entered verb) ≡ is_sound verb
+heading-stands : (listed : Bool) (given : Addresses) (own : List ℕ) (lines : List (List ℕ)) (h : Headed) → heading_behind listed given own lines ≡ Some h →
+    (stands h.0.verb ≡ true) × (may_stand listed h.0.verb ≡ true)
+heading-stands listed given own lines h is =
+    let verb = bind-some (verb_from own lines) (λ r. headed r.1.later (heading_with listed given r.1.line r.0)) h is in
+    let found = bind-some (heading_with listed given verb.0.1.line verb.0.0) (λ h. Some (h, verb.0.1.later)) h verb.2 in
+    let here = heading_with-verb listed given verb.0.1.line verb.0.0 found.0 found.1 in
+    let same = Some-same (found.0, verb.0.1.later) h found.2 in (
+      ap (λ (h : Headed). stands h.0.verb) (sym same) ∙ ap stands here.0 ∙ verb-stands own lines verb.0 verb.1,
+      ap (λ (h : Headed). may_stand listed h.0.verb) (sym same) ∙ ap (may_stand listed) here.0 ∙ here.1,
+    )
+
+-- a text changes nothing of that
+entering-stands : (entered : List (List ℕ)) (verb : Verb) → stands (entering entered verb) ≡ stands verb
 entering-stands entered (ed.Append _) = refl
 entering-stands entered (ed.Change _) = refl
 entering-stands entered (ed.Insert _) = refl
 entering-stands entered _ = refl
 
-text-stands : (verb : Verb) (later : List (List ℕ)) → is_sound (with_text verb later).0 ≡ is_sound verb
+text-stands : (verb : Verb) (later : List (List ℕ)) → stands (with_text verb later).0 ≡ stands verb
 text-stands verb later =
-    elim (takes verb).text as (λ t. is_sound (let r : Verb × List (List ℕ) = elim t [ true ↦ (entering (text later).0 verb, (text later).1) | false ↦ (verb, later) ] in r.0) ≡ is_sound verb) [
-      | true ↦ entering-stands (text later).0 verb
-      | false ↦ refl
-    ]
+    either (λ (r : Verb × List (List ℕ)). stands r.0 ≡ stands verb) (takes verb).text (entering (text later).0 verb, (text later).1) (verb, later)
+    (λ yes. entering-stands (text later).0 verb) (λ no. refl)
 
-pub command_at-stands : (listed : _) (line : List ℕ) (later : List (List ℕ)) (r : Command × List (List ℕ)) → command_at listed line later ≡ Some r → is_sound r.0.verb ≡ true
-command_at-stands listed line later r is =
-    let h = bind-some (heading line later) (λ h. Some (finished listed h.0 h.1)) r is in
-    ap (λ (r : Command × List (List ℕ)). is_sound r.0.verb) (sym (Some-same (finished listed h.0.0 h.0.1) r h.2))
-    ∙ text-stands h.0.0.verb h.0.1
-    ∙ heading-stands line later h.0 h.1
+entering-may : (listed : Bool) (entered : List (List ℕ)) (verb : Verb) → may_stand listed (entering entered verb) ≡ may_stand listed verb
+entering-may listed entered (ed.Append _) = refl
+entering-may listed entered (ed.Change _) = refl
+entering-may listed entered (ed.Insert _) = refl
+entering-may listed entered _ = refl
+
+pub text-may : (listed : Bool) (verb : Verb) (later : List (List ℕ)) → may_stand listed (with_text verb later).0 ≡ may_stand listed verb
+text-may listed verb later =
+    either (λ (r : Verb × List (List ℕ)). may_stand listed r.0 ≡ may_stand listed verb) (takes verb).text (entering (text later).0 verb, (text later).1) (verb, later)
+    (λ yes. entering-may listed (text later).0 verb) (λ no. refl)
+
+-- a command that is read stands, may stand there, and is listed as it should be
+pub record CommandStands (listed : Bool) (c : Command) : Type 0 where
+  pub marked : c.listed ≡ listed
+  pub sound : stands c.verb ≡ true
+  pub may : may_stand listed c.verb ≡ true
+
+pub command_behind-stands : (listed : Bool) (given : Addresses) (own : List ℕ) (later : List (List ℕ)) (r : Command × List (List ℕ)) → command_behind listed given own later ≡ Some r →
+    CommandStands listed r.0
+command_behind-stands listed given own later r is =
+    let h = bind-some (heading_behind listed given own later) (λ h. Some (finished listed h.0 h.1)) r is in
+    let here = heading-stands listed given own later h.0 h.1 in
+    subst (λ (r : Command × List (List ℕ)). CommandStands listed r.0) (Some-same (finished listed h.0.0 h.0.1) r h.2) (record {
+      marked = refl;
+      sound = text-stands h.0.0.verb h.0.1 ∙ here.0;
+      may = text-may listed h.0.0.verb h.0.1 ∙ here.1;
+    })

@@ -12,7 +12,7 @@ use Rattle.ed_syntax.specs.Addressing.{Blanks}
 use Rattle.ed_syntax.specs.Parameters.{SpellsForm}
 use Rattle.ed_syntax.specs.Spellings.{SpellsSuffix}
 use Rattle.ed_syntax.specs.ReadParameters.{form_of}
-use Rattle.ed_syntax.specs.Reading.{is_over, suffix_at}
+use Rattle.ed_syntax.specs.ReadCommands.{is_over, suffix_at}
 use Rattle.ed_syntax.proofs.StepLemmas.{Some-same, none_some, chosen, either}
 use Rattle.ed_syntax.proofs.BlankLemmas.{IsBlank}
 

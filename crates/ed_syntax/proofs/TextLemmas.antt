@@ -6,7 +6,7 @@ use Rattle.ed_base.specs.Lines.{newline, IsLine, AreLines, lines_of, bytes_of}
 use Rattle.ed_base.proofs.LineLemmas.{lines_of-whole}
 use Rattle.ed_syntax.specs.Parameters as spelled
 use Rattle.ed_syntax.specs.Parameters.{SpellsText}
-use Rattle.ed_syntax.specs.Reading.{is_dot, text}
+use Rattle.ed_syntax.specs.ReadCommands.{is_dot, text}
 
 -- the first newline ends the first line, whatever follows
 pub same_line : (line other rest more : List ℕ) → IsLine line → IsLine other → line ++ newline ∷ rest ≡ other ++ newline ∷ more → (line ≡ other) × (rest ≡ more)

@@ -2,7 +2,7 @@
 use Rattle.std.proofs.Common.{◌≡◌, ℕ, ◌+◌, ◌<◌, true, nat_eq, List, [], ◌∷◌, Option, Some, None, refl, sym, ap, ◌∙◌, subst}
 use Rattle.std.proofs.lemmas.Bool.{eqb-true}
 use Rattle.ed_syntax.specs.Characters.{equals_sign, behind_blanks}
-use Rattle.ed_syntax.specs.Letters.{capital_e, capital_h, capital_p, capital_q, letter_a, letter_c, letter_d, letter_e, letter_f, letter_h, letter_i, letter_j, letter_k, letter_m, letter_q, letter_r, letter_t, letter_w}
+use Rattle.ed_syntax.specs.Letters.{capital_e, capital_h, capital_p, capital_q, letter_a, letter_c, letter_d, letter_e, letter_f, letter_h, letter_i, letter_j, letter_k, letter_m, letter_q, letter_r, letter_t, letter_u, letter_w}
 use Rattle.ed_syntax.specs.Commands as ed
 use Rattle.ed_syntax.specs.Commands.{Address, Form, Verb}
 use Rattle.ed_syntax.specs.Addressing.{SpellsAddress}
@@ -22,6 +22,7 @@ pub data PlainVerb : ℕ → Verb → Type 0 where
   join : PlainVerb letter_j ed.Join
   line_number : PlainVerb equals_sign ed.LineNumber
   write : (letter : ℕ) (form : Form) → SpellsForm letter form → PlainVerb letter (ed.Write form)
+  undo : PlainVerb letter_u ed.Undo
   help : PlainVerb letter_h ed.Help
   help_mode : PlainVerb capital_h ed.HelpMode
   prompt_mode : PlainVerb capital_p ed.PromptMode
@@ -61,11 +62,12 @@ plain_verbs-plain =
     (first _ _ _ (write _ _ SpellsForm.numbered)
     (first _ _ _ (write _ _ SpellsForm.plain)
     (first _ _ _ line_number
+    (first _ _ _ undo
     (first _ _ _ help
     (first _ _ _ help_mode
     (first _ _ _ prompt_mode
     (first _ _ _ quit
-    (first _ _ _ quit_anyway none)))))))))))))
+    (first _ _ _ quit_anyway none))))))))))))))
 
 file_verbs-file : (path : Option (List ℕ)) → AreAll (FileVerb path) (file_verbs path)
 file_verbs-file path = first _ _ _ edit (first _ _ _ edit_anyway (first _ _ _ file_name (first _ _ _ read_file (first _ _ _ write_file none))))
@@ -176,6 +178,7 @@ verb_at-plain delete more = refl
 verb_at-plain join more = refl
 verb_at-plain line_number more = refl
 verb_at-plain (write b form is) more = verb_at-write is more
+verb_at-plain undo more = refl
 verb_at-plain help more = refl
 verb_at-plain help_mode more = refl
 verb_at-plain prompt_mode more = refl

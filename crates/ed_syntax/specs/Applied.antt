@@ -1,12 +1,12 @@
 -- A command's meaning: the state and the output after it, a file that it needs, or its fault (XCU ed, "Commands in ed").
-use Rattle.std.specs.Prelude.{ℕ, zero, suc, Bool, true, false, List, [], ◌++◌, Option, Some, None, Result, Ok, Err}
+use Rattle.std.specs.Prelude.{ℕ, zero, suc, Bool, true, false, List, [], ◌++◌, Option, Some, None, option_map, Result, Ok, Err}
 use Rattle.ed_base.specs.declared.fault.Fault.{Fault}
 use Rattle.ed_base.specs.declared.fault.Fault.TheVariants as fault
 use Rattle.ed_syntax.specs.declared.request.Answer.{Answer}
 use Rattle.ed_syntax.specs.Commands as ed
 use Rattle.ed_syntax.specs.Commands.{Address, Form, Verb, Command}
 use Rattle.ed_syntax.specs.Verbs.{takes, given_or}
-use Rattle.ed_syntax.specs.States.{State, Kept, Past, Was, kept, last}
+use Rattle.ed_syntax.specs.States.{State, Kept, Past, Was, kept, last, noted}
 use Rattle.ed_syntax.specs.Values.{◌>>◌, value, evaluated, values}
 use Rattle.ed_syntax.specs.Ranges.{Span, spanned}
 use Rattle.ed_syntax.specs.Forms.{lines_written}
@@ -14,13 +14,14 @@ use Rattle.ed_syntax.specs.Effects as effect
 use Rattle.ed_syntax.specs.Effects.{Outcome, Effect, Makes, Asks, only}
 use Rattle.ed_syntax.specs.SubstitutedLines.{substitute}
 use Rattle.ed_syntax.specs.Files as file
+use Rattle.ed_syntax.specs.Globals.{flagged}
 
 -- an outcome, where there is no fault
 abbrev pub making : Result Outcome Fault → Result Effect Fault
 making r = r >> λ o. Ok (Makes o)
 
--- What a command does at the lines of a span, and at its target; an answer that isn't asked for isn't looked at. Modes and the end
--- belong to the run.
+-- What a command does at the lines of a span, and at its target; an answer that isn't asked for isn't looked at. Of `g` and `v` it is
+-- what comes before their list; lists, modes and the end belong to the run.
 abbrev pub effect_of : Verb → (listed : Bool) → Span → (target : ℕ) → State → Option Answer → Result Effect Fault
 effect_of (ed.Append text) listed x target s given = Ok (Makes (effect.append text x s))
 effect_of (ed.Change text) listed x target s given = Ok (Makes (effect.change text x s))
@@ -39,6 +40,8 @@ effect_of (ed.WriteFile path) listed x target s given = file.write path given x 
 effect_of (ed.Edit path) listed x target s given = file.edit path given s
 effect_of (ed.EditAnyway path) listed x target s given = file.edit_anyway path given s
 effect_of (ed.FileName path) listed x target s given = making (file.file_name path s)
+effect_of (ed.Global sense pattern) listed x target s given = flagged sense pattern x s >> λ t. Ok (Makes (only t []))
+effect_of ed.Undo listed x target s given = making (effect.undo s.past s)
 effect_of ed.Help listed x target s given = Ok (Makes (only s []))
 effect_of ed.HelpMode listed x target s given = Ok (Makes (only s []))
 effect_of ed.PromptMode listed x target s given = Ok (Makes (only s []))
@@ -73,10 +76,13 @@ abbrev pub past_after : (listed : Bool) → Kept → Past → Past
 past_after true before past = past
 past_after false before past = Was before
 
--- a change sets the flag, and undo becomes the buffer before the command
+-- a state that was changed: undo becomes the buffer before the command, and a global command that is open knows of the change
+abbrev pub changed_from : (listed : Bool) → Kept → State → State
+changed_from listed before s = record s { changed = true; past = past_after listed before s.past; global = option_map noted s.global }
+
+-- what a command leaves, which came from this buffer
 abbrev pub settled : (listed : Bool) → Kept → Outcome → State
-settled listed before o =
-    elim o.alters [ true ↦ record o.state { changed = true; past = past_after listed before o.state.past } | false ↦ o.state ]
+settled listed before o = elim o.alters [ true ↦ changed_from listed before o.state | false ↦ o.state ]
 
 -- the file that a command asks for, or what it did and what its suffix writes
 abbrev pub completed : Command → State → Effect → Result Effect Fault

@@ -78,6 +78,10 @@ is_letter b = (nat_le 65 b && nat_le b 90) || (nat_le 97 b && nat_le b 122)
 abbrev pub is_delimiter : ℕ → Bool
 is_delimiter b = nat_le 33 b && nat_le b 126 && not (is_letter b) && not (is_digit b) && not (nat_eq b backslash)
 
+-- the line ends in an odd number of backslashes, so that the next one goes on with it
+abbrev pub goes_on : List ℕ → Bool
+goes_on = fold (λ odd b. nat_eq b backslash && not odd) false
+
 -- the sign of an offset
 abbrev pub is_sign : ℕ → Bool
 is_sign b = nat_eq b plus_sign || nat_eq b hyphen

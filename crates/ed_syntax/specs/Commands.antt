@@ -2,6 +2,7 @@
 use Rattle.std.specs.Prelude.{ℕ, ℤ, pos, Bool, List, [], Option}
 use Rattle.ed_syntax.specs.declared.replacement.Part.{Part}
 use Rattle.ed_syntax.specs.declared.replacement.Which.{Which}
+use Rattle.ed_syntax.specs.declared.command.Sense.{Sense}
 
 -- Where an address begins: a line's number, the current line, the last line, a line with a mark, or the next line forward or
 -- backward that a pattern matches. Letters count from 0, which is `a`; a pattern is its text, and none is the remembered one.
@@ -38,7 +39,7 @@ pub data Form : Type 0 where
 -- A command's letter with its parameters: `a`, `c` and `i` with their text, `d`, `j`, `k` with the letter that marks, `m` and `t`
 -- with their target, `s` with its pattern and its replacement, where none is the remembered one, which matches it takes and the form
 -- in which it writes; `=`, the null command, `l`, `n` and `p` by the form that they write in; `r`, `w`, `e`, `E` and `f` with their
--- path, where none is the remembered one; `h`, `H`, `P`, `q`, `Q`.
+-- path, where none is the remembered one; `g` and `v` with their pattern, without their list; `u`, `h`, `H`, `P`, `q`, `Q`.
 pub data Verb : Type 0 where
   Append : (text : List (List ℕ)) → Verb
   Change : (text : List (List ℕ)) → Verb
@@ -57,6 +58,8 @@ pub data Verb : Type 0 where
   Edit : (path : Option (List ℕ)) → Verb
   EditAnyway : (path : Option (List ℕ)) → Verb
   FileName : (path : Option (List ℕ)) → Verb
+  Global : (sense : Sense) → (pattern : Option (List ℕ)) → Verb
+  Undo : Verb
   Help : Verb
   HelpMode : Verb
   PromptMode : Verb
@@ -70,7 +73,7 @@ pub record Command : Type 0 where
   pub suffix : Option Form
   pub listed : Bool
 
--- a step of a script: a command, and the list that a global command has; all others have none
+-- a step of a script: a command, and the list that `g` and `v` have; all others have none
 pub record Step : Type 0 where
   pub command : Command
   pub list : List Command

@@ -8,7 +8,7 @@ use Rattle.ed_base.specs.declared.fault.Fault.{Fault}
 use Rattle.ed_base.specs.declared.fault.Fault.TheVariants as fault
 use Rattle.ed_syntax.specs.declared.request.Request.{Request}
 use Rattle.ed_syntax.specs.Commands.{Form}
-use Rattle.ed_syntax.specs.States.{State, last}
+use Rattle.ed_syntax.specs.States.{State, Past, Nothing, Same, Was, kept, last}
 use Rattle.ed_syntax.specs.Forms.{lines_written}
 use Rattle.ed_syntax.specs.Ranges.{Span}
 
@@ -96,3 +96,9 @@ line_number x s = only s (decimal x.last ++ newline ∷ [])
 -- `l`, `n` and `p`, and the null command: the last line written is current
 abbrev pub write : Form → Span → State → Outcome
 write form x s = only (at_line x.last s) (lines_written form x.first x.last s.lines)
+
+-- `u`: the buffer that undo keeps in place of the present one, which it then keeps
+abbrev pub undo : Past → State → Result Outcome Fault
+undo Nothing s = Err fault.Undo
+undo Same s = Ok (only s [])
+undo (Was before) s = Ok (only (record s { lines = before.lines; current = before.current; changed = true; past = Was (kept s) }) [])

@@ -54,11 +54,11 @@ with_lines path (Some given) x s = written_to path given x s
 abbrev pub write : Option (List ℕ) → Option Answer → Span → State → Result Effect Fault
 write path given x s = used_path path s >> λ used. with_lines used given x s
 
--- the lines of a file's bytes in place of all, the last one current; marks and undo are gone
+-- the lines of a file's bytes in place of all, the last one current; marks and undo are gone, and no global command goes on
 abbrev pub loaded : (bytes path : List ℕ) → State → State
 loaded bytes path s =
     let lines = map plain_line (lines_of bytes) in
-    record s { lines = lines; current = length lines; name = Some path; changed = false; past = Nothing }
+    record s { lines = lines; current = length lines; name = Some path; changed = false; past = Nothing; global = None }
 
 -- `E`: a file in place of the buffer
 abbrev pub edit_anyway : Option (List ℕ) → Option Answer → State → Result Effect Fault

@@ -89,6 +89,14 @@ letter_s = 115
 abbrev pub letter_t : ℕ
 letter_t = 116
 
+-- `u`
+abbrev pub letter_u : ℕ
+letter_u = 117
+
+-- `v`
+abbrev pub letter_v : ℕ
+letter_v = 118
+
 -- `w`
 abbrev pub letter_w : ℕ
 letter_w = 119

@@ -15,6 +15,7 @@ pub mod Substitution
 pub mod Effects
 pub mod SubstitutedLines
 pub mod Files
+pub mod Globals
 pub mod Applied
 pub mod Progress
 pub mod Runs
@@ -28,5 +29,7 @@ pub mod PartNumbers
 pub mod Tokens
 pub mod ReadParameters
 pub mod ReadVerbs
+pub mod ReadCommands
+pub mod ReadGlobals
 pub mod Reading
 pub mod ReadParts

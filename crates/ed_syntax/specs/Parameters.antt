@@ -1,18 +1,21 @@
--- Which bytes spell a command's text, its path and the parameters of `s` (XCU ed, "Commands in ed", "Substitute Command").
+-- Which bytes spell a command's text, its path, the parameters of `s` and the letters of forms and global commands (XCU ed, "Commands
+-- in ed", "Substitute Command").
 -- Each names a text, what stands behind the part at its head, and what that part means. A text ends with its line.
 use Rattle.std.specs.Prelude.{ℕ, ◌+◌, ◌<◌, ◌≡◌, ◌≢◌, List, [], ◌∷◌, ◌++◌, Option, Some, None, IsTrue, IsFalse}
 use Rattle.ed_base.specs.Lines.{newline, IsLine}
+use Rattle.ed_syntax.specs.declared.command.Sense.{Sense}
+use Rattle.ed_syntax.specs.declared.command.Sense.TheVariants as sense
 use Rattle.ed_syntax.specs.declared.replacement.Part.{Part}
 use Rattle.ed_syntax.specs.declared.replacement.Part.TheVariants as part
 use Rattle.ed_syntax.specs.declared.replacement.Which.{Which}
 use Rattle.ed_syntax.specs.declared.replacement.Which.TheVariants as which
 use Rattle.ed_syntax.specs.Characters.{exclamation_mark, percent_sign, ampersand, full_stop, backslash, is_blank, is_digit, is_letter, behind_blanks}
-use Rattle.ed_syntax.specs.Letters.{letter_g, letter_l, letter_n, letter_p}
+use Rattle.ed_syntax.specs.Letters.{letter_g, letter_l, letter_n, letter_p, letter_v}
 use Rattle.ed_syntax.specs.Commands as ed
 use Rattle.ed_syntax.specs.Commands.{Form}
 use Rattle.ed_syntax.specs.Addressing.{Blanks, SpellsNumber}
 
--- Whole lines that are a text, up to a line that is `.` or to the end of the script, and what follows.
+-- Whole lines that are a text, up to a line that is `.` or to the end of the script or list, and what follows.
 pub data SpellsText : List ℕ → List ℕ → List (List ℕ) → Type 0 where
   over : SpellsText [] [] []
   dot : (rest : List ℕ) → SpellsText (full_stop ∷ newline ∷ []) rest []
@@ -82,3 +85,8 @@ pub data SpellsFlags : (text rest : List ℕ) → Which → Option Form → Type
 pub data SpellsEnd (delimiter : ℕ) : (text rest : List ℕ) → Which → Option Form → Type 0 where
   closed : (text rest : List ℕ) (w : Which) (form : Option Form) → SpellsFlags text rest w form → SpellsEnd delimiter (delimiter ∷ text) rest w form
   left_open : SpellsEnd delimiter [] [] which.First (Some ed.Plain)
+
+-- the letter of a global command
+pub data SpellsSense : ℕ → Sense → Type 0 where
+  matching : SpellsSense letter_g sense.Matching
+  others : SpellsSense letter_v sense.Others

@@ -1,5 +1,5 @@
 -- What the public types stand for: the same values as plain data, apart from where they lie in memory.
-use Rattle.std.specs.Prelude.{List, map, option_map, Option, Some, None}
+use Rattle.std.specs.Prelude.{Bool, List, [], ◌∷◌, map, option_map, Option, Some, None}
 use Rattle.ed_syntax.specs.Commands as ed
 use Rattle.ed_syntax.specs.declared.command.Base.{Base}
 use Rattle.ed_syntax.specs.declared.command.Base.TheVariants as base
@@ -8,9 +8,9 @@ use Rattle.ed_syntax.specs.declared.command.Addresses.{Addresses}
 use Rattle.ed_syntax.specs.declared.command.Addresses.TheVariants as addresses
 use Rattle.ed_syntax.specs.declared.command.Form.{Form}
 use Rattle.ed_syntax.specs.declared.command.Form.TheVariants as form
-use Rattle.ed_syntax.specs.declared.command.Verb.{Verb}
+use Rattle.ed_syntax.specs.declared.command.Verb.{Verb, Row_of-Command, end_of-Command, more_of-Command}
 use Rattle.ed_syntax.specs.declared.command.Verb.TheVariants as verb
-use Rattle.ed_syntax.specs.declared.command.Command.{Command}
+use Rattle.ed_syntax.specs.declared.command.Command.{Command, out-Command}
 use Rattle.ed_syntax.specs.declared.verbs.DefaultAddresses.{DefaultAddresses}
 use Rattle.ed_syntax.specs.declared.verbs.DefaultAddresses.TheVariants as default
 use Rattle.ed_syntax.specs.declared.verbs.Takes.{Takes}
@@ -53,7 +53,7 @@ abbrev pub suffix_value : Option Form → Option ed.Form
 suffix_value None = None
 suffix_value (Some f) = Some (form_value f)
 
--- a command's letter with its parameters
+-- a command's letter with its parameters; the list of a global command stands beside it
 abbrev pub verb_value : Verb → ed.Verb
 verb_value (verb.Append text) = ed.Append text
 verb_value (verb.Change text) = ed.Change text
@@ -72,24 +72,40 @@ verb_value (verb.WriteFile path) = ed.WriteFile path
 verb_value (verb.Edit path) = ed.Edit path
 verb_value (verb.EditAnyway path) = ed.EditAnyway path
 verb_value (verb.FileName path) = ed.FileName path
+verb_value (verb.Global' sense pattern _ list) = ed.Global sense pattern
+verb_value verb.Undo = ed.Undo
 verb_value verb.Help = ed.Help
 verb_value verb.HelpMode = ed.HelpMode
 verb_value verb.PromptMode = ed.PromptMode
 verb_value verb.Quit = ed.Quit
 verb_value verb.QuitAnyway = ed.QuitAnyway
 
--- a command
-abbrev pub command_value : Command → ed.Command
-command_value c = record {
-  addresses = addresses_value c.addresses;
-  verb = verb_value c.verb;
-  suffix = suffix_value c.suffix;
-  listed = c.listed;
+-- a command of these parts, apart from its list
+abbrev pub command_of : Addresses → Verb → Option Form → Bool → ed.Command
+command_of given verb suffix listed = record {
+  addresses = addresses_value given;
+  verb = verb_value verb;
+  suffix = suffix_value suffix;
+  listed = listed;
 }
 
--- a command as a step of a script: none that stands today has a list
+-- a command, apart from its list
+abbrev pub command_value : Command → ed.Command
+command_value c = let parts = out-Command c in command_of parts.addresses parts.verb parts.suffix parts.listed
+
+-- the commands of a list in memory
+abbrev pub row_value : {n : _} → Row_of-Command n → List ed.Command
+row_value end_of-Command = []
+row_value (more_of-Command given verb suffix listed rest) = command_of given verb suffix listed ∷ row_value rest
+
+-- the list of a global command; all others have none
+abbrev pub list_value : Verb → List ed.Command
+list_value (verb.Global' sense pattern _ list) = row_value list
+list_value _ = []
+
+-- a command with its list, as a step of a script
 abbrev pub step_value : Command → ed.Step
-step_value c = ed.alone (command_value c)
+step_value c = record { command = command_value c; list = list_value (out-Command c).verb }
 
 -- commands one after another, as steps
 abbrev pub steps_value : List Command → List ed.Step

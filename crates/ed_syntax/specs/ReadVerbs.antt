@@ -3,7 +3,7 @@ use Rattle.std.specs.Prelude.{ℕ, true, false, List, [], ◌∷◌, Option, Som
 use Rattle.ed_syntax.specs.Commands as ed
 use Rattle.ed_syntax.specs.Commands.{Address, Form, Verb}
 use Rattle.ed_syntax.specs.Characters.{exclamation_mark, equals_sign, is_blank, behind_blanks}
-use Rattle.ed_syntax.specs.Letters.{capital_e, capital_h, capital_p, capital_q, letter_a, letter_c, letter_d, letter_e, letter_f, letter_h, letter_i, letter_j, letter_k, letter_l, letter_m, letter_n, letter_p, letter_q, letter_r, letter_t, letter_w}
+use Rattle.ed_syntax.specs.Letters.{capital_e, capital_h, capital_p, capital_q, letter_a, letter_c, letter_d, letter_e, letter_f, letter_h, letter_i, letter_j, letter_k, letter_l, letter_m, letter_n, letter_p, letter_q, letter_r, letter_t, letter_u, letter_w}
 use Rattle.ed_syntax.specs.Tokens.{Parsed, ◌>>=◌, letter, address}
 
 -- the verb beside this letter
@@ -23,6 +23,7 @@ plain_verbs =
     ∷ (letter_n, ed.Write ed.Numbered)
     ∷ (letter_p, ed.Write ed.Plain)
     ∷ (equals_sign, ed.LineNumber)
+    ∷ (letter_u, ed.Undo)
     ∷ (letter_h, ed.Help)
     ∷ (capital_h, ed.HelpMode)
     ∷ (capital_p, ed.PromptMode)

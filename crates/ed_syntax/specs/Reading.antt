@@ -1,108 +1,24 @@
--- How the reader takes a script apart: functions on the lines that are left (XCU ed, "Commands in ed").
-use Rattle.std.specs.Prelude.{ℕ, zero, suc, ◌+◌, ◌-◌, Bool, true, false, ◌&&◌, List, [], ◌∷◌, length, Option, Some, None, nat_eq}
-use Rattle.std.specs.List.{list_all}
+-- How the reader takes a script apart, one step after another (XCU ed, "Commands in ed", "Global Command").
+use Rattle.std.specs.Prelude.{ℕ, zero, suc, ◌+◌, ◌-◌, false, List, [], ◌∷◌, length, Option, Some, None}
 use Rattle.ed_base.specs.Lines.{lines_of}
-use Rattle.ed_syntax.specs.Commands as ed
-use Rattle.ed_syntax.specs.Commands.{Addresses, Form, Verb, Command, Step, Script, alone}
-use Rattle.ed_syntax.specs.Verbs.{may_have, takes}
-use Rattle.ed_syntax.specs.Characters.{is_blank}
-use Rattle.ed_syntax.specs.Letters.{letter_s}
+use Rattle.ed_syntax.specs.declared.command.Sense.{Sense}
+use Rattle.ed_syntax.specs.Commands.{Addresses, Step, Script, alone}
 use Rattle.ed_syntax.specs.Tokens.{◌>>=◌, addresses}
-use Rattle.ed_syntax.specs.ReadVerbs.{verb_at}
-use Rattle.ed_syntax.specs.ReadParameters.{place, ParsedAt, form_of, substitution}
+use Rattle.ed_syntax.specs.ReadCommands.{Behind, command_behind}
+use Rattle.ed_syntax.specs.ReadGlobals.{sense_at, global_behind}
 
--- a command's letter with its parameters, before its text is read; a replacement may go on in the lines behind
-abbrev pub verb_from : List ℕ → List (List ℕ) → ParsedAt Verb
-verb_from [] later = Some (ed.Null, place [] later)
-verb_from (b ∷ bs) later =
-    elim (nat_eq b letter_s) [
-      | true ↦ substitution bs later
-      | false ↦ verb_at (b ∷ bs) >>= λ r. Some (r.0, place r.1 later)
-    ]
+-- a step behind its addresses, by the letter of a global command if there is one
+abbrev pub step_by : Option (Sense × List ℕ) → Addresses → List ℕ → List (List ℕ) → Behind Step
+step_by (Some g) given bs later = global_behind given g.0 g.1 later
+step_by None given bs later = command_behind false given bs later >>= λ r. Some (alone r.0, r.1)
 
--- nothing but blanks is left of the line
-abbrev pub is_over : List ℕ → Bool
-is_over bs = list_all is_blank bs
-
--- the end of a command's own line: a suffix, if the command takes one, and blanks
-abbrev pub suffix_at : Verb → List ℕ → Option (Option Form)
-suffix_at verb [] = Some None
-suffix_at verb (b ∷ bs) =
-    elim (form_of b) [
-      | Some form ↦ elim ((takes verb).suffix && is_over bs) [ true ↦ Some (Some form) | false ↦ None ]
-      | None ↦ elim (is_over (b ∷ bs)) [ true ↦ Some None | false ↦ None ]
-    ]
-
--- a command, before its text is read
-pub record Heading : Type 0 where
-  pub addresses : Addresses
-  pub verb : Verb
-  pub suffix : Option Form
-
--- the suffix of a command before which these addresses may stand
-abbrev pub suffix_with : Addresses → Verb → List ℕ → Option (Option Form)
-suffix_with given verb bs = elim (may_have given verb) [ true ↦ suffix_at verb bs | false ↦ None ]
-
--- the addresses may stand before the command, and its line is over
-abbrev pub heading_with : Addresses → List ℕ → Verb → Option Heading
-heading_with given bs verb = suffix_with given verb bs >>= λ suffix. Some (record { addresses = given; verb = verb; suffix = suffix })
-
--- a heading, and the lines behind it
-abbrev pub Headed : Type 0
-Headed = Heading × List (List ℕ)
-
--- a heading before these lines
-abbrev pub headed : List (List ℕ) → Option Heading → Option Headed
-headed later h = h >>= λ h. Some (h, later)
-
--- what stands behind the addresses
-abbrev pub heading_behind : Addresses → List ℕ → List (List ℕ) → Option Headed
-heading_behind given bs later = verb_from bs later >>= λ r. headed r.1.later (heading_with given r.1.line r.0)
-
--- what stands on a command's own line, with the lines on which its replacement goes on
-abbrev pub heading : List ℕ → List (List ℕ) → Option Headed
-heading line later = addresses line >>= λ r. heading_behind r.0 r.1 later
-
--- the lines that are left, and the number of the line that was read last
-pub record LinesLeft : Type 0 where
-  pub lines : List (List ℕ)
-  pub number : ℕ
-
--- a line that is `.` ends a text
-abbrev pub is_dot : List ℕ → Bool
-is_dot [] = false
-is_dot (b ∷ []) = nat_eq b 46
-is_dot (b ∷ c ∷ bs) = false
-
--- the lines of a text, up to a line that is `.` or the end, and the lines behind it
-abbrev pub text : List (List ℕ) → List (List ℕ) × List (List ℕ)
-text [] = ([], [])
-text (line ∷ lines) = elim (is_dot line) [ true ↦ ([], lines) | false ↦ let r = text lines in (line ∷ r.0, r.1) ]
-
--- the verb with this text
-abbrev pub entering : List (List ℕ) → Verb → Verb
-entering text (ed.Append _) = ed.Append text
-entering text (ed.Change _) = ed.Change text
-entering text (ed.Insert _) = ed.Insert text
-entering text verb = verb
-
--- a verb with its text, if it takes one, from the lines behind its own, and the lines behind that
-abbrev pub with_text : Verb → List (List ℕ) → Verb × List (List ℕ)
-with_text verb later = elim (takes verb).text [ true ↦ let r = text later in (entering r.0 verb, r.1) | false ↦ (verb, later) ]
-
--- the command of a heading, and the lines behind it
-abbrev pub finished : (listed : Bool) → Heading → List (List ℕ) → Command × List (List ℕ)
-finished listed h later =
-    let r = with_text h.verb later in
-    (record { addresses = h.addresses; verb = r.0; suffix = h.suffix; listed = listed }, r.1)
-
--- the command that begins on this line, in a list or outside, and the lines behind it
-abbrev pub command_at : (listed : Bool) → List ℕ → List (List ℕ) → Option (Command × List (List ℕ))
-command_at listed line later = heading line later >>= λ h. Some (finished listed h.0 h.1)
+-- a step behind its addresses
+abbrev pub step_behind : Addresses → List ℕ → List (List ℕ) → Behind Step
+step_behind given bs later = step_by (sense_at bs) given bs later
 
 -- the step that begins on this line, and the lines behind it
-abbrev pub step_at : List ℕ → List (List ℕ) → Option (Step × List (List ℕ))
-step_at line later = command_at false line later >>= λ r. Some (alone r.0, r.1)
+abbrev pub step_at : List ℕ → List (List ℕ) → Behind Step
+step_at line later = addresses line >>= λ r. step_behind r.0 r.1 later
 
 -- a step before a script
 abbrev pub followed : Step → Script → Script

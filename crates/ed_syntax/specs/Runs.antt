@@ -1,5 +1,5 @@
--- A run of a script, from its start or from any command on (XCU ed, "Options", "Consequences of Errors").
-use Rattle.std.specs.Prelude.{ℕ, not, List, [], ◌∷◌, ◌++◌, true, false, codes, Option, Some, None, Result, Ok, Err, is_some}
+-- A run of a script, from its start or from any command on (XCU ed, "Options", "Global Command", "Consequences of Errors").
+use Rattle.std.specs.Prelude.{ℕ, zero, suc, not, List, [], ◌∷◌, ◌++◌, true, false, codes, Option, Some, None, Result, Ok, Err, is_some}
 use Rattle.ed_base.specs.declared.fault.Fault.{Fault}
 use Rattle.ed_base.specs.declared.fault.Fault.TheVariants as fault
 use Rattle.ed_syntax.specs.declared.request.Answer.{Answer}
@@ -8,9 +8,10 @@ use Rattle.ed_syntax.specs.declared.request.Request.TheVariants as request
 use Rattle.ed_syntax.specs.declared.options.Options.{Options}
 use Rattle.ed_syntax.specs.Commands as ed
 use Rattle.ed_syntax.specs.Commands.{Verb, Command, Step, Script}
-use Rattle.ed_syntax.specs.States.{State, opening}
+use Rattle.ed_syntax.specs.States.{State, Kept, kept, opening}
 use Rattle.ed_syntax.specs.Effects.{Outcome, Effect, Makes, Asks}
 use Rattle.ed_syntax.specs.Files.{loaded}
+use Rattle.ed_syntax.specs.Globals.{flags, opened, next_taken, closed}
 use Rattle.ed_syntax.specs.Applied.{command}
 use Rattle.ed_syntax.specs.Progress.{Present, Waits, Progress, Stops, Writes, Hears, Rest, failing, ending, quitting, count}
 
@@ -49,10 +50,35 @@ turned _ m = m
 abbrev pub one : Command → Present → Further → Rest
 one c m go = asking m (command m.state c None) (λ a. command m.state c (Some a)) (λ t. go (turned c.verb t))
 
+-- the commands of a list that are left for the line that was taken
+abbrev pub listed : List Command → Present → Further → Rest
+listed [] m go = go m
+listed (c ∷ cs) m go = one c m (λ t. listed cs t go)
+
+-- the list is run for the line that was taken, or no line has the flag
+abbrev pub turn : Option State → (again : State → Rest) → (over : Rest) → Rest
+turn None again over = over
+turn (Some s) again over = again s
+
+-- the list for each line that still has the flag; at most for so many lines, and no more have it
+abbrev pub turns : (lines : ℕ) → (list : List Command) → Present → Further → Rest
+turns zero list m go = go (with_state (closed m.state) m)
+turns (suc lines) list m go =
+    turn (next_taken m.state) (λ s. listed list (with_state s m) (λ t. turns lines list t go)) (go (with_state (closed m.state) m))
+
+-- in a global command: the commands that are left for this line, and then the list for each line that still has the flag
+abbrev pub inside : (left : List Command) → (lines : ℕ) → (list : List Command) → Present → Further → Rest
+inside left lines list m go = listed left m (λ t. turns lines list t go)
+
+-- a global command whose lines have their flags
+abbrev pub global : (before : Kept) → (list : List Command) → Present → Further → Rest
+global before list m go = turns (flags m.state) list (with_state (opened before m.state) m) go
+
 -- a step that ends the run, or goes on
 abbrev pub step_by : Verb → Step → Present → Further → Rest
 step_by ed.Quit x m go answers = quitting m
 step_by ed.QuitAnyway x m go answers = ending m
+step_by (ed.Global sense pattern) x m go answers = one x.command m (λ t. global (kept m.state) x.list t go) answers
 step_by verb x m go answers = one x.command m go answers
 
 -- what a step of the script does to a run

@@ -1,5 +1,5 @@
 -- What each command takes: addresses, lines of text, a target, a suffix (XCU ed, "Commands in ed").
-use Rattle.std.specs.Prelude.{pos, Bool, true, false, not, ◌&&◌, nat_le, nat_lt, Option, Some, None}
+use Rattle.std.specs.Prelude.{pos, Bool, true, false, not, ◌&&◌, ◌||◌, nat_le, nat_lt, Option, Some, None}
 use Rattle.std.specs.List.{list_all, list_any}
 use Rattle.ed_syntax.specs.Commands as ed
 use Rattle.ed_syntax.specs.Commands.{Address, Addresses, Without, One, Comma, Semicolon, Verb, Command, Step, at_base}
@@ -18,7 +18,7 @@ abbrev pub next : Address
 next = record { base = ed.Current; offset = pos 1 }
 
 -- What a command takes: the addresses that it has where none are given; how many it takes, and what line 0 means to it; whether the
--- lines of a text follow it; the address that is its target; whether a suffix may follow. Without addresses `w` takes all lines.
+-- lines of a text follow it; the address that is its target; whether a suffix may follow. Without addresses `g`, `v` and `w` take all lines.
 pub record Takes : Type 0 where
   pub default : Addresses
   pub taking : Taking
@@ -46,6 +46,8 @@ takes (ed.WriteFile path) = record { default = Without; taking = many.Whole; tex
 takes (ed.Edit path) = record { default = Without; taking = many.NoAddress; text = false; target = None; suffix = false }
 takes (ed.EditAnyway path) = record { default = Without; taking = many.NoAddress; text = false; target = None; suffix = false }
 takes (ed.FileName path) = record { default = Without; taking = many.NoAddress; text = false; target = None; suffix = false }
+takes (ed.Global sense pattern) = record { default = Without; taking = many.Whole; text = false; target = None; suffix = false }
+takes ed.Undo = record { default = Without; taking = many.NoAddress; text = false; target = None; suffix = true }
 takes ed.Help = record { default = Without; taking = many.NoAddress; text = false; target = None; suffix = true }
 takes ed.HelpMode = record { default = Without; taking = many.NoAddress; text = false; target = None; suffix = true }
 takes ed.PromptMode = record { default = Without; taking = many.NoAddress; text = false; target = None; suffix = true }
@@ -83,13 +85,19 @@ counts_from_one _ = true
 abbrev pub is_sound : Verb → Bool
 is_sound verb = marks_by_letter verb && counts_from_one verb
 
--- it may stand in the list of a global command; that `e`, `E`, `q` and `Q` may not is our choice
+-- it may stand in the list of a global command; that `e`, `E`, `q`, `Q` and `u` may not is our choice
 abbrev pub may_be_listed : Verb → Bool
 may_be_listed (ed.Edit path) = false
 may_be_listed (ed.EditAnyway path) = false
+may_be_listed (ed.Global sense pattern) = false
+may_be_listed ed.Undo = false
 may_be_listed ed.Quit = false
 may_be_listed ed.QuitAnyway = false
 may_be_listed _ = true
+
+-- it may stand here: in a list, or as a command of the script itself
+abbrev pub may_stand : (listed : Bool) → Verb → Bool
+may_stand listed verb = not listed || may_be_listed verb
 
 -- a place where a line is split
 abbrev pub is_split : Part → Bool

@@ -4,7 +4,7 @@ ghost use Rattle.ed_syntax.specs.Tokens.{base, with_offsets, address, pair, addr
 ghost use Rattle.ed_syntax.specs.Addressing.{alone, comma, semicolon};
 ghost use Rattle.ed_syntax.specs.PublicTypes.{base_value, address_value, addresses_value, optional_address};
 ghost use Rattle.ed_syntax.specs.Commands as ed;
-ghost use Rattle.ed_syntax.specs.ReadParts.{optional_base};
+ghost use Rattle.ed_syntax.specs.ReadParts.{optional_base, around};
 
 use crate::offsets::offsets;
 use crate::quoting::{Parsed, behind_closing, pattern_at};
@@ -29,15 +29,28 @@ fn pair(alloc: Global, first: Option<Address>, bytes: &[u8]) -> Parsed<'_, Addre
         (λ (a, rest). pair (optional_address first) bytes.now ≡ Some (addresses_value a, rest.now))) }
 {
     match bytes {
-        [b',', rest @ ..] => match address(alloc, behind_blanks(rest))? {
-            Some((second, rest)) => Ok(Some((comma(first, second)?, behind_blanks(rest)))),
-            None => Ok(None),
-        },
-        [b';', rest @ ..] => match address(alloc, behind_blanks(rest))? {
-            Some((second, rest)) => Ok(Some((semicolon(first, second), behind_blanks(rest)))),
+        [separator @ (b',' | b';'), rest @ ..] => match address(alloc, behind_blanks(rest))? {
+            Some((second, rest)) => {
+                Ok(Some((around(*separator, first, second)?, behind_blanks(rest))))
+            }
             None => Ok(None),
         },
         _ => Ok(Some((alone(first), bytes))),
+    }
+}
+
+// The addresses around a `,` or else a `;`.
+fn around(
+    separator: u8,
+    first: Option<Address>,
+    second: Option<Address>,
+) -> Result<Addresses, AllocError>
+    ensures value { IfOk result (λ a. addresses_value a ≡ around separator (optional_address first) (optional_address second)) }
+{
+    if separator == b',' {
+        comma(first, second)
+    } else {
+        Ok(semicolon(first, second))
     }
 }
 

@@ -1,6 +1,6 @@
 //! The commands of a script.
-ghost use Rattle.std.specs.Prelude.{◌≡◌, IfOk};
-ghost use Rattle.ed_syntax.specs.PublicTypes.{address_value, base_value};
+ghost use Rattle.std.specs.Prelude.{◌≡◌, map, IfOk};
+ghost use Rattle.ed_syntax.specs.PublicTypes.{address_value, base_value, command_value, step_value};
 
 use crate::{Pattern, Replacement, Which};
 use ed_base::{Bytes, Letter, Text};
@@ -52,8 +52,18 @@ pub enum Form {
     Unambiguous,
 }
 
+/// Which lines a global command takes.
+#[derive(Clone, Copy, Debug, PartialEq, Eq)]
+pub enum Sense {
+    /// By `g`: those that match.
+    Matching,
+    /// By `v`: the others.
+    Others,
+}
+
 /// A command's letter with its parameters.
 #[derive(Debug, PartialEq, Eq, Drop)]
+#[cycle(command)]
 pub enum Verb {
     /// `a`: the lines of the text go behind the addressed line.
     Append(Text),
@@ -97,6 +107,15 @@ pub enum Verb {
     EditAnyway(Option<Bytes>),
     /// `f`: the path is remembered, and the remembered one is written.
     FileName(Option<Bytes>),
+    /// `g` and `v`: the commands of the list are run for each of the addressed lines that is taken.
+    Global {
+        sense: Sense,
+        /// `None` is the remembered pattern.
+        pattern: Option<Pattern>,
+        list: Vec<Command>,
+    },
+    /// `u`: the last change is undone.
+    Undo,
     /// `h`: nothing, since a run has no earlier fault.
     Help,
     /// `H`: turns help mode on or off, in which a fault's text is written behind its `?`.
@@ -111,6 +130,7 @@ pub enum Verb {
 
 /// A command (XCU ed, "Commands in ed").
 #[derive(Debug, PartialEq, Eq, Drop)]
+#[cycle(command)]
 pub struct Command {
     pub addresses: Addresses,
     pub verb: Verb,
@@ -118,6 +138,18 @@ pub struct Command {
     pub suffix: Option<Form>,
     /// It stands in the list of a global command.
     pub listed: bool,
+}
+
+impl Command {
+    /// The list of a global command; all others have none.
+    pub fn list(&self) -> &[Command]
+        ensures value { map command_value result.now ≡ (step_value self.now).list }
+    {
+        match &self.verb {
+            Verb::Global { list, .. } => list.as_slice(),
+            _ => &[],
+        }
+    }
 }
 
 impl Base {

@@ -1,13 +1,13 @@
 //! The head of a command: its addresses, its letter with its parameters, and its suffix.
 ghost use Rattle.std.specs.Prelude.{◌≡◌, ◌+◌, ◌≤◌, length, Option, Some, None, option_map, IfOk, MatchOption};
-ghost use Rattle.ed_syntax.specs.Verbs.{may_have};
+ghost use Rattle.ed_syntax.specs.Verbs.{may_have, may_stand};
 ghost use Rattle.ed_syntax.specs.ReadParameters.{place};
 ghost use Rattle.ed_syntax.specs.ReadVerbs.{beside_letter, plain_verbs, file_verbs, file_verb, target, verb_at};
-ghost use Rattle.ed_syntax.specs.Reading.{verb_from, suffix_at, is_over, headed, suffix_with, heading_with, heading_behind, heading};
+ghost use Rattle.ed_syntax.specs.ReadCommands.{verb_from, suffix_at, is_over, headed, suffix_with, heading_with, heading_behind};
 ghost use Rattle.ed_syntax.specs.PublicTypes.{address_value, addresses_value, suffix_value, verb_value};
-ghost use Rattle.ed_syntax.specs.ReadParts.{optional_verb, optional_own_line};
+ghost use Rattle.ed_syntax.specs.ReadParts.{optional_verb, heading_before};
 
-use crate::addresses::{address, addresses};
+use crate::addresses::address;
 use crate::paths::path;
 use crate::quoting::Parsed;
 use crate::script_lines::ScriptLines;
@@ -17,68 +17,47 @@ use crate::{Address, Addresses, Form, Taking, Verb};
 use ed_base::{Bytes, Text};
 use std::alloc::{AllocError, Global};
 
-/// What stands on a command's own line.
+/// What stands on a command's own line behind its addresses.
 #[derive(Drop)]
-pub struct OwnLine {
-    pub addresses: Addresses,
+pub struct Order {
     pub verb: Verb,
     pub suffix: Option<Form>,
 }
 
-/// What stands on a command's own line, with the lines on which its replacement goes on; its text is still empty.
-pub fn heading<'a>(
+/// What stands behind the addresses on a command's own line, in a list or outside, with the lines on which its replacement goes on; its
+/// text is still empty.
+pub fn heading_behind<'a>(
     alloc: Global,
-    line: &'a [u8],
-    later: &mut ScriptLines<'a>,
-) -> Result<Option<OwnLine>, AllocError>
-    ensures value { IfOk result (λ h. headed later.new.lines (optional_own_line h) ≡ heading line.now later.old.lines) }
-    ensures number { later.new.number + length later.new.lines ≡ later.old.number + length later.old.lines }
-    ensures later { length later.new.lines ≤ length later.old.lines }
-{
-    match addresses(alloc, line)? {
-        Some((given, rest)) => heading_behind(alloc, given, rest, later),
-        None => Ok(None),
-    }
-}
-
-// What stands behind the addresses.
-fn heading_behind<'a>(
-    alloc: Global,
-    addresses: Addresses,
+    listed: bool,
+    given: &Addresses,
     bytes: &'a [u8],
     later: &mut ScriptLines<'a>,
-) -> Result<Option<OwnLine>, AllocError>
-    ensures value { IfOk result (λ h. headed later.new.lines (optional_own_line h) ≡
-        heading_behind (addresses_value addresses) bytes.now later.old.lines) }
+) -> Result<Option<Order>, AllocError>
+    ensures value { IfOk result (λ order. headed later.new.lines (heading_before (addresses_value given.now) order) ≡
+        heading_behind listed (addresses_value given.now) bytes.now later.old.lines) }
     ensures number { later.new.number + length later.new.lines ≡ later.old.number + length later.old.lines }
     ensures later { length later.new.lines ≤ length later.old.lines }
 {
     match verb_from(alloc, bytes, later)? {
-        Some((verb, rest)) => Ok(heading_with(addresses, verb, rest)),
+        Some((verb, rest)) => Ok(heading_with(listed, given, verb, rest)),
         None => Ok(None),
     }
 }
 
-// The addresses may stand before the command, and its line is over.
-fn heading_with(addresses: Addresses, verb: Verb, bytes: &[u8]) -> Option<OwnLine>
-    ensures value { optional_own_line result ≡ heading_with (addresses_value addresses) bytes.now (verb_value verb) }
+// The command may stand here, the addresses before it, and its line is over.
+fn heading_with(listed: bool, given: &Addresses, verb: Verb, bytes: &[u8]) -> Option<Order>
+    ensures value { heading_before (addresses_value given.now) result ≡
+        heading_with listed (addresses_value given.now) bytes.now (verb_value verb) }
 {
-    match suffix_with(&addresses, &verb, bytes) {
-        Some(suffix) => Some(OwnLine {
-            addresses,
-            verb,
-            suffix,
-        }),
-        None => None,
-    }
+    suffix_with(listed, given, &verb, bytes).map(|suffix| Order { verb, suffix })
 }
 
-// The suffix of a command before which these addresses may stand.
-fn suffix_with(given: &Addresses, verb: &Verb, bytes: &[u8]) -> Option<Option<Form>>
+// The suffix of a command that may stand here, and these addresses before it.
+fn suffix_with(listed: bool, given: &Addresses, verb: &Verb, bytes: &[u8]) -> Option<Option<Form>>
     ensures value { option_map suffix_value result ≡
-        suffix_with (addresses_value given.now) (verb_value verb.now) bytes.now }
+        suffix_with listed (addresses_value given.now) (verb_value verb.now) bytes.now }
 {
-    if may_have(given, verb) {
+    if may_have(given, verb) && may_stand(listed, verb) {
         suffix_at(verb, bytes)
     } else {
         None
@@ -141,6 +120,7 @@ fn plain_verb(alloc: Global, letter: u8) -> Option<Verb>
         b'n' => Some(Verb::Write(Form::Numbered)),
         b'p' => Some(Verb::Write(Form::Plain)),
         b'=' => Some(Verb::LineNumber),
+        b'u' => Some(Verb::Undo),
         b'h' => Some(Verb::Help),
         b'H' => Some(Verb::HelpMode),
         b'P' => Some(Verb::PromptMode),
@@ -210,6 +190,22 @@ fn may_have(given: &Addresses, verb: &Verb) -> bool
     ensures value { result ≡ may_have (addresses_value given.now) (verb_value verb.now) }
 {
     matches!(given, Addresses::Without) || verb.takes().taking != Taking::NoAddress
+}
+
+// Whether a command may stand in a list, or as one of the script itself.
+fn may_stand(listed: bool, verb: &Verb) -> bool
+    ensures value { result ≡ may_stand listed (verb_value verb.now) }
+{
+    !listed
+        || !matches!(
+            verb,
+            Verb::Edit(_)
+                | Verb::EditAnyway(_)
+                | Verb::Global { .. }
+                | Verb::Undo
+                | Verb::Quit
+                | Verb::QuitAnyway
+        )
 }
 
 // Nothing but blanks is left of the line.

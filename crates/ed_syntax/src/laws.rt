@@ -1,11 +1,16 @@
 //! What holds of all commands and of all runs.
 ghost use Rattle.ed_base.specs.declared.fault.Fault.TheVariants as fault;
-ghost use Rattle.ed_syntax.specs.Laws.{ListsLeaveUndo, CommandsKeepMarks, UnaskedAnswersDoNothing, NothingIsAskedTwice, NeverEndsBy, FilesHaveACause};
+ghost use Rattle.ed_syntax.specs.Laws.{ListsLeaveUndo, ListsAddNoFlags, CommandsKeepMarks, UnaskedAnswersDoNothing, NothingIsAskedTwice, NeverEndsBy, FilesHaveACause};
 ghost use Rattle.ed_syntax.specs.Progress.{CutsToAFront, CutsAfter};
 
 /// A command of a list leaves what undo keeps as it is.
 pub fn listed_commands_leave_undo()
     ensures undo { ListsLeaveUndo }
+{}
+
+/// A command of a list gives no line the flag of a global command, so that the list is run at most once for each line that has it.
+pub fn lists_add_no_flags()
+    ensures flags { ListsAddNoFlags }
 {}
 
 /// Where each letter marks at most one line, and of each line all letters are known, it is so after a command.

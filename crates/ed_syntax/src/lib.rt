@@ -4,6 +4,7 @@
 mod addresses;
 mod command;
 mod flags;
+mod globals;
 mod heading;
 mod laws;
 mod offsets;
@@ -16,15 +17,16 @@ mod replacement;
 mod request;
 mod script;
 mod script_lines;
+mod single;
 mod spelling;
 mod substitution;
 mod tokens;
 mod verbs;
 
-pub use command::{Address, Addresses, Base, Command, Form, Verb};
+pub use command::{Address, Addresses, Base, Command, Form, Sense, Verb};
 pub use laws::{
     answers_are_asked_for, commands_keep_marks, cut_runs_write_a_front, listed_commands_leave_undo,
-    runs_end_for_a_cause,
+    lists_add_no_flags, runs_end_for_a_cause,
 };
 pub use options::{Ending, Options};
 pub use pattern::Pattern;

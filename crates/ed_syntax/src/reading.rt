@@ -1,13 +1,15 @@
 //! Reads a script: its commands up to the first that can't be read.
-ghost use Rattle.std.specs.Prelude.{◌≡◌, ◌+◌, ◌≤◌, false, length, IfOk};
-ghost use Rattle.ed_syntax.specs.Reading.{with_text, command_at, script_of};
-ghost use Rattle.ed_syntax.specs.PublicTypes.{verb_value};
+ghost use Rattle.std.specs.Prelude.{◌≡◌, ◌+◌, ◌≤◌, length, IfOk};
+ghost use Rattle.ed_syntax.specs.Reading.{step_behind, step_at, script_of};
+ghost use Rattle.ed_syntax.specs.PublicTypes.{addresses_value};
 ghost use Rattle.ed_syntax.specs.PublicScript.{script_value};
-ghost use Rattle.ed_syntax.specs.ReadParts.{command_behind};
+ghost use Rattle.ed_syntax.specs.ReadParts.{step_before};
 
-use crate::heading::{OwnLine, heading};
+use crate::addresses::addresses;
+use crate::globals::{global_behind, sense_at};
 use crate::script_lines::ScriptLines;
-use crate::{Command, Script, Verb};
+use crate::single::command_behind;
+use crate::{Addresses, Command, Script};
 use std::alloc::{AllocError, Global};
 
 /// Reads a script. A command that can't be read ends it: what stands behind isn't looked at.
@@ -18,7 +20,7 @@ pub fn read_script(alloc: Global, bytes: &[u8]) -> Result<Script, AllocError>
     let mut lines = ScriptLines::new(bytes);
     'commands: while let Some(line) = lines.next() {
         let number = lines.number();
-        match read_command(alloc, line, &mut lines)? {
+        match read_step(alloc, line, &mut lines)? {
             Some(command) => commands.push(command)?,
             None => {
                 return Ok(Script {
@@ -34,50 +36,36 @@ pub fn read_script(alloc: Global, bytes: &[u8]) -> Result<Script, AllocError>
     })
 }
 
-// The command that begins on this line. A replacement and a text go on in the lines behind it.
-fn read_command<'a>(
+// The command that begins on this line, with its list. A replacement, a text and a list go on in the lines behind it.
+fn read_step<'a>(
     alloc: Global,
     line: &'a [u8],
     later: &mut ScriptLines<'a>,
 ) -> Result<Option<Command>, AllocError>
-    ensures value { IfOk result (λ c. command_behind c later.new.lines ≡ command_at false line.now later.old.lines) }
+    ensures value { IfOk result (λ c. step_before c later.new.lines ≡ step_at line.now later.old.lines) }
     ensures number { later.new.number + length later.new.lines ≡ later.old.number + length later.old.lines }
     ensures later { length later.new.lines ≤ length later.old.lines }
 {
-    match heading(alloc, line, later)? {
+    match addresses(alloc, line)? {
+        Some((given, rest)) => step_behind(alloc, given, rest, later),
         None => Ok(None),
-        Some(
-            OwnLine {
-                addresses,
-                verb,
-                suffix,
-            },
-        ) => {
-            let verb = with_text(alloc, verb, later)?;
-            Ok(Some(Command {
-                addresses,
-                verb,
-                suffix,
-                listed: false,
-            }))
-        }
     }
 }
 
-// A verb with its text, if it has one.
-fn with_text(alloc: Global, verb: Verb, later: &mut ScriptLines<'_>) -> Result<Verb, AllocError>
-    ensures value { IfOk result (λ v. (verb_value v, later.new.lines) ≡ with_text (verb_value verb) later.old.lines) }
+// What stands behind the addresses of a command.
+fn step_behind<'a>(
+    alloc: Global,
+    addresses: Addresses,
+    bytes: &'a [u8],
+    later: &mut ScriptLines<'a>,
+) -> Result<Option<Command>, AllocError>
+    ensures value { IfOk result (λ c. step_before c later.new.lines ≡
+        step_behind (addresses_value addresses) bytes.now later.old.lines) }
     ensures number { later.new.number + length later.new.lines ≡ later.old.number + length later.old.lines }
     ensures later { length later.new.lines ≤ length later.old.lines }
 {
-    if !verb.takes().text {
-        return Ok(verb);
-    }
-    let text = later.read_text(alloc)?;
-    match verb {
-        Verb::Append(_) => Ok(Verb::Append(text)),
-        Verb::Change(_) => Ok(Verb::Change(text)),
-        Verb::Insert(_) => Ok(Verb::Insert(text)),
-        without_text => Ok(without_text),
+    match sense_at(bytes) {
+        Some((sense, rest)) => global_behind(alloc, addresses, sense, rest, later),
+        None => command_behind(alloc, false, addresses, bytes, later),
     }
 }

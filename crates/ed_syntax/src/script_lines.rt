@@ -1,13 +1,13 @@
-//! The lines of a script, read one after another.
+//! The lines of a script or of a list, read one after another.
 ghost use Rattle.std.specs.Prelude.{◌≡◌, ◌+◌, ◌≤◌, ℕ, [], ◌∷◌, length, IfOk, IfSome, MatchOption};
 ghost use Rattle.ed_base.specs.Lines.{IsLine, lines_of};
-ghost use Rattle.ed_syntax.specs.Reading.{text};
+ghost use Rattle.ed_syntax.specs.ReadCommands.{text};
 
 use ed_base::{Bytes, Text, next_line};
 use std::alloc::{AllocError, Global};
 use std::marker::Model;
 
-/// The lines of a script that are left to read.
+/// The lines of a script, or of the list of a global command, that are left to read.
 #[derive(Drop)]
 pub struct ScriptLines<'a> {
     left: &'a [u8],
@@ -18,7 +18,7 @@ pub struct ScriptLines<'a> {
 impl<'a> Model for ScriptLines<'a> {
     ghost use Rattle.std.specs.Prelude.{◌+◌, ◌<◌, ◌^◌, length};
     ghost use Rattle.ed_base.specs.Lines.{lines_of};
-    ghost use Rattle.ed_syntax.specs.Reading.{LinesLeft};
+    ghost use Rattle.ed_syntax.specs.ReadCommands.{LinesLeft};
 
     ghost Value = { LinesLeft };
 
@@ -58,7 +58,7 @@ impl<'a> ScriptLines<'a> {
         Some(line)
     }
 
-    /// The lines of a text, up to a line that is `.` or to the end of the script.
+    /// The lines of a text, up to a line that is `.` or to the end of the script or list.
     pub fn read_text(&mut self, alloc: Global) -> Result<Text, AllocError>
         ensures value { IfOk result (λ entered. text self.old.lines ≡ (entered, self.new.lines)) }
         ensures number { self.new.number + length self.new.lines ≡ self.old.number + length self.old.lines }

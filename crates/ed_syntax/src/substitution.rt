@@ -1,13 +1,13 @@
 //! The parameters of `s`: its pattern, its replacement, which may go on in further lines, and its flags.
 ghost use Rattle.std.specs.Prelude.{◌≡◌, ◌+◌, ◌≤◌, length, MatchOption, Some, None, IfOk, ⊤};
 ghost use Rattle.ed_base.specs.Lines.{bytes_of};
-ghost use Rattle.ed_syntax.specs.Characters.{is_letter, is_delimiter};
 ghost use Rattle.ed_syntax.specs.ReadParameters.{place, unescaped_part, escaped_at, part_at, all_parts, is_closed, is_percent, replacement, substitution_with, substitution_by, substitution};
 ghost use Rattle.ed_syntax.specs.PublicTypes.{suffix_value, verb_value};
 
 use crate::flags::end_at;
 use crate::quoting::{Parsed, behind_closing, pattern_at};
 use crate::script_lines::ScriptLines;
+use crate::tokens::{is_delimiter, is_letter};
 use crate::{Part, Pattern, Replacement, Verb};
 use std::alloc::Global;
 
@@ -205,17 +205,4 @@ fn unescaped_part(delimiter: u8, byte: u8) -> Option<Part>
         b'1'..=b'9' => Some(Part::Group(byte - b'1')),
         _ => Some(Part::Literal(byte)),
     }
-}
-
-fn is_letter(byte: u8) -> bool
-    ensures value { result ≡ is_letter byte }
-{
-    matches!(byte, b'A'..=b'Z' | b'a'..=b'z')
-}
-
-// Punctuation, but no backslash.
-fn is_delimiter(byte: u8) -> bool
-    ensures value { result ≡ is_delimiter byte }
-{
-    matches!(byte, b'!'..=b'~') && !is_letter(byte) && !matches!(byte, b'0'..=b'9') && byte != b'\\'
 }

@@ -1,7 +1,7 @@
-//! Blanks, numbers and letters at the front of a line.
+//! Blanks, numbers, letters and delimiters at the front of a line.
 ghost use Rattle.std.specs.Prelude.{◌≡◌, ◌≤◌, length, All, IsTrue, MatchOption, Some, None, ⊤};
 ghost use Rattle.std.specs.List.{prefix_len};
-ghost use Rattle.ed_syntax.specs.Characters.{is_digit, behind_blanks, value_of};
+ghost use Rattle.ed_syntax.specs.Characters.{is_digit, is_letter, is_delimiter, behind_blanks, value_of};
 ghost use Rattle.ed_syntax.specs.Tokens.{number, letter};
 ghost use Rattle.ed_syntax.specs.ReadParameters.{form_of};
 ghost use Rattle.ed_syntax.specs.PublicTypes.{suffix_value};
@@ -81,4 +81,18 @@ fn value_of(digits: &[u8]) -> u32
         value = 10 * value + u32::from(digit - b'0');
     }
     value
+}
+
+/// A letter.
+pub fn is_letter(byte: u8) -> bool
+    ensures value { result ≡ is_letter byte }
+{
+    matches!(byte, b'A'..=b'Z' | b'a'..=b'z')
+}
+
+/// The delimiter of a pattern behind a command's letter: punctuation, but no backslash.
+pub fn is_delimiter(byte: u8) -> bool
+    ensures value { result ≡ is_delimiter byte }
+{
+    matches!(byte, b'!'..=b'~') && !is_letter(byte) && !matches!(byte, b'0'..=b'9') && byte != b'\\'
 }

@@ -158,11 +158,11 @@ impl Verb {
                 suffix: false,
                 ..row(DefaultAddresses::Last, Taking::Place)
             },
-            Verb::WriteFile(_) => Takes {
+            Verb::WriteFile(_) | Verb::Global { .. } => Takes {
                 suffix: false,
                 ..row(DefaultAddresses::Without, Taking::Whole)
             },
-            Verb::Help | Verb::HelpMode | Verb::PromptMode => row(
+            Verb::Undo | Verb::Help | Verb::HelpMode | Verb::PromptMode => row(
                 DefaultAddresses::Without,
                 Taking::NoAddress,
             ),

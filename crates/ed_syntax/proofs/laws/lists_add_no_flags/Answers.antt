@@ -1,0 +1,5 @@
+use Rattle.ed_syntax.proofs.CommandSteps.{lists_add_no_flags}
+use Rattle.ed_syntax.proofs.laws.lists_add_no_flags.Goals as goal
+
+pub returns : goal.returns
+returns c = record { flags = lists_add_no_flags }

@@ -1,0 +1,94 @@
+//! Reads a command without a list: its head, and its text.
+ghost use Rattle.std.specs.Prelude.{◌≡◌, ◌+◌, ◌≤◌, length, IfOk};
+ghost use Rattle.ed_syntax.specs.ReadCommands.{with_text, command_behind, command_at};
+ghost use Rattle.ed_syntax.specs.PublicTypes.{addresses_value, verb_value};
+ghost use Rattle.ed_syntax.specs.ReadParts.{command_before, order_before};
+
+use crate::addresses::addresses;
+use crate::heading::{Order, heading_behind};
+use crate::script_lines::ScriptLines;
+use crate::{Addresses, Command, Verb};
+use std::alloc::{AllocError, Global};
+
+/// The command that begins on this line, in a list or outside. A replacement and a text go on in the lines behind it.
+pub fn command_at<'a>(
+    alloc: Global,
+    listed: bool,
+    line: &'a [u8],
+    later: &mut ScriptLines<'a>,
+) -> Result<Option<Command>, AllocError>
+    ensures value { IfOk result (λ c. command_before c later.new.lines ≡ command_at listed line.now later.old.lines) }
+    ensures number { later.new.number + length later.new.lines ≡ later.old.number + length later.old.lines }
+    ensures later { length later.new.lines ≤ length later.old.lines }
+{
+    match addresses(alloc, line)? {
+        Some((given, rest)) => command_behind(alloc, listed, given, rest, later),
+        None => Ok(None),
+    }
+}
+
+/// What stands behind the addresses of a command.
+pub fn command_behind<'a>(
+    alloc: Global,
+    listed: bool,
+    addresses: Addresses,
+    bytes: &'a [u8],
+    later: &mut ScriptLines<'a>,
+) -> Result<Option<Command>, AllocError>
+    ensures value { IfOk result (λ c. command_before c later.new.lines ≡
+        command_behind listed (addresses_value addresses) bytes.now later.old.lines) }
+    ensures number { later.new.number + length later.new.lines ≡ later.old.number + length later.old.lines }
+    ensures later { length later.new.lines ≤ length later.old.lines }
+{
+    order_behind(alloc, listed, &addresses, bytes, later).map(|order| {
+        command_of(listed, addresses, order)
+    })
+}
+
+// The command of these addresses and of what stands behind them.
+fn command_of(listed: bool, addresses: Addresses, order: Option<Order>) -> Option<Command>
+    ensures value { (left : _) → command_before result left ≡ order_before listed (addresses_value addresses) order left }
+{
+    order.map(|Order { verb, suffix }| Command {
+        addresses,
+        verb,
+        suffix,
+        listed,
+    })
+}
+
+// What stands behind the addresses of a command, with its text.
+fn order_behind<'a>(
+    alloc: Global,
+    listed: bool,
+    given: &Addresses,
+    bytes: &'a [u8],
+    later: &mut ScriptLines<'a>,
+) -> Result<Option<Order>, AllocError>
+    ensures value { IfOk result (λ order. order_before listed (addresses_value given.now) order later.new.lines ≡
+        command_behind listed (addresses_value given.now) bytes.now later.old.lines) }
+    ensures number { later.new.number + length later.new.lines ≡ later.old.number + length later.old.lines }
+    ensures later { length later.new.lines ≤ length later.old.lines }
+{
+    match heading_behind(alloc, listed, given, bytes, later)? {
+        Some(Order { verb, suffix }) => with_text(alloc, verb, later).map(|verb| Some(Order {
+            verb,
+            suffix,
+        })),
+        None => Ok(None),
+    }
+}
+
+// A verb with its text, if it has one.
+fn with_text(alloc: Global, verb: Verb, later: &mut ScriptLines<'_>) -> Result<Verb, AllocError>
+    ensures value { IfOk result (λ v. (verb_value v, later.new.lines) ≡ with_text (verb_value verb) later.old.lines) }
+    ensures number { later.new.number + length later.new.lines ≡ later.old.number + length later.old.lines }
+    ensures later { length later.new.lines ≤ length later.old.lines }
+{
+    match verb {
+        Verb::Append(_empty) => later.read_text(alloc).map(Verb::Append),
+        Verb::Change(_empty) => later.read_text(alloc).map(Verb::Change),
+        Verb::Insert(_empty) => later.read_text(alloc).map(Verb::Insert),
+        without_text => Ok(without_text),
+    }
+}
