@@ -1,8 +1,8 @@
 -- Lines exchanged and flagged, whose letters are told from places, and how far none has the flag.
-use Rattle.std.proofs.Common.{◌≡◌, ℕ, zero, suc, ◌+◌, ◌-◌, ◌<◌, ◌≤◌, List, [], ◌∷◌, Bool, true, false, cond, min, length, get_or, set, insert, remove, nat_lt, Option, Some, None, refl, ap, ◌∙◌, sym, subst, arith, get_or-set_same, get_or-set_other, ⊎_elim}
-use Rattle.std.specs.List.{position, position_or_len}
+use Rattle.std.proofs.Common.{◌≡◌, ℕ, zero, suc, ◌+◌, ◌-◌, ◌<◌, ◌≤◌, List, [], ◌∷◌, Bool, true, false, length, get_or, set, insert, remove, nat_lt, Option, Some, None, refl, ap, ◌∙◌, sym, subst, arith, get_or-set_same, get_or-set_other, ⊎_elim}
+use Rattle.std.specs.List.{position_or_len}
 use Rattle.std.proofs.lemmas.Bool.{cases_lt, cases_eq, cases_order, cond-true, cond-false, lt-ltb, le-ltb}
-use Rattle.std.proofs.lemmas.List.{get_or_past, get_or_default, set_past}
+use Rattle.std.proofs.lemmas.List.{get_or_past, set_past}
 use Rattle.std.proofs.lemmas.List.Sums.{position_or_len_is}
 use Rattle.std.proofs.lemmas.List.Edits.{length-remove, get_or-insert_below, get_or-insert_at, get_or-insert_above, get_or-remove_below, get_or-remove_above}
 use Rattle.ed_base.specs.Buffer.{Line, plain_line, with_flag, flagged_at, flagged_place, SharesNoLetter}

@@ -7,7 +7,7 @@ use Rattle.std.proofs.lemmas.List.Edits.{length-insert, get_or-insert_below, get
 use Rattle.std.proofs.lemmas.List.FromFn.{length-map-range_with_len, get_or-map-range_with_len, fill_by_all}
 use Rattle.ed_base.specs.Buffer.{Line, plain_line, no_letters, has_letter, with_letter, marked_place, marked_at, SharesNoLetter}
 use Rattle.line_store.specs.Marks.{is_at, letters_at, lettered, AllBelow}
-use Rattle.line_store.specs.Shifts.{opened, with_line, closed, without_line}
+use Rattle.line_store.specs.Shifts.{below, closed, opened, places_below, with_line, without_line}
 use Rattle.line_store.specs.Lettered.{letter-there, none_marked, some_same}
 use Rattle.line_store.proofs.Places.{opened-low, opened-high, closed-there, closed-low, closed-high, opened-below, opened-there, opened-above, closed-below, closed-above, is_there, not_at}
 
@@ -274,3 +274,38 @@ pub lettered-at : (marks : List (Option ℕ)) (lines : List Line) (i : ℕ) (lin
 lettered-at marks lines i line h e =
     get_or-lettered marks 0 i i lines (plain_line []) h (omega arith)
     ∙ ap (line_with marks i) (get_or_default lines i (plain_line []) line h ∙ sym e)
+
+-- the places of the first lines
+below-some : (count : ℕ) (o : Option ℕ) (place : ℕ) → below count o ≡ Some place → place < count
+below-some count None place e = absurd cc
+below-some count (Some other) place e = ⊎_elim
+    (λ l. let f : place ≡ other = some_same place other (sym e ∙ cond-true (nat_lt other count) (Some other) None (lt-ltb other count l)) in omega arith)
+    (λ l. let f : ◌≡◌ {A = Option ℕ} None (Some place) = sym (cond-false (nat_lt other count) (Some other) None (le-ltb other count l)) ∙ e in absurd cc)
+    (cases_lt other count)
+
+get_or-places_below : (count letter : ℕ) (marks : List (Option ℕ)) → letter < 26 → get_or (places_below count marks) letter None ≡ below count (get_or marks letter None)
+get_or-places_below count letter marks h = get_or-map-range_with_len (λ k. below count (get_or marks k None)) 0 26 letter letter None h (omega arith)
+
+pub places-below : (count : ℕ) (marks : List (Option ℕ)) → AllBelow count (places_below count marks)
+places-below count marks letter place e = ⊎_elim
+    (λ l. below-some count (get_or marks letter None) place (sym (get_or-places_below count letter marks l) ∙ e))
+    (λ l. let f : ◌≡◌ {A = Option ℕ} None (Some place) =
+    sym (get_or_past (places_below count marks) letter None (omega (arith, length-map-range_with_len (λ k. below count (get_or marks k None)) 0 26))) ∙ e in absurd cc)
+    (cases_lt letter 26)
+
+at-below : (count place : ℕ) (o : Option ℕ) → place < count → is_at place (below count o) ≡ is_at place o
+at-below count place None h = refl
+at-below count place (Some other) h = ⊎_elim
+    (λ l. ap (is_at place) (cond-true (nat_lt other count) (Some other) None (lt-ltb other count l)))
+    (λ l. ap (is_at place) (cond-false (nat_lt other count) (Some other) None (le-ltb other count l)) ∙ sym (not_at place other (omega arith)))
+    (cases_lt other count)
+
+-- are all that count for so many
+pub lettered-below : (count : ℕ) (marks : List (Option ℕ)) (place : ℕ) (lines : List Line) → place + length lines ≤ count →
+    lettered (places_below count marks) place lines ≡ lettered marks place lines
+lettered-below count marks place [] h = refl
+lettered-below count marks place (line ∷ lines) h =
+    ap (λ t. record line { letters = t } ∷ lettered (places_below count marks) (suc place) lines)
+    (letters_at-same place place (places_below count marks) marks (λ letter l.
+    ap (is_at place) (get_or-places_below count letter marks l) ∙ at-below count place (get_or marks letter None) (omega arith)))
+    ∙ ap (λ t. line_with marks place line ∷ t) (lettered-below count marks (suc place) lines (omega arith))

@@ -1,5 +1,5 @@
 -- Lists that are turned: which element stands where, and what comes of a turn after another.
-use Rattle.std.proofs.Common.{◌≡◌, ◌≢◌, ◌⊎◌, ℕ, ◌+◌, ◌-◌, ◌<◌, ◌≤◌, List, [], ◌∷◌, ◌++◌, take, drop, if◌then◌else◌, length, get_or, set, insert, remove, nat_lt, refl, ap, ◌∙◌, sym, arith, inl, inr, get_or-set_same, get_or-set_other, length-set, append_assoc, add-one, ⊎_elim}
+use Rattle.std.proofs.Common.{◌≡◌, ◌≢◌, ◌⊎◌, ℕ, ◌+◌, ◌-◌, ◌<◌, ◌≤◌, List, [], ◌∷◌, ◌++◌, take, drop, if◌then◌else◌, length, get_or, set, insert, remove, nat_lt, ap, ◌∙◌, sym, arith, inl, inr, get_or-set_same, get_or-set_other, length-set, append_assoc, add-one, ⊎_elim}
 use Rattle.std.proofs.lemmas.Bool.{cases_lt, cases_eq, cond-true, cond-false, lt-ltb, le-ltb}
 use Rattle.std.proofs.lemmas.List.{same_lists, get_or-drop, get_or-take, get_or_append_left, get_or-append_right, length-append, length-drop, length-take-le, take-append-le, drop-append-le}
 use Rattle.std.proofs.lemmas.List.Edits.{insert-append_right, remove-append_right}

@@ -1,5 +1,5 @@
--- Lines in chunks, which are full up to the last that has any.
-use Rattle.std.specs.Prelude.{ℕ, ◌+◌, ◌-◌, ◌*◌, ◌<◌, ◌≤◌, ◌≡◌, List, [], ◌∷◌, ◌++◌, length, min, slice_index_or}
+-- Lines in chunks, each of which holds up to so many.
+use Rattle.std.specs.Prelude.{ℕ, zero, suc, ◌+◌, ◌-◌, ◌*◌, ◌^◌, ◌<◌, ◌≤◌, ◌≡◌, List, [], ◌∷◌, ◌++◌, length, min, slice_index_or, slice_set}
 use Rattle.ed_base.specs.Buffer.{Line}
 
 -- how many lines a chunk holds when it is full
@@ -11,15 +11,62 @@ abbrev pub joined : {X : Type 0} → List (List X) → List X
 joined [] = []
 joined (chunk ∷ chunks) = chunk ++ joined chunks
 
--- each chunk holds as many of so many lines as those before it leave, and at most as many as it can
-abbrev pub FillUp : (count : ℕ) → List (List Line) → Type 0
-FillUp count chunks = (k : ℕ) → k < length chunks → length (slice_index_or chunks k []) ≡ min full (count - full * k)
+-- how many lines stand before a chunk
+abbrev pub lines_before : {X : Type 0} → (k : ℕ) → List (List X) → ℕ
+lines_before zero chunks = 0
+lines_before (suc k) [] = 0
+lines_before (suc k) (chunk ∷ chunks) = length chunk + lines_before k chunks
 
--- so many lines are in these chunks
-abbrev pub Hold : (count : ℕ) → List (List Line) → Type 0
-Hold count chunks = FillUp count chunks × (count ≤ full * length chunks) × (count ≡ length (joined chunks))
-
--- the lines, and for how many there is room
+-- the chunks, and which of them is near: the one that was used last
 pub record ChunksValue : Type 0 where
-  pub items : List Line
-  pub room : ℕ
+  pub chunks : List (List Line)
+  pub near : ℕ
+
+-- the lines of the near chunk
+abbrev pub near_chunk : ChunksValue → List Line
+near_chunk v = slice_index_or v.chunks v.near []
+
+-- other lines in the near chunk
+abbrev pub with_near : List Line → ChunksValue → ChunksValue
+with_near chunk v = record v { chunks = slice_set v.chunks v.near chunk }
+
+-- for how many lines there is room
+abbrev pub room_among : List (List Line) → ℕ
+room_among chunks = min (full * length chunks - length (joined chunks)) (2 ^ 64 - 1 - length (joined chunks))
+
+-- Of each chunk up to the near one it is known how many lines stand before it, and of each behind that how many stand from it on.
+pub record Known (near count : ℕ) (offsets : List ℕ) (chunks : List (List Line)) : Type 0 where
+  pub all : count ≡ length (joined chunks)
+  pub long : length offsets ≡ length chunks
+  pub within : near ≤ length chunks - 1
+  pub before : (k : ℕ) → k ≤ near → k < length chunks → slice_index_or offsets k 0 ≡ lines_before k chunks
+  pub behind : (k : ℕ) → near < k → k < length chunks → slice_index_or offsets k 0 ≡ count - lines_before k chunks
+
+-- how many lines stand before each chunk
+abbrev pub Starts : List ℕ → List (List Line) → Type 0
+Starts offsets chunks = (k : ℕ) → k < length chunks → slice_index_or offsets k 0 ≡ lines_before k chunks
+
+-- a line stands in a chunk
+pub record StandsIn (i k : ℕ) (chunks : List (List Line)) : Type 0 where
+  pub chunk : k < length chunks
+  pub low : lines_before k chunks ≤ i
+  pub high : i < lines_before k chunks + length (slice_index_or chunks k [])
+
+-- a place is in a chunk, or at an end of it
+pub record Touches (at k : ℕ) (chunks : List (List Line)) : Type 0 where
+  pub chunk : k < length chunks
+  pub low : lines_before k chunks ≤ at
+  pub high : at ≤ lines_before k chunks + length (slice_index_or chunks k [])
+
+-- a line may come in there, in this chunk
+abbrev pub Fits : (at k : ℕ) → List (List Line) → Type 0
+Fits at k chunks = Touches at k chunks × (length (slice_index_or chunks k []) < full)
+
+-- a chunk was split in two, of which the first keeps so many lines
+pub record Split (k keep : ℕ) (chunks split : List (List Line)) : Type 0 where
+  pub same : joined split ≡ joined chunks
+  pub no_fewer : length chunks ≤ length split
+  pub chunk : k + 1 < length split
+  pub before : lines_before k split ≡ lines_before k chunks
+  pub lower : length (slice_index_or split k []) ≡ keep
+  pub upper : length (slice_index_or split (k + 1) []) + keep ≡ length (slice_index_or chunks k [])

@@ -1,4 +1,4 @@
--- Where letters are after a line has come in or gone out.
+-- Where letters are after a line has come in or gone out, and which of them mark one of the first lines.
 use Rattle.std.specs.Prelude.{ℕ, ◌+◌, ◌-◌, List, Bool, true, false, if◌then◌else◌, map, nat_eq, nat_lt, Option, Some, None, slice_index_or}
 use Rattle.line_store.specs.Marks.{all_letters}
 
@@ -20,3 +20,12 @@ closed at (Some place) = if nat_eq place at then None else if nat_lt place at th
 -- where the letters are after a line has gone out
 abbrev pub without_line : (at : ℕ) → List (Option ℕ) → List (Option ℕ)
 without_line at marks = map (λ letter. closed at (slice_index_or marks letter None)) all_letters
+
+-- where a letter is, if that is one of the first so many lines
+abbrev pub below : (count : ℕ) → Option ℕ → Option ℕ
+below count None = None
+below count (Some place) = if nat_lt place count then Some place else None
+
+-- where the letters are that mark one of the first so many lines
+abbrev pub places_below : (count : ℕ) → List (Option ℕ) → List (Option ℕ)
+places_below count marks = map (λ letter. below count (slice_index_or marks letter None)) all_letters

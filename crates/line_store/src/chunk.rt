@@ -1,5 +1,6 @@
 //! A chunk of lines.
-ghost use Rattle.std.specs.Prelude.{◌≡◌, ◌<◌, ◌≤◌, [], ◌∷◌, ◌++◌, length, insert, remove, slice_index_or, slice_set, IfOk};
+ghost use Rattle.std.specs.Prelude.{◌≡◌, ◌+◌, ◌<◌, ◌≤◌, [], ◌∷◌, ◌++◌, length, insert, remove, slice_index_or, slice_set, IfOk};
+ghost use Rattle.std.specs.VecDeque.{deque_len, deque_capacity};
 ghost use Rattle.ed_base.specs.Buffer.{flagged_at};
 ghost use Rattle.line_store.specs.Chunks.{full};
 
@@ -31,6 +32,23 @@ impl Model for Chunk {
     ghost invariant = { λ c. (full ≤ deque_capacity c.ring) × (length c.ring.items ≤ full) };
 }
 
+// Gives the lines from place `at` on to a ring that has room for them, where they come before all others.
+fn give(ring: &mut VecDeque<BareLine>, at: usize, other: &mut VecDeque<BareLine>)
+    requires place { at ≤ length ring.old.items }
+    requires room { length ring.old.items + length other.old.items ≤ deque_capacity other.old }
+    ensures same { ring.new.items ++ other.new.items ≡ ring.old.items ++ other.old.items }
+    ensures kept { length ring.new.items ≡ at }
+    ensures capacity { deque_capacity ring.new ≡ deque_capacity ring.old }
+    ensures other_capacity { deque_capacity other.new ≡ deque_capacity other.old }
+{
+    'moves: while at < ring.len() {
+        let Some(last) = ring.pop_back() else {
+            unreachable!()
+        };
+        other.push_front_reserved(last);
+    }
+}
+
 impl Chunk {
     /// A chunk without lines.
     pub(crate) fn new(alloc: Global) -> Result<Self, AllocError>
@@ -39,6 +57,14 @@ impl Chunk {
         Ok(Chunk {
             ring: VecDeque::with_capacity(alloc, FULL)?,
         })
+    }
+
+    /// How many lines it has.
+    pub(crate) fn len(&self) -> usize
+        ensures value { result ≡ length self.now }
+        ensures bound { length self.now ≤ full }
+    {
+        self.ring.len()
     }
 
     /// A line.
@@ -61,19 +87,6 @@ impl Chunk {
         }
     }
 
-    /// Puts a line before place `at` of a full chunk, whose last line goes out for it.
-    pub(crate) fn shift(&mut self, at: usize, line: BareLine) -> BareLine
-        requires place { at < full }
-        requires full { length self.old ≡ full }
-        ensures shifted { self.new ++ result ∷ [] ≡ insert self.old at line }
-    {
-        let Some(last) = self.ring.pop_back() else {
-            unreachable!()
-        };
-        self.insert(at, line);
-        last
-    }
-
     /// Takes a line out.
     pub(crate) fn remove(&mut self, i: usize) -> BareLine
         requires place { i < length self.old }
@@ -92,6 +105,16 @@ impl Chunk {
         ensures pushed { self.new ≡ self.old ++ line ∷ [] }
     {
         self.ring.push_back_reserved(line);
+    }
+
+    /// Gives its lines from place `at` on to a chunk that has none.
+    pub(crate) fn give(&mut self, at: usize, other: &mut Chunk)
+        requires place { at ≤ length self.old }
+        requires empty { other.old ≡ [] }
+        ensures same { self.new ++ other.new ≡ self.old }
+        ensures kept { length self.new ≡ at }
+    {
+        give(&mut self.ring, at, &mut other.ring);
     }
 
     /// Puts a line in place of another, which comes back.

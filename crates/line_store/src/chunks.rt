@@ -1,8 +1,11 @@
 //! Lines in chunks.
-ghost use Rattle.std.specs.Prelude.{ℕ, ◌≡◌, ◌+◌, ◌-◌, ◌*◌, ◌<◌, ◌≤◌, length, insert, remove, slice_index_or, IsOk, OnOk};
-ghost use Rattle.line_store.specs.Chunks.{FillUp, full, joined};
+ghost use Rattle.std.specs.Prelude.{ℕ, ◌≡◌, ◌+◌, ◌-◌, ◌*◌, ◌<◌, ◌≤◌, [], length, ◌^◌, slice_index_or, slice_set, insert, remove, IfOk, IsOk, OnOk};
+ghost use Rattle.ed_base.specs.Buffer.{flagged_at};
+ghost use Rattle.line_store.specs.Chunks.{ChunksValue, Fits, StandsIn, Touches, full, joined, lines_before, near_chunk, with_near};
 
 use crate::chunk::{Chunk, FULL};
+use crate::chunk_room::{add_chunks, make_room_at, make_room_first, split_chunk};
+use crate::chunk_starts::{count_starts, turn};
 use crate::{BareLine, BareLines, Store};
 use std::alloc::{AllocError, Global};
 use std::marker::Model;
@@ -10,84 +13,271 @@ use std::marker::Model;
 /// A store whose lines are in chunks.
 pub type ChunkStore = Store<ChunkLines>;
 
-/// Lines in chunks, which are full up to the last that has any. So a line's place tells its chunk; and a line that comes in or
-/// goes out moves at most its chunk, and of each chunk behind that a single line.
+/// Lines in chunks of up to `FULL`, of any length. A line that comes in or goes out moves others of its chunk alone. Chunks
+/// without lines stand behind all others, until one is wanted.
 #[derive(Drop)]
 pub struct ChunkLines {
     chunks: Vec<Chunk>,
+    // Of each chunk up to the near one, how many lines stand before it; of each behind that, how many stand from it on. So a
+    // line that comes in or goes out in the near chunk changes none of them.
+    offsets: Vec<usize>,
+    // The chunk that was used last.
+    near: usize,
     count: usize,
 }
 
 impl Model for ChunkLines {
-    ghost use Rattle.std.specs.Prelude.{◌-◌, ◌*◌, ◌^◌, length, min};
-    ghost use Rattle.line_store.specs.Chunks.{ChunksValue, Hold, full, joined};
+    ghost use Rattle.line_store.specs.Chunks.{ChunksValue, Known};
 
     ghost Value = { ChunksValue };
 
-    ghost view = { λ l. record { items = joined l.chunks.items; room = min (full * length l.chunks.items - l.count) (2 ^ 64 - 1 - l.count) } };
+    ghost view = { λ l. record { chunks = l.chunks.items; near = l.near } };
 
-    ghost invariant = { λ l. Hold l.count l.chunks.items };
+    ghost invariant = { λ l. Known l.near l.count l.offsets.items l.chunks.items };
 }
 
-// Adds empty chunks until there are so many.
-fn add_chunks(chunks: &mut Vec<Chunk>, count: usize) -> Result<(), AllocError>
-    ensures enough { OnOk result (count ≤ length chunks.new.items) }
-    ensures no_fewer { length chunks.old.items ≤ length chunks.new.items }
-    ensures joined { joined chunks.new.items ≡ joined chunks.old.items }
-    ensures fill { (lines : ℕ) → lines ≤ full * length chunks.old.items → FillUp lines chunks.old.items → FillUp lines chunks.new.items }
-    ensures in_place { count ≤ length chunks.old.items → IsOk result }
+// How many lines a full chunk keeps when it is split for a line at one of its places. At an end of the chunk its lines stay
+// together, so that chunks that are filled in order stay full.
+fn kept(place: usize) -> usize
+    requires place { place ≤ full }
+    ensures bound { result ≤ full }
+
+    // None only for a line at its first place, and all only for a line at its end.
+    ensures none { place ≤ full * result }
+    ensures all { 2 * result ≤ full + place }
 {
-    while chunks.len() < count {
-        let chunk = Chunk::new(*chunks.allocator())?;
-        chunks.push(chunk)?;
+    if place == 0 || place == FULL {
+        return place;
     }
-    Ok(())
+    FULL / 2
 }
 
-// Puts a line before place `at` of so many. Of each full chunk from its place on, the last line goes to the next chunk.
-fn insert_line(chunks: &mut Vec<Chunk>, count: usize, at: usize, line: BareLine)
-    requires fill { FillUp count chunks.old.items }
-    requires place { at ≤ count }
-    requires room { count < full * length chunks.old.items }
-    ensures inserted { joined chunks.new.items ≡ insert (joined chunks.old.items) at line }
-    ensures fill { FillUp (count + 1) chunks.new.items }
-    ensures chunks { length chunks.new.items ≡ length chunks.old.items }
-{
-    let mut place = at % FULL;
-    let mut carried = line;
-    for k in at / FULL..count / FULL {
-        carried = chunks[k].shift(place, carried);
-        place = 0;
+impl ChunkLines {
+    // How many lines stand before a chunk.
+    fn start(&self, k: usize) -> usize
+        requires chunk { k < length self.now.chunks }
+        ensures value { result ≡ lines_before k self.now.chunks }
+    {
+        if k <= self.near {
+            return self.offsets[k];
+        }
+        self.count - self.offsets[k]
     }
-    chunks[count / FULL].insert(place, carried);
-}
 
-// Takes out one of so many lines. To each chunk from its place on comes the first line of the next chunk.
-fn remove_line(chunks: &mut Vec<Chunk>, count: usize, i: usize) -> BareLine
-    requires fill { FillUp count chunks.old.items }
-    requires place { i < count }
-    requires count { count ≤ full * length chunks.old.items }
-    ensures value { result ≡ slice_index_or (joined chunks.old.items) i result }
-    ensures removed { joined chunks.new.items ≡ remove (joined chunks.old.items) i }
-    ensures fill { FillUp (count - 1) chunks.new.items }
-    ensures chunks { length chunks.new.items ≡ length chunks.old.items }
-{
-    let line = chunks[i / FULL].remove(i % FULL);
-    for k in i / FULL..(count - 1) / FULL {
-        let first = chunks[k + 1].remove(0);
-        chunks[k].push(first);
+    // The chunk of a line.
+    fn chunk_of(&self, i: usize) -> usize
+        requires place { i < length (joined self.now.chunks) }
+        ensures chunk { StandsIn i result self.now.chunks }
+    {
+        let mut low = 0;
+        let mut high = self.chunks.len();
+        'halves: while high - low > 1 {
+            let middle = low + (high - low) / 2;
+            if self.start(middle) <= i {
+                low = middle;
+            } else {
+                high = middle;
+            }
+        }
+        low
     }
-    line
+
+    // A chunk that has a place in it, or at its end.
+    fn chunk_at(&self, at: usize) -> usize
+        requires place { at ≤ length (joined self.now.chunks) }
+        requires chunk { 0 < length self.now.chunks }
+        ensures chunk { Touches at result self.now.chunks }
+    {
+        if at == 0 {
+            return 0;
+        }
+        self.chunk_of(at - 1)
+    }
+
+    // Makes a chunk the near one.
+    fn go_to(&mut self, k: usize)
+        requires chunk { k < length self.old.chunks }
+        ensures value { self.new ≡ record self.old { near = k } }
+    {
+        turn(
+            &mut self.offsets,
+            self.near.min(k) + 1,
+            self.near.max(k) + 1,
+            self.count,
+        );
+        self.near = k;
+    }
+
+    // Makes the chunk of a line the near one.
+    fn go_to_line(&mut self, i: usize) -> usize
+        requires place { i < length (joined self.old.chunks) }
+        ensures chunk { StandsIn i result self.old.chunks }
+        ensures value { self.new ≡ record self.old { near = result } }
+    {
+        let k = self.chunk_of(i);
+        self.go_to(k);
+        k
+    }
+
+    // Splits a full chunk so that a line may come in at one of its places, and says in which chunk.
+    fn split(&mut self, k: usize, place: usize) -> Result<usize, AllocError>
+        requires chunk { k < length self.old.chunks }
+        requires full { length (slice_index_or self.old.chunks k []) ≡ full }
+        requires place { place ≤ full }
+        ensures fits { IfOk result (λ j. Fits (lines_before k self.old.chunks + place) j self.new.chunks) }
+        ensures unchanged { joined self.new.chunks ≡ joined self.old.chunks }
+        ensures no_fewer { length self.old.chunks ≤ length self.new.chunks }
+    {
+        let keep = kept(place);
+        self.offsets.reserve(1)?;
+        split_chunk(&mut self.chunks, k, keep)?;
+        count_starts(&self.chunks, &mut self.offsets);
+        self.near = self.chunks.len() - 1;
+        // A chunk that keeps all of its lines has no room.
+        if place <= keep.min(FULL - 1) {
+            return Ok(k);
+        }
+        Ok(k + 1)
+    }
+
+    // Moves lines from chunk to chunk so that a line may come in at a place, and says in which chunk.
+    fn draw(&mut self, at: usize) -> Result<usize, AllocError>
+        requires place { at ≤ length (joined self.old.chunks) }
+        ensures fits { IfOk result (λ k. Fits at k self.new.chunks) }
+        ensures unchanged { joined self.new.chunks ≡ joined self.old.chunks }
+        ensures no_fewer { length self.old.chunks ≤ length self.new.chunks }
+        ensures room { length (joined self.old.chunks) < full * length self.old.chunks → IsOk result }
+    {
+        if self.count / FULL >= self.chunks.len() {
+            return Err(AllocError);
+        }
+        make_room_first(&mut self.chunks);
+        let k = make_room_at(&mut self.chunks, at);
+        count_starts(&self.chunks, &mut self.offsets);
+        self.near = self.chunks.len() - 1;
+        Ok(k)
+    }
+
+    // Adds empty chunks until there are so many.
+    fn add(&mut self, count: usize) -> Result<(), AllocError>
+        ensures enough { OnOk result (count ≤ length self.new.chunks) }
+        ensures unchanged { joined self.new.chunks ≡ joined self.old.chunks }
+        ensures no_fewer { length self.old.chunks ≤ length self.new.chunks }
+        ensures in_place { count ≤ length self.old.chunks → IsOk result }
+    {
+        if count <= self.chunks.len() {
+            return Ok(());
+        }
+        self.offsets.reserve(count - self.chunks.len())?;
+        let added = add_chunks(&mut self.chunks, count);
+        count_starts(&self.chunks, &mut self.offsets);
+        self.near = self.chunks.len().saturating_sub(1);
+        added
+    }
+
+    // Sees that a line may come in at a place, and says in which chunk.
+    fn make_room(&mut self, at: usize) -> Result<usize, AllocError>
+        requires place { at ≤ length (joined self.old.chunks) }
+        ensures fits { IfOk result (λ k. Fits at k self.new.chunks) }
+        ensures unchanged { joined self.new.chunks ≡ joined self.old.chunks }
+        ensures no_fewer { length self.old.chunks ≤ length self.new.chunks }
+        ensures room { length (joined self.old.chunks) < full * length self.old.chunks → IsOk result }
+    {
+        self.add(1)?;
+        let k = self.chunk_at(at);
+        if self.chunks[k].len() < FULL {
+            return Ok(k);
+        }
+        let place = at - self.start(k);
+        if place == FULL && k + 1 < self.chunks.len() && self.chunks[k + 1].len() < FULL {
+            return Ok(k + 1);
+        }
+        if let Ok(chunk) = self.split(k, place) {
+            return Ok(chunk);
+        }
+        self.draw(at)
+    }
+
+    // Puts a line in the near chunk.
+    fn put_near(&mut self, place: usize, line: BareLine)
+        requires chunk { self.old.near < length self.old.chunks }
+        requires place { place ≤ length (near_chunk self.old) }
+        requires room { length (near_chunk self.old) < full }
+        requires count { length (joined self.old.chunks) + 1 < 2 ^ 64 }
+        ensures inserted { self.new ≡ with_near (insert (near_chunk self.old) place line) self.old }
+    {
+        self.chunks[self.near].insert(place, line);
+        self.count += 1;
+    }
+
+    // Takes a line out of the near chunk.
+    fn take_near(&mut self, place: usize) -> BareLine
+        requires chunk { self.old.near < length self.old.chunks }
+        requires place { place < length (near_chunk self.old) }
+        ensures value { result ≡ slice_index_or (near_chunk self.old) place result }
+        ensures removed { self.new ≡ with_near (remove (near_chunk self.old) place) self.old }
+    {
+        let line = self.chunks[self.near].remove(place);
+        self.count -= 1;
+        line
+    }
+
+    // Puts a line in place of another of the near chunk.
+    fn exchange_near(&mut self, place: usize, line: BareLine) -> BareLine
+        requires chunk { self.old.near < length self.old.chunks }
+        requires place { place < length (near_chunk self.old) }
+        ensures value { result ≡ slice_index_or (near_chunk self.old) place result }
+        ensures exchanged { self.new ≡ with_near (slice_set (near_chunk self.old) place line) self.old }
+    {
+        self.chunks[self.near].exchange(place, line)
+    }
+
+    // Flags a line of the near chunk, or takes its flag.
+    fn flag_near(&mut self, place: usize, flag: bool)
+        requires chunk { self.old.near < length self.old.chunks }
+        requires place { place < length (near_chunk self.old) }
+        ensures flagged { self.new ≡ with_near (flagged_at place flag (near_chunk self.old)) self.old }
+    {
+        self.chunks[self.near].set_flag(place, flag);
+    }
+
+    // Puts a chunk that has no lines behind all others.
+    fn set_aside(&mut self, k: usize)
+        requires chunk { k < length self.old.chunks }
+        requires empty { length (slice_index_or self.old.chunks k []) ≡ 0 }
+        ensures unchanged { joined self.new.chunks ≡ joined self.old.chunks }
+        ensures length { length self.new.chunks ≡ length self.old.chunks }
+    {
+        let empty = self.chunks.remove(k);
+        self.chunks.push_reserved(empty);
+        count_starts(&self.chunks, &mut self.offsets);
+        self.near = self.chunks.len() - 1;
+    }
+
+    // Puts a chunk behind all others if it has no lines.
+    fn tidy(&mut self, k: usize)
+        requires chunk { k < length self.old.chunks }
+        ensures unchanged { joined self.new.chunks ≡ joined self.old.chunks }
+        ensures length { length self.new.chunks ≡ length self.old.chunks }
+    {
+        if self.chunks[k].len() == 0 {
+            self.set_aside(k);
+        }
+    }
 }
 
 impl BareLines for ChunkLines {
-    ghost items = { λ l. l.items };
+    ghost use Rattle.line_store.specs.Chunks.{joined, room_among};
 
-    ghost spare = { λ l. l.room };
+    ghost items = { λ l. joined l.chunks };
+
+    ghost spare = { λ l. room_among l.chunks };
 
     fn empty(alloc: Global) -> Result<Self, AllocError> {
         Ok(ChunkLines {
             chunks: Vec::new(alloc),
+            offsets: Vec::new(alloc),
+            near: 0,
             count: 0,
         })
     }
@@ -97,49 +287,69 @@ impl BareLines for ChunkLines {
     }
 
     fn line(&self, i: usize) -> &BareLine {
-        self.chunks[i / FULL].line(i % FULL)
+        let k = self.chunk_of(i);
+        self.chunks[k].line(i - self.start(k))
     }
 
     fn reserve(&mut self, n: usize) -> Result<(), AllocError> {
+        if n == 0 {
+            return Ok(());
+        }
         let Some(count) = self.count.checked_add(n) else {
             return Err(AllocError);
         };
         // As many chunks as so many lines take, a last one in part.
-        add_chunks(&mut self.chunks, count / FULL + (count % FULL).min(1))
+        self.add(count / FULL + (count % FULL).min(1))
     }
 
     fn insert(&mut self, at: usize, line: BareLine) -> Result<(), BareLine> {
-        if let Err(_) = self.reserve(1) {
+        if self.count == usize::MAX {
             return Err(line);
         }
-        insert_line(&mut self.chunks, self.count, at, line);
-        self.count += 1;
+        let Ok(k) = self.make_room(at) else {
+            return Err(line);
+        };
+        let place = at - self.start(k);
+        self.go_to(k);
+        self.put_near(place, line);
         Ok(())
     }
 
     fn remove(&mut self, i: usize) -> BareLine {
-        let line = remove_line(&mut self.chunks, self.count, i);
-        self.count -= 1;
+        let k = self.go_to_line(i);
+        let place = i - self.start(k);
+        let line = self.take_near(place);
+        self.tidy(k);
         line
     }
 
     fn exchange(&mut self, i: usize, line: BareLine) -> BareLine {
-        self.chunks[i / FULL].exchange(i % FULL, line)
+        let k = self.go_to_line(i);
+        let place = i - self.start(k);
+        self.exchange_near(place, line)
     }
 
     fn set_flag(&mut self, i: usize, flag: bool) {
-        self.chunks[i / FULL].set_flag(i % FULL, flag);
+        let k = self.go_to_line(i);
+        let place = i - self.start(k);
+        self.flag_near(place, flag);
     }
 
     fn try_copy(&self) -> Result<Self, AllocError> {
+        let count = self.count;
         let alloc = *self.chunks.allocator();
         let mut chunks = Vec::with_capacity(alloc, self.chunks.len())?;
         for chunk in &self.chunks {
             chunks.push(chunk.try_copy(alloc)?)?;
         }
+        let mut offsets = Vec::with_capacity(alloc, chunks.len())?;
+        count_starts(&chunks, &mut offsets);
+        let near = chunks.len().saturating_sub(1);
         Ok(ChunkLines {
             chunks,
-            count: self.count,
+            offsets,
+            near,
+            count,
         })
     }
 }

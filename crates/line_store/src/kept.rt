@@ -150,6 +150,10 @@ impl<L: BareLines> LineStore for Store<L> {
         self.marks.place_of(letter)
     }
 
+    fn set_marks(&mut self, marks: &Marks) {
+        self.marks = marks.among(self.lines.len());
+    }
+
     fn flag(&mut self, i: usize) {
         self.lines.set_flag(i, true);
         self.unflagged = self.unflagged.min(i);
@@ -157,6 +161,10 @@ impl<L: BareLines> LineStore for Store<L> {
 
     fn unflag(&mut self, i: usize) {
         self.lines.set_flag(i, false);
+    }
+
+    fn flagged(&self, i: usize) -> bool {
+        self.lines.line(i).flag()
     }
 
     fn next_flagged(&mut self) -> Option<usize> {

@@ -3,6 +3,8 @@
 
 mod bare_lines;
 mod chunk;
+mod chunk_room;
+mod chunk_starts;
 mod chunks;
 mod gap;
 mod kept;

@@ -62,6 +62,14 @@ impl Line {
         self.bare.as_slice()
     }
 
+    /// A line of the same bytes, which both share, without letters or flag. An `Err` comes only where more lines share the bytes
+    /// than can be counted.
+    pub fn plain_copy(&self) -> Result<Line, AllocError>
+        ensures value { IfOk result (λ copy. copy ≡ plain_line self.now.bytes) }
+    {
+        Ok(Line::of(self.bare.plain_copy()?))
+    }
+
     /// The line without the letters that mark it.
     pub fn unmarked(mut self) -> Line
         ensures value { result ≡ record self { letters = no_letters } }

@@ -1,7 +1,7 @@
 //! Where the lines are that letters mark.
 ghost use Rattle.std.specs.Prelude.{◌≡◌, ◌-◌, ◌<◌, ◌^◌, Some, None, length, replicate, slice_index_or, slice_set, IfSome};
 ghost use Rattle.line_store.specs.Marks.{AllBelow, lettered, letters_at, marks_of};
-ghost use Rattle.line_store.specs.Shifts.{opened, closed, with_line, without_line};
+ghost use Rattle.line_store.specs.Shifts.{below, closed, opened, places_below, with_line, without_line};
 
 use crate::LineStore;
 use ed_base::Letter;
@@ -51,6 +51,16 @@ fn place_closed(at: usize, place: Option<usize>) -> Option<usize>
     }
 }
 
+// Where a letter is, if that is one of the first `count` lines.
+fn place_among(count: usize, place: Option<usize>) -> Option<usize>
+    ensures value { result ≡ below count place }
+{
+    match place {
+        Some(other) if count <= other => None,
+        _ => place,
+    }
+}
+
 impl Marks {
     /// No letter marks a line.
     pub(crate) fn none() -> Self
@@ -95,6 +105,17 @@ impl Marks {
         Marks {
             places: self.places,
         }
+    }
+
+    /// The same places, of the first `count` lines.
+    pub(crate) fn among(&self, count: usize) -> Self
+        ensures value { result ≡ places_below count self.now }
+    {
+        let mut marks = self.copy();
+        for letter in 0..LETTERS {
+            marks.places[letter] = place_among(count, marks.places[letter]);
+        }
+        marks
     }
 
     /// The letter marks the line at this place, and no other.

@@ -2,8 +2,9 @@
 ghost use Rattle.std.specs.Prelude.{◌≡◌, ◌+◌, ◌<◌, ◌≤◌, ℕ, List, [], true, false, length, insert, remove, slice_index_or, slice_set, IfOk, IfErr, OnOk, OnErr, IsOk};
 ghost use Rattle.ed_base.specs.Lines.{IsLine};
 ghost use Rattle.ed_base.specs.Buffer.{Line, plain_line, marked_at, marked_place, flagged_at, flagged_place, AtMostOnce, KnowLetters, SharesNoLetter};
+ghost use Rattle.line_store.specs.Marks.{lettered};
 
-use crate::Line;
+use crate::{Line, Marks};
 use ed_base::Letter;
 use std::alloc::{AllocError, Global};
 
@@ -79,6 +80,12 @@ pub trait LineStore: Drop {
     fn marked(&self, letter: Letter) -> Option<usize>
         ensures value { result ≡ marked_place letter (lines self.now) };
 
+    /// Marks the lines at these places by their letters, and no other line by any letter. A letter whose place lies behind the
+    /// last line marks none.
+    fn set_marks(&mut self, marks: &Marks)
+        ensures marked { lines self.new ≡ lettered marks.now 0 (lines self.old) }
+        ensures keeps_room { spare self.old ≤ spare self.new };
+
     /// Flags a line, as a global command does with those that it will take.
     fn flag(&mut self, i: usize)
         requires place { i < length (lines self.old) }
@@ -90,6 +97,11 @@ pub trait LineStore: Drop {
         requires place { i < length (lines self.old) }
         ensures unflagged { lines self.new ≡ flagged_at i false (lines self.old) }
         ensures keeps_room { spare self.old ≤ spare self.new };
+
+    /// Whether a line has the flag.
+    fn flagged(&self, i: usize) -> bool
+        requires place { i < length (lines self.now) }
+        ensures value { result ≡ (slice_index_or (lines self.now) i (plain_line [])).flag };
 
     /// The place of the first line that has the flag. It remembers how far it has looked.
     fn next_flagged(&mut self) -> Option<usize>

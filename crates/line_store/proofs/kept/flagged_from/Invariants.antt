@@ -1,5 +1,5 @@
 -- No line that was passed has the flag.
-use Rattle.std.proofs.Common.{◌≡◌, ◌-◌, length}
+use Rattle.std.proofs.Common.{◌-◌}
 use Rattle.line_store.specs.Kept.{Unflagged}
 use Rattle.line_store.proofs.kept.flagged_from.Given as goal
 

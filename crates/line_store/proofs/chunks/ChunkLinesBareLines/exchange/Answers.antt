@@ -1,39 +1,67 @@
 -- A line of its chunk is another.
-use Rattle.std.proofs.Common.{◌≡◌, ◌<◌, ◌/◌, ◌%◌, ◌∙◌, [], ap, sym, subst, length, get_or, set, arith}
-use Rattle.std.proofs.lemmas.List.{get_or_default}
-use Rattle.line_store.specs.Chunks.{full, joined, Hold}
-use Rattle.line_store.proofs.Joined.{Placed, placed, line-at, line-set, hold-set}
+use Rattle.std.proofs.Common.{◌≡◌, ◌+◌, ◌-◌, ◌<◌, ◌∙◌, [], ap, sym, length, length-set, get_or, set, arith}
+use Rattle.line_store.specs.Chunks.{joined, lines_before, near_chunk}
+use Rattle.line_store.proofs.Joined.{get_or-joined, joined-set}
+use Rattle.line_store.proofs.Offsets.{chunk-set, room-least}
 use Rattle.line_store.proofs.chunks.ChunkLinesBareLines.exchange.Goals as goal
-
-pub invariant_of-self : goal.invariant_of-self
-invariant_of-self c =
-    let e = c.self.inside in
-    let chunks = e.chunks.items in
-    let i = c.args.i in
-    let p : Placed i chunks = placed e.count i chunks c.self.invariant.0 c.self.invariant.1
-    (omega (arith, c.requires.place, c.self.invariant.2, ap (λ v. length v.items) c.self.view_is)) in
-    let chunk : c.index_mut.result.now ≡ get_or chunks (i / full) [] = c.index_mut.ensures.value ∙ get_or_default chunks (i / full) c.index_mut.result.now [] p.chunk in
-    subst (λ t. Hold e.count (set chunks (i / full) t)) (sym (c.exchange.ensures.exchanged ∙ ap (λ t. set t (i % full) c.args.line) chunk))
-    (hold-set e.count i chunks c.args.line c.self.invariant p)
 
 pub returns-clause-value : goal.returns-clause-value
 returns-clause-value c =
-    let e = c.self.inside in
-    let chunks = e.chunks.items in
+    let old = c.args.self.now in
+    let mid = c.go_to_line-k.new.self in
     let i = c.args.i in
-    let p : Placed i chunks = placed e.count i chunks c.self.invariant.0 c.self.invariant.1
-    (omega (arith, c.requires.place, c.self.invariant.2, ap (λ v. length v.items) c.self.view_is)) in
-    let line = c.exchange.result in
-    let chunk : c.index_mut.result.now ≡ get_or chunks (i / full) [] = c.index_mut.ensures.value ∙ get_or_default chunks (i / full) c.index_mut.result.now [] p.chunk in
-    c.exchange.ensures.value ∙ ap (λ t. get_or t (i % full) line) chunk ∙ sym (line-at i chunks line p) ∙ ap (λ v. get_or v.items i line) c.self.view_is
+    let k = c.go_to_line-k.result in
+    let s = c.go_to_line-k.ensures.chunk in
+    let e = c.go_to_line-k.ensures.value in
+    let place = i - c.start.result in
+    let chunk = get_or old.chunks k [] in
+    let near : near_chunk mid ≡ chunk = ap near_chunk e in
+    let start : c.start.result ≡ lines_before k old.chunks = c.start.ensures.value ∙ ap (λ v. lines_before k v.chunks) e in
+    let inner : place < length chunk = omega (arith, s.low, s.high) in
+    let there : i ≡ lines_before k old.chunks + place = omega (arith, s.low) in
+    let line = c.exchange_near.result in
+    c.exchange_near.ensures.value ∙ ap (λ t. get_or t place line) near ∙ sym (get_or-joined old.chunks k place i line s.chunk inner there)
 
 pub returns-clause-exchanged : goal.returns-clause-exchanged
 returns-clause-exchanged c =
-    let e = c.self.inside in
-    let chunks = e.chunks.items in
+    let old = c.args.self.now in
+    let mid = c.go_to_line-k.new.self in
     let i = c.args.i in
-    let p : Placed i chunks = placed e.count i chunks c.self.invariant.0 c.self.invariant.1
-    (omega (arith, c.requires.place, c.self.invariant.2, ap (λ v. length v.items) c.self.view_is)) in
-    let chunk : c.index_mut.result.now ≡ get_or chunks (i / full) [] = c.index_mut.ensures.value ∙ get_or_default chunks (i / full) c.index_mut.result.now [] p.chunk in
-    ap (λ t. joined (set chunks (i / full) t)) (c.exchange.ensures.exchanged ∙ ap (λ t. set t (i % full) c.args.line) chunk)
-    ∙ line-set i chunks c.args.line p ∙ ap (λ v. set v.items i c.args.line) c.self.view_is
+    let k = c.go_to_line-k.result in
+    let s = c.go_to_line-k.ensures.chunk in
+    let e = c.go_to_line-k.ensures.value in
+    let place = i - c.start.result in
+    let chunk = get_or old.chunks k [] in
+    let near : near_chunk mid ≡ chunk = ap near_chunk e in
+    let start : c.start.result ≡ lines_before k old.chunks = c.start.ensures.value ∙ ap (λ v. lines_before k v.chunks) e in
+    let inner : place < length chunk = omega (arith, s.low, s.high) in
+    let there : i ≡ lines_before k old.chunks + place = omega (arith, s.low) in
+    let is : c.exchange_near.new.self.chunks ≡ set old.chunks k (set chunk place c.args.line) =
+    chunk-set old mid c.exchange_near.new.self k (set (near_chunk mid) place c.args.line) e c.exchange_near.ensures.exchanged
+    ∙ ap (λ t. set old.chunks k (set t place c.args.line)) near in
+    let now : joined c.exchange_near.new.self.chunks ≡ set (joined old.chunks) i c.args.line =
+    ap joined is ∙ joined-set old.chunks k place i c.args.line s.chunk inner there in
+    now
+
+pub returns-clause-keeps_room : goal.returns-clause-keeps_room
+returns-clause-keeps_room c =
+    let old = c.args.self.now in
+    let mid = c.go_to_line-k.new.self in
+    let i = c.args.i in
+    let k = c.go_to_line-k.result in
+    let s = c.go_to_line-k.ensures.chunk in
+    let e = c.go_to_line-k.ensures.value in
+    let place = i - c.start.result in
+    let chunk = get_or old.chunks k [] in
+    let near : near_chunk mid ≡ chunk = ap near_chunk e in
+    let start : c.start.result ≡ lines_before k old.chunks = c.start.ensures.value ∙ ap (λ v. lines_before k v.chunks) e in
+    let inner : place < length chunk = omega (arith, s.low, s.high) in
+    let there : i ≡ lines_before k old.chunks + place = omega (arith, s.low) in
+    let is : c.exchange_near.new.self.chunks ≡ set old.chunks k (set chunk place c.args.line) =
+    chunk-set old mid c.exchange_near.new.self k (set (near_chunk mid) place c.args.line) e c.exchange_near.ensures.exchanged
+    ∙ ap (λ t. set old.chunks k (set t place c.args.line)) near in
+    let now : joined c.exchange_near.new.self.chunks ≡ set (joined old.chunks) i c.args.line =
+    ap joined is ∙ joined-set old.chunks k place i c.args.line s.chunk inner there in
+    room-least old.chunks c.exchange_near.new.self.chunks
+    (omega (arith, ap length is, length-set old.chunks k (set chunk place c.args.line)))
+    (omega (arith, ap length now, length-set (joined old.chunks) i c.args.line))

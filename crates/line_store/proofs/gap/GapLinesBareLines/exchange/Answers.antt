@@ -1,5 +1,5 @@
 -- One line of the ring is another.
-use Rattle.std.proofs.Common.{◌≡◌, ◌<◌, ◌-◌, ◌+◌, if◌then◌else◌, nat_lt, length, set, ◌∙◌, ap, sym, arith}
+use Rattle.std.proofs.Common.{◌≡◌, ◌<◌, ◌-◌, ◌+◌, if◌then◌else◌, nat_lt, length, set, ◌∙◌, ap, arith}
 use Rattle.line_store.specs.Gaps.{turned}
 use Rattle.line_store.proofs.Turns.{turned-set, length-turned}
 use Rattle.line_store.proofs.gap.GapLinesBareLines.exchange.Goals as goal

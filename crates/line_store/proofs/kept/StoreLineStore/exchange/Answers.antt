@@ -1,5 +1,5 @@
 -- The new line's letters are at its place, and those of the line before it have gone with that.
-use Rattle.std.proofs.Common.{◌≡◌, ◌<◌, ◌≤◌, ◌-◌, ◌∙◌, ap, sym, subst, length, length-set, arith, remove, set, get_or, []}
+use Rattle.std.proofs.Common.{◌≡◌, ◌<◌, ◌-◌, ◌∙◌, ap, sym, subst, length, length-set, arith, remove, set, get_or, []}
 use Rattle.std.proofs.lemmas.List.Edits.{length-remove}
 use Rattle.ed_base.specs.Buffer.{plain_line, SharesNoLetter}
 use Rattle.line_store.specs.Marks.{AllBelow, lettered}

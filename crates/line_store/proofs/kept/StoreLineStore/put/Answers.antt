@@ -1,9 +1,8 @@
 -- The lines are those with the new one, and its letters are at its place.
-use Rattle.std.proofs.Common.{◌≡◌, ◌≤◌, ◌+◌, ◌∙◌, ap, sym, length, arith, insert, subst}
+use Rattle.std.proofs.Common.{◌≤◌, ◌∙◌, ap, sym, length, arith, insert, subst}
 use Rattle.std.proofs.lemmas.List.Edits.{length-insert}
 use Rattle.ed_base.specs.Buffer.{SharesNoLetter}
-use Rattle.line_store.specs.Marks.{AllBelow, lettered}
-use Rattle.line_store.specs.Shifts.{with_line}
+use Rattle.line_store.specs.Marks.{lettered}
 use Rattle.line_store.specs.Kept.{lines_of}
 use Rattle.line_store.proofs.Lettered.{length-lettered, lettered-insert, HaveNoPlace, without_places, with_line-below}
 use Rattle.line_store.proofs.kept.StoreLineStore.put.Goals as goal

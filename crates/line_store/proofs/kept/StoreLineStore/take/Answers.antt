@@ -1,9 +1,7 @@
 -- The lines are those without it, and its letters have gone with it.
-use Rattle.std.proofs.Common.{◌≡◌, ◌<◌, ◌+◌, ◌∙◌, ap, sym, length, arith, remove, get_or, []}
+use Rattle.std.proofs.Common.{◌<◌, ◌∙◌, ap, sym, length, arith, remove, get_or, []}
 use Rattle.std.proofs.lemmas.List.Edits.{length-remove}
 use Rattle.ed_base.specs.Buffer.{plain_line}
-use Rattle.line_store.specs.Shifts.{without_line}
-use Rattle.line_store.specs.Marks.{lettered}
 use Rattle.line_store.specs.Kept.{lines_of}
 use Rattle.line_store.proofs.Lettered.{length-lettered, lettered-at, lettered-remove, without_line-below}
 use Rattle.line_store.proofs.kept.StoreLineStore.take.Goals as goal

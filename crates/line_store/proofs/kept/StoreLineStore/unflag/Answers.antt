@@ -1,9 +1,9 @@
 -- A line's flag is its own, whatever its letters.
-use Rattle.std.proofs.Common.{◌<◌, ◌∙◌, ap, length, arith, true, false}
+use Rattle.std.proofs.Common.{◌<◌, ◌∙◌, ap, length, arith, false}
 use Rattle.ed_base.specs.Buffer.{flagged_at}
 use Rattle.line_store.specs.Kept.{lines_of}
 use Rattle.line_store.proofs.Lettered.{length-lettered}
-use Rattle.line_store.proofs.Flags.{lettered-flagged, unflagged-set, unflagged-less}
+use Rattle.line_store.proofs.Flags.{lettered-flagged}
 use Rattle.line_store.proofs.kept.StoreLineStore.unflag.Goals as goal
 
 pub set_flag-requires : goal.set_flag-requires
