@@ -1,46 +1,63 @@
 -- What a change of the buffer leaves, and that undo would bring back the buffer before it.
-use Rattle.std.proofs.Common.{◌≡◌, ◌≢◌, ℕ, ◌+◌, ◌-◌, ◌<◌, ◌≤◌, Bool, true, false, ◌&&◌, nat_le, List, [], ◌∷◌, ◌++◌, length, map, get_or, refl, sym, ap, ◌∙◌, arith}
-use Rattle.std.specs.Prelude.{Option, Result, Ok, Err}
+use Rattle.std.proofs.Common.{◌≡◌, ◌≢◌, ℕ, ◌+◌, ◌-◌, ◌<◌, ◌≤◌, Bool, true, false, ◌&&◌, nat_le, List, [], ◌∷◌, length, map, get_or, refl, sym, ap, ◌∙◌, arith}
+use Rattle.std.specs.Prelude.{Option, Some, Result, Ok, Err, option_map, unwrap_or}
 use Rattle.std.proofs.lemmas.List.{length-map, get_or-map}
-use Rattle.ed_base.specs.Buffer.{Line, plain_line, texts, marked_at}
+use Rattle.ed_base.specs.Buffer.{Line, plain_line, texts, flagged_at, flagged_place}
 use Rattle.ed_base.specs.declared.fault.Fault.{Fault}
 use Rattle.ed_base.specs.declared.fault.Fault.TheVariants.{Destination}
 use Rattle.line_store.specs.Marks.{lettered}
 use Rattle.ed_base.specs.Parts.{between, carried, exchanged, inserted}
 use Rattle.ed_syntax.specs.States.{State}
+use Rattle.ed_syntax.specs.Globals.{next_taken, taken_at}
 use Rattle.ed_syntax.specs.Ranges as ranges
 use Rattle.ed_syntax.specs.Effects as effect
 use Rattle.ed_syntax.specs.Effects.{Outcome, altered, entered}
-use Rattle.ed_syntax.specs.Applied.{past_after}
-use Rattle.ed_commands.specs.declared.editor.past.Past.{Past}
 use Rattle.ed_commands.specs.declared.editor.past.Before.{Before}
 use Rattle.ed_commands.specs.declared.editor.past.Change.{Change}
-use Rattle.ed_commands.specs.Editors.{AreNew, kept_at, kept_of, left_by, lines_before, past_of, place_beside, rewound}
+use Rattle.ed_commands.specs.Earlier.{PastValue, earlier_after, earlier_in, earlier_of, kept_of, texts_before, with_earlier}
+use Rattle.ed_commands.specs.Editors.{AreNew, kept_at, left_by, place_beside}
 use Rattle.ed_commands.proofs.Blocks.{length-block}
-use Rattle.ed_commands.proofs.Letters.{past-marked}
+use Rattle.ed_commands.proofs.Kept.{kept-own}
+use Rattle.ed_commands.proofs.Texts.{texts-carried, texts-exchanged, texts-flagged_at}
 
--- one more change is taken back before the others
-pub rewound-more : (changes : List Change) (c : Change) (lines : List Line) → rewound (changes ++ c ∷ []) lines ≡ rewound changes (lines_before c lines)
-rewound-more [] c lines = refl
-rewound-more (first ∷ changes) c lines = ap (lines_before first) (rewound-more changes c lines)
-
--- the lines become these, with what undo keeps
-pub changing : (s : State) (p q : Past) (b : Before) (c : Change) (n count : ℕ) (lines new : List Line) (marks : List (Option ℕ)) →
-    lines_before c lines ≡ s.lines → lines ≡ new → n ≡ count → lettered marks 0 s.lines ≡ s.lines → s.past ≡ past_of p s.lines →
-    past_of q lines ≡ past_after b.listed (kept_of b.current marks (lines_before c lines)) (past_of p (lines_before c lines)) →
-    record s { lines = lines; current = n; changed = true; past = past_of q lines } ≡ left_by b s (altered new count s)
+-- the lines become these, with what is kept of those before
+pub changing : (s : State) (p q : PastValue) (b : Before) (c : Change) (n count : ℕ) (lines new : List Line) (marks : List (Option ℕ)) →
+    texts_before c (texts lines) ≡ texts s.lines → lines ≡ new → n ≡ count → lettered marks 0 s.lines ≡ s.lines → earlier_in s ≡ earlier_of p (texts s.lines) →
+    earlier_of q (texts lines) ≡ earlier_after b.listed (kept_of b.current marks (texts_before c (texts lines))) (earlier_of p (texts_before c (texts lines))) →
+    with_earlier (earlier_of q (texts lines)) (record s { lines = lines; current = n; changed = true }) ≡ left_by b s (altered new count s)
 changing s p q b c n count lines new marks back put at own was kept =
-    let past : past_of q lines ≡ past_after b.listed (kept_at b.current s) s.past =
+    let earlier : earlier_of q (texts lines) ≡ earlier_after b.listed (kept_at b.current s) (earlier_in s) =
     kept
-    ∙ ap (λ t. past_after b.listed (kept_of b.current marks t) (past_of p t)) back
-    ∙ ap (λ t. past_after b.listed (record { lines = t; current = b.current }) (past_of p s.lines)) own
-    ∙ ap (past_after b.listed (kept_at b.current s)) (sym was) in
-    rw (past, put, at) refl
+    ∙ ap (λ t. earlier_after b.listed (kept_of b.current marks t) (earlier_of p t)) back
+    ∙ ap (λ k. earlier_after b.listed k (earlier_of p (texts s.lines))) (kept-own b.current marks s.lines own)
+    ∙ ap (earlier_after b.listed (kept_at b.current s)) (sym was) in
+    ap (λ e. with_earlier e (record s { lines = lines; current = n; changed = true })) earlier
+    ∙ ap (λ t. with_earlier (earlier_after b.listed (kept_at b.current s) (earlier_in s)) (record s { lines = t; current = n; changed = true })) put
+    ∙ ap (λ m. with_earlier (earlier_after b.listed (kept_at b.current s) (earlier_in s)) (record s { lines = new; current = m; changed = true })) at
 
--- a line marked, with what undo keeps
-pub marked : (s : State) (p : Past) (place letter : ℕ) (lines : List Line) → s.past ≡ past_of p s.lines → lines ≡ marked_at place letter s.lines →
-    record s { lines = lines; past = past_of p lines } ≡ record s { lines = marked_at place letter s.lines }
-marked s p place letter lines past put = rw (put, past-marked p place letter s.lines, ← past) refl
+-- lines whose letters or flags alone changed, with what is kept
+pub same-texts : (s : State) (p : PastValue) (n : ℕ) (lines new : List Line) → earlier_in s ≡ earlier_of p (texts s.lines) → lines ≡ new → texts new ≡ texts s.lines →
+    with_earlier (earlier_of p (texts lines)) (record s { lines = lines; current = n }) ≡ record s { lines = new; current = n }
+same-texts s p n lines new was put same =
+    ap (λ e. with_earlier e (record s { lines = lines; current = n })) (ap (λ t. earlier_of p (texts t)) put ∙ ap (earlier_of p) same ∙ sym was)
+    ∙ ap (λ t. record s { lines = t; current = n }) put
+
+-- the next flagged line is taken
+pub next-one : (s old : State) (p : PastValue) (place : ℕ) (found : Option ℕ) (lines : List Line) → s ≡ old → earlier_in s ≡ earlier_of p (texts s.lines) →
+    found ≡ flagged_place s.lines → found ≡ Some place → lines ≡ flagged_at place false s.lines →
+    with_earlier (earlier_of p (texts lines)) (record s { lines = lines; current = place + 1 }) ≡ unwrap_or (next_taken old) old
+next-one s old p place found lines is was next at put =
+    same-texts s p (place + 1) lines (flagged_at place false s.lines) was put (texts-flagged_at place false s.lines)
+    ∙ ap (λ o. unwrap_or (option_map (taken_at s) o) s) (sym at ∙ next)
+    ∙ ap (λ t. unwrap_or (next_taken t) t) is
+
+-- what was put in place of lines, taken back on their texts
+pub replaced-back : (from entered : ℕ) (removed after before : List Line) → exchanged from (from + entered) removed after ≡ before →
+    exchanged from (from + entered) (texts removed) (texts after) ≡ texts before
+replaced-back from entered removed after before back = sym (texts-exchanged from (from + entered) removed after) ∙ ap texts back
+
+pub moved-back : (a b place : ℕ) (after before : List Line) → carried a b place after ≡ before → carried a b place (texts after) ≡ texts before
+moved-back a b place after before back = sym (texts-carried a b place after) ∙ ap texts back
 
 -- the texts of new lines are those that they were made of
 pub texts-plain : (text : List (List ℕ)) → texts (map plain_line text) ≡ text

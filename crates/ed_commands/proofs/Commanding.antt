@@ -1,18 +1,19 @@
 -- A command is the naming of its lines, its effect, and its suffix.
-use Rattle.std.proofs.Common.{◌≡◌, ◌≢◌, ℕ, Bool, true, false, List, ◌++◌, refl, ap, subst, ◌∙◌}
+use Rattle.std.proofs.Common.{◌≡◌, ◌≢◌, ◌≤◌, ℕ, Bool, true, false, List, ◌++◌, refl, ap, subst, ◌∙◌}
 use Rattle.std.specs.Prelude.{Option, Some, None, Result, Ok, Err, IsOkAnd, MatchResult}
 use Rattle.ed_base.specs.declared.fault.Fault.{Fault}
 use Rattle.ed_base.specs.declared.fault.Fault.TheVariants.{Memory}
 use Rattle.ed_syntax.specs.declared.request.Answer.{Answer}
 use Rattle.ed_syntax.specs.Commands as ed
-use Rattle.ed_syntax.specs.States.{State, Kept, kept}
+use Rattle.ed_syntax.specs.States.{State, Kept, kept, last}
 use Rattle.ed_syntax.specs.Values.{◌>>◌}
 use Rattle.ed_syntax.specs.Ranges.{Span}
 use Rattle.ed_syntax.specs.Effects.{Outcome, Effect, Makes, Asks}
 use Rattle.ed_syntax.specs.Applied.{Placed, command, completed, effect_of, placed, settled, suffix_written}
 use Rattle.ed_commands.specs.declared.editor.past.Before.{Before}
 use Rattle.ed_commands.specs.declared.editor.Reply.TheVariants as reply
-use Rattle.ed_commands.specs.Editors.{Leaves, Replies, asks, suffixed}
+use Rattle.ed_commands.specs.Editors.{Leaves, Replies, asks, kept_at, suffixed}
+use Rattle.ed_commands.proofs.Kept.{kept-same}
 
 -- a command at the lines that it names
 at-lines : (s : State) (c : ed.Command) (p : Placed) (given : Option Answer) → placed c s ≡ Ok p →
@@ -80,30 +81,33 @@ told-fault : (c : ed.Command) (s : State) (o : Outcome) (output : List ℕ) (r :
 told-fault c s o output (Ok more) fault e = absurd cc
 told-fault c s o output (Err other) fault e = cc
 
--- the suffix after an effect that leaves this
-suffix-after : (s new : State) (c : ed.Command) (effect : Result Effect Fault) (output : List ℕ) (result : Result (List ℕ) Fault) →
-    IsOkAnd effect (Leaves (record { current = s.current; listed = c.listed }) s new output) →
+-- the suffix after an effect that leaves this, in a state that keeps what the command's own keeps
+suffix-after : (s t new : State) (c : ed.Command) (b : Before) (effect : Result Effect Fault) (output : List ℕ) (result : Result (List ℕ) Fault) →
+    kept_at b.current t ≡ kept s → b.listed ≡ c.listed → IsOkAnd effect (Leaves b t new output) →
     MatchResult result (λ all. suffixed output c.suffix new ≡ Ok all) (λ fault. fault ≢ Memory → suffixed output c.suffix new ≡ Err fault) →
     MatchResult result (λ all. IsOkAnd (effect >> completed c s) (Replies s new (reply.Done all))) (λ fault. fault ≢ Memory → (effect >> completed c s) ≡ Err fault)
-suffix-after s new c (Err e) output result h w = absurd h
-suffix-after s new c (Ok (Asks r)) output result h w = absurd h
-suffix-after s new c (Ok (Makes o)) output (Ok all) h w =
+suffix-after s t new c b (Err e) output result keeps listed h w = absurd h
+suffix-after s t new c b (Ok (Asks r)) output result keeps listed h w = absurd h
+suffix-after s t new c b (Ok (Makes o)) output (Ok all) keeps listed h w =
+    let left : new ≡ settled c.listed (kept s) o = h.0 ∙ ap (λ l. settled l (kept_at b.current t) o) listed ∙ ap (λ k. settled c.listed k o) keeps in
     let same : suffix_written c.suffix new ≡ suffix_written c.suffix o.state =
-    ap (suffix_written c.suffix) h.0 ∙ suffix-settled c.listed (kept s) o.alters o.state o.output c.suffix in
+    ap (suffix_written c.suffix) left ∙ suffix-settled c.listed (kept s) o.alters o.state o.output c.suffix in
     subst (λ r. IsOkAnd (completing c s o r) (Replies s new (reply.Done all))) same
-    (told-output c s new o output (suffix_written c.suffix new) all h.0 h.1 w)
-suffix-after s new c (Ok (Makes o)) output (Err fault) h w = λ other.
+    (told-output c s new o output (suffix_written c.suffix new) all left h.1 w)
+suffix-after s t new c b (Ok (Makes o)) output (Err fault) keeps listed h w = λ other.
+    let left : new ≡ settled c.listed (kept s) o = h.0 ∙ ap (λ l. settled l (kept_at b.current t) o) listed ∙ ap (λ k. settled c.listed k o) keeps in
     let same : suffix_written c.suffix new ≡ suffix_written c.suffix o.state =
-    ap (suffix_written c.suffix) h.0 ∙ suffix-settled c.listed (kept s) o.alters o.state o.output c.suffix in
+    ap (suffix_written c.suffix) left ∙ suffix-settled c.listed (kept s) o.alters o.state o.output c.suffix in
     subst (λ r. completing c s o r ≡ Err fault) same (told-fault c s o output (suffix_written c.suffix new) fault (w other))
 
 -- The same of a command. The evaluation of its addresses keeps the lines, so that what undo keeps is told from the current line
 -- before it.
 pub done : (s new : State) (c : ed.Command) (p : Placed) (b : Before) (given : Option Answer) (output : List ℕ) (result : Result (List ℕ) Fault) →
-    p.state.lines ≡ s.lines → b.current ≡ s.current → b.listed ≡ c.listed →
+    p.state.lines ≡ s.lines → b.current ≡ s.current → s.current ≤ last s → b.listed ≡ c.listed →
     placed c s ≡ Ok p → IsOkAnd (effect_of c.verb b.listed p.span p.target p.state given) (Leaves b p.state new output) →
     MatchResult result (λ all. suffixed output c.suffix new ≡ Ok all) (λ fault. fault ≢ Memory → suffixed output c.suffix new ≡ Err fault) →
     MatchResult result (λ all. IsOkAnd (command s c given) (Replies s new (reply.Done all))) (λ fault. fault ≢ Memory → command s c given ≡ Err fault)
-done s new c p b given output result same was listed h k w =
-    rw (at-lines s c p given h) (suffix-after s new c (effect_of c.verb c.listed p.span p.target p.state given) output result
-    (rw (← same, ← was, ← listed) k) w)
+done s new c p b given output result same was within listed h k w =
+    rw (at-lines s c p given h) (suffix-after s p.state new c b (effect_of c.verb c.listed p.span p.target p.state given) output result
+    (kept-same s p.state b.current same was within) listed
+    (subst (λ l. IsOkAnd (effect_of c.verb l p.span p.target p.state given) (Leaves b p.state new output)) listed k) w)

@@ -3,10 +3,13 @@ pub mod Blocks
 pub mod Carrying
 pub mod Changes
 pub mod Filing
+pub mod Globals
 pub mod Held
-pub mod Letters
+pub mod Kept
 pub mod Placing
 pub mod Ranges
 pub mod Rewritten
 pub mod Searching
 pub mod Scanning
+pub mod Texts
+pub mod Undoing

@@ -8,22 +8,21 @@ use Rattle.bre_parse.specs.Grammar.{pattern}
 use Rattle.bre_parse.specs.declared.fault.BreFault.{BreFault}
 use Rattle.ed_base.specs.Lines.{newline, onto_first, lines_of, IsLine}
 use Rattle.ed_base.proofs.LineLemmas.{lines_of-bytes_of}
-use Rattle.ed_base.specs.Buffer.{Line, plain_line}
+use Rattle.ed_base.specs.Buffer.{Line, plain_line, texts}
 use Rattle.ed_base.specs.Parts.{block, exchanged}
 use Rattle.line_store.specs.Marks.{lettered}
 use Rattle.ed_syntax.specs.declared.replacement.Part.{Part}
 use Rattle.ed_syntax.specs.declared.replacement.Which.{Which}
-use Rattle.ed_syntax.specs.States as states
 use Rattle.ed_syntax.specs.States.{Kept}
 use Rattle.ed_syntax.specs.Substitution.{split_at_newlines, substituted, replaced_in, picked, taken}
 use Rattle.ed_syntax.specs.SubstitutedLines.{Results, each, made_of, onto}
-use Rattle.ed_syntax.specs.Applied.{past_after}
-use Rattle.ed_commands.specs.declared.editor.past.Past.{Past}
 use Rattle.ed_commands.specs.declared.editor.past.Before.{Before}
-use Rattle.ed_commands.specs.Editors.{AreNew, kept_of, past_of}
-use Rattle.ed_commands.specs.Rewriting.{kept_lines, past_of_rewritten}
+use Rattle.ed_commands.specs.Earlier.{Earlier, PastValue, earlier_after, earlier_of, kept_of, kept_lines}
+use Rattle.ed_commands.specs.Editors.{AreNew}
+use Rattle.ed_commands.specs.Rewriting.{earlier_of_rewritten}
 use Rattle.ed_commands.proofs.Blocks.{block-more, length-exchanged, taken-back}
 use Rattle.ed_commands.proofs.Changes.{made-new}
+use Rattle.ed_commands.proofs.Kept.{kept-own}
 
 -- what results of lines, and of one more behind them
 abbrev pub with_last : Line → Option (List (List ℕ)) → Results → Results
@@ -117,27 +116,27 @@ pub made-by : (text : List ℕ) (tree : Tree) (parts : List Part) (which : Which
 made-by text tree parts which line made h e =
     ap (λ p. elim p [ Ok t ↦ substituted t parts which line | Err fault ↦ None ]) h ∙ ap (option_map split_at_newlines) (sym e)
 
--- what undo would bring back before the first line that changes, and after it
-pub none-kept : (made : Option ℕ) (listed : Bool) (before : Kept) (past : states.Past) → is_some made ≡ false → past_of_rewritten made listed before past ≡ past
-none-kept None listed before past h = refl
-none-kept (Some n) listed before past h = absurd cc
+-- what is kept of earlier buffers before the first line that changes, and after it
+pub none-kept : (made : Option ℕ) (listed : Bool) (before : Kept) (e : Earlier) → is_some made ≡ false → earlier_of_rewritten made listed before e ≡ e
+none-kept None listed before e h = refl
+none-kept (Some n) listed before e h = absurd cc
 
-pub some-kept : (made : Option ℕ) (listed : Bool) (before : Kept) (past : states.Past) → is_some made ≡ true →
-    past_of_rewritten made listed before past ≡ past_after listed before past
-some-kept None listed before past h = absurd cc
-some-kept (Some n) listed before past h = refl
+pub some-kept : (made : Option ℕ) (listed : Bool) (before : Kept) (e : Earlier) → is_some made ≡ true →
+    earlier_of_rewritten made listed before e ≡ earlier_after listed before e
+some-kept None listed before e h = absurd cc
+some-kept (Some n) listed before e h = refl
 
 pub when-none : (made : Option ℕ) (P : Type 0) → is_some made ≡ false → IfNone made P → P
 when-none None P h p = p
 when-none (Some n) P h p = absurd cc
 
-pub first-change : (was now : Past) (b : Before) (marks : List (Option ℕ)) (lines old : List Line) (base : states.Past) →
-    past_of now lines ≡ past_after b.listed (kept_of b.current marks lines) (past_of was lines) → lettered marks 0 lines ≡ lines → lines ≡ old →
-    past_of was lines ≡ base → past_of now lines ≡ past_after b.listed (kept_lines b.current old) base
+pub first-change : (was now : PastValue) (b : Before) (marks : List (Option ℕ)) (lines old : List Line) (base : Earlier) →
+    earlier_of now (texts lines) ≡ earlier_after b.listed (kept_of b.current marks (texts lines)) (earlier_of was (texts lines)) → lettered marks 0 lines ≡ lines → lines ≡ old →
+    earlier_of was (texts lines) ≡ base → earlier_of now (texts lines) ≡ earlier_after b.listed (kept_lines b.current old) base
 first-change was now b marks lines old base begun own same kept =
     begun
-    ∙ ap (λ t. past_after b.listed (record { lines = t; current = b.current }) (past_of was lines)) (own ∙ same)
-    ∙ ap (past_after b.listed (kept_lines b.current old)) kept
+    ∙ ap (λ k. earlier_after b.listed k (earlier_of was (texts lines))) (kept-own b.current marks lines own ∙ ap (kept_lines b.current) same)
+    ∙ ap (earlier_after b.listed (kept_lines b.current old)) kept
 
 -- what results with one more line that stays
 pub with-none : (line : Line) (texts : Option (List (List ℕ))) (r : Results) → None ≡ option_map (map plain_line) texts → with_last line texts r ≡ (r.0 ++ line ∷ [], r.1)

@@ -14,7 +14,7 @@ use Rattle.ed_syntax.specs.States.{State, last}
 use Rattle.ed_syntax.specs.Values.{count_from, upwards, lines_forward, lines_backward, matches, matches_line, searched, sought}
 use Rattle.ed_commands.specs.Editors.{TellsLine, with_pattern}
 
-matched-by : (text line : List ℕ) (tree : Tree) → pattern text ≡ Ok tree → matches text line ≡ is_some (match_from tree line 0)
+pub matched-by : (text line : List ℕ) (tree : Tree) → pattern text ≡ Ok tree → matches text line ≡ is_some (match_from tree line 0)
 matched-by text line tree h = rw (h, matches) refl
 
 -- what the matcher tells of a line's text is whether the pattern matches the line

@@ -1,27 +1,23 @@
 -- An editor as a value: what it holds, and the fault that it has failed by.
-use Rattle.std.specs.Prelude.{ℕ, ◌≡◌, ◌≢◌, ◌+◌, ◌-◌, ◌≤◌, Bool, true, false, ◌&&◌, List, [], ◌∷◌, ◌++◌, map, nat_le, Option, Some, None, Result, Ok, Err, IsOkAnd, MatchResult}
+use Rattle.std.specs.Prelude.{ℕ, ◌≡◌, ◌≢◌, ◌+◌, ◌≤◌, Bool, true, false, ◌&&◌, List, [], ◌∷◌, ◌++◌, map, nat_le, Option, Some, None, Result, Ok, Err, IsOkAnd, MatchResult}
 use Rattle.ed_base.specs.Buffer.{Line, plain_line, texts}
-use Rattle.ed_base.specs.Parts.{exchanged, carried}
 use Rattle.ed_base.specs.declared.fault.Fault.{Fault}
 use Rattle.ed_base.specs.declared.fault.Fault.TheVariants.{Destination, Memory}
-use Rattle.line_store.specs.Marks.{lettered}
 use Rattle.ed_syntax.specs.Commands as ed
-use Rattle.ed_syntax.specs.States as states
-use Rattle.ed_syntax.specs.States.{State, Kept, Nothing, Was, opening}
+use Rattle.ed_syntax.specs.States.{State, Kept, kept, opening}
 use Rattle.ed_syntax.specs.declared.verbs.Taking.{Taking}
 use Rattle.ed_syntax.specs.declared.verbs.Taking.TheVariants as many
 use Rattle.ed_syntax.specs.Values.{◌>>◌}
 use Rattle.ed_syntax.specs.Ranges as ranges
 use Rattle.ed_syntax.specs.Effects.{Outcome, Effect, Makes, Asks, place_left}
 use Rattle.ed_syntax.specs.Files.{used_path, named_first}
+use Rattle.ed_syntax.specs.Globals.{flags, opened}
 use Rattle.ed_syntax.specs.Applied.{Placed, settled, suffix_written}
+use Rattle.ed_commands.specs.Earlier.{kept_lines}
+use Rattle.ed_commands.specs.declared.editor.globals.Begun.{Begun}
 use Rattle.ed_commands.specs.declared.editor.Reply.{Reply}
 use Rattle.ed_commands.specs.declared.editor.Reply.TheVariants as reply
-use Rattle.ed_commands.specs.declared.editor.past.Past.{Past}
 use Rattle.ed_commands.specs.declared.editor.past.Before.{Before}
-use Rattle.ed_commands.specs.declared.editor.past.Held.{Held}
-use Rattle.ed_commands.specs.declared.editor.past.Change.{Change}
-use Rattle.ed_commands.specs.declared.editor.past.Change.TheVariants as change
 use Rattle.ed_commands.specs.declared.editor.addressing.Addressed.{Addressed}
 use Rattle.ed_commands.specs.declared.editor.addressing.Span.{Span}
 use Rattle.ed_commands.specs.declared.editor.addressing.Values.{Values}
@@ -75,29 +71,6 @@ failure_of (Some fault) result = Some fault
 failure_of None (Ok r) = None
 failure_of None (Err fault) = Some fault
 
--- The lines before a change, told from those after it. What was moved is carried back.
-abbrev pub lines_before : Change → List Line → List Line
-lines_before (change.Replaced from entered removed) lines = exchanged from (from + entered) removed.items lines
-lines_before (change.Moved from to place) lines = carried place (place + (to - from)) from lines
-
--- the lines before several changes, of which the last one is taken back first
-abbrev pub rewound : List Change → List Line → List Line
-rewound [] lines = lines
-rewound (c ∷ later) lines = lines_before c (rewound later lines)
-
--- these lines as undo keeps them, with their letters where they were then
-abbrev pub kept_of : (current : ℕ) → (marks : List (Option ℕ)) → List Line → Kept
-kept_of current marks lines = record { lines = lettered marks 0 lines; current = current }
-
--- what undo would bring back, where this is held of the buffer that it keeps, whose lines are these
-abbrev pub held_past : Option Held → List Line → states.Past
-held_past None lines = Nothing
-held_past (Some h) lines = Was (kept_of h.current h.marks lines)
-
--- what undo would bring back, told from the lines as they are now, whose letters may be other ones
-abbrev pub past_of : Past → List Line → states.Past
-past_of p lines = held_past p.held (rewound p.changes.items lines)
-
 -- the values of addresses as a list
 abbrev pub list_of_values : Values → List ℕ
 list_of_values these.Without = []
@@ -130,9 +103,9 @@ AreNew lines = map plain_line (texts lines) ≡ lines
 abbrev pub place_beside : ranges.Span → (target : ℕ) → Result ℕ Fault
 place_beside x target = elim (nat_le x.first target && nat_le target x.last) [ true ↦ Err Destination | false ↦ Ok (place_left x target) ]
 
--- the buffer as undo keeps it, where this line was current
+-- the buffer as undo keeps it, where this line was current, or the last one where there are fewer
 abbrev pub kept_at : (current : ℕ) → State → Kept
-kept_at current s = record { lines = s.lines; current = current }
+kept_at current s = kept_lines current s.lines
 
 -- the state that an outcome leaves, where the command came from this line, in a list or not
 abbrev pub left_by : Before → State → Outcome → State
@@ -158,3 +131,19 @@ asks _ = false
 -- the state in which the path that a command uses is remembered where none was, or why there is none
 abbrev pub naming : Option (List ℕ) → State → Result State Fault
 naming path s = used_path path s >> λ used. Ok (named_first used s)
+
+-- whether a command is a global one
+abbrev pub is_global : ed.Verb → Bool
+is_global (ed.Global sense pattern) = true
+is_global _ = false
+
+-- A global command begins: its list is run on the state that its own effect leaves, in which so many lines have the flag, and after
+-- what that wrote.
+abbrev pub BeginsBy : (old new : State) → Begun → Effect → Type 0
+BeginsBy old new begun (Makes o) = (new ≡ opened (kept old) o.state) × (begun.lines ≡ flags o.state) × (begun.output ≡ o.output)
+BeginsBy old new begun (Asks request) = ⊥
+
+-- what came of its beginning, or the expected fault; or it was out of memory
+abbrev pub Begins : Result Effect Fault → Result Begun Fault → (old new : State) → Type 0
+Begins expected result old new =
+    MatchResult result (λ begun. IsOkAnd expected (BeginsBy old new begun)) (λ fault. fault ≢ Memory → expected ≡ Err fault)

@@ -1,3 +1,4 @@
 pub mod Editors
+pub mod Earlier
 pub mod Rewriting
 pub mod Scans

@@ -1,21 +1,16 @@
 -- Lines that are rewritten one by one, what is used for that, and what undo keeps of it.
 use Rattle.std.specs.Prelude.{ℕ, Bool, List, Option, Some, None, Result, Ok}
-use Rattle.ed_base.specs.Buffer.{Line}
 use Rattle.ed_base.specs.declared.fault.Fault.{Fault}
 use Rattle.ed_syntax.specs.declared.replacement.Part.{Part}
-use Rattle.ed_syntax.specs.States.{State, Kept, Past}
+use Rattle.ed_syntax.specs.States.{State, Kept}
 use Rattle.ed_syntax.specs.Values.{◌>>◌, used_pattern}
 use Rattle.ed_syntax.specs.SubstitutedLines.{used_replacement}
-use Rattle.ed_syntax.specs.Applied.{past_after}
+use Rattle.ed_commands.specs.Earlier.{Earlier, earlier_after}
 
--- these lines as undo keeps them
-abbrev pub kept_lines : (current : ℕ) → List Line → Kept
-kept_lines current lines = record { lines = lines; current = current }
-
--- what undo would bring back once lines were rewritten; where none was, what it would have brought back before
-abbrev pub past_of_rewritten : (made : Option ℕ) → (listed : Bool) → Kept → Past → Past
-past_of_rewritten None listed before past = past
-past_of_rewritten (Some n) listed before past = past_after listed before past
+-- what is kept of earlier buffers once lines were rewritten; where none was, what was kept before
+abbrev pub earlier_of_rewritten : (made : Option ℕ) → (listed : Bool) → Kept → Earlier → Earlier
+earlier_of_rewritten None listed before e = e
+earlier_of_rewritten (Some n) listed before e = earlier_after listed before e
 
 -- the state in which `s` remembers the replacement and the pattern that it uses, or why it has none
 abbrev pub remembering : (listed : Bool) → (pattern : Option (List ℕ)) → (replacement : Option (List Part)) → State → Result State Fault

@@ -6,7 +6,7 @@ ghost use Rattle.ed_syntax.specs.declared.request.Answer.{Answer};
 ghost use Rattle.ed_syntax.specs.Applied as applied;
 ghost use Rattle.ed_syntax.specs.Files.{loaded};
 ghost use Rattle.ed_syntax.specs.States.{opening};
-ghost use Rattle.ed_commands.specs.Editors.{Applied, Replies, opening_value, failure_of};
+ghost use Rattle.ed_commands.specs.Editors.{Applied, Replies, failure_of, opening_value};
 ghost use Rattle.ed_commands.specs.declared.editor.Reply.TheVariants as reply;
 
 mod addressing;
@@ -15,16 +15,19 @@ mod effects;
 mod entering;
 mod files;
 mod forms;
+mod globals;
 mod lines;
 mod past;
 mod rearranging;
 mod rewriting;
 mod searching;
 mod substituting;
+mod undoing;
 
 use ed_base::{Bytes, Fault};
 use ed_syntax::{Answer, Command, Pattern, Replacement, Request};
 use files::asks;
+pub use globals::Begun;
 use line_store::LineStore;
 use lines::file_store;
 use past::{Before, Past};
@@ -56,11 +59,13 @@ pub struct Editor<S: LineStore> {
 
 impl<S: LineStore> Model for Editor<S> {
     ghost use Rattle.std.specs.Prelude.{◌≤◌, length};
-    ghost use Rattle.ed_commands.specs.Editors.{EditorValue, past_of};
+    ghost use Rattle.ed_base.specs.Buffer.{texts};
+    ghost use Rattle.ed_commands.specs.Earlier.{earlier_of};
+    ghost use Rattle.ed_commands.specs.Editors.{EditorValue};
 
     ghost Value = { EditorValue };
 
-    ghost view = { λ e. record { state = record { lines = S.lines e.store; current = e.current; pattern = e.pattern; replacement = e.replacement; name = e.name; changed = e.changed; past = past_of e.past (S.lines e.store) }; failed = e.failed } };
+    ghost view = { λ e. record { state = record { lines = S.lines e.store; current = e.current; pattern = e.pattern; replacement = e.replacement; name = e.name; changed = e.changed; past = (earlier_of e.past (texts (S.lines e.store))).past; global = (earlier_of e.past (texts (S.lines e.store))).global }; failed = e.failed } };
 
     ghost invariant = { λ e. e.current ≤ length (S.lines e.store) };
 }

@@ -4,5 +4,5 @@
 mod editor;
 mod substitution;
 
-pub use editor::{Editor, Reply};
+pub use editor::{Begun, Editor, Reply};
 pub use substitution::substitute;

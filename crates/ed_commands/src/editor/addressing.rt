@@ -182,7 +182,7 @@ impl<S: LineStore> Editor<S> {
     /// What a command is applied to. All its addresses are evaluated before their order is looked at.
     pub(crate) fn addressed(&mut self, command: &Command) -> Result<Addressed, Fault>
         ensures exact { Tells (placed_value self.new.state) (placed (command_value command.now) self.old.state) result }
-        ensures fits { IfOk result (λ addressed. Fits (takes (verb_value command.now.verb)).taking addressed.span (last self.new.state)) }
+        ensures fits { IfOk result (λ addressed. Fits (takes (command_value command.now).verb).taking addressed.span (last self.new.state)) }
         ensures target { IfOk result (λ addressed. addressed.target ≤ last self.new.state) }
         ensures lines { self.new.state.lines ≡ self.old.state.lines }
         ensures failed { self.new.failed ≡ self.old.failed }

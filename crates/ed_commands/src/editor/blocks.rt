@@ -219,8 +219,8 @@ pub fn carry<S: LineStore>(span: Span, target: usize, store: &mut S) -> Result<u
     Ok(target - count)
 }
 
-// Carries a block behind a line in front of it, its first line first.
-fn carry_up<S: LineStore>(from: usize, to: usize, place: usize, store: &mut S)
+/// Carries a block behind a line in front of it, its first line first. There is room for its lines.
+pub fn carry_up<S: LineStore>(from: usize, to: usize, place: usize, store: &mut S)
     requires place { place ≤ from }
     requires order { from ≤ to }
     requires last { to ≤ length (S.lines store.old) }
@@ -232,8 +232,8 @@ fn carry_up<S: LineStore>(from: usize, to: usize, place: usize, store: &mut S)
     }
 }
 
-// Carries a block behind a line that lies behind it, its last line first.
-fn carry_down<S: LineStore>(from: usize, to: usize, target: usize, store: &mut S)
+/// Carries a block behind a line that lies behind it, its last line first. There is room for its lines.
+pub fn carry_down<S: LineStore>(from: usize, to: usize, target: usize, store: &mut S)
     requires order { from ≤ to }
     requires target { to ≤ target }
     requires last { target ≤ length (S.lines store.old) }

@@ -60,6 +60,8 @@ impl<S: LineStore> Editor<S> {
             Verb::EditAnyway(path) => self.edit_anyway(path, answer)?,
             Verb::FileName(path) => return self.file_name(path),
             Verb::Quit => self.saved()?,
+            Verb::Global { sense, pattern, .. } => self.flag_lines(*sense, pattern, span)?,
+            Verb::Undo => self.undo()?,
             Verb::Help | Verb::HelpMode | Verb::PromptMode | Verb::QuitAnyway => {}
         }
         Ok(Bytes::new(self.alloc))

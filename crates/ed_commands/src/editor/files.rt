@@ -43,7 +43,7 @@ fn bytes_read(answer: Answer) -> Result<Bytes, Fault>
 impl<S: LineStore> Editor<S> {
     /// The file that a command needs. Its addresses are evaluated again once there is an answer: what they change is put back.
     pub(crate) fn request(&mut self, command: &Command) -> Result<Request, Fault>
-        requires asks { IsTrue (editors.asks (verb_value command.now.verb)) }
+        requires asks { IsTrue (editors.asks (command_value command.now).verb) }
         ensures exact { Tells Asks (applied.command self.old.state (command_value command.now) None) result }
         ensures unchanged { OnOk result (self.new ≡ self.old) }
         ensures failed { self.new.failed ≡ self.old.failed }

@@ -1,12 +1,15 @@
-//! What undo would bring back.
-ghost use Rattle.std.specs.Prelude.{◌≡◌, ◌<◌, ℕ, List, Option, OnOk, vec_len, vec_capacity};
-ghost use Rattle.ed_base.specs.Buffer.{Line};
+//! What undo would bring back, and the buffer before an open global command.
+ghost use Rattle.std.specs.Prelude.{◌≡◌, ◌≢◌, ◌<◌, ◌≤◌, ℕ, List, IfErr, IfOk, IfSome, OnOk, drop, length};
+ghost use Rattle.ed_base.specs.Buffer.{texts};
+ghost use Rattle.ed_base.specs.declared.fault.Fault.TheVariants.{Memory, Undo};
 ghost use Rattle.ed_syntax.specs.States.{Nothing};
-ghost use Rattle.ed_syntax.specs.Applied.{past_after};
-ghost use Rattle.ed_commands.specs.Editors.{kept_of, lines_before, past_of};
+ghost use Rattle.ed_commands.specs.Earlier.{Restores, closing, earlier_after, earlier_of, kept_of, nothing_earlier, noting, opening_global, texts_before, undoing};
 
-use line_store::{Line, Marks};
+use crate::editor::undoing::{rewind, take_flags};
+use ed_base::Fault;
+use line_store::{Line, LineStore, Marks};
 use std::alloc::{AllocError, Global};
+use std::marker::Model;
 
 /// How undo sees a command that is carried out.
 #[derive(Clone, Copy, Debug, PartialEq, Eq)]
@@ -17,12 +20,33 @@ pub struct Before {
     pub listed: bool,
 }
 
-/// What is held of the buffer that undo keeps, beside its lines.
+/// What is held of an earlier buffer, beside the texts of its lines.
 #[derive(Drop)]
 pub struct Held {
     pub current: usize,
     /// Where the letters were.
     pub marks: Marks,
+    /// All changes but the first so many came after it.
+    pub since: usize,
+}
+
+/// What undo would bring back.
+#[derive(Drop)]
+pub enum Undone {
+    /// Before the first change of a buffer.
+    Nothing,
+    /// The buffer as it is: a global command changed nothing.
+    Same,
+    Was(Held),
+}
+
+/// A global command whose list is run.
+#[derive(Drop)]
+pub struct OpenGlobal {
+    /// The buffer before it.
+    pub held: Held,
+    /// Its list changed the buffer.
+    pub altered: bool,
 }
 
 /// What a command did to the lines.
@@ -47,68 +71,205 @@ pub enum Change {
     },
 }
 
-/// What undo would bring back: all that changed the lines since. It holds what went out and no copy of what stayed, so that
-/// keeping it costs no more than the changes did.
+/// Earlier buffers, as all that changed the lines since. It holds what went out and no copy of what stayed, so that keeping them
+/// costs no more than the changes did. Only the texts of the lines are told from the changes: letters are held apart, and no
+/// earlier buffer that is brought back has flags.
 #[derive(Drop)]
 pub struct Past {
-    /// Nothing before the first change of a buffer.
-    pub held: Option<Held>,
-    /// First to last.
-    pub changes: Vec<Change>,
+    undone: Undone,
+    global: Option<OpenGlobal>,
+    // First to last.
+    changes: Vec<Change>,
+}
+
+impl Model for Past {
+    ghost use Rattle.std.specs.Prelude.{◌-◌, length, vec_capacity, vec_len};
+    ghost use Rattle.ed_commands.specs.Earlier.{GlobalWithin, PastValue, UndoneWithin};
+
+    ghost Value = { PastValue };
+
+    ghost view = { λ p. record { undone = p.undone; global = p.global; changes = p.changes.items; room = vec_capacity p.changes - vec_len p.changes } };
+
+    ghost invariant = { λ p. UndoneWithin (length p.changes.items) p.undone × GlobalWithin (length p.changes.items) p.global };
 }
 
 impl Past {
     /// Nothing to bring back. It takes no memory.
+    #[tactic(auto, unfolding(crate::specs::Earlier::earlier_of))]
     pub fn nothing(alloc: Global) -> Self
-        ensures value { (lines : List Line) → past_of result lines ≡ Nothing }
+        ensures value { (now : List (List ℕ)) → earlier_of result now ≡ nothing_earlier }
     {
         Past {
-            held: None,
+            undone: Undone::Nothing,
+            global: None,
             changes: Vec::new(alloc),
         }
     }
 
     /// Makes room for one more change.
+    #[tactic(auto, unfolding(crate::specs::Earlier::earlier_of))]
     pub fn reserve(&mut self) -> Result<(), AllocError>
-        ensures room { OnOk result (vec_len self.new.changes < vec_capacity self.new.changes) }
-        ensures unchanged { (lines : List Line) → past_of self.new lines ≡ past_of self.old lines }
+        ensures room { OnOk result (0 < self.new.room) }
+        ensures unchanged { (now : List (List ℕ)) → earlier_of self.new now ≡ earlier_of self.old now }
     {
         self.changes.reserve(1)
     }
 
     /// Keeps what there was before a change, of which the letters were at `marks`; of a listed command, what it kept.
     pub fn keep(&mut self, before: Before, marks: Marks, change: Change)
-        requires room { vec_len self.old.changes < vec_capacity self.old.changes }
-        ensures kept { (lines : List Line) →
-            past_of self.new lines ≡ past_after before.listed (kept_of before.current marks (lines_before change lines))
-            (past_of self.old (lines_before change lines)) }
+        requires room { 0 < self.old.room }
+        ensures kept { (now : List (List ℕ)) →
+            earlier_of self.new now ≡ earlier_after before.listed (kept_of before.current marks (texts_before change now))
+            (earlier_of self.old (texts_before change now)) }
     {
         self.begin(before, marks);
         self.add(change);
     }
 
     /// From here on the changes are those of a command, before which the letters were at `marks`: what there was then is kept; of
-    /// a listed command, what was kept.
+    /// a listed command, what was kept. A global command that is open knows of the change.
     pub fn begin(&mut self, before: Before, marks: Marks)
-        ensures kept { (lines : List Line) →
-            past_of self.new lines ≡ past_after before.listed (kept_of before.current marks lines) (past_of self.old lines) }
-        ensures keeps_room { vec_len self.old.changes < vec_capacity self.old.changes →
-            vec_len self.new.changes < vec_capacity self.new.changes }
+        ensures kept { (now : List (List ℕ)) →
+            earlier_of self.new now ≡ earlier_after before.listed (kept_of before.current marks now) (earlier_of self.old now) }
+        ensures keeps_room { 0 < self.old.room → 0 < self.new.room }
     {
         if !before.listed {
-            self.changes.clear();
-            self.held = Some(Held {
-                current: before.current,
-                marks,
-            });
+            self.hold(before.current, marks);
         }
+        self.note();
+    }
+
+    // A global command that is open knows of a change.
+    #[tactic(auto, unfolding(crate::specs::Earlier::earlier_of))]
+    fn note(&mut self)
+        ensures noted { (now : List (List ℕ)) → earlier_of self.new now ≡ noting (earlier_of self.old now) }
+        ensures keeps_room { self.old.room ≤ self.new.room }
+    {
+        if let Some(open) = &mut self.global {
+            open.altered = true;
+        }
+    }
+
+    // The buffer as it is will be brought back. Changes before it are still asked for only by a global command that is open.
+    #[tactic(auto, unfolding(crate::specs::Earlier::earlier_of))]
+    fn hold(&mut self, current: usize, marks: Marks)
+        ensures kept { (now : List (List ℕ)) →
+            earlier_of self.new now ≡ undoing (kept_of current marks now) (earlier_of self.old now) }
+        ensures keeps_room { self.old.room ≤ self.new.room }
+    {
+        if self.global.is_none() {
+            self.changes.clear();
+        }
+        self.undone = Undone::Was(Held {
+            current,
+            marks,
+            since: self.changes.len(),
+        });
     }
 
     /// One more change of a command: what there was before it stays kept.
     pub fn add(&mut self, change: Change)
-        requires room { vec_len self.old.changes < vec_capacity self.old.changes }
-        ensures kept { (lines : List Line) → past_of self.new lines ≡ past_of self.old (lines_before change lines) }
+        requires room { 0 < self.old.room }
+        ensures kept { (now : List (List ℕ)) → earlier_of self.new now ≡ earlier_of self.old (texts_before change now) }
     {
         self.changes.push_reserved(change);
     }
+
+    /// The global command that is open is over, and undo would bring back the buffer before it. Where its list changed nothing,
+    /// undo leaves the buffer as it is.
+    #[tactic(auto, unfolding(crate::specs::Earlier::earlier_of))]
+    pub fn close(&mut self)
+        ensures closed { (now : List (List ℕ)) → earlier_of self.new now ≡ closing (earlier_of self.old now) }
+    {
+        let Some(open) = self.global.take() else {
+            return;
+        };
+        let OpenGlobal { held, altered } = open;
+        if altered {
+            drop_front(&mut self.changes, held.since);
+            self.undone = Undone::Was(Held {
+                current: held.current,
+                marks: held.marks,
+                since: 0,
+            });
+        } else {
+            self.changes.clear();
+            self.undone = Undone::Same;
+        }
+    }
+
+    /// A global command is open from here on; before its addresses were evaluated this line was current, and the letters were at
+    /// `marks`.
+    #[tactic(auto, unfolding(crate::specs::Earlier::earlier_of))]
+    pub fn open(&mut self, current: usize, marks: Marks)
+        ensures opened { (now : List (List ℕ)) → earlier_of self.new now ≡ opening_global (kept_of current marks now) (earlier_of self.old now) }
+    {
+        self.global = Some(OpenGlobal {
+            held: Held {
+                current,
+                marks,
+                since: self.changes.len(),
+            },
+            altered: false,
+        });
+    }
+
+    /// Brings back the buffer that undo kept, in place of the present one, which it then keeps, and tells the line that is current
+    /// there; `None` where all stays as it is. It costs no more than the changes did. After an `Err` the store may have some of
+    /// the lines.
+    pub fn bring_back<S: LineStore>(
+        &mut self,
+        alloc: Global,
+        current: usize,
+        store: &mut S,
+    ) -> Result<Option<usize>, Fault>
+        ensures brought { IfOk result (λ line. let before = earlier_of self.old (texts (S.lines store.old)) in
+            Restores before.past current (S.lines store.old) (S.lines store.new) before (earlier_of self.new (texts (S.lines store.new))) line) }
+        ensures fault { IfErr result (λ fault. fault ≢ Memory →
+            (fault ≡ Undo) × ((earlier_of self.old (texts (S.lines store.old))).past ≡ Nothing)) }
+        ensures within { IfOk result (λ line. IfSome line (λ line. line ≤ length (S.lines store.new))) }
+    {
+        let held = match &self.undone {
+            Undone::Nothing => return Err(Fault::Undo),
+            Undone::Same => return Ok(None),
+            Undone::Was(held) => held,
+        };
+        let marks = Marks::of(store);
+        let since = self.changes.len();
+        rewind(alloc, held.since, &mut self.changes, store)?;
+        take_flags(store);
+        store.set_marks(&held.marks);
+        let line = held.current.min(store.len());
+        self.undone = Undone::Was(Held {
+            current,
+            marks,
+            since,
+        });
+        self.forget();
+        Ok(Some(line))
+    }
+
+    // Where no global command is open, changes before the buffer that undo keeps are asked for no longer.
+    #[tactic(auto, unfolding(crate::specs::Earlier::earlier_of))]
+    fn forget(&mut self)
+        ensures kept { (now : List (List ℕ)) → earlier_of self.new now ≡ earlier_of self.old now }
+    {
+        if self.global.is_some() {
+            return;
+        }
+        if let Undone::Was(held) = &mut self.undone {
+            drop_front(&mut self.changes, held.since);
+            held.since = 0;
+        }
+    }
+}
+
+// Drops the first so many changes. It takes no memory.
+fn drop_front(changes: &mut Vec<Change>, count: usize)
+    requires within { count ≤ length changes.old.items }
+    ensures left { changes.new.items ≡ drop count changes.old.items }
+{
+    let left = changes.len() - count;
+    changes.rotate_left(count);
+    changes.truncate(left);
 }

@@ -1,10 +1,11 @@
 //! Lines that are rewritten one by one, each by itself.
 ghost use Rattle.std.specs.Prelude.{◌≡◌, ◌+◌, ◌-◌, ◌^◌, ◌<◌, ◌≤◌, length, map, option_map, IfNone, IfOk, IfSome, OnErr, OnOk};
-ghost use Rattle.ed_base.specs.Buffer.{plain_line};
+ghost use Rattle.ed_base.specs.Buffer.{plain_line, texts};
 ghost use Rattle.ed_base.specs.Parts.{between, exchanged, replaced};
 ghost use Rattle.ed_syntax.specs.SubstitutedLines.{each, made_of};
-ghost use Rattle.ed_commands.specs.Editors.{AreNew, past_of};
-ghost use Rattle.ed_commands.specs.Rewriting.{kept_lines, past_of_rewritten};
+ghost use Rattle.ed_commands.specs.Earlier.{earlier_of, kept_lines};
+ghost use Rattle.ed_commands.specs.Editors.{AreNew};
+ghost use Rattle.ed_commands.specs.Rewriting.{earlier_of_rewritten};
 
 use crate::editor::addressing::Span;
 use crate::editor::blocks::{exchange, split_text};
@@ -52,8 +53,8 @@ pub fn rewrite_lines<S: LineStore>(
         ≡ option_map (λ n. span.first - 1 + n) (each (made_of pattern.now replacement.now which) (between span.first span.last (S.lines store.old))).1) }
     ensures put { OnOk result (S.lines store.new
         ≡ replaced span.first span.last (each (made_of pattern.now replacement.now which) (between span.first span.last (S.lines store.old))).0 (S.lines store.old)) }
-    ensures kept { IfOk result (λ made. past_of past.new (S.lines store.new)
-        ≡ past_of_rewritten made before.listed (kept_lines before.current (S.lines store.old)) (past_of past.old (S.lines store.old))) }
+    ensures kept { IfOk result (λ made. earlier_of past.new (texts (S.lines store.new))
+        ≡ earlier_of_rewritten made before.listed (kept_lines before.current (S.lines store.old)) (earlier_of past.old (texts (S.lines store.old)))) }
     ensures untouched { IfOk result (λ made. IfNone made (S.lines store.new ≡ S.lines store.old)) }
     ensures within { IfOk result (λ made. IfSome made (λ line. (1 ≤ line) × (line ≤ length (S.lines store.new)))) }
     ensures no_fewer { length (S.lines store.old) ≤ length (S.lines store.new) }
@@ -90,7 +91,7 @@ fn rewrite_line<S: LineStore>(
     requires new { AreNew lines.items }
     ensures put { OnOk result (S.lines store.new ≡ exchanged place (place + 1) lines.items (S.lines store.old)) }
     ensures counted { OnOk result (length (S.lines store.new) + 1 ≡ length (S.lines store.old) + length lines.items) }
-    ensures kept { OnOk result (past_of past.new (S.lines store.new) ≡ past_of past.old (S.lines store.old)) }
+    ensures kept { OnOk result (earlier_of past.new (texts (S.lines store.new)) ≡ earlier_of past.old (texts (S.lines store.old))) }
     ensures unchanged { OnErr result (S.lines store.new ≡ S.lines store.old) }
 {
     past.reserve()?;

@@ -56,8 +56,8 @@ fn last_match<S: LineStore>(
 }
 
 impl<S: LineStore> Editor<S> {
-    // A search remembers its own pattern before it looks for a line.
-    fn remember(&mut self, own: &Option<Pattern>) -> Result<(), AllocError>
+    /// A search remembers its own pattern before it looks for a line; so do other commands that have one.
+    pub(crate) fn remember(&mut self, own: &Option<Pattern>) -> Result<(), AllocError>
         ensures remembered { OnOk result (self.new.state.pattern ≡ sought own.now self.old.state) }
         ensures unchanged { OnErr result (self.new ≡ self.old) }
         ensures others { SameButPattern self.old self.new }

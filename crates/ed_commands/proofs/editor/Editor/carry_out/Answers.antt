@@ -1,8 +1,9 @@
 -- A command whose lines can't be named is refused, one whose effect meets a fault fails by it, and another replies what its effect
 -- and its suffix tell.
-use Rattle.std.proofs.Common.{Some, ap, refl}
+use Rattle.std.proofs.Common.{Some, ap, arith, refl}
 use Rattle.std.proofs.lemmas.Result.{err_from_is_err_and}
 use Rattle.ed_syntax.specs.PublicTypes.{command_value}
+use Rattle.ed_syntax.specs.States.{last}
 use Rattle.ed_commands.specs.Editors.{placed_value}
 use Rattle.ed_commands.proofs.Commanding.{refused, failed, done}
 use Rattle.ed_commands.proofs.editor.Editor.carry_out.Goals as goal
@@ -22,6 +23,7 @@ pub returns-clause-exact : goal.returns-clause-exact
 returns-clause-exact g c =
     done c.args.self.now.state c.effect.new.self.state (command_value c.args.command.now)
     (placed_value c.addressed.new.self.state c.in_ok-named.named)
-    (record { current = c.self.inside.current; listed = c.args.command.now.listed }) (Some c.args.answer) c.in_ok-output.output c.write_suffix.result
-    c.in_ok-named.ensures.lines (ap (λ v. v.state.current) c.self.view_is) refl
+    (record { current = c.self.inside.current; listed = (command_value c.args.command.now).listed }) (Some c.args.answer) c.in_ok-output.output c.write_suffix.result
+    c.in_ok-named.ensures.lines (ap (λ v. v.state.current) c.self.view_is)
+    (omega (arith, c.self.invariant, ap (λ v. v.state.current) c.self.view_is, ap (λ v. last v.state) c.self.view_is)) refl
     c.in_ok-named.ensures.exact c.in_ok-output.ensures.exact c.write_suffix.ensures.exact

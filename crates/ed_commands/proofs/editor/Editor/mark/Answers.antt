@@ -1,8 +1,10 @@
 -- What undo would bring back stays.
 use Rattle.std.proofs.Common.{◌≡◌, ◌-◌, refl, ap, ◌∙◌}
+use Rattle.ed_base.specs.Buffer.{marked_at}
 use Rattle.ed_syntax.specs.Ranges as ranges
 use Rattle.ed_syntax.specs.Effects as effect
-use Rattle.ed_commands.proofs.Changes.{marked}
+use Rattle.ed_commands.proofs.Changes.{same-texts}
+use Rattle.ed_commands.proofs.Texts.{texts-marked_at}
 use Rattle.ed_commands.proofs.Held.{held}
 use Rattle.ed_commands.proofs.editor.Editor.mark.Goals as goal
 
@@ -12,5 +14,6 @@ returns-clause-exact g c =
     let lines = g.S.LineStore.lines e.store in
     let s = held lines e.current e.pattern e.replacement e.name e.changed e.past in
     let is : s ≡ c.args.self.now.state = ap (λ v. v.state) c.self.view_is in
-    marked s e.past (c.args.span.last - 1) c.args.letter (g.S.LineStore.lines c.mark.new.self) refl c.mark.ensures.marked
+    let place = c.args.span.last - 1 in
+    same-texts s e.past e.current (g.S.LineStore.lines c.mark.new.self) (marked_at place c.args.letter lines) refl c.mark.ensures.marked (texts-marked_at place c.args.letter lines)
     ∙ ap (λ t. (effect.mark c.args.letter (ranges.span c.args.span.last c.args.span.last) t).state) is

@@ -1,12 +1,13 @@
 -- The lines are carried, and what undo keeps carries them back.
 use Rattle.std.proofs.Common.{◌≡◌, ◌≤◌, ◌+◌, ◌-◌, ◌∙◌, true, refl, sym, ap, subst, arith, length}
 use Rattle.std.specs.Prelude.{IsOkAnd}
+use Rattle.ed_base.specs.Buffer.{texts}
 use Rattle.ed_base.specs.Parts.{carried}
 use Rattle.ed_syntax.specs.Effects.{altered}
 use Rattle.ed_commands.specs.Editors.{left_by}
 use Rattle.ed_commands.specs.declared.editor.past.Change.TheVariants as change
 use Rattle.ed_commands.proofs.Blocks.{carried-back}
-use Rattle.ed_commands.proofs.Changes.{changing, moved-to}
+use Rattle.ed_commands.proofs.Changes.{changing, moved-back, moved-to}
 use Rattle.ed_commands.proofs.Held.{held}
 use Rattle.ed_commands.proofs.editor.Editor.move_lines.Goals as goal
 
@@ -31,5 +32,6 @@ returns-clause-exact g c =
     subst (λ r. IsOkAnd r (λ outcome. now ≡ left_by c.args.before old outcome))
     (sym (moved-to a to c.args.target place old c.requires.first c.requires.order c.requires.last c.in_ok-place.ensures.place))
     (changing s c.reserve.new.self c.keep.new.self c.args.before (change.Moved from to place) (place + (to - from)) (place + (to - from)) after (carried from to place lines) c.of-marks.result
-    back c.in_ok-place.ensures.carried refl c.of-marks.ensures.own (sym (c.reserve.ensures.unchanged lines)) (c.keep.ensures.kept after)
+    (moved-back place (place + (to - from)) from after lines back) c.in_ok-place.ensures.carried refl c.of-marks.ensures.own
+    (sym (c.reserve.ensures.unchanged (texts lines))) (c.keep.ensures.kept (texts after))
     ∙ ap (λ t. left_by c.args.before t (altered (carried from to place t.lines) (place + (to - from)) t)) is)

@@ -1,8 +1,10 @@
 -- What is taken back is the line that stood there.
 use Rattle.std.proofs.Common.{◌≡◌, ◌+◌, ◌∙◌, ap, arith, length}
+use Rattle.ed_base.specs.Buffer.{texts}
 use Rattle.ed_base.specs.Parts.{exchanged}
-use Rattle.ed_commands.specs.Editors.{past_of}
+use Rattle.ed_commands.specs.Earlier.{earlier_of}
 use Rattle.ed_commands.proofs.Blocks.{length-exchanged, put-back}
+use Rattle.ed_commands.proofs.Changes.{replaced-back}
 use Rattle.ed_commands.proofs.editor.rewriting.rewrite_line.Goals as goal
 
 pub returns-clause-kept : goal.returns-clause-kept
@@ -16,7 +18,9 @@ returns-clause-kept g c =
     let counted : length new ≡ entered = omega (arith, c.args.lines.ok.0, c.len-entered.ensures) in
     let back : exchanged place (place + entered) removed after ≡ lines =
     rw (c.in_ok-removed.ensures.put, c.in_ok-removed.ensures.taken) (put-back place (place + 1) entered new lines (omega arith) (omega (arith, c.requires.place)) counted) in
-    c.add.ensures.kept after ∙ ap (past_of c.reserve.new.self) back ∙ c.reserve.ensures.unchanged lines
+    c.add.ensures.kept (texts after)
+    ∙ ap (earlier_of c.reserve.new.self) (replaced-back place entered removed after lines back)
+    ∙ c.reserve.ensures.unchanged (texts lines)
 
 pub returns-clause-counted : goal.returns-clause-counted
 returns-clause-counted g c =

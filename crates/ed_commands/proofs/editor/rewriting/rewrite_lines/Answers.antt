@@ -2,11 +2,10 @@
 use Rattle.std.proofs.Common.{◌≡◌, ◌<◌, ◌+◌, ◌-◌, ◌++◌, ◌∙◌, [], not, true, false, Some, None, option_map, map, length, get_or, refl, sym, ap, subst, arith, rules}
 use Rattle.std.specs.Prelude.{is_some}
 use Rattle.std.proofs.lemmas.List.{take-append-drop, length-append}
-use Rattle.ed_base.specs.Buffer.{plain_line}
+use Rattle.ed_base.specs.Buffer.{plain_line, texts}
 use Rattle.ed_base.specs.Parts.{block, exchanged}
 use Rattle.ed_syntax.specs.SubstitutedLines.{each, made_of}
-use Rattle.ed_commands.specs.Editors.{past_of}
-use Rattle.ed_commands.specs.Rewriting.{kept_lines}
+use Rattle.ed_commands.specs.Earlier.{earlier_of, kept_lines}
 use Rattle.ed_commands.proofs.Blocks.{block-none, length-exchanged}
 use Rattle.ed_commands.proofs.Rewritten.{counted, each-further, first-change, gone, new-made, next-line, none-kept, some-kept, some-made, stands-at, stayed, when-none, with-new, with-none}
 use Rattle.ed_commands.proofs.editor.rewriting.rewrite_lines.Goals as goal
@@ -102,15 +101,15 @@ loop-i-preserved g c =
           ∙ elim c.if-is_none.branch [
             | then-is_none w ↦
                 let none : is_some c.loop-i.made ≡ false = c.is_none.ensures ∙ ap not w.if-is_none.true in
-                ap (λ p. past_of p now) w.past-is
-                ∙ first-change c.loop-i.past w.begin.new.self c.args.before w.of-marks.result now old (past_of c.args.past.now old)
-                (w.begin.ensures.kept now) w.of-marks.ensures.own (when-none c.loop-i.made (now ≡ old) none c.loop-i.invariant.untouched)
-                (c.loop-i.invariant.kept ∙ none-kept c.loop-i.made c.args.before.listed (kept_lines c.args.before.current old) (past_of c.args.past.now old) none)
+                ap (λ p. earlier_of p (texts now)) w.past-is
+                ∙ first-change c.loop-i.past w.begin.new.self c.args.before w.of-marks.result now old (earlier_of c.args.past.now (texts old))
+                (w.begin.ensures.kept (texts now)) w.of-marks.ensures.own (when-none c.loop-i.made (now ≡ old) none c.loop-i.invariant.untouched)
+                (c.loop-i.invariant.kept ∙ none-kept c.loop-i.made c.args.before.listed (kept_lines c.args.before.current old) (earlier_of c.args.past.now (texts old)) none)
             | else-is_none w ↦
                 let some : is_some c.loop-i.made ≡ true = c.is_none.ensures ∙ ap not w.if-is_none.false in
-                ap (λ p. past_of p now) w.past-is
+                ap (λ p. earlier_of p (texts now)) w.past-is
                 ∙ c.loop-i.invariant.kept
-                ∙ some-kept c.loop-i.made c.args.before.listed (kept_lines c.args.before.current old) (past_of c.args.past.now old) some
+                ∙ some-kept c.loop-i.made c.args.before.listed (kept_lines c.args.before.current old) (earlier_of c.args.past.now (texts old)) some
           ];
       untouched = search rules;
       within = (omega (arith, number, some), omega (arith, c.len-in-loop-i.ensures.value));

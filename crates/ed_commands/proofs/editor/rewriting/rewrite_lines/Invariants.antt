@@ -1,10 +1,11 @@
 -- The lines that were passed are what results of them, and those that are left are as they were.
 use Rattle.std.proofs.Common.{◌≡◌, ◌+◌, ◌-◌, ◌≤◌, length, option_map}
 use Rattle.std.specs.Prelude.{IfNone, IfSome}
+use Rattle.ed_base.specs.Buffer.{texts}
 use Rattle.ed_base.specs.Parts.{block, exchanged}
 use Rattle.ed_syntax.specs.SubstitutedLines.{each, made_of}
-use Rattle.ed_commands.specs.Editors.{past_of}
-use Rattle.ed_commands.specs.Rewriting.{kept_lines, past_of_rewritten}
+use Rattle.ed_commands.specs.Earlier.{earlier_of, kept_lines}
+use Rattle.ed_commands.specs.Rewriting.{earlier_of_rewritten}
 use Rattle.ed_commands.proofs.editor.rewriting.rewrite_lines.Given as goal
 
 abbrev pub invariant-loop-i : goal.invariant-loop-i
@@ -17,8 +18,8 @@ invariant-loop-i g l =
       put : lines l.store ≡ exchanged from l.i results.0 old;
       long : length (lines l.store) + l.i ≡ length old + (from + length results.0);
       made : l.made ≡ option_map (λ n. from + n) results.1;
-      kept : past_of l.past (lines l.store)
-          ≡ past_of_rewritten l.made l.fn.before.listed (kept_lines l.fn.before.current old) (past_of l.fn.past old);
+      kept : earlier_of l.past (texts (lines l.store))
+          ≡ earlier_of_rewritten l.made l.fn.before.listed (kept_lines l.fn.before.current old) (earlier_of l.fn.past (texts old));
       untouched : IfNone l.made (lines l.store ≡ old);
       within : IfSome l.made (λ line. (1 ≤ line) × (line ≤ length (lines l.store)));
       no_fewer : length old ≤ length (lines l.store);

@@ -1,0 +1,31 @@
+-- One more line has the flag or not.
+use Rattle.std.proofs.Common.{◌≡◌, ◌<◌, ◌∙◌, [], ap, sym, arith, length, get_or}
+use Rattle.std.proofs.Math.ListN.{length-set}
+use Rattle.ed_base.specs.Buffer.{flagged_at, plain_line, with_flag}
+use Rattle.bre_parse.specs.Bre.{bre_tree}
+use Rattle.ed_syntax.specs.Globals.{wanted}
+use Rattle.ed_commands.proofs.Globals.{flagged-more, told-of}
+use Rattle.ed_commands.proofs.editor.globals.flag_block.Goals as goal
+use Rattle.ed_commands.proofs.editor.globals.flag_block.Goals.{then-is_wanted, else-is_wanted}
+
+pub loop-i-preserved : goal.loop-i-preserved
+loop-i-preserved g c =
+    let lines = g.S.LineStore.lines in
+    let old = lines c.args.store.now in
+    let now = lines c.loop-i.store in
+    let i = c.loop-i.i in
+    let pattern = c.args.pattern.now in
+    let flag = c.is_wanted.result in
+    let below : i < length old = omega (arith, c.requires.last) in
+    let after : lines c.if-is_wanted.store ≡ flagged_at i flag now =
+    elim c.if-is_wanted.branch [
+      | then-is_wanted w ↦ ap lines w.store-is ∙ w.flag.ensures.flagged ∙ ap (λ b. flagged_at i b now) (sym w.if-is_wanted.true)
+      | else-is_wanted w ↦ ap lines w.store-is ∙ w.unflag.ensures.unflagged ∙ ap (λ b. flagged_at i b now) (sym w.if-is_wanted.false)
+    ] in
+    let told = told-of pattern (bre_tree c.bre.result.now) now i c.text.result.now c.in_ok-matched.matched c.bre.ensures.value c.text.ensures.value c.in_ok-matched.ensures.value in
+    let same : length (flagged_at i flag now) ≡ length now = length-set now i (with_flag flag (get_or now i (plain_line []))) in
+    record {
+      flagged = after ∙ flagged-more c.args.sense pattern c.args.from i old now flag (omega arith) below c.loop-i.invariant.flagged
+          (ap (wanted c.args.sense) told ∙ sym c.is_wanted.ensures.value);
+      count = ap length after ∙ same ∙ c.loop-i.invariant.count;
+    }

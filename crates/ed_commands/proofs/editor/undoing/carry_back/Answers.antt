@@ -1,0 +1,53 @@
+-- The block is carried where it belongs, as far as there are lines, and may be carried back.
+use Rattle.std.proofs.Common.{◌≡◌, ◌≤◌, ◌+◌, ◌-◌, ◌∙◌, ap, sym, length, min, arith}
+use Rattle.std.proofs.lemmas.List.{length-map}
+use Rattle.ed_base.specs.Buffer.{Line, texts}
+use Rattle.ed_base.specs.Parts.{carried}
+use Rattle.ed_commands.proofs.Blocks.{carried-back}
+use Rattle.ed_commands.proofs.Changes.{moved-back}
+use Rattle.ed_commands.proofs.Texts.{texts-carried}
+use Rattle.ed_commands.proofs.Undoing.{carried-cut}
+use Rattle.ed_commands.proofs.editor.undoing.carry_back.Goals as goal
+use Rattle.ed_commands.proofs.editor.undoing.carry_back.Goals.{then-target-start, else-target-start}
+
+pub returns-clause-texts : goal.returns-clause-texts
+returns-clause-texts g c =
+    let lines = g.S.LineStore.lines in
+    let before = lines c.args.store.now in
+    let start = c.min-start.result in
+    let end = c.min-end.result in
+    let target = c.min-target.result in
+    let long : length (texts before) ≡ c.len-last.result = length-map before (λ (l : Line). l.bytes) ∙ sym c.len-last.ensures.value in
+    let behind = c.args.place + (c.args.to - c.args.from) in
+    let i : start ≡ min c.args.place (length (texts before)) = omega (arith, long) in
+    let j : end ≡ min behind (length (texts before)) = omega (arith, long, c.len-last.type_inv, c.saturating_add.ensures, c.saturating_sub.ensures) in
+    let p : target ≡ min c.args.from (length (texts before) - (end - start)) = omega (arith, long) in
+    let order : start ≤ end = omega (arith, i, j) in
+    let is : lines c.if-target-start.store ≡ carried start end target before =
+    elim c.if-target-start.branch [
+      | then-target-start w ↦ ap lines w.store-is ∙ w.carry_up.ensures.carried ∙ ap (carried start end target) c.in_ok-reserve.ensures.unchanged
+      | else-target-start w ↦ ap lines w.store-is ∙ w.carry_down.ensures.carried
+          ∙ ap (λ n. carried start end n (lines c.reserve.new.self)) (let e : target + (end - start) - (end - start) ≡ target = omega arith in e)
+          ∙ ap (carried start end target) c.in_ok-reserve.ensures.unchanged
+    ] in
+    ap texts is ∙ texts-carried start end target before ∙ carried-cut c.args.place behind c.args.from start end target (texts before) i j order p
+
+pub returns-clause-again : goal.returns-clause-again
+returns-clause-again g c =
+    let lines = g.S.LineStore.lines in
+    let before = lines c.args.store.now in
+    let after = lines c.if-target-start.store in
+    let start = c.min-start.result in
+    let end = c.min-end.result in
+    let target = c.min-target.result in
+    let order : start ≤ end = omega (arith, c.len-last.type_inv, c.saturating_add.ensures) in
+    let is : after ≡ carried start end target before =
+    elim c.if-target-start.branch [
+      | then-target-start w ↦ ap lines w.store-is ∙ w.carry_up.ensures.carried ∙ ap (carried start end target) c.in_ok-reserve.ensures.unchanged
+      | else-target-start w ↦ ap lines w.store-is ∙ w.carry_down.ensures.carried
+          ∙ ap (λ n. carried start end n (lines c.reserve.new.self)) (let e : target + (end - start) - (end - start) ≡ target = omega arith in e)
+          ∙ ap (carried start end target) c.in_ok-reserve.ensures.unchanged
+    ] in
+    moved-back target (target + (end - start)) start after before
+    (ap (carried target (target + (end - start)) start) is
+    ∙ carried-back start end target before order (omega (arith, c.len-last.ensures.value)) (omega (arith, c.len-last.ensures.value)))

@@ -1,0 +1,168 @@
+//! Global commands: the lines that they take, and what comes before and after their lists (XCU ed, "Global Command", "Global
+//! Non-Matched Command").
+ghost use Rattle.std.specs.Prelude.{◌≡◌, ◌+◌, ◌-◌, ◌≤◌, None, Err, length, map, count_by, is_some, unwrap_or, IfSome, IsTrue, OnOk};
+ghost use Rattle.ed_base.specs.Parts.{block, exchanged};
+ghost use Rattle.ed_syntax.specs.PublicTypes.{command_value};
+ghost use Rattle.ed_syntax.specs.States.{last};
+ghost use Rattle.ed_syntax.specs.Applied as applied;
+ghost use Rattle.ed_syntax.specs.Globals as globals;
+ghost use Rattle.ed_syntax.specs.Globals.{closed, flagged, flagged_line, next_taken};
+ghost use Rattle.ed_commands.specs.Editors.{Begins, Tells, failure_of, is_global, span_value};
+
+use crate::editor::Editor;
+use crate::editor::addressing::Span;
+use bre_match::matches;
+use ed_base::{Bytes, Fault};
+use ed_syntax::{Answer, Command, Pattern, Sense};
+use line_store::{LineStore, Marks};
+use std::alloc::{AllocError, Global};
+
+/// What a global command did before its list.
+#[derive(Debug, PartialEq, Eq, Drop)]
+pub struct Begun {
+    /// How many lines have the flag.
+    pub lines: usize,
+    /// What it wrote: nothing, but for what its suffix writes where it has one.
+    pub output: Bytes,
+}
+
+// Whether a line is taken, of which it is known whether it matches.
+fn is_wanted(sense: Sense, matched: bool) -> bool
+    ensures value { result ≡ globals.wanted sense matched }
+{
+    match sense {
+        Sense::Matching => matched,
+        Sense::Others => !matched,
+    }
+}
+
+// Flags those lines of a block that are taken, and takes the flag of the others.
+fn flag_block<S: LineStore>(
+    alloc: Global,
+    sense: Sense,
+    pattern: &Pattern,
+    from: usize,
+    to: usize,
+    store: &mut S,
+) -> Result<(), AllocError>
+    requires order { from ≤ to }
+    requires last { to ≤ length (S.lines store.old) }
+    ensures flagged { OnOk result (S.lines store.new
+        ≡ exchanged from to (map (flagged_line sense pattern.now) (block from to (S.lines store.old))) (S.lines store.old)) }
+    ensures count { length (S.lines store.new) ≡ length (S.lines store.old) }
+{
+    for i in from..to {
+        let matched = matches(alloc, pattern.bre(), store.text(i))?;
+        if is_wanted(sense, matched) {
+            store.flag(i);
+        } else {
+            store.unflag(i);
+        }
+    }
+    Ok(())
+}
+
+// How many lines have the flag.
+fn count_flags<S: LineStore>(store: &S) -> usize
+    ensures value { result ≡ count_by (λ line. line.flag) (S.lines store.now) }
+{
+    let mut count = 0;
+    for i in 0..store.len() {
+        if store.flagged(i) {
+            count += 1;
+        }
+    }
+    count
+}
+
+impl<S: LineStore> Editor<S> {
+    /// Begins a global command (XCU ed, "Global Command", "Global Non-Matched Command"): flags those of its lines that it takes,
+    /// remembers its pattern, and tells how many lines have the flag and what it wrote. The commands of its list follow for each line that
+    /// `next_global` takes, until `end_global` makes one change of them. After an `Err` the editor has failed, and what else it
+    /// holds isn't said.
+    pub fn begin_global(&mut self, command: &Command) -> Result<Begun, Fault>
+        requires global { IsTrue (is_global (command_value command.now).verb) }
+        ensures exact { self.old.failed ≡ None →
+            Begins (applied.command self.old.state (command_value command.now) None) result self.old.state self.new.state }
+        ensures failed { self.new.failed ≡ failure_of self.old.failed result }
+        ensures sticky { IfSome self.old.failed (λ fault. (result ≡ Err fault) × (self.new ≡ self.old)) }
+    {
+        if let Some(fault) = self.failed {
+            return Err(fault);
+        }
+        match self.open_global(command) {
+            Ok(begun) => Ok(begun),
+            Err(fault) => Err(self.fail(fault)),
+        }
+    }
+
+    // What comes before its list is carried out, and the buffer is held as it was before.
+    fn open_global(&mut self, command: &Command) -> Result<Begun, Fault>
+        requires global { IsTrue (is_global (command_value command.now).verb) }
+        ensures exact { Begins (applied.command self.old.state (command_value command.now) None) result self.old.state self.new.state }
+        ensures failed { self.new.failed ≡ self.old.failed }
+    {
+        let current = self.current;
+        let marks = Marks::of(&self.store);
+        let output = self.carry_out(command, Answer::Refused)?;
+        self.past.open(current, marks);
+        Ok(Begun {
+            lines: count_flags(&self.store),
+            output,
+        })
+    }
+
+    /// Takes the flagged line that comes first in the buffer as it is now: from here on it is current, without its flag. Where no
+    /// line has the flag it tells so, and nothing changes. It takes no memory.
+    pub fn next_global(&mut self) -> bool
+        ensures value { result ≡ is_some (next_taken self.old.state) }
+        ensures taken { self.new.state ≡ unwrap_or (next_taken self.old.state) self.old.state }
+        ensures failed { self.new.failed ≡ self.old.failed }
+    {
+        // The proof reads off the count that the line's number fits.
+        let _ = self.store.len();
+        let Some(place) = self.store.next_flagged() else {
+            return false;
+        };
+        self.store.unflag(place);
+        self.current = place + 1;
+        true
+    }
+
+    /// The global command is over: undo takes it as one change, where a command of its list changed the buffer. Where none is open
+    /// nothing changes. It takes no memory.
+    pub fn end_global(&mut self)
+        ensures closed { self.new.state ≡ closed self.old.state }
+        ensures failed { self.new.failed ≡ self.old.failed }
+    {
+        self.past.close();
+    }
+
+    /// `g` and `v` before their list: the lines of the span that are taken have the flag, and the pattern is remembered.
+    pub(crate) fn flag_lines(
+        &mut self,
+        sense: Sense,
+        pattern: &Option<Pattern>,
+        span: Span,
+    ) -> Result<(), Fault>
+        requires first { 1 ≤ span.first }
+        requires order { span.first ≤ span.last + 1 }
+        requires last { span.last ≤ last self.old.state }
+        ensures exact { Tells (λ _. self.new.state) (flagged sense pattern.now (span_value span) self.old.state) result }
+        ensures failed { self.new.failed ≡ self.old.failed }
+    {
+        self.remember(pattern)?;
+        let Some(pattern) = &self.pattern else {
+            return Err(Fault::Pattern);
+        };
+        flag_block(
+            self.alloc,
+            sense,
+            pattern,
+            span.first - 1,
+            span.last,
+            &mut self.store,
+        )?;
+        Ok(())
+    }
+}
