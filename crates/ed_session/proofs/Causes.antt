@@ -14,11 +14,11 @@ use Rattle.ed_syntax.specs.Commands.{Step}
 use Rattle.ed_syntax.specs.Laws.{LastUnserved, last, next, serves}
 use Rattle.ed_syntax.specs.Progress.{Present, Progress, Writes, Ends, asked_of, stop_of}
 use Rattle.ed_syntax.specs.Files.{loaded}
-use Rattle.ed_syntax.specs.Runs.{steps, started, unprompted, with_state}
-use Rattle.ed_syntax.proofs.RunLemmas.{Caused, own, refused, EndsWell, steps-well}
+use Rattle.ed_syntax.specs.Runs.{Further, turns, steps, started, unprompted, with_state}
+use Rattle.ed_syntax.proofs.RunLemmas.{Caused, own, refused, EndsWell, GoesWell, listed-well, turns-well, steps-well}
 use Rattle.ed_session.specs.declared.phase.Phase.{Phase}
 use Rattle.ed_session.specs.declared.phase.Phase.TheVariants as phases
-use Rattle.ed_session.specs.Sessions.{SessionValue, rest, rest_at}
+use Rattle.ed_session.specs.Sessions.{SessionValue, Turns, rest, rest_at, go_on, go_on_prompted, go_on_unprompted}
 use Rattle.ed_session.specs.Drives.{Log, requests, answers, fits, AllFit, EndsMissing, here, later, of_commands}
 use Rattle.ed_session.proofs.Stepping.{steps_prompted}
 
@@ -58,26 +58,36 @@ by_output : {asked : List Request} {given : List Answer} → Caused fault.Output
 by_output (own f asked given is) = false≢true is
 
 -- what is left without the prompt
-unprompted_well : (xs : List Step) (bad : Option ℕ) (m : Present) (given : List Answer) → EndsWell (unprompted xs bad m given) given
+unprompted_well : (xs : List Step) (bad : Option ℕ) → GoesWell (unprompted xs bad)
 unprompted_well xs bad m given =
     let p : Progress = unprompted xs bad m given in
     (elim m.prompting as (λ b. EndsWell (elim b [ true ↦ Writes m.help m.prompt p | false ↦ p ]) given → EndsWell p given) [ true ↦ λ h. h | false ↦ λ h. h ])
     (subst (λ q. EndsWell q given) (steps_prompted xs bad m given) (steps-well xs bad m given))
 
+-- what is left of a global command, and then of the script
+go_on_well : (t : Option Turns) (outside script : Further) → GoesWell outside → GoesWell script → GoesWell (go_on t outside script)
+go_on_well None outside script h k m given = h m given
+go_on_well (Some t) outside script h k m given =
+    listed-well t.left m (λ n. turns t.lines t.list n script) (λ n later. turns-well t.lines t.list n script k later) given
+
+prompted_left_well : (t : Option Turns) (xs : List Step) (bad : Option ℕ) → GoesWell (go_on_prompted t xs bad)
+prompted_left_well t xs bad = go_on_well t (steps xs bad) (steps xs bad) (steps-well xs bad) (steps-well xs bad)
+
+unprompted_left_well : (t : Option Turns) (xs : List Step) (bad : Option ℕ) → GoesWell (go_on_unprompted t xs bad)
+unprompted_left_well t xs bad = go_on_well t (unprompted xs bad) (steps xs bad) (unprompted_well xs bad) (steps-well xs bad)
+
 -- a run whose answers fit, and that ends by the fault of a file, read one that isn't there
 by_file : (p : Progress) (log : Log) → EndsWell p (answers log) → asked_of p ≡ requests log → AllFit log → stop_of p ≡ Ends (Err fault.File) → EndsMissing log
 by_file p log well asked fit ends = missing log (by_answer (well fault.File ends)) asked refl fit
 
-steps_by_file : (xs : List Step) (bad : Option ℕ) (m : Present) (log : Log) → asked_of (steps xs bad m (answers log)) ≡ requests log → AllFit log →
-    stop_of (steps xs bad m (answers log)) ≡ Ends (Err fault.File) → EndsMissing log
-steps_by_file xs bad m log asked fit ends = by_file (steps xs bad m (answers log)) log (steps-well xs bad m (answers log)) asked fit ends
-
-started_by_file : (path : List ℕ) (a : Answer) (m : Present) (xs : List Step) (bad : Option ℕ) (log : Log) → fits (request.Read path) a ≡ true →
-    asked_of (started path a m (steps xs bad) (answers log)) ≡ requests log → AllFit log → stop_of (started path a m (steps xs bad) (answers log)) ≡ Ends (Err fault.File) → EndsMissing log
-started_by_file path (answer.Bytes bytes) m xs bad log h asked fit ends = steps_by_file xs bad (with_state (loaded bytes path m.state) m) log asked fit ends
-started_by_file path answer.Missing m xs bad log h asked fit ends = steps_by_file xs bad (with_state (loaded [] path m.state) m) log asked fit ends
-started_by_file path answer.Refused m xs bad log h asked fit ends = cc
-started_by_file path answer.Done m xs bad log h asked fit ends = cc
+started_by_file : (path : List ℕ) (a : Answer) (m : Present) (go : Further) (log : Log) → GoesWell go → fits (request.Read path) a ≡ true →
+    asked_of (started path a m go (answers log)) ≡ requests log → AllFit log → stop_of (started path a m go (answers log)) ≡ Ends (Err fault.File) → EndsMissing log
+started_by_file path (answer.Bytes bytes) m go log well h asked fit ends =
+    let n : Present = with_state (loaded bytes path m.state) m in by_file (go n (answers log)) log (well n (answers log)) asked fit ends
+started_by_file path answer.Missing m go log well h asked fit ends =
+    let n : Present = with_state (loaded [] path m.state) m in by_file (go n (answers log)) log (well n (answers log)) asked fit ends
+started_by_file path answer.Refused m go log well h asked fit ends = cc
+started_by_file path answer.Done m go log well h asked fit ends = cc
 
 ends_same : {a b : Result Ending Fault} → Ends a ≡ Ends b → a ≡ b
 ends_same e = cc
@@ -86,15 +96,16 @@ ends_same e = cc
 -- where it had ended so before
 at_by_file : (p : Phase) (v : SessionValue) (log : Log) → asked_of (rest_at p v (answers log)) ≡ requests log → AllFit log
     → stop_of (rest_at p v (answers log)) ≡ Ends (Err fault.File) → EndsMissing (of_commands p log) ⊎ (p ≡ phases.Over (Err fault.File))
-at_by_file (phases.Fresh None) v log asked fit e = inl (steps_by_file v.steps v.fault v.present log asked fit e)
+at_by_file (phases.Fresh None) v log asked fit e = inl (by_file (go_on_prompted v.turns v.steps v.fault v.present (answers log)) log (prompted_left_well v.turns v.steps v.fault v.present (answers log)) asked fit e)
 at_by_file (phases.Fresh (Some path)) v [] asked fit e = cc
 at_by_file (phases.Fresh (Some path)) v (entry ∷ log) asked fit e =
+    let go : Further = go_on_prompted v.turns v.steps v.fault in
     let same : request.Read path ≡ entry.0 = cc in
-    let later_asked : asked_of (started path entry.1 v.present (steps v.steps v.fault) (answers log)) ≡ requests log = cc in
-    inl (started_by_file path entry.1 v.present v.steps v.fault log (rw same (fit 0 entry (omega arith))) later_asked (All-tail Fits entry log fit) e)
-at_by_file phases.Between v log asked fit e = inl (steps_by_file v.steps v.fault v.present log asked fit e)
-at_by_file phases.Prompted v log asked fit e = inl (by_file (unprompted v.steps v.fault v.present (answers log)) log (unprompted_well v.steps v.fault v.present (answers log)) asked fit e)
-at_by_file phases.Waiting v log asked fit e = inl (by_file (unprompted v.steps v.fault v.present (answers log)) log (unprompted_well v.steps v.fault v.present (answers log)) asked fit e)
+    let later_asked : asked_of (started path entry.1 v.present go (answers log)) ≡ requests log = cc in
+    inl (started_by_file path entry.1 v.present go log (prompted_left_well v.turns v.steps v.fault) (rw same (fit 0 entry (omega arith))) later_asked (All-tail Fits entry log fit) e)
+at_by_file phases.Between v log asked fit e = inl (by_file (go_on_prompted v.turns v.steps v.fault v.present (answers log)) log (prompted_left_well v.turns v.steps v.fault v.present (answers log)) asked fit e)
+at_by_file phases.Prompted v log asked fit e = inl (by_file (go_on_unprompted v.turns v.steps v.fault v.present (answers log)) log (unprompted_left_well v.turns v.steps v.fault v.present (answers log)) asked fit e)
+at_by_file phases.Waiting v log asked fit e = inl (by_file (go_on_unprompted v.turns v.steps v.fault v.present (answers log)) log (unprompted_left_well v.turns v.steps v.fault v.present (answers log)) asked fit e)
 at_by_file (phases.Over result) v log asked fit e = inr (ap (λ r. phases.Over r) (ends_same e))
 
 pub rest_by_file : (v : SessionValue) (log : Log) → asked_of (rest v (answers log)) ≡ requests log → AllFit log
@@ -105,26 +116,20 @@ rest_by_file v log asked fit e = at_by_file v.phase v log asked fit e
 no_output : (p : Progress) (given : List Answer) → EndsWell p given → stop_of p ≢ Ends (Err fault.Output)
 no_output p given well ends = by_output (well fault.Output ends)
 
-steps_no_output : (xs : List Step) (bad : Option ℕ) (m : Present) (given : List Answer) → stop_of (steps xs bad m given) ≢ Ends (Err fault.Output)
-steps_no_output xs bad m given = no_output (steps xs bad m given) given (steps-well xs bad m given)
-
-unprompted_no_output : (xs : List Step) (bad : Option ℕ) (m : Present) (given : List Answer) → stop_of (unprompted xs bad m given) ≢ Ends (Err fault.Output)
-unprompted_no_output xs bad m given = no_output (unprompted xs bad m given) given (unprompted_well xs bad m given)
-
-started_no_output : (path : List ℕ) (a : Answer) (m : Present) (xs : List Step) (bad : Option ℕ) (given : List Answer) →
-    stop_of (started path a m (steps xs bad) given) ≢ Ends (Err fault.Output)
-started_no_output path (answer.Bytes bytes) m xs bad given = steps_no_output xs bad (with_state (loaded bytes path m.state) m) given
-started_no_output path answer.Missing m xs bad given = steps_no_output xs bad (with_state (loaded [] path m.state) m) given
-started_no_output path answer.Refused m xs bad given = λ e. cc
-started_no_output path answer.Done m xs bad given = λ e. cc
+started_no_output : (path : List ℕ) (a : Answer) (m : Present) (go : Further) (given : List Answer) → GoesWell go → stop_of (started path a m go given) ≢ Ends (Err fault.Output)
+started_no_output path (answer.Bytes bytes) m go given well = let n : Present = with_state (loaded bytes path m.state) m in no_output (go n given) given (well n given)
+started_no_output path answer.Missing m go given well = let n : Present = with_state (loaded [] path m.state) m in no_output (go n given) given (well n given)
+started_no_output path answer.Refused m go given well = λ e. cc
+started_no_output path answer.Done m go given well = λ e. cc
 
 at_no_output : (p : Phase) (v : SessionValue) (given : List Answer) → stop_of (rest_at p v given) ≡ Ends (Err fault.Output) → p ≡ phases.Over (Err fault.Output)
-at_no_output (phases.Fresh None) v given e = absurd (steps_no_output v.steps v.fault v.present given e)
+at_no_output (phases.Fresh None) v given e = absurd (no_output (go_on_prompted v.turns v.steps v.fault v.present given) given (prompted_left_well v.turns v.steps v.fault v.present given) e)
 at_no_output (phases.Fresh (Some path)) v [] e = cc
-at_no_output (phases.Fresh (Some path)) v (a ∷ given) e = absurd (started_no_output path a v.present v.steps v.fault given e)
-at_no_output phases.Between v given e = absurd (steps_no_output v.steps v.fault v.present given e)
-at_no_output phases.Prompted v given e = absurd (unprompted_no_output v.steps v.fault v.present given e)
-at_no_output phases.Waiting v given e = absurd (unprompted_no_output v.steps v.fault v.present given e)
+at_no_output (phases.Fresh (Some path)) v (a ∷ given) e =
+    absurd (started_no_output path a v.present (go_on_prompted v.turns v.steps v.fault) given (prompted_left_well v.turns v.steps v.fault) e)
+at_no_output phases.Between v given e = absurd (no_output (go_on_prompted v.turns v.steps v.fault v.present given) given (prompted_left_well v.turns v.steps v.fault v.present given) e)
+at_no_output phases.Prompted v given e = absurd (no_output (go_on_unprompted v.turns v.steps v.fault v.present given) given (unprompted_left_well v.turns v.steps v.fault v.present given) e)
+at_no_output phases.Waiting v given e = absurd (no_output (go_on_unprompted v.turns v.steps v.fault v.present given) given (unprompted_left_well v.turns v.steps v.fault v.present given) e)
 at_no_output (phases.Over result) v given e = ap (λ r. phases.Over r) (ends_same e)
 
 pub rest_no_output : (v : SessionValue) (given : List Answer) → stop_of (rest v given) ≡ Ends (Err fault.Output) → v.phase ≡ phases.Over (Err fault.Output)

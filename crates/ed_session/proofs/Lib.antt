@@ -4,5 +4,10 @@ mod Stepping
 mod Logs
 pub mod Leading
 mod Advancing
+mod Commanding
+mod Starting
+mod Working
+mod AgendaLemmas
+mod Turned
 mod Causes
 mod Turning

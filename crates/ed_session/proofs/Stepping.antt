@@ -1,5 +1,5 @@
 -- What a step of the script, its prompt and its end do to a run, whatever they are.
-use Rattle.std.proofs.Common.{◌≡◌, ℕ, zero, List, [], ◌∷◌, Bool, true, false, Option, Some, None, Result, Ok, Err, refl, sym, append-nil}
+use Rattle.std.proofs.Common.{◌≡◌, ℕ, zero, suc, List, [], ◌∷◌, Bool, true, false, Option, Some, None, Result, Ok, Err, refl, sym, append-nil}
 use Rattle.ed_base.specs.declared.fault.Fault.{Fault}
 use Rattle.ed_base.specs.declared.fault.Fault.TheVariants as fault
 use Rattle.ed_syntax.specs.declared.request.Answer.{Answer}
@@ -7,37 +7,39 @@ use Rattle.ed_syntax.specs.declared.request.Answer.TheVariants as answer
 use Rattle.ed_syntax.specs.declared.request.Request.{Request}
 use Rattle.ed_syntax.specs.Applied.{command}
 use Rattle.ed_syntax.specs.Commands as ed
-use Rattle.ed_syntax.specs.Commands.{Step, Verb}
+use Rattle.ed_syntax.specs.Commands.{Command, Step, Verb}
 use Rattle.ed_syntax.specs.Effects.{Effect, Makes, Asks}
-use Rattle.ed_syntax.specs.Progress.{Present, Progress, Writes, Hears, cut, broken_off, report, failing, ending, quitting, asked_of, RunsOut}
-use Rattle.ed_syntax.specs.Runs.{Further, answered, asking, one, step_by, step, steps, unprompted, prompted, at_end, start, started}
+use Rattle.ed_syntax.specs.Progress.{Present, Progress, Rest, Writes, Hears, cut, broken_off, report, failing, ending, quitting, asked_of, RunsOut}
+use Rattle.ed_syntax.specs.States.{State, kept}
+use Rattle.ed_syntax.specs.Globals.{flags, opened, closed, next_taken}
+use Rattle.ed_syntax.specs.Runs.{Further, answered, asking, turned, one, with_state, listed, turn, turns, global, step_by, step, steps, unprompted, prompted, at_end, start, started}
 use Rattle.ed_session.specs.declared.phase.Phase.{Phase}
 use Rattle.ed_session.specs.declared.phase.Phase.TheVariants as phases
-use Rattle.ed_session.specs.Insides.{ends_run, quits, quits_anyway}
-use Rattle.ed_session.specs.Sessions.{SessionValue, rest, rest_at, is_over}
+use Rattle.ed_commands.specs.Editors.{is_global}
+use Rattle.ed_session.specs.Insides.{is_alone, quits, quits_anyway}
+use Rattle.ed_session.specs.Sessions.{SessionValue, Turns, rest, rest_at, go_on, go_on_prompted, go_on_unprompted, is_over}
 
--- a step ends the run, or its command is asked and answered
+-- a step ends the run, or its command is asked and answered, and in a global command its list is run
 pub data StepIs (x : Step) (m : Present) (go : Further) (answers : List Answer) : Progress → Type 0 where
   by_end : StepIs x m go answers (ending m)
   by_quit : StepIs x m go answers (quitting m)
+  lists : StepIs x m go answers (one x.command m (λ t. global (kept m.state) x.list t go) answers)
   goes : StepIs x m go answers (one x.command m go answers)
 
 verb_is : (verb : Verb) (x : Step) (m : Present) (go : Further) (answers : List Answer) → StepIs x m go answers (step_by verb x m go answers)
 verb_is ed.QuitAnyway x m go answers = by_end
 verb_is ed.Quit x m go answers = by_quit
+verb_is (ed.Global sense pattern) x m go answers = lists
 verb_is verb x m go answers = goes
 
 pub step_is : (x : Step) (m : Present) (go : Further) (answers : List Answer) → StepIs x m go answers (step x m go answers)
 step_is x m go answers = verb_is x.command.verb x m go answers
 
-verb_one : (verb : Verb) (x : Step) (m : Present) (go : Further) (answers : List Answer) → ends_run verb ≡ false → step_by verb x m go answers ≡ one x.command m go answers
+verb_one : (verb : Verb) (x : Step) (m : Present) (go : Further) (answers : List Answer) → is_alone verb ≡ true → step_by verb x m go answers ≡ one x.command m go answers
 verb_one ed.QuitAnyway x m go answers h = cc
 verb_one ed.Quit x m go answers h = cc
+verb_one (ed.Global sense pattern) x m go answers h = cc
 verb_one verb x m go answers h = refl
-
--- what ends no run in either way
-pub goes_on : (verb : Verb) → quits_anyway verb ≡ false → quits verb ≡ false → ends_run verb ≡ false
-goes_on verb h k = rw (h, k) refl
 
 -- `Q` ends the run, and `q` as the end of the script does
 verb_ends : (verb : Verb) (x : Step) (m : Present) (go : Further) (answers : List Answer) → quits_anyway verb ≡ true → step_by verb x m go answers ≡ ending m
@@ -54,8 +56,18 @@ verb_quits verb x m go answers h = cc
 pub step_quits : (x : Step) (m : Present) (go : Further) (answers : List Answer) → quits x.command.verb ≡ true → step x m go answers ≡ quitting m
 step_quits x m go answers h = verb_quits x.command.verb x m go answers h
 
--- a command that doesn't end the run is one that is asked and answered
-pub step_one : (x : Step) (m : Present) (go : Further) (answers : List Answer) → ends_run x.command.verb ≡ false → step x m go answers ≡ one x.command m go answers
+verb_lists : (verb : Verb) (x : Step) (m : Present) (go : Further) (answers : List Answer) → is_global verb ≡ true
+    → step_by verb x m go answers ≡ one x.command m (λ t. global (kept m.state) x.list t go) answers
+verb_lists (ed.Global sense pattern) x m go answers h = refl
+verb_lists verb x m go answers h = cc
+
+-- a global command comes before its list
+pub step_lists : (x : Step) (m : Present) (go : Further) (answers : List Answer) → is_global x.command.verb ≡ true
+    → step x m go answers ≡ one x.command m (λ t. global (kept m.state) x.list t go) answers
+step_lists x m go answers h = verb_lists x.command.verb x m go answers h
+
+-- a step that is a command alone is asked and answered
+pub step_one : (x : Step) (m : Present) (go : Further) (answers : List Answer) → is_alone x.command.verb ≡ true → step x m go answers ≡ one x.command m go answers
 step_one x m go answers h = verb_one x.command.verb x m go answers h
 
 -- the steps that are left are those after the prompt
@@ -85,6 +97,7 @@ asking_opens m (Ok (Asks r)) again go (a ∷ answers) = refl
 step_is_opens : (x : Step) (m : Present) (go : Further) (answers : List Answer) (p : Progress) → StepIs x m go answers p → Opens m.help p
 step_is_opens x m go answers p by_end = refl
 step_is_opens x m go answers p by_quit = at_end_opens None m
+step_is_opens x m go answers p lists = asking_opens m (command m.state x.command None) _ _ answers
 step_is_opens x m go answers p goes = asking_opens m (command m.state x.command None) _ _ answers
 
 unprompted_opens : (xs : List Step) (bad : Option ℕ) (m : Present) (answers : List Answer) → Opens m.help (unprompted xs bad m answers)
@@ -97,22 +110,51 @@ prompted_opens m p h = elim m.prompting as (λ b. Opens m.help (elim b [ true �
 steps_open : (xs : List Step) (bad : Option ℕ) (m : Present) (answers : List Answer) → Opens m.help (steps xs bad m answers)
 steps_open xs bad m answers = rw (steps_prompted xs bad m answers) (prompted_opens m _ (unprompted_opens xs bad m answers))
 
-pub started_opens : (path : List ℕ) (a : Answer) (m : Present) (xs : List Step) (bad : Option ℕ) (answers : List Answer) → Opens m.help (started path a m (steps xs bad) answers)
-started_opens path (answer.Bytes bytes) m xs bad answers = refl
-started_opens path answer.Missing m xs bad answers = steps_open xs bad _ answers
-started_opens path answer.Refused m xs bad answers = refl
-started_opens path answer.Done m xs bad answers = refl
+-- what is left of a list, and then
+listed_opens : (left : List Command) (m : Present) (go : Further) (answers : List Answer) → ((t : Present) → Opens t.help (go t answers)) → Opens m.help (listed left m go answers)
+listed_opens [] m go answers h = h m
+listed_opens (c ∷ left) m go answers h = asking_opens m (command m.state c None) _ _ answers
 
-start_opens : (path : Option (List ℕ)) (m : Present) (xs : List Step) (bad : Option ℕ) (answers : List Answer) → Opens m.help (start path m (steps xs bad) answers)
-start_opens None m xs bad answers = steps_open xs bad m answers
-start_opens (Some path) m xs bad [] = refl
-start_opens (Some path) m xs bad (a ∷ answers) = refl
+turn_opens : (help : Bool) (taken : Option State) (again : State → Rest) (over : Rest) (answers : List Answer) → ((s : State) → Opens help (again s answers)) → Opens help (over answers)
+    → Opens help (turn taken again over answers)
+turn_opens help None again over answers h k = k
+turn_opens help (Some s) again over answers h k = h s
+
+turns_open : (lines : ℕ) (list : List Command) (m : Present) (go : Further) (answers : List Answer) → ((t : Present) → Opens t.help (go t answers)) → Opens m.help (turns lines list m go answers)
+turns_open zero list m go answers h = h (with_state (closed m.state) m)
+turns_open (suc lines) list m go answers h =
+    turn_opens m.help (next_taken m.state) (λ s. listed list (with_state s m) (λ t. turns lines list t go)) (go (with_state (closed m.state) m)) answers
+    (λ s. listed_opens list (with_state s m) (λ t. turns lines list t go) answers (λ t. turns_open lines list t go answers h)) (h (with_state (closed m.state) m))
+
+go_on_opens : (t : Option Turns) (outside script : Further) (m : Present) (answers : List Answer) → ((n : Present) → Opens n.help (outside n answers)) → ((n : Present) → Opens n.help (script n answers))
+    → Opens m.help (go_on t outside script m answers)
+go_on_opens None outside script m answers h k = h m
+go_on_opens (Some t) outside script m answers h k =
+    listed_opens t.left m (λ n. turns t.lines t.list n script) answers (λ n. turns_open t.lines t.list n script answers k)
+
+pub started_opens : (path : List ℕ) (a : Answer) (m : Present) (go : Further) (answers : List Answer) → ((t : Present) → Opens t.help (go t answers)) → Opens m.help (started path a m go answers)
+started_opens path (answer.Bytes bytes) m go answers h = refl
+started_opens path answer.Missing m go answers h = h _
+started_opens path answer.Refused m go answers h = refl
+started_opens path answer.Done m go answers h = refl
+
+start_opens : (path : Option (List ℕ)) (m : Present) (go : Further) (answers : List Answer) → ((t : Present) → Opens t.help (go t answers)) → Opens m.help (start path m go answers)
+start_opens None m go answers h = h m
+start_opens (Some path) m go [] h = refl
+start_opens (Some path) m go (a ∷ answers) h = refl
+
+pub prompted_left_opens : (t : Option Turns) (xs : List Step) (bad : Option ℕ) (m : Present) (answers : List Answer) → Opens m.help (go_on_prompted t xs bad m answers)
+prompted_left_opens t xs bad m answers = go_on_opens t (steps xs bad) (steps xs bad) m answers (λ n. steps_open xs bad n answers) (λ n. steps_open xs bad n answers)
+
+unprompted_left_opens : (t : Option Turns) (xs : List Step) (bad : Option ℕ) (m : Present) (answers : List Answer) → Opens m.help (go_on_unprompted t xs bad m answers)
+unprompted_left_opens t xs bad m answers = go_on_opens t (unprompted xs bad) (steps xs bad) m answers (λ n. unprompted_opens xs bad n answers) (λ n. steps_open xs bad n answers)
 
 at_opens : (p : Phase) (v : SessionValue) (answers : List Answer) → is_over p ≡ false → Opens v.present.help (rest_at p v answers)
-at_opens (phases.Fresh path) v answers h = start_opens path v.present v.steps v.fault answers
-at_opens phases.Between v answers h = steps_open v.steps v.fault v.present answers
-at_opens phases.Prompted v answers h = unprompted_opens v.steps v.fault v.present answers
-at_opens phases.Waiting v answers h = unprompted_opens v.steps v.fault v.present answers
+at_opens (phases.Fresh path) v answers h =
+    start_opens path v.present (go_on_prompted v.turns v.steps v.fault) answers (λ t. prompted_left_opens v.turns v.steps v.fault t answers)
+at_opens phases.Between v answers h = prompted_left_opens v.turns v.steps v.fault v.present answers
+at_opens phases.Prompted v answers h = unprompted_left_opens v.turns v.steps v.fault v.present answers
+at_opens phases.Waiting v answers h = unprompted_left_opens v.turns v.steps v.fault v.present answers
 at_opens (phases.Over result) v answers h = cc
 
 -- memory may run out in a session that isn't over
@@ -152,9 +194,30 @@ asking_quiet m (Err f) again go h = refl
 asking_quiet m (Ok (Makes o)) again go h = h _
 asking_quiet m (Ok (Asks r)) again go h = refl
 
+listed_quiet : (left : List Command) (go : Further) → Quiet go → Quiet (λ m. listed left m go)
+listed_quiet [] go h m = h m
+listed_quiet (c ∷ left) go h m = asking_quiet m (command m.state c None) _ (λ t. listed left (turned c.verb t) go) (λ t. listed_quiet left go h (turned c.verb t))
+
+turn_quiet : (taken : Option State) (again : State → Rest) (over : Rest) → ((s : State) → asked_of (again s []) ≡ []) → asked_of (over []) ≡ [] → asked_of (turn taken again over []) ≡ []
+turn_quiet None again over h k = k
+turn_quiet (Some s) again over h k = h s
+
+turns_quiet : (lines : ℕ) (list : List Command) (go : Further) → Quiet go → Quiet (λ m. turns lines list m go)
+turns_quiet zero list go h m = h (with_state (closed m.state) m)
+turns_quiet (suc lines) list go h m =
+    turn_quiet (next_taken m.state) (λ s. listed list (with_state s m) (λ t. turns lines list t go)) (go (with_state (closed m.state) m))
+    (λ s. listed_quiet list (λ t. turns lines list t go) (turns_quiet lines list go h) (with_state s m)) (h (with_state (closed m.state) m))
+
+go_on_quiet : (t : Option Turns) (outside script : Further) → Quiet outside → Quiet script → Quiet (go_on t outside script)
+go_on_quiet None outside script h k m = h m
+go_on_quiet (Some t) outside script h k m = listed_quiet t.left (λ n. turns t.lines t.list n script) (turns_quiet t.lines t.list script k) m
+
 step_quiet : (x : Step) (m : Present) (go : Further) (p : Progress) → Quiet go → StepIs x m go [] p → asked_of p ≡ []
 step_quiet x m go p h by_end = refl
 step_quiet x m go p h by_quit = at_end_quiet None m
+step_quiet x m go p h lists =
+    asking_quiet m (command m.state x.command None) _ (λ t. global (kept m.state) x.list (turned x.command.verb t) go)
+    (λ t. let n : Present = turned x.command.verb t in turns_quiet (flags n.state) x.list go h (with_state (opened (kept m.state) n.state) n))
 step_quiet x m go p h goes = asking_quiet m (command m.state x.command None) _ _ (λ t. h _)
 
 prompted_quiet : (m : Present) (p : Progress) → asked_of p ≡ [] → asked_of (prompted m p) ≡ []
@@ -172,11 +235,17 @@ start_quiet : (path : Option (List ℕ)) (m : Present) (go : Further) → Quiet 
 start_quiet None m go h = h m
 start_quiet (Some path) m go h = refl
 
+prompted_left_quiet : (t : Option Turns) (xs : List Step) (bad : Option ℕ) → Quiet (go_on_prompted t xs bad)
+prompted_left_quiet t xs bad = go_on_quiet t (steps xs bad) (steps xs bad) (steps_quiet xs bad) (steps_quiet xs bad)
+
+unprompted_left_quiet : (t : Option Turns) (xs : List Step) (bad : Option ℕ) → Quiet (go_on_unprompted t xs bad)
+unprompted_left_quiet t xs bad = go_on_quiet t (unprompted xs bad) (steps xs bad) (unprompted_quiet xs bad) (steps_quiet xs bad)
+
 at_quiet : (p : Phase) (v : SessionValue) → asked_of (rest_at p v []) ≡ []
-at_quiet (phases.Fresh path) v = start_quiet path v.present _ (steps_quiet v.steps v.fault)
-at_quiet phases.Between v = steps_quiet v.steps v.fault v.present
-at_quiet phases.Prompted v = unprompted_quiet v.steps v.fault v.present
-at_quiet phases.Waiting v = unprompted_quiet v.steps v.fault v.present
+at_quiet (phases.Fresh path) v = start_quiet path v.present _ (prompted_left_quiet v.turns v.steps v.fault)
+at_quiet phases.Between v = prompted_left_quiet v.turns v.steps v.fault v.present
+at_quiet phases.Prompted v = unprompted_left_quiet v.turns v.steps v.fault v.present
+at_quiet phases.Waiting v = unprompted_left_quiet v.turns v.steps v.fault v.present
 at_quiet (phases.Over result) v = refl
 
 pub rest_quiet : (v : SessionValue) → asked_of (rest v []) ≡ []

@@ -1,5 +1,5 @@
 -- What a session keeps inside, and what is true of it in each phase.
-use Rattle.std.specs.Prelude.{ℕ, ◌≡◌, ◌≢◌, ◌≤◌, ◌⊎◌, Bool, true, false, not, ◌||◌, List, [], ◌∷◌, ◌++◌, length, decimal, Option, Some, None, Ok}
+use Rattle.std.specs.Prelude.{ℕ, ◌≡◌, ◌≢◌, ◌⊎◌, Bool, true, false, not, ◌||◌, List, [], ◌∷◌, ◌++◌, length, decimal, Option, Some, None, Ok}
 use Rattle.ed_base.specs.Lines.{newline}
 use Rattle.ed_base.specs.declared.fault.Fault.{Fault}
 use Rattle.ed_base.specs.declared.fault.Fault.TheVariants.{Memory}
@@ -9,17 +9,19 @@ use Rattle.ed_syntax.specs.declared.request.Request.{Request}
 use Rattle.ed_syntax.specs.declared.request.Request.TheVariants as request
 use Rattle.ed_syntax.specs.Applied.{command}
 use Rattle.ed_syntax.specs.Commands as ed
-use Rattle.ed_syntax.specs.Commands.{Step, Verb}
+use Rattle.ed_syntax.specs.Commands.{Command, Step, Verb}
 use Rattle.ed_syntax.specs.Effects.{Asks}
 use Rattle.ed_syntax.specs.Files.{loaded}
 use Rattle.ed_syntax.specs.Progress.{Present, report}
 use Rattle.ed_syntax.specs.States.{State, opening}
+use Rattle.ed_commands.specs.Editors.{is_global}
 use Rattle.ed_session.specs.declared.modes.Modes.{Modes}
 use Rattle.ed_session.specs.declared.session.Ask.{Ask}
 use Rattle.ed_session.specs.declared.session.Ask.TheVariants as ask
 use Rattle.ed_session.specs.declared.phase.Phase.{Phase}
 use Rattle.ed_session.specs.declared.phase.Phase.TheVariants as phases
-use Rattle.ed_session.specs.Sessions.{SessionValue, is_over, is_started, is_waiting}
+use Rattle.ed_session.specs.Sessions.{SessionValue, Turns, is_over, is_started, is_waiting}
+use Rattle.ed_session.specs.Agendas.{next_command}
 use Rattle.ed_session.specs.Calls.{GoesOn, Gives}
 
 -- what a run holds with these modes
@@ -52,9 +54,9 @@ abbrev pub quits : Verb → Bool
 quits ed.Quit = true
 quits verb = false
 
--- the commands that end the run by themselves
-abbrev pub ends_run : Verb → Bool
-ends_run verb = quits_anyway verb || quits verb
+-- a step of these is the command alone: it neither ends the run nor runs a list
+abbrev pub is_alone : Verb → Bool
+is_alone verb = not (quits_anyway verb || quits verb || is_global verb)
 
 -- help mode after a command: `H` turns it on or off
 abbrev pub help_after : Verb → Bool → Bool
@@ -86,23 +88,30 @@ pub record AreReady (brief full : List ℕ) : Type 0 where
   pub without_text : brief ≡ report false Memory
   pub with_text : full ≡ report true Memory
 
--- a command asks for a file, with a request that writes so many bytes or reads
-pub record AsksFor (writes : Option ℕ) (s : State) (x : Step) : Type 0 where
-  pub goes : ends_run x.command.verb ≡ false
+-- a command comes next, and its step is the command alone: in a list each is
+pub record IsNext (turns : Option Turns) (steps : List Step) (c : Command) : Type 0 where
+  pub comes : next_command turns steps ≡ Some c
+  pub alone : turns ≡ None → is_alone c.verb ≡ true
+
+-- a command that comes next asks for a file, with a request that writes so many bytes or reads
+pub record AsksFor (writes : Option ℕ) (s : State) (turns : Option Turns) (steps : List Step) (c : Command) : Type 0 where
+  pub next : IsNext turns steps c
   pub request : Request
-  pub asks : command s x.command None ≡ Ok (Asks request)
+  pub asks : command s c None ≡ Ok (Asks request)
   pub writes_it : writes ≡ bytes_of_write request
 
--- the first command does
-abbrev pub AsksFirst : (writes : Option ℕ) → State → List Step → Type 0
-AsksFirst writes s [] = ⊥
-AsksFirst writes s (x ∷ steps) = AsksFor writes s x
-
 -- what each phase keeps
-abbrev pub KeepsPhase : Phase → (writes : Option ℕ) → State → List Step → List ℕ → Type 0
-KeepsPhase (phases.Fresh path) writes s steps pending = (s ≡ opening) × (pending ≡ [])
-KeepsPhase phases.Waiting writes s steps pending = AsksFirst writes s steps × (pending ≡ [])
-KeepsPhase other writes s steps pending = Unit {0}
+abbrev pub KeepsPhase : Phase → (writes : Option ℕ) → State → Option Turns → List Step → List ℕ → Type 0
+KeepsPhase (phases.Fresh path) writes s turns steps pending = (s ≡ opening) × (pending ≡ [])
+KeepsPhase phases.Waiting writes s turns steps pending = ((c : Command) × AsksFor writes s turns steps c) × (pending ≡ [])
+KeepsPhase other writes s turns steps pending = Unit {0}
+
+-- the next command comes before any prompt: in a list there is none
+abbrev pub goes_unprompted : Phase → Option Turns → Bool
+goes_unprompted phases.Prompted turns = true
+goes_unprompted phases.Waiting turns = true
+goes_unprompted phases.Between (Some t) = true
+goes_unprompted at turns = false
 
 -- what an editor holds after the answer to the read of the start file
 abbrev pub state_loaded : (path : List ℕ) → Answer → Option State
@@ -111,11 +120,10 @@ state_loaded path answer.Missing = Some (loaded [] path opening)
 state_loaded path other = None
 
 -- what every session keeps: till it is over its editor hasn't failed, and its reports aren't handed out
-pub record IsSound (at : Phase) (writes : Option ℕ) (state : State) (failed : Option Fault) (count next : ℕ) (steps : List Step) (pending brief full : List ℕ) (told : Bool) : Type 0 where
-  pub within : next ≤ count
+pub record IsSound (at : Phase) (writes : Option ℕ) (state : State) (failed : Option Fault) (turns : Option Turns) (steps : List Step) (pending brief full : List ℕ) (told : Bool) : Type 0 where
   pub works : is_over at ≡ false → failed ≡ None
   pub can_report : is_over at ≡ false → AreReady brief full
-  pub keeps : KeepsPhase at writes state steps pending
+  pub keeps : KeepsPhase at writes state turns steps pending
   pub ended : told ≡ true → (is_over at ≡ true) × (pending ≡ [])
 
 -- the run has gone on without output

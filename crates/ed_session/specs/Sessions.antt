@@ -2,16 +2,25 @@
 use Rattle.std.specs.Prelude.{ℕ, Bool, true, false, List, [], Option, Some, None}
 use Rattle.ed_syntax.specs.declared.options.Options.{Options}
 use Rattle.ed_syntax.specs.declared.request.Request.{Request}
-use Rattle.ed_syntax.specs.Commands.{Step, Script}
+use Rattle.ed_syntax.specs.Commands.{Command, Step, Script}
 use Rattle.ed_syntax.specs.Progress.{Present, Rest, Stop, Waits, Stops, Ends, stop_of}
-use Rattle.ed_syntax.specs.Runs.{present, start, steps, unprompted}
+use Rattle.ed_syntax.specs.Runs.{Further, present, start, inside, steps, unprompted}
 use Rattle.ed_session.specs.declared.phase.Phase.{Phase}
 use Rattle.ed_session.specs.declared.phase.Phase.TheVariants as phases
 
--- a session: where it is, what it holds, the steps that are left, output that wasn't handed out, and whether its end was told
+-- What is left of a global command whose list is run: the commands of the list for the line that was taken, the whole list, and for
+-- how many lines more it is run at most.
+pub record Turns : Type 0 where
+  pub left : List Command
+  pub list : List Command
+  pub lines : ℕ
+
+-- A session: where it is, what it holds, what is left of a global command that is open, the steps that are left after it, output that
+-- wasn't handed out, and whether its end was told.
 pub record SessionValue : Type 0 where
   pub phase : Phase
   pub present : Present
+  pub turns : Option Turns
   pub steps : List Step
   pub fault : Option ℕ
   pub pending : List ℕ
@@ -22,6 +31,7 @@ abbrev pub made : Script → Options → SessionValue
 made script o = record {
   phase = phases.Fresh o.path;
   present = present o;
+  turns = None;
   steps = script.steps;
   fault = script.fault;
   pending = [];
@@ -48,12 +58,25 @@ abbrev pub path_of : Phase → Option (List ℕ)
 path_of (phases.Fresh path) = path
 path_of other = None
 
+-- what is left of a global command, where one is open, and then of the script; else what is left outside of one
+abbrev pub go_on : Option Turns → (outside script : Further) → Further
+go_on None outside script m = outside m
+go_on (Some t) outside script m = inside t.left t.lines t.list m script
+
+-- the same from before a prompt on; there are prompts only outside of a global command
+abbrev pub go_on_prompted : Option Turns → List Step → (fault : Option ℕ) → Further
+go_on_prompted turns left fault = go_on turns (steps left fault) (steps left fault)
+
+-- the same from after a prompt on
+abbrev pub go_on_unprompted : Option Turns → List Step → (fault : Option ℕ) → Further
+go_on_unprompted turns left fault = go_on turns (unprompted left fault) (steps left fault)
+
 -- what is left of the run from a phase on; waiting only remembers that a request was handed out
 abbrev pub rest_at : Phase → SessionValue → Rest
-rest_at (phases.Fresh path) v answers = start path v.present (steps v.steps v.fault) answers
-rest_at phases.Between v answers = steps v.steps v.fault v.present answers
-rest_at phases.Prompted v answers = unprompted v.steps v.fault v.present answers
-rest_at phases.Waiting v answers = unprompted v.steps v.fault v.present answers
+rest_at (phases.Fresh path) v answers = start path v.present (go_on_prompted v.turns v.steps v.fault) answers
+rest_at phases.Between v answers = go_on_prompted v.turns v.steps v.fault v.present answers
+rest_at phases.Prompted v answers = go_on_unprompted v.turns v.steps v.fault v.present answers
+rest_at phases.Waiting v answers = go_on_unprompted v.turns v.steps v.fault v.present answers
 rest_at (phases.Over result) v answers = Stops v.present.help (Ends result)
 
 -- what is left of the run after the output that is pending, for the answers to come

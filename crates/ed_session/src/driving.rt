@@ -80,6 +80,9 @@ pub fn drive<S: LineStore, O: Outside, W: Sink>(
     // What was asked is added to the log, after what it had.
     ensures log { O.log outside.new ≡ O.log outside.old ++ added (O.log outside.old) (O.log outside.new) }
 
+    // The outside's count of failures doesn't fall.
+    ensures rises { O.failures outside.old ≤ O.failures outside.new }
+
     // The run with these answers has ended so and its output was written; or memory ran out; or the sink failed.
     ensures run { Drove session.old (added (O.log outside.old) (O.log outside.new))
         (W.taken sink.old) (W.taken sink.new) (W.failures sink.old) (W.failures sink.new) result }

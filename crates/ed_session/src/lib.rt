@@ -1,6 +1,7 @@
 //! Runs of scripts: an editor over any store of lines, sessions, and the loop that drives one to its end.
 #![tactic(auto)]
 
+mod agenda;
 mod counts;
 mod disk_files;
 mod driving;
@@ -21,4 +22,4 @@ pub use mem_files::MemFiles;
 pub use mem_sink::MemSink;
 pub use outside::Outside;
 pub use session::{Ask, Session};
-pub use sink::{Out, Sink, SinkFault};
+pub use sink::{Out, Sink, SinkFault, give};

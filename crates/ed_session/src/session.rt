@@ -5,14 +5,16 @@ ghost use Rattle.ed_commands.specs.Editors.{opening_value};
 ghost use Rattle.ed_session.specs.Insides.{counted, length_counted, state_loaded};
 
 mod advancing;
+mod globals;
 
+use crate::agenda::Agenda;
 use crate::counts::{length_counted, with_count};
 use crate::modes::Modes;
 use crate::phase::Phase;
 use crate::reports::Reports;
 use ed_base::{Bytes, Fault};
 use ed_commands::{Editor, Reply};
-use ed_syntax::{Answer, Command, Ending, Options, Request, Script};
+use ed_syntax::{Answer, Ending, Options, Request, Script};
 use line_store::LineStore;
 use std::alloc::{AllocError, Global};
 use std::marker::Model;
@@ -38,9 +40,7 @@ pub enum Ask {
 pub struct Session<S: LineStore> {
     alloc: Global,
     editor: Editor<S>,
-    commands: Vec<Command>,
-    // The place of the next command.
-    next: usize,
+    agenda: Agenda,
     fault: Option<usize>,
     modes: Modes,
     // The counts of bytes that are read or written aren't written.
@@ -57,8 +57,6 @@ pub struct Session<S: LineStore> {
 }
 
 impl<S: LineStore> Model for Session<S> {
-    ghost use Rattle.std.specs.Prelude.{drop, vec_len};
-    ghost use Rattle.ed_syntax.specs.PublicTypes.{steps_value};
     ghost use Rattle.ed_session.specs.Sessions.{SessionValue};
 
     ghost Value = { SessionValue };
@@ -68,14 +66,15 @@ impl<S: LineStore> Model for Session<S> {
     ghost view = { λ s. record {
       phase = s.phase;
       present = holding s.silent s.editor.state s.modes s.prompt;
-      steps = steps_value (drop s.next s.commands.items);
+      turns = s.agenda.turns;
+      steps = s.agenda.steps;
       fault = s.fault;
       pending = s.pending;
       told = s.told;
     } };
 
-    ghost invariant = { λ s. IsSound s.phase s.writes s.editor.state s.editor.failed (vec_len s.commands) s.next
-        (steps_value (drop s.next s.commands.items)) s.pending s.reports.brief s.reports.full s.told };
+    ghost invariant = { λ s. IsSound s.phase s.writes s.editor.state s.editor.failed s.agenda.turns s.agenda.steps
+        s.pending s.reports.brief s.reports.full s.told };
 }
 
 // Loads what was answered of the start file into an editor that was just made, and gives the count of its bytes.
@@ -133,8 +132,7 @@ impl<S: LineStore> Session<S> {
         Ok(Session {
             alloc,
             editor: Editor::new(alloc, store),
-            commands,
-            next: 0,
+            agenda: Agenda::new(commands),
             fault,
             modes: Modes {
                 prompting,
@@ -233,7 +231,7 @@ impl<S: LineStore> Session<S> {
         ensures handed_out { self.old.pending ≡ [] }
         ensures work { work self.new ≤ work self.old }
     {
-        match self.editor.apply(&self.commands[self.next], None) {
+        match self.editor.apply(self.agenda.next(), None) {
             Ok(Reply::Wants(request)) => Some(request),
             Ok(Reply::Done(_)) => unreachable!(),
             Err(_) => {
@@ -255,12 +253,12 @@ impl<S: LineStore> Session<S> {
         ensures work { work self.new ≤ work self.old }
     {
         let length = length_counted(self.writes, &answer);
-        let command = &self.commands[self.next];
+        let command = self.agenda.next();
         match self.editor.apply(command, Some(answer)) {
             Ok(Reply::Done(output)) => match with_count(output, self.silent, length) {
                 Ok(written) => {
                     self.modes = self.modes.after(&command.verb);
-                    self.next += 1;
+                    self.agenda.pass();
                     self.pending = written;
                     self.phase = Phase::Between;
                 }

@@ -78,7 +78,7 @@ impl<W: io::Write + Drop> Sink for Out<W> {
 }
 
 /// Gives all bytes to a sink, and says whether it took them all.
-pub(crate) fn give<W: Sink>(sink: &mut W, bytes: &[u8]) -> bool
+pub fn give<W: Sink>(sink: &mut W, bytes: &[u8]) -> bool
     requires count { W.failures sink.old < 2 ^ 64 - 1 }
 
     ensures all { IsTrue result → Appends (W.taken sink.old) (W.taken sink.new) bytes.now

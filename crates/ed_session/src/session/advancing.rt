@@ -1,12 +1,15 @@
 //! How a session goes on: by a prompt, by a command, or by the end of its script.
-ghost use Rattle.std.specs.Prelude.{◌≡◌, ◌≢◌, ◌<◌, List, [], true, false};
+ghost use Rattle.std.specs.Prelude.{◌≡◌, ◌≢◌, ◌<◌, List, [], None, true, false, IsSome};
 ghost use Rattle.ed_base.specs.declared.fault.Fault.TheVariants.{Memory};
+ghost use Rattle.ed_syntax.specs.Commands.{Command};
 ghost use Rattle.ed_syntax.specs.declared.request.Answer.{Answer};
 ghost use Rattle.ed_syntax.specs.Progress.{failing, quitting};
 ghost use Rattle.ed_syntax.specs.PublicTypes.{verb_value};
+ghost use Rattle.ed_commands.specs.Editors.{is_global};
 ghost use Rattle.ed_session.specs.declared.phase.Phase.TheVariants as phases;
+ghost use Rattle.ed_session.specs.Agendas.{next_command};
 ghost use Rattle.ed_session.specs.Calls.{Gives};
-ghost use Rattle.ed_session.specs.Insides.{AdvancesOrGives, ask_of_output, ask_of_request, bytes_of_write, quits, quits_anyway};
+ghost use Rattle.ed_session.specs.Insides.{AdvancesOrGives, IsNext, ask_of_output, ask_of_request, bytes_of_write, goes_unprompted, quits, quits_anyway};
 ghost use Rattle.ed_session.specs.Sessions.{is_over, is_started, is_waiting, rest};
 ghost use Rattle.ed_session.specs.Work.{work};
 
@@ -31,8 +34,15 @@ fn quits(verb: &Verb) -> bool
     matches!(verb, Verb::Quit)
 }
 
+// The command has a list.
+fn is_global(verb: &Verb) -> bool
+    ensures value { result ≡ is_global (verb_value verb.now) }
+{
+    matches!(verb, Verb::Global { .. })
+}
+
 // Some output, if there is any.
-fn output(bytes: Bytes) -> Option<Ask>
+pub(crate) fn output(bytes: Bytes) -> Option<Ask>
     ensures value { result ≡ ask_of_output bytes }
 {
     if bytes.is_empty() {
@@ -73,17 +83,22 @@ impl<S: LineStore> Session<S> {
         ensures started { is_started self.new.phase ≡ true }
         ensures work { work self.new < work self.old }
     {
+        if self.agenda.in_list() {
+            return self.go_on_in_list();
+        }
         if matches!(&self.phase, Phase::Between) {
             return self.write_prompt();
         }
-        if self.next == self.commands.len() {
-            return self.end();
+        if self.agenda.has_next() {
+            self.step_on()
+        } else {
+            self.end()
         }
-        self.command()
     }
 
     // Where prompting is on, the prompt comes before the next command and before the end is found.
     fn write_prompt(&mut self) -> Option<Ask>
+        requires outside { self.old.turns ≡ None }
         requires between { self.old.phase ≡ phases.Between }
         requires handed_out { self.old.pending ≡ [] }
         ensures given { AdvancesOrGives self.old result self.new }
@@ -104,7 +119,7 @@ impl<S: LineStore> Session<S> {
     }
 
     // Ends the run by a fault, with its report.
-    fn report(&mut self, fault: Fault) -> Ask
+    pub(crate) fn report(&mut self, fault: Fault) -> Ask
         requires running { is_over self.old.phase ≡ false }
         requires handed_out { self.old.pending ≡ [] }
         ensures given { (fault ≢ Memory → (answers : List Answer) → rest self.old answers ≡ failing self.old.present fault) →
@@ -119,9 +134,10 @@ impl<S: LineStore> Session<S> {
 
     // The end of the script, or of what could be read of it.
     fn end(&mut self) -> Option<Ask>
+        requires outside { self.old.turns ≡ None }
         requires prompted { self.old.phase ≡ phases.Prompted }
         requires handed_out { self.old.pending ≡ [] }
-        requires none_left { self.old.steps ≡ [] }
+        requires none_left { next_command self.old.turns self.old.steps ≡ None }
         ensures given { AdvancesOrGives self.old result self.new }
         ensures started { is_started self.new.phase ≡ true }
         ensures work { work self.new < work self.old }
@@ -150,29 +166,47 @@ impl<S: LineStore> Session<S> {
         None
     }
 
-    // Does the next command, or finds what it asks for.
-    fn command(&mut self) -> Option<Ask>
+    // Does the next step of the script, or finds what it asks for.
+    fn step_on(&mut self) -> Option<Ask>
+        requires outside { self.old.turns ≡ None }
         requires prompted { self.old.phase ≡ phases.Prompted }
         requires handed_out { self.old.pending ≡ [] }
-        requires left { self.old.steps ≢ [] }
+        requires left { IsSome (next_command self.old.turns self.old.steps) }
         ensures given { AdvancesOrGives self.old result self.new }
         ensures started { is_started self.new.phase ≡ true }
         ensures work { work self.new < work self.old }
     {
-        let command = &self.commands[self.next];
-        if quits(&command.verb) {
+        let verb = &self.agenda.next().verb;
+        if quits(verb) {
             return self.quit();
         }
-        if quits_anyway(&command.verb) {
+        if quits_anyway(verb) {
             self.phase = Phase::Over(Ok(Ending {
                 lines: self.editor.lines().len(),
             }));
             return None;
         }
+        if is_global(verb) {
+            return self.begin_global();
+        }
+        self.command()
+    }
+
+    // Does the next command, of a list or of the script, or finds what it asks for.
+    pub(crate) fn command(&mut self) -> Option<Ask>
+        requires idle { is_waiting self.old.phase ≡ false }
+        requires comes { goes_unprompted self.old.phase self.old.turns ≡ true }
+        requires handed_out { self.old.pending ≡ [] }
+        requires next { (c : Command) × IsNext self.old.turns self.old.steps c }
+        ensures given { AdvancesOrGives self.old result self.new }
+        ensures started { is_started self.new.phase ≡ true }
+        ensures work { work self.new < work self.old }
+    {
+        let command = self.agenda.next();
         match self.editor.apply(command, None) {
             Ok(Reply::Done(written)) => {
                 self.modes = self.modes.after(&command.verb);
-                self.next += 1;
+                self.agenda.pass();
                 self.phase = Phase::Between;
                 output(written)
             }

@@ -1,0 +1,138 @@
+//! What a session has still to carry out.
+ghost use Rattle.std.specs.Prelude.{◌≡◌, ◌<◌, ◌^◌, Some, None, IsSome, is_some};
+ghost use Rattle.ed_syntax.specs.PublicTypes.{command_value, steps_value};
+ghost use Rattle.ed_session.specs.Agendas.{lines_of, next_command, opened_for, passed, repeated};
+
+use ed_syntax::Command;
+use std::marker::Model;
+
+/// What is left of a global command whose list is run. Places count from 0.
+#[derive(Clone, Copy)]
+struct Turns {
+    /// The place of the global command in its script.
+    global: usize,
+    /// So many of the last commands of its list are left for the line that was taken.
+    left: usize,
+    /// For how many lines more the list is run at most.
+    lines: usize,
+}
+
+/// The commands that a session has still to carry out: those of a list, where a global command is open, and then those of the script.
+#[derive(Drop)]
+pub(crate) struct Agenda {
+    commands: Vec<Command>,
+    // The place of the next command of the script itself, counted from 0: after the global command, where one is open.
+    next: usize,
+    turns: Option<Turns>,
+}
+
+impl Model for Agenda {
+    ghost use Rattle.std.specs.Prelude.{◌≤◌, drop, vec_len};
+    ghost use Rattle.ed_syntax.specs.PublicTypes.{steps_value};
+    ghost use Rattle.ed_session.specs.Agendas.{AgendaValue, IsWithin, turns_of};
+
+    ghost Value = { AgendaValue };
+
+    ghost view = { λ a. record { turns = turns_of a.commands.items a.turns; steps = steps_value (drop a.next a.commands.items) } };
+
+    ghost invariant = { λ a. (a.next ≤ vec_len a.commands) × IsWithin a.commands.items a.turns };
+}
+
+impl Agenda {
+    /// All commands of a script.
+    pub(crate) fn new(commands: Vec<Command>) -> Self
+        ensures value { result ≡ record { turns = None; steps = steps_value commands.items } }
+    {
+        Agenda {
+            commands,
+            next: 0,
+            turns: None,
+        }
+    }
+
+    /// A global command is open.
+    pub(crate) fn in_list(&self) -> bool
+        ensures value { result ≡ is_some self.now.turns }
+    {
+        self.turns.is_some()
+    }
+
+    /// A command is left: of the list, where a global command is open, else of the script.
+    pub(crate) fn has_next(&self) -> bool
+        ensures value { result ≡ is_some (next_command self.now.turns self.now.steps) }
+    {
+        match self.turns {
+            Some(turns) => turns.left > 0,
+            None => self.next < self.commands.len(),
+        }
+    }
+
+    /// The next command.
+    pub(crate) fn next(&self) -> &Command
+        requires there { IsSome (next_command self.now.turns self.now.steps) }
+        ensures value { next_command self.now.turns self.now.steps ≡ Some (command_value result.now) }
+    {
+        match self.turns {
+            Some(turns) => {
+                let list = self.commands[turns.global].list();
+                &list[list.len() - turns.left]
+            }
+            None => &self.commands[self.next],
+        }
+    }
+
+    /// The next command is done.
+    pub(crate) fn pass(&mut self)
+        requires there { IsSome (next_command self.old.turns self.old.steps) }
+        ensures value { self.new ≡ passed self.old }
+    {
+        match &mut self.turns {
+            Some(turns) => turns.left -= 1,
+            None => self.next += 1,
+        }
+    }
+
+    /// The next step of the script is a global command, which is open from here on; its list is run for at most so many lines, of
+    /// which none was taken yet.
+    pub(crate) fn open(&mut self, lines: usize)
+        requires outside { self.old.turns ≡ None }
+        requires there { IsSome (next_command self.old.turns self.old.steps) }
+        ensures value { self.new ≡ opened_for lines self.old }
+        ensures counted { lines < 2 ^ 64 }
+    {
+        self.turns = Some(Turns {
+            global: self.next,
+            left: 0,
+            lines,
+        });
+        self.next += 1;
+    }
+
+    /// For how many lines more the list of an open global command is run at most.
+    pub(crate) fn lines(&self) -> usize
+        ensures value { result ≡ lines_of self.now.turns }
+    {
+        match self.turns {
+            Some(turns) => turns.lines,
+            None => 0,
+        }
+    }
+
+    /// One of these lines was taken, and the list is run from its beginning.
+    pub(crate) fn repeat(&mut self)
+        requires more { 0 < lines_of self.old.turns }
+        ensures value { self.new ≡ repeated self.old }
+    {
+        if let Some(turns) = &mut self.turns {
+            turns.left = self.commands[turns.global].list().len();
+            turns.lines -= 1;
+        }
+    }
+
+    /// The global command is over.
+    pub(crate) fn close(&mut self)
+        ensures value { self.new ≡ record self.old { turns = None } }
+    {
+        self.turns = None;
+    }
+}
