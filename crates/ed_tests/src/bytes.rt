@@ -10,7 +10,7 @@ struct Row {
 }
 
 #[rattlefmt::skip]
-const ROWS: [Row; 8] = [
+static ROWS: [Row; 8] = [
     Row { bytes: b"", lines: &[], written: b"" },
     Row { bytes: b"\n", lines: &[b""], written: b"\n" },
     Row { bytes: b"a", lines: &[b"a"], written: b"a\n" },

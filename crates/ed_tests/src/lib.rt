@@ -15,3 +15,5 @@ mod scripts;
 mod stores;
 #[cfg(test)]
 mod substitutions;
+#[cfg(test)]
+mod undoing;

@@ -32,46 +32,48 @@ struct ScriptRow {
 }
 
 #[rattlefmt::skip]
+static SCRIPTS: [ScriptRow; 34] = [
+    ScriptRow { script: b"", commands: 0, fault: None },
+    ScriptRow { script: b"p", commands: 1, fault: None },
+    ScriptRow { script: b"999999999p\n", commands: 1, fault: None },
+    ScriptRow { script: b"9999999999p\n", commands: 0, fault: Some(1) },
+    ScriptRow { script: b".+999999999p\n", commands: 1, fault: None },
+    ScriptRow { script: b".+1000000000p\n", commands: 0, fault: Some(1) },
+    ScriptRow { script: b"a\nx\n.\nz\np\n", commands: 1, fault: Some(4) },
+    ScriptRow { script: b"p\n\xff", commands: 1, fault: Some(2) },
+    ScriptRow { script: b"- 1p\n", commands: 0, fault: Some(1) },
+    ScriptRow { script: b"'Ap\n", commands: 0, fault: Some(1) },
+    ScriptRow { script: b"ka\nk\n", commands: 1, fault: Some(2) },
+    ScriptRow { script: b"k a\n", commands: 0, fault: Some(1) },
+    ScriptRow { script: b"Q\n1Q\n", commands: 1, fault: Some(2) },
+    ScriptRow { script: b"/x\n?x\n/\n", commands: 3, fault: None },
+    ScriptRow { script: b"/\\(/p\n", commands: 0, fault: Some(1) },
+    ScriptRow { script: b"/[/p\n", commands: 0, fault: Some(1) },
+    ScriptRow { script: b"/x\\\n", commands: 0, fault: Some(1) },
+    // A target is left out, or more than a suffix stands after the letter.
+    ScriptRow { script: b"m", commands: 0, fault: Some(1) },
+    ScriptRow { script: b"t", commands: 0, fault: Some(1) },
+    ScriptRow { script: b"mp", commands: 0, fault: Some(1) },
+    ScriptRow { script: b"tp", commands: 0, fault: Some(1) },
+    ScriptRow { script: b"m3 p", commands: 0, fault: Some(1) },
+    ScriptRow { script: b"m3,4", commands: 0, fault: Some(1) },
+    ScriptRow { script: b"m3t4", commands: 0, fault: Some(1) },
+    ScriptRow { script: b"m1234567890", commands: 0, fault: Some(1) },
+    ScriptRow { script: b"m/[/", commands: 0, fault: Some(1) },
+    ScriptRow { script: b"d p", commands: 0, fault: Some(1) },
+    ScriptRow { script: b"dd", commands: 0, fault: Some(1) },
+    ScriptRow { script: b"ppp", commands: 0, fault: Some(1) },
+    ScriptRow { script: b"Qp", commands: 0, fault: Some(1) },
+    ScriptRow { script: b"jz", commands: 0, fault: Some(1) },
+    ScriptRow { script: b"1h", commands: 0, fault: Some(1) },
+    ScriptRow { script: b"1H", commands: 0, fault: Some(1) },
+    ScriptRow { script: b"1P", commands: 0, fault: Some(1) },
+];
+
+#[rattlefmt::skip]
 #[test]
 fn a_script_is_read_up_to_its_first_fault(rt: HostRuntime) -> Result<(), Fail> {
-    let rows = [
-        ScriptRow { script: b"", commands: 0, fault: None },
-        ScriptRow { script: b"p", commands: 1, fault: None },
-        ScriptRow { script: b"999999999p\n", commands: 1, fault: None },
-        ScriptRow { script: b"9999999999p\n", commands: 0, fault: Some(1) },
-        ScriptRow { script: b".+999999999p\n", commands: 1, fault: None },
-        ScriptRow { script: b".+1000000000p\n", commands: 0, fault: Some(1) },
-        ScriptRow { script: b"a\nx\n.\nz\np\n", commands: 1, fault: Some(4) },
-        ScriptRow { script: b"p\n\xff", commands: 1, fault: Some(2) },
-        ScriptRow { script: b"- 1p\n", commands: 0, fault: Some(1) },
-        ScriptRow { script: b"'Ap\n", commands: 0, fault: Some(1) },
-        ScriptRow { script: b"ka\nk\n", commands: 1, fault: Some(2) },
-        ScriptRow { script: b"k a\n", commands: 0, fault: Some(1) },
-        ScriptRow { script: b"Q\n1Q\n", commands: 1, fault: Some(2) },
-        ScriptRow { script: b"/x\n?x\n/\n", commands: 3, fault: None },
-        ScriptRow { script: b"/\\(/p\n", commands: 0, fault: Some(1) },
-        ScriptRow { script: b"/[/p\n", commands: 0, fault: Some(1) },
-        ScriptRow { script: b"/x\\\n", commands: 0, fault: Some(1) },
-        // A target is left out, or more than a suffix stands after the letter.
-        ScriptRow { script: b"m", commands: 0, fault: Some(1) },
-        ScriptRow { script: b"t", commands: 0, fault: Some(1) },
-        ScriptRow { script: b"mp", commands: 0, fault: Some(1) },
-        ScriptRow { script: b"tp", commands: 0, fault: Some(1) },
-        ScriptRow { script: b"m3 p", commands: 0, fault: Some(1) },
-        ScriptRow { script: b"m3,4", commands: 0, fault: Some(1) },
-        ScriptRow { script: b"m3t4", commands: 0, fault: Some(1) },
-        ScriptRow { script: b"m1234567890", commands: 0, fault: Some(1) },
-        ScriptRow { script: b"m/[/", commands: 0, fault: Some(1) },
-        ScriptRow { script: b"d p", commands: 0, fault: Some(1) },
-        ScriptRow { script: b"dd", commands: 0, fault: Some(1) },
-        ScriptRow { script: b"ppp", commands: 0, fault: Some(1) },
-        ScriptRow { script: b"Qp", commands: 0, fault: Some(1) },
-        ScriptRow { script: b"jz", commands: 0, fault: Some(1) },
-        ScriptRow { script: b"1h", commands: 0, fault: Some(1) },
-        ScriptRow { script: b"1H", commands: 0, fault: Some(1) },
-        ScriptRow { script: b"1P", commands: 0, fault: Some(1) },
-    ];
-    for row in rows {
+    for row in &SCRIPTS {
         let script = read_script(rt.alloc(), row.script)?;
         assert_eq!(rt; script.commands.len(), row.commands, "at {:?}", row.script);
         assert_eq!(rt; script.fault, row.fault, "at {:?}", row.script);
@@ -95,7 +97,7 @@ struct OffsetRow {
 
 // XCU ed, "Addresses in ed": a sign alone counts 1, and blanks don't matter.
 #[rattlefmt::skip]
-const OFFSETS: [OffsetRow; 8] = [
+static OFFSETS: [OffsetRow; 8] = [
     OffsetRow { script: b".p", offset: 0 },
     OffsetRow { script: b"+p", offset: 1 },
     OffsetRow { script: b"--p", offset: -2 },
@@ -158,7 +160,7 @@ struct SearchRow {
 
 // XCU ed, "Regular Expressions in ed": the delimiter in a pattern, and the pattern that is left out.
 #[rattlefmt::skip]
-const SEARCHES: [SearchRow; 13] = [
+static SEARCHES: [SearchRow; 13] = [
     SearchRow { script: b"/a b/p", is_forward: true, text: Some(b"a b") },
     SearchRow { script: b"/a?b", is_forward: true, text: Some(b"a?b") },
     SearchRow { script: b"/a\\/b/p", is_forward: true, text: Some(b"a/b") },

@@ -21,7 +21,7 @@ const LETTER: &[Part] = &[Part::Literal(b'x')];
 
 // XCU ed, "Substitute Command"; the answers were worked by hand, and are those of GNU ed and sed.
 #[rattlefmt::skip]
-const ROWS: [Row; 12] = [
+static ROWS: [Row; 12] = [
     Row { pattern: b"x*", parts: HYPHEN, which: Which::All, line: b"abc", lines: Some(&[b"-a-b-c-"]) },
     Row { pattern: b"x*", parts: HYPHEN, which: Which::All, line: b"baxc", lines: Some(&[b"-b-a-c-"]) },
     Row { pattern: b"b*", parts: LETTER, which: Which::Nth(2), line: b"abb", lines: Some(&[b"ax"]) },

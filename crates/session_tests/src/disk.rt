@@ -3,11 +3,8 @@ use ed_base::Bytes;
 use ed_session::{DiskFiles, Outside};
 use ed_syntax::Answer;
 use std::alloc::{AllocError, Global};
-use std::fs;
 use std::test::Fail;
-
-/// A file that only a test here writes.
-const WRITTEN: &str = "/tmp/ed_tests_written";
+use std::{env, fs};
 
 fn bytes(alloc: Global, of: &[u8]) -> Result<Answer, AllocError> {
     Ok(Answer::Bytes(Bytes::from_slice(alloc, of)?))
@@ -15,14 +12,15 @@ fn bytes(alloc: Global, of: &[u8]) -> Result<Answer, AllocError> {
 
 #[test]
 fn a_file_that_was_written_is_read_again(rt: HostRuntime) -> Result<(), Fail> {
-    let path = WRITTEN.as_bytes();
+    let written = env::temp_dir(&rt)?.join(rt.alloc(), "session_tests_written")?;
+    let path = written.as_str().as_bytes();
     let mut files = DiskFiles::new(rt.alloc(), &rt);
     let texts: [&[u8]; 4] = [b"a\nlonger\nfile\n", b"short\0\xff", b"", b"a\n"];
     for text in &texts {
         assert_eq!(rt; files.write(path, text)?, Answer::Done, "{text:?}");
         assert_eq!(rt; files.read(path)?, bytes(rt.alloc(), text)?, "{text:?}");
     }
-    fs::remove_file(&rt, WRITTEN)?;
+    fs::remove_file(&rt, written.as_str())?;
     assert_eq!(rt; files.read(path)?, Answer::Missing);
     Ok(())
 }
@@ -34,12 +32,12 @@ struct Row {
 }
 
 #[rattlefmt::skip]
-const ROWS: [Row; 5] = [
-    Row { path: b"/tmp", missing: false },
-    Row { path: b"/tmp/ed_tests_absent/file", missing: true },
+static ROWS: [Row; 5] = [
+    Row { path: b".", missing: false },
+    Row { path: b"session_tests_absent/file", missing: true },
     Row { path: b"/dev/null/file", missing: false },
-    Row { path: b"/tmp/ed_tests\0absent", missing: false },
-    Row { path: b"/tmp/\xff", missing: false },
+    Row { path: b"session_tests\0absent", missing: false },
+    Row { path: b"session_tests_\xff", missing: false },
 ];
 
 #[test]

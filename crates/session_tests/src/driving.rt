@@ -9,7 +9,7 @@ use std::test::Fail;
 
 /// A run on the file `F`: its script, the file's bytes, its prompt, and how files and output are refused (0: not at all).
 #[derive(Clone, Copy)]
-pub struct Case<'a> {
+pub(crate) struct Case<'a> {
     pub script: &'a [u8],
     pub file: Option<&'a [u8]>,
     pub silent: bool,
@@ -21,7 +21,7 @@ pub struct Case<'a> {
 }
 
 /// A run in which nothing is refused, and whose output is taken in pieces of up to 64 bytes.
-pub const UNREFUSED: Case<'static> = Case {
+pub(crate) const UNREFUSED: Case<'static> = Case {
     script: b"",
     file: None,
     silent: true,
@@ -32,11 +32,11 @@ pub const UNREFUSED: Case<'static> = Case {
     refused_write: 0,
 };
 
-pub const ABC: Option<&[u8]> = Some(b"a\nb\nc\n");
+pub(crate) const ABC: Option<&[u8]> = Some(b"a\nb\nc\n");
 
-pub const ARROW: Option<&[u8]> = Some(b"> ");
+pub(crate) const ARROW: Option<&[u8]> = Some(b"> ");
 
-pub fn session_of<S: LineStore>(
+pub(crate) fn session_of<S: LineStore>(
     alloc: Global,
     script: &[u8],
     options: Options,
@@ -46,7 +46,7 @@ pub fn session_of<S: LineStore>(
 }
 
 /// How many lines the buffer had where the run ended well.
-pub fn lines(end: Result<Ending, Fault>) -> Result<usize, Fault> {
+pub(crate) fn lines(end: Result<Ending, Fault>) -> Result<usize, Fault> {
     match end {
         Ok(ending) => Ok(ending.lines),
         Err(fault) => Err(fault),
@@ -54,7 +54,7 @@ pub fn lines(end: Result<Ending, Fault>) -> Result<usize, Fault> {
 }
 
 /// How the case ends over a store, and what its sink took.
-pub fn run<S: LineStore>(
+pub(crate) fn run<S: LineStore>(
     alloc: Global,
     case: Case<'_>,
 ) -> Result<(Result<usize, Fault>, MemSink), AllocError> {
@@ -94,7 +94,7 @@ fn check_over<S: LineStore>(
 }
 
 /// Over each store, the case writes this output and ends so, whether much of it is taken at once or little.
-pub fn check(
+pub(crate) fn check(
     rt: &impl Abort,
     alloc: Global,
     case: Case<'_>,

@@ -102,6 +102,22 @@ static EDITED_AND_LEFT: [Row; 16] = [
     Row { script: b"q\n1d\n", ..ON_F },
 ];
 
+// A list of `g` and `v` may read, write and name files.
+#[rattlefmt::skip]
+static LISTED: [Row; 11] = [
+    Row { script: b"g/x/p\nw\nq\n", f: Some(b""), after: (F, Some(b"")), ends: Ok(0), ..ON_F },
+    Row { script: b"g/b/.r G\n,p\nQ\n", g: X, output: b"a\nb\nx\nc\n", after: (G, X), ends: Ok(4), ..ON_F },
+    Row { script: b"g/./r G\nQ\n", f: AB, g: X, output: b"4\n2\n2\n", after: (F, AB), ends: Ok(4), ..COUNTED },
+    Row { script: b"g/./.r G\\\nn\nQ\n", f: AB, g: X, output: b"2\tx\n4\tx\n", after: (F, AB), ends: Ok(4), ..ON_F },
+    Row { script: b"g/[bc]/.w G\nq\n", output: b"6\n2\n2\n", after: (G, Some(b"c\n")), ..COUNTED },
+    Row { script: b"g/b/w G\nq\n", after: (G, ABC), ..ON_F },
+    Row { script: b"g/a/r G\\\n.w H\nQ\n", f: AB, g: X, after: (H, X), ends: Ok(3), ..ON_F },
+    Row { script: b"g/a/f H\nf\nQ\n", output: b"H\nH\n", ..ON_F },
+    Row { script: b"g/a/r H\n", output: b"?\n", ends: Err(Fault::File), ..ON_F },
+    Row { script: b"g/./.w G\nq\n", refused: 3, output: b"?\n", after: (G, A), ends: Err(Fault::File), ..ON_F },
+    Row { script: b"g/./n\\\n.r G\\\nH\n", f: AB, g: X, refused: 3, output: b"1\ta\n3\tb\n?\nfile refused\n", after: (F, AB), ends: Err(Fault::File), ..ON_F },
+];
+
 // A file is refused in the first call, which reads it, or in the second.
 #[rattlefmt::skip]
 static REFUSED: [Row; 6] = [
@@ -170,6 +186,11 @@ fn files_are_edited_and_left_as_the_standard_says(rt: HostRuntime) -> Result<(),
 }
 
 #[test]
+fn lists_read_write_and_name_files(rt: HostRuntime) -> Result<(), Fail> {
+    check_each(&rt, rt.alloc(), &LISTED)
+}
+
+#[test]
 fn a_refused_file_ends_the_run_and_stays(rt: HostRuntime) -> Result<(), Fail> {
     check_each(&rt, rt.alloc(), &REFUSED)
 }
@@ -190,6 +211,7 @@ fn a_run_on_files_that_is_out_of_memory_ends_by_no_other_fault(rt: HostRuntime) 
         &READ_AND_WRITTEN[0],
         &READ_AND_WRITTEN[3],
         &EDITED_AND_LEFT[2],
+        &LISTED[3],
     ] {
         assert!(rt; ends_as_it_may(rt.alloc(), *row), "{:?}", row.script);
     }

@@ -8,6 +8,8 @@ mod driving;
 #[cfg(test)]
 mod files;
 #[cfg(test)]
+mod globals;
+#[cfg(test)]
 mod listing;
 #[cfg(test)]
 mod refusals;

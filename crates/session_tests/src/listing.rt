@@ -13,7 +13,7 @@ struct Folding {
 }
 
 #[rattlefmt::skip]
-const FOLDINGS: [Folding; 8] = [
+static FOLDINGS: [Folding; 8] = [
     Folding { letters: 71, tail: b"", rows: &[(71, b"$\n")] },
     Folding { letters: 72, tail: b"", rows: &[(71, b"\\\n"), (1, b"$\n")] },
     Folding { letters: 80, tail: b"", rows: &[(71, b"\\\n"), (9, b"$\n")] },

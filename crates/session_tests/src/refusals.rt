@@ -22,7 +22,7 @@ struct FileRow {
 }
 
 #[rattlefmt::skip]
-const REFUSED_FILES: [FileRow; 3] = [
+static REFUSED_FILES: [FileRow; 3] = [
     FileRow { refused_call: 1, prompt: None, output: b"?\n", ends: Err(Fault::File) },
     FileRow { refused_call: 1, prompt: ARROW, output: b"?\n", ends: Err(Fault::File) },
     FileRow { refused_call: 2, prompt: None, output: b"a\nc\n", ends: Ok(2) },

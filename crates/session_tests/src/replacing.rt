@@ -17,7 +17,7 @@ const CROSSES: &[u8] = b"aXbXc\n";
 
 // XCU ed, "Substitute Command": which matches are replaced, and by what.
 #[rattlefmt::skip]
-const MATCHES: [Row; 17] = [
+static MATCHES: [Row; 17] = [
     Row { script: b"s/\\(ab*\\)\\1/<&>/p\nQ\n", file: b"abbabbb\n", output: b"<abbabb>b\n", ends: Ok(1) },
     Row { script: b"s/\\(a*\\)*/[\\1]/p\nQ\n", file: b"bc\n", output: b"[]bc\n", ends: Ok(1) },
     Row { script: b"s/a*/x/gp\nQ\n", file: b"baaac\n", output: b"xbxcx\n", ends: Ok(1) },
@@ -39,7 +39,7 @@ const MATCHES: [Row; 17] = [
 
 // What is remembered, and the order of faults.
 #[rattlefmt::skip]
-const REMEMBERED: [Row; 10] = [
+static REMEMBERED: [Row; 10] = [
     Row { script: b"s/X/-/2p\ns/X/%/p\nQ\n", file: CROSSES, output: b"aXb-c\na-b-c\n", ends: Ok(1) },
     Row { script: b"s/X/%/\n", file: CROSSES, output: b"?\n", ends: Err(Fault::Replacement) },
     Row { script: b"s//%/\n", file: CROSSES, output: b"?\n", ends: Err(Fault::Replacement) },
@@ -54,7 +54,7 @@ const REMEMBERED: [Row; 10] = [
 
 // The lines of a range, splits, marks and the current line.
 #[rattlefmt::skip]
-const LINES: [Row; 13] = [
+static LINES: [Row; 13] = [
     Row { script: b"s/,/\\\n/p\n,n\nQ\n", file: b"a,b\n", output: b"b\n1\ta\n2\tb\n", ends: Ok(2) },
     Row { script: b"s/,/\\\n\\\n/g\n,n\n.=\nQ\n", file: b",a,\n", output: b"1\t\n2\t\n3\ta\n4\t\n5\t\n5\n", ends: Ok(5) },
     Row { script: b"1ka\n2kb\n1s/,/\\\n/gp\n.=\n'bp\n,p\n'a\n", file: b"a,b,c\nd\n", output: b"c\n3\nd\na\nb\nc\nd\n?\n", ends: Err(Fault::Mark) },

@@ -23,7 +23,7 @@ const EIGHTY: Option<&[u8]> = Some(
 
 // XCU ed, "Commands in ed".
 #[rattlefmt::skip]
-const COMMANDS: [Row; 26] = [
+static COMMANDS: [Row; 26] = [
     Row { script: b"2d\n,p\nQ\n", file: ABC, output: b"a\nc\n", ends: Ok(2) },
     Row { script: b",p", file: Some(b""), output: b"?\n", ends: Err(Fault::Address) },
     Row { script: b"a\nx", file: Some(b""), output: b"?\n", ends: Err(Fault::Unsaved) },
@@ -54,7 +54,7 @@ const COMMANDS: [Row; 26] = [
 
 // XCU ed, "Addresses in ed".
 #[rattlefmt::skip]
-const ADDRESSES: [Row; 19] = [
+static ADDRESSES: [Row; 19] = [
     Row { script: b"1;+1p\nQ\n", file: ABC, output: b"a\nb\n", ends: Ok(3) },
     Row { script: b"1,+1p\n", file: ABC, output: b"?\n", ends: Err(Fault::Address) },
     Row { script: b"'a\n", file: ABA, output: b"?\n", ends: Err(Fault::Mark) },
@@ -78,7 +78,7 @@ const ADDRESSES: [Row; 19] = [
 
 // XCU ed, "Regular Expressions in ed".
 #[rattlefmt::skip]
-const SEARCHES: [Row; 15] = [
+static SEARCHES: [Row; 15] = [
     Row { script: b"/b/\n//=\nQ\n", file: ABA, output: b"b\n2\n", ends: Ok(3) },
     Row { script: b"/a/=\nQ\n", file: ABA, output: b"1\n", ends: Ok(3) },
     Row { script: b"/z/\n", file: ABA, output: b"?\n", ends: Err(Fault::NoMatch) },
@@ -99,7 +99,7 @@ const SEARCHES: [Row; 15] = [
 
 // The commands that enter, move, copy, join and show lines.
 #[rattlefmt::skip]
-const LINE_COMMANDS: [Row; 37] = [
+static LINE_COMMANDS: [Row; 37] = [
     Row { script: b"2,4m4\n", file: Some(FIVE), output: b"?\n", ends: Err(Fault::Destination) },
     Row { script: b"2,4m3\n", file: Some(FIVE), output: b"?\n", ends: Err(Fault::Destination) },
     Row { script: b"2,4m1\n.=\nQ\n", file: Some(FIVE), output: b"4\n", ends: Ok(5) },
@@ -184,7 +184,7 @@ struct PromptRow {
 
 // XCU ed, "Help-Mode Command", "Prompt Command".
 #[rattlefmt::skip]
-const PROMPTS_AND_HELP: [PromptRow; 9] = [
+static PROMPTS_AND_HELP: [PromptRow; 9] = [
     PromptRow { script: b"1n\nH\nx\n", file: Some(b"a\nb\n"), prompt: ARROW, output: b"> 1\ta\n> > ?\ninvalid command\n", ends: Err(Fault::Syntax) },
     PromptRow { script: b"P\n", file: ABC, prompt: None, output: b"*", ends: Ok(3) },
     PromptRow { script: b"1p\nP\n2p\nP\n3p\n", file: ABC, prompt: ARROW, output: b"> a\n> b\n> c\n> ", ends: Ok(3) },
@@ -198,7 +198,7 @@ const PROMPTS_AND_HELP: [PromptRow; 9] = [
 
 // XCU ed, "Options": without `-s` the bytes of the start file are counted. One that is missing has no count.
 #[rattlefmt::skip]
-const COUNTS: [Row; 3] = [
+static COUNTS: [Row; 3] = [
     Row { script: b"1p\nQ\n", file: ABC, output: b"6\na\n", ends: Ok(3) },
     Row { script: b"$p\nQ\n", file: Some(b"a\nb"), output: b"3\nb\n", ends: Ok(2) },
     Row { script: b"Q\n", file: None, output: b"", ends: Ok(0) },
