@@ -19,6 +19,7 @@ use Rattle.ed_syntax.specs.Effects.{Outcome, Effect, Makes, Asks}
 use Rattle.ed_syntax.specs.SubstitutedLines.{substitute}
 use Rattle.ed_syntax.specs.Files as file
 use Rattle.ed_syntax.specs.Files.{used_path, with_bytes, with_lines}
+use Rattle.ed_syntax.specs.Globals.{flagged}
 use Rattle.ed_syntax.specs.Applied.{making, completed, targeted, effect_of, command, suffix_written}
 use Rattle.ed_syntax.proofs.FaultLemmas.{Own}
 use Rattle.ed_syntax.proofs.AnswerLemmas.{Answered, command-asking}
@@ -28,7 +29,8 @@ use Rattle.ed_rules.specs.Files.{written_paths}
 use Rattle.ed_rules.specs.Soundness.{IsUnserved, MayAskFor}
 use Rattle.ed_rules.proofs.Choosing.{has_choice-only}
 use Rattle.ed_rules.proofs.Commanding.{command-is}
-use Rattle.ed_rules.proofs.Lettered.{OnValue, SameBuffer, values-same, targeted-same}
+use Rattle.ed_rules.proofs.Orders.{OnValue}
+use Rattle.ed_rules.proofs.Lettered.{SameBuffer, values-same, targeted-same}
 
 -- what is said of a request, where there is one
 abbrev pub OnAsked : (Request → Type 0) → Result Effect Fault → Type 0
@@ -93,6 +95,8 @@ effect-asks (ed.Edit path) listed x target e given =
     asked-after (AsksBy (ed.Edit path) e) (file.saved e) _ (λ t. edit-asks (ed.Edit path) (Some used) given e t))
 effect-asks (ed.EditAnyway path) listed x target e given = edit-asks (ed.EditAnyway path) path given e e
 effect-asks (ed.FileName path) listed x target e given = making-asks (AsksBy (ed.FileName path) e) (file.file_name path e)
+effect-asks (ed.Global sense pattern) listed x target e given = asked-after (AsksBy (ed.Global sense pattern) e) (flagged sense pattern x e) _ (λ t. tt)
+effect-asks ed.Undo listed x target e given = making-asks (AsksBy ed.Undo e) (effects.undo e.past e)
 effect-asks ed.Quit listed x target e given = making-asks (AsksBy ed.Quit e) (file.quit e)
 effect-asks verb listed x target e given = tt
 

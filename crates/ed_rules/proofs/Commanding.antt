@@ -26,7 +26,9 @@ use Rattle.ed_rules.specs.Lines.{lifted_range, joined, joined_given, marked, cop
 use Rattle.ed_rules.specs.Addresses as addresses
 use Rattle.ed_rules.specs.StandsFor.{StandsBy, AreWhole, AreLettered}
 use Rattle.ed_rules.specs.Move.{moved_lines}
-use Rattle.ed_rules.specs.Substituting.{substituted}
+use Rattle.ed_rules.specs.Substituting.{pattern_used, substituted}
+use Rattle.ed_rules.specs.Undoing.{undone}
+use Rattle.ed_syntax.specs.Globals.{flagged}
 use Rattle.ed_syntax.specs.SubstitutedLines.{substitute}
 use Rattle.ed_rules.proofs.Basics.{Agrees}
 use Rattle.ed_rules.proofs.Standing.{Stands, StandsBy-temporary, StandsBy-current, StandsBy-guarded, Reads-temporary}
@@ -37,6 +39,8 @@ use Rattle.std.proofs.lemmas.Bool.{ltb-true}
 use Rattle.ed_rules.proofs.Lifting.{Holds-lifted}
 use Rattle.ed_rules.proofs.Finishing.{Final, Follows, finish-sound}
 use Rattle.ed_rules.proofs.SubstitutionEffects.{substitute-follows}
+use Rattle.ed_rules.proofs.Orders.{InOrder, spanned-order, value-is}
+use Rattle.ed_rules.proofs.GlobalEffects.{flag-follows, undo-follows}
 use Rattle.ed_rules.proofs.Answering.{Does, Comes, does-agreed, does-bind, finish-does}
 use Rattle.ed_rules.proofs.Filing.{Written, all-written, whole-range, ranges-written, read-does, write-does, edit-does, edit_anyway-does, name-does, quit-does}
 use Rattle.ed_rules.specs.Files.{file_read, whole_or_ranged, changed_by_lines, changed_by_write, file_written, saved, edited, edited_anyway, file_named}
@@ -47,7 +51,7 @@ use Rattle.ed_rules.specs.Addresses.{copied, addressed, standing, last_given, ev
 use Rattle.ed_rules.specs.Rules.{taken, effect, suffixed, step_at}
 use Rattle.ed_rules.specs.Lines.{appended, put_before}
 use Rattle.zones.proofs.Known.{known-true}
-use Rattle.ed_rules.proofs.Basics.{chain, and-both, Agrees-bind, Agrees-ok, Agrees-map, Agrees-needing, Agrees-need_then, Agrees-weaker}
+use Rattle.ed_rules.proofs.Basics.{chain, and-both, Agrees-bind, Agrees-ok, Agrees-map, Agrees-needing, Agrees-need_then, Agrees-weaker, Agrees-also}
 
 -- an address is there
 abbrev IsGiven : Addresses → Type 0
@@ -185,6 +189,8 @@ suits (ed.WriteFile path) = refl
 suits (ed.Edit path) = tt
 suits (ed.EditAnyway path) = tt
 suits (ed.FileName path) = tt
+suits (ed.Global sense pattern) = refl
+suits ed.Undo = tt
 suits ed.Help = tt
 suits ed.HelpMode = tt
 suits ed.PromptMode = tt
@@ -448,6 +454,17 @@ module _ (c : Command) (answer : Option Answer) (given d : Addresses) (s : State
   after_addresses (ed.Edit path) f g = absurd cc
   after_addresses (ed.EditAnyway path) f g = absurd cc
   after_addresses (ed.FileName path) f g = absurd cc
+  after_addresses (ed.Global sense pattern) f g =
+      Agrees-bind (λ u x. Written given p.0 u x × InOrder x) Final (whole_or_ranged given t) (spanned many.Whole (length e.lines) p.1) _ _
+      (Agrees-also (Written given p.0) InOrder (whole_or_ranged given t) (spanned many.Whole (length e.lines) p.1)
+      (subst (λ (ls : List Line). Agrees (Written given p.0) (whole_or_ranged given t) (spanned many.Whole (length ls) p.1)) same_lines (whole-sound given d g t p h))
+      (value-is InOrder (spanned many.Whole (length e.lines) p.1) (spanned-order many.Whole (length e.lines) p.1)))
+      (λ u x r. Agrees-bind (Follows c.listed e) Final (pattern_used pattern u) (flagged sense pattern x p.0 >> λ q. Ok (Makes (effects.only q []))) _ _
+      (flag-follows c.listed sense pattern e u p.0 x r.0.0 r.1)
+      (λ m f i. finish-sound c e m f i))
+  after_addresses ed.Undo f g =
+      Agrees-bind (Follows c.listed e) Final (undone t) (making (effects.undo p.0.past p.0)) _ _ (undo-follows c.listed e t p.0 (h.numbers, h.stands))
+      (λ m f i. finish-sound c e m f i)
   after_addresses ed.Help f g = finish-sound c e t (Makes (effects.only p.0 [])) (h.numbers, h.stands)
   after_addresses ed.HelpMode f g = finish-sound c e t (Makes (effects.only p.0 [])) (h.numbers, h.stands)
   after_addresses ed.PromptMode f g = finish-sound c e t (Makes (effects.only p.0 [])) (h.numbers, h.stands)

@@ -34,6 +34,7 @@ use Rattle.ed_rules.specs.StandsFor.{Reads, HoldsBy, StandsBy, Remembers, Allows
 use Rattle.ed_rules.proofs.Standing.{Stands, StandsBy-current, StandsBy-guarded, Reads-current}
 use Rattle.ed_rules.proofs.Spans.{Spans, Ranges}
 use Rattle.ed_rules.proofs.Finishing.{Follows}
+use Rattle.ed_rules.proofs.Flags.{kept-allowed}
 use Rattle.ed_rules.proofs.LettersInLines.{line_with-plain, length-inserted, length-replaced, line_with-marked, line_with-marked_other, length-marked}
 use Rattle.ed_rules.proofs.Replacing.{HoldsBy-replaced}
 use Rattle.ed_rules.proofs.Inserting.{OnLine, OnLine-reads, reads-OnLine, HoldsBy-inserted}
@@ -49,7 +50,7 @@ use Rattle.ed_base.specs.Parts as parts
 past-after : (listed : Bool) (s u : State) (start e : editor.State) → Stands s start → AllowsPast u.undo e.past →
     AllowsPast (undo_after listed s u.undo) (past_after listed (editor.kept start) e.past)
 past-after true s u start e st past = past
-past-after false s u start e st past = (st.0, st.1.buffer)
+past-after false s u start e st past = kept-allowed s start st
 
 -- an altered buffer, settled
 altered-follows : (listed : Bool) (s u : State) (start e : editor.State) → Stands s start → Remembers u e → AllowsPast u.undo e.past →

@@ -38,6 +38,7 @@ use Rattle.ed_rules.proofs.Joining.{past-both, past-both_other, change-both}
 use Rattle.ed_rules.proofs.SubstitutionEffects.{not-true}
 use Rattle.ed_rules.proofs.Reading.{inserted-none, read-buffer, loaded-buffer}
 use Rattle.ed_rules.proofs.Answering.{Does, Settles, does-need_then}
+use Rattle.ed_rules.proofs.Flags.{kept-allowed}
 
 -- the path
 
@@ -127,7 +128,7 @@ past-unmodified false s u past h = past-both u.undo (undo_to (old_of s)) past h
 
 past-modified : (listed : Bool) (s u : State) (start : editor.State) (past : Past) → Stands s start → AllowsPast u.undo past → AllowsPast (undo_if_modified listed s u.undo) (past_after listed (kept start) past)
 past-modified true s u start past st h = h
-past-modified false s u start past st h = past-both_other u.undo (undo_to (old_of s)) (Was (kept start)) (st.0, st.1.buffer)
+past-modified false s u start past st h = past-both_other u.undo (undo_to (old_of s)) (Was (kept start)) (kept-allowed s start st)
 
 -- lines that are read, or none
 read-settles : (listed : Bool) (s : State) (start : editor.State) → Stands s start → (u : State) (e : editor.State) (x : Span) → Spans u e x → (ts : List (List ℕ)) →

@@ -6,7 +6,6 @@ use Rattle.ed_base.specs.declared.fault.Fault.{Fault}
 use Rattle.ed_base.specs.declared.fault.Fault.TheVariants as fault
 use Rattle.ed_base.specs.Buffer.{Line, plain_line, has_letter, marked_place}
 use Rattle.zones.specs.Zone.{Bounds, Numbers, Holds}
-use Rattle.zones.specs.Steps.{after_forget}
 use Rattle.zones.proofs.Soundness.{Holds-after_guard, Holds-after_forget}
 use Rattle.ed_syntax.specs.Commands.{Form, Command}
 use Rattle.ed_syntax.specs.States as editor
@@ -20,7 +19,7 @@ use Rattle.ed_rules.specs.StandsFor.{Reads, StandsBy}
 use Rattle.ed_rules.proofs.Basics.{Agrees}
 use Rattle.zones.specs.Known.{known}
 use Rattle.ed_rules.specs.Marks.{for_each_sure}
-use Rattle.ed_rules.specs.Pieces.{mark_bounded, ended, with_zone}
+use Rattle.ed_rules.specs.Pieces.{without_addresses, mark_bounded, ended, with_zone}
 use Rattle.ed_rules.specs.Rules.{suffixed}
 use Rattle.zones.proofs.Known.{known-true}
 use Rattle.ed_rules.proofs.Basics.{Agrees-needing, Agrees-ok}
@@ -56,6 +55,10 @@ Holds-mark_bounded sure lines current letter zone v h e r holds =
     Holds-after_guard _ (6 + letter) 2 (pos 0) v (omega arith) (omega arith)
     (Holds-after_guard zone 0 (6 + letter) (negsuc 0) v (omega arith) (omega arith) holds (omega (arith, ints))) (omega (arith, ints))
 
+pub Holds-without_addresses : (zone : Bounds) (v : Numbers) → Holds zone v → Holds (without_addresses zone) v
+Holds-without_addresses zone v holds =
+    Holds-after_forget _ 5 v v (Holds-after_forget _ 4 v v (Holds-after_forget zone 3 v v holds (λ p n. refl)) (λ p n. refl)) (λ p n. refl)
+
 Holds-ended : (sure : List Bool) (lines : List Line) (current : ℕ) (zone : Bounds) (v : Numbers) → current ≤ length lines →
     Reads sure lines current v → Holds zone v → Holds (ended sure zone) v
 unfolding ended
@@ -63,15 +66,14 @@ Holds-ended sure lines current zone v inside r holds =
     let v0 = r.zero_is in
     let v1 = r.current_is in
     let v2 = r.last_is in
-    let gone : Holds (after_forget (after_forget (after_forget zone 3) 4) 5) v =
-    Holds-after_forget _ 5 v v (Holds-after_forget _ 4 v v (Holds-after_forget zone 3 v v holds (λ p n. refl)) (λ p n. refl)) (λ p n. refl) in
+    let gone : Holds (without_addresses zone) v = Holds-without_addresses zone v holds in
     for_each_sure-by (λ k z. Holds z v) mark_bounded sure _
     (Holds-after_guard _ 1 2 (pos 0) v (omega arith) (omega arith) (Holds-after_guard _ 0 1 (pos 0) v (omega arith) (omega arith) gone (omega (arith, ints))) (omega (arith, ints)))
     (λ k b h e q. Holds-mark_bounded sure lines current k b v h e r q)
     (λ k b h e q. q)
     26 (omega arith)
 
-StandsBy-ended : (s : State) (e : editor.State) (v : Numbers) → StandsBy s e v → StandsBy (with_zone (ended s.marks s.zone) s) e v
+pub StandsBy-ended : (s : State) (e : editor.State) (v : Numbers) → StandsBy s e v → StandsBy (with_zone (ended s.marks s.zone) s) e v
 StandsBy-ended s e v st = record {
   buffer = record {
     holds = Holds-ended s.marks e.lines e.current s.zone v st.buffer.inside st.buffer.reads st.buffer.holds;

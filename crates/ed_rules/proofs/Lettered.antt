@@ -1,6 +1,5 @@
 -- A command leaves lines that know their letters, each letter on one line at most.
-use Rattle.std.proofs.Common.{◌≡◌, ◌≤◌, ℕ, zero, suc, ◌+◌, ◌-◌, max, ◌∙◌, Bool, true, false, ◌&&◌, List, [], ◌∷◌, length, map, take, Option, None, Some, Result, Ok, Err, arith, refl, sym, subst, nat_le, nat_lt}
-use Rattle.std.proofs.lemmas.Bool.{leb-true}
+use Rattle.std.proofs.Common.{◌≡◌, ◌≤◌, ℕ, ◌+◌, ◌-◌, ◌∙◌, Bool, true, false, ◌&&◌, List, [], ◌∷◌, length, map, take, Option, None, Some, Result, Ok, Err, arith, refl, sym, subst, nat_le, nat_lt}
 use Rattle.std.specs.List.{concat}
 use Rattle.std.proofs.lemmas.List.Elements.{All-nil, All-cons, All-take, All-drop}
 use Rattle.ed_base.specs.declared.fault.Fault.{Fault}
@@ -15,15 +14,15 @@ use Rattle.ed_syntax.specs.declared.request.Answer.{Answer}
 use Rattle.ed_syntax.specs.declared.request.Answer.TheVariants as file_answer
 use Rattle.ed_syntax.specs.Files as file
 use Rattle.ed_syntax.specs.Files.{used_path, with_bytes, with_lines}
-use Rattle.ed_syntax.specs.declared.verbs.Taking.{Taking}
-use Rattle.ed_syntax.specs.declared.verbs.Taking.TheVariants as many
+use Rattle.ed_syntax.specs.Globals.{flagged_line, flagged}
+use Rattle.ed_syntax.specs.declared.command.Sense.{Sense}
 use Rattle.ed_syntax.specs.Commands as ed
 use Rattle.ed_syntax.specs.Commands.{Address, Addresses, Without, One, Comma, Semicolon, Form, Verb, Command}
 use Rattle.ed_syntax.specs.States as editor
 use Rattle.ed_syntax.specs.States.{Past, Nothing, Same, Was, kept}
 use Rattle.ed_syntax.specs.Verbs.{takes, given_or}
 use Rattle.ed_syntax.specs.Values.{◌>>◌, value, values, evaluated, used_pattern}
-use Rattle.ed_syntax.specs.Ranges.{Span, span, ordered, single, from_first, spanned, first_of_two, last_of_two}
+use Rattle.ed_syntax.specs.Ranges.{Span, spanned}
 use Rattle.ed_syntax.specs.Effects as effects
 use Rattle.ed_syntax.specs.Effects.{Outcome, Effect, Makes, Asks}
 use Rattle.ed_syntax.specs.Applied.{making, completed, targeted, effect_of, command, settled, past_after, suffix_written}
@@ -31,92 +30,42 @@ use Rattle.ed_base.specs.Lines.{lines_of, IsLine, AreLines}
 use Rattle.ed_base.proofs.LineLemmas.{HoldsLines-lines, HoldsLines-lines_of}
 use Rattle.ed_rules.specs.Rules.{enters_lines}
 use Rattle.ed_rules.specs.StandsFor.{AreLettered, KeepsLettered}
-use Rattle.ed_rules.proofs.Basics.{and-both}
+use Rattle.ed_rules.proofs.Orders.{OnValue, OnValue-bind, always, InOrder, spanned-order}
 use Rattle.ed_rules.proofs.LettersInLines.{KnowLetters-plain, KnowLetters-inserted, KnowLetters-replaced, KnowLetters-marked, KnowLetters-carried}
 use Rattle.ed_rules.proofs.Keeping.{marks_of-plain, once-by_count, once-replaced, once-exchanged, once-moved, once-marked}
 use Rattle.ed_rules.proofs.Results.{Maker, results-known, results-few, results-whole, made-lines}
+use Rattle.ed_rules.proofs.Flags.{lettered-kept, lettered-alike, alike-taken}
 use Rattle.ed_rules.proofs.Commanding.{command-is}
 use Rattle.ed_rules.proofs.Whole.{lines-are, whole-plain, whole-exchanged, whole-block, whole-carried, whole-texts, line-concat, whole-marked}
 
--- what is said of a value, or of what a command makes, where there is no fault
-abbrev pub OnValue : {A : Type 0} → (A → Type 0) → Result A Fault → Type 0
-OnValue P (Ok a) = P a
-OnValue P (Err f) = Unit {0}
-
+-- what is said of what a command makes
 abbrev pub OnMade : (Outcome → Type 0) → Result Effect Fault → Type 0
 OnMade P (Ok (Makes o)) = P o
 OnMade P (Ok (Asks r)) = Unit {0}
 OnMade P (Err f) = Unit {0}
 
-pub OnValue-bind : {A B : Type 0} (Q : A → Type 0) (P : B → Type 0) (x : Result A Fault) (f : A → Result B Fault) → OnValue Q x → ((a : A) → Q a → OnValue P (f a)) → OnValue P (x >> f)
-OnValue-bind Q P (Ok a) f q h = h a q
-OnValue-bind Q P (Err e) f q h = tt
-
-OnMade-bind : {A : Type 0} (Q : A → Type 0) (P : Outcome → Type 0) (x : Result A Fault) (f : A → Result Effect Fault) → OnValue Q x → ((a : A) → Q a → OnMade P (f a)) → OnMade P (x >> f)
+pub OnMade-bind : {A : Type 0} (Q : A → Type 0) (P : Outcome → Type 0) (x : Result A Fault) (f : A → Result Effect Fault) → OnValue Q x → ((a : A) → Q a → OnMade P (f a)) → OnMade P (x >> f)
 OnMade-bind Q P (Ok a) f q h = h a q
 OnMade-bind Q P (Err e) f q h = tt
 
-pub always : {A : Type 0} (x : Result A Fault) → OnValue (λ (_ : A). Unit {0}) x
-always (Ok a) = tt
-always (Err e) = tt
-
 -- addresses change the current line and the pattern alone
 abbrev pub SameBuffer : editor.State → editor.State → Type 0
-SameBuffer e t = (t.lines ≡ e.lines) × (t.past ≡ e.past) × (t.name ≡ e.name)
+SameBuffer e t = (t.lines ≡ e.lines) × (t.past ≡ e.past) × (t.name ≡ e.name) × (t.global ≡ e.global)
 
 pub values-same : (a : Addresses) (e : editor.State) → OnValue (λ (v : editor.State × List ℕ). SameBuffer e v.0) (values a e)
-values-same Without e = (refl, refl, refl)
-values-same (One a) e = OnValue-bind (λ (_ : ℕ). Unit {0}) (λ (v : editor.State × List ℕ). SameBuffer e v.0) (value a e) _ (always (value a e)) (λ n _. (refl, refl, refl))
+values-same Without e = (refl, refl, refl, refl)
+values-same (One a) e = OnValue-bind (λ (_ : ℕ). Unit {0}) (λ (v : editor.State × List ℕ). SameBuffer e v.0) (value a e) _ (always (value a e)) (λ n _. (refl, refl, refl, refl))
 values-same (Comma a b) e =
     OnValue-bind (λ (_ : ℕ). Unit {0}) (λ (v : editor.State × List ℕ). SameBuffer e v.0) (value a e) _ (always (value a e))
-    (λ n _. OnValue-bind (λ (_ : ℕ). Unit {0}) (λ (v : editor.State × List ℕ). SameBuffer e v.0) (value b (evaluated a e)) _ (always (value b (evaluated a e))) (λ m _. (refl, refl, refl)))
-values-same (Semicolon a None) e = OnValue-bind (λ (_ : ℕ). Unit {0}) (λ (v : editor.State × List ℕ). SameBuffer e v.0) (value a e) _ (always (value a e)) (λ n _. (refl, refl, refl))
+    (λ n _. OnValue-bind (λ (_ : ℕ). Unit {0}) (λ (v : editor.State × List ℕ). SameBuffer e v.0) (value b (evaluated a e)) _ (always (value b (evaluated a e))) (λ m _. (refl, refl, refl, refl)))
+values-same (Semicolon a None) e = OnValue-bind (λ (_ : ℕ). Unit {0}) (λ (v : editor.State × List ℕ). SameBuffer e v.0) (value a e) _ (always (value a e)) (λ n _. (refl, refl, refl, refl))
 values-same (Semicolon a (Some b)) e =
     OnValue-bind (λ (_ : ℕ). Unit {0}) (λ (v : editor.State × List ℕ). SameBuffer e v.0) (value a e) _ (always (value a e))
-    (λ n _. OnValue-bind (λ (_ : ℕ). Unit {0}) (λ (v : editor.State × List ℕ). SameBuffer e v.0) (value b (record (evaluated a e) { current = n })) _ (always (value b (record (evaluated a e) { current = n }))) (λ m _. (refl, refl, refl)))
+    (λ n _. OnValue-bind (λ (_ : ℕ). Unit {0}) (λ (v : editor.State × List ℕ). SameBuffer e v.0) (value b (record (evaluated a e) { current = n })) _ (always (value b (record (evaluated a e) { current = n }))) (λ m _. (refl, refl, refl, refl)))
 
 pub targeted-same : (to : Option Address) (e : editor.State) → OnValue (λ (v : editor.State × ℕ). SameBuffer e v.0) (targeted to e)
-targeted-same None e = (refl, refl, refl)
-targeted-same (Some a) e = OnValue-bind (λ (_ : ℕ). Unit {0}) (λ (v : editor.State × ℕ). SameBuffer e v.0) (value a e) _ (always (value a e)) (λ n _. (refl, refl, refl))
-
--- the first line of a span isn't after its last, or it is the one after it, where `w` writes no line
-abbrev InOrder : Span → Type 0
-InOrder x = x.first ≤ x.last + 1
-
-ordered-inner : (a b : ℕ) → OnValue InOrder (elim (nat_le a b) as (λ _. Result Span Fault) [ true ↦ Ok (span a b) | false ↦ Err fault.Address ])
-ordered-inner a b =
-    (elim (nat_le a b) as (λ c. nat_le a b ≡ c → OnValue InOrder (elim c as (λ _. Result Span Fault) [ true ↦ Ok (span a b) | false ↦ Err fault.Address ])) [
-      | true ↦ λ e. let h : a ≤ b = leb-true a b e in omega arith
-      | false ↦ λ e. tt
-    ]) refl
-
-ordered-order : (a b : ℕ) → OnValue InOrder (ordered a b)
-ordered-order a b =
-    elim (nat_le 1 a) as (λ c. OnValue InOrder (elim c as (λ _. Result Span Fault) [ true ↦ elim (nat_le a b) as (λ _. Result Span Fault) [ true ↦ Ok (span a b) | false ↦ Err fault.Address ] | false ↦ Err fault.Address ])) [
-      | true ↦ ordered-inner a b
-      | false ↦ tt
-    ]
-
-single-order : (n : ℕ) → OnValue InOrder (single n)
-single-order zero = tt
-single-order (suc n) = omega arith
-
-from_first-order : (a b last : ℕ) → OnValue InOrder (from_first a b last)
-from_first-order a b last =
-    (elim (nat_le a b && nat_le (max 1 b) last) as (λ c. nat_le a b && nat_le (max 1 b) last ≡ c → OnValue InOrder (elim c as (λ _. Result Span Fault) [ true ↦ Ok (span (max 1 a) (max 1 b)) | false ↦ Err fault.Address ])) [
-      | true ↦ λ e. let h : a ≤ b = leb-true a b (and-both (nat_le a b) (nat_le (max 1 b) last) e).0 in omega arith
-      | false ↦ λ e. tt
-    ]) refl
-
-spanned-order : (t : Taking) (count : ℕ) (vs : List ℕ) → OnValue InOrder (spanned t count vs)
-spanned-order many.NoAddress count vs = omega arith
-spanned-order many.Place count vs = omega arith
-spanned-order many.FirstPlace count vs = omega arith
-spanned-order many.OneLine count vs = single-order (last_of_two vs)
-spanned-order many.Lines count vs = from_first-order (first_of_two vs) (last_of_two vs) count
-spanned-order many.Range count vs = ordered-order (first_of_two vs) (last_of_two vs)
-spanned-order many.Whole count [] = omega arith
-spanned-order many.Whole count (a ∷ vs) = ordered-order a (last_of_two (a ∷ vs))
+targeted-same None e = (refl, refl, refl, refl)
+targeted-same (Some a) e = OnValue-bind (λ (_ : ℕ). Unit {0}) (λ (v : editor.State × ℕ). SameBuffer e v.0) (value a e) _ (always (value a e)) (λ n _. (refl, refl, refl, refl))
 
 -- what an effect leaves: lettered lines, and so in what undo keeps
 abbrev Lettered : editor.State → Outcome → Type 0
@@ -274,30 +223,49 @@ quit-lettered e h =
     (λ t same. subst (λ (u : editor.State). Lettered e (effects.only u [])) (sym same) (h, λ k. k)))
     (λ o q. q)
 
-effect-lettered : (verb : Verb) (listed : Bool) (x : Span) (target : ℕ) (e : editor.State) (answer : Option Answer) → x.first ≤ x.last + 1 → enters_lines verb ≡ true → AreLettered e.lines → OnMade (Lettered e) (effect_of verb listed x target e answer)
-effect-lettered (ed.Append text) listed x target e answer le w h = entered-lettered x.first text e (lines-are text w) h
-effect-lettered (ed.Change text) listed x target e answer le w h = change-lettered text x e le (lines-are text w) h
-effect-lettered ed.Delete listed x target e answer le w h = (lettered-replaced x.first x.last [] e.lines le (All-nil IsLine) h, λ k. k)
-effect-lettered (ed.Insert text) listed x target e answer le w h = insert-lettered text x e (lines-are text w) h
-effect-lettered ed.Join listed x target e answer le w h = join-lettered x e le h
-effect-lettered (ed.Mark letter) listed x target e answer le w h =
+-- the lines that a global command takes
+flagged-lettered : (sense : Sense) (pattern : Option (List ℕ)) (x : Span) (e : editor.State) → x.first ≤ x.last + 1 → AreLettered e.lines →
+    OnMade (Lettered e) (flagged sense pattern x e >> λ t. Ok (Makes (effects.only t [])))
+flagged-lettered sense pattern x e le h =
+    let Q : editor.State → Type 0 = λ (t : editor.State). AreLettered t.lines × (KeepsLettered e.past → KeepsLettered t.past) in
+    OnMade-bind Q (Lettered e) (flagged sense pattern x e) _
+    (OnValue-bind (λ (_ : List ℕ). Unit {0}) Q (used_pattern pattern e) _ (always (used_pattern pattern e))
+    (λ text _. (lettered-alike e.lines (parts.replaced x.first x.last (map (flagged_line sense text) (between x.first x.last e.lines)) e.lines) (alike-taken sense text x.first x.last e.lines le) h, λ k. k)))
+    (λ t q. q)
+
+-- the buffer that undo brings back
+undo-lettered : (past : Past) (e : editor.State) → AreLettered e.lines → KeepsLettered past → OnMade (Lettered e) (making (effects.undo past e))
+undo-lettered Nothing e h k = tt
+undo-lettered Same e h k = (h, λ q. q)
+undo-lettered (Was before) e h k = (k, λ _. lettered-kept e.lines h)
+
+effect-lettered : (verb : Verb) (listed : Bool) (x : Span) (target : ℕ) (e : editor.State) (answer : Option Answer) → x.first ≤ x.last + 1 → enters_lines verb ≡ true → AreLettered e.lines → KeepsLettered e.past →
+    OnMade (Lettered e) (effect_of verb listed x target e answer)
+effect-lettered (ed.Append text) listed x target e answer le w h k = entered-lettered x.first text e (lines-are text w) h
+effect-lettered (ed.Change text) listed x target e answer le w h k = change-lettered text x e le (lines-are text w) h
+effect-lettered ed.Delete listed x target e answer le w h k = (lettered-replaced x.first x.last [] e.lines le (All-nil IsLine) h, λ k. k)
+effect-lettered (ed.Insert text) listed x target e answer le w h k = insert-lettered text x e (lines-are text w) h
+effect-lettered ed.Join listed x target e answer le w h k = join-lettered x e le h
+effect-lettered (ed.Mark letter) listed x target e answer le w h k =
     (record { whole = whole-marked (x.last - 1) letter e.lines h.whole; known = KnowLetters-marked (x.last - 1) letter e.lines h.known; once = once-marked letter e.lines (x.last - 1) h.once }, λ k. k)
-effect-lettered (ed.Move to) listed x target e answer le w h = move-lettered x target e le h
-effect-lettered (ed.Copy to) listed x target e answer le w h = entered-lettered target (texts (parts.between x.first x.last e.lines)) e (whole-texts (parts.between x.first x.last e.lines) (whole-block (x.first - 1) x.last e.lines h.whole)) h
-effect-lettered (ed.Substitute pattern replacement choice form) listed x target e answer le w h = substitute-lettered listed pattern replacement choice form x e le h
-effect-lettered ed.LineNumber listed x target e answer le w h = (h, λ k. k)
-effect-lettered ed.Null listed x target e answer le w h = (h, λ k. k)
-effect-lettered (ed.Write form) listed x target e answer le w h = (h, λ k. k)
-effect-lettered (ed.ReadFile path) listed x target e answer le w h = read-lettered path answer x e h
-effect-lettered (ed.WriteFile path) listed x target e answer le w h = write-lettered path answer x e h
-effect-lettered (ed.Edit path) listed x target e answer le w h = edit-lettered path answer e
-effect-lettered (ed.EditAnyway path) listed x target e answer le w h = edit_anyway-lettered path answer e
-effect-lettered (ed.FileName path) listed x target e answer le w h = name-lettered path e h
-effect-lettered ed.Help listed x target e answer le w h = (h, λ k. k)
-effect-lettered ed.HelpMode listed x target e answer le w h = (h, λ k. k)
-effect-lettered ed.PromptMode listed x target e answer le w h = (h, λ k. k)
-effect-lettered ed.Quit listed x target e answer le w h = quit-lettered e h
-effect-lettered ed.QuitAnyway listed x target e answer le w h = (h, λ k. k)
+effect-lettered (ed.Move to) listed x target e answer le w h k = move-lettered x target e le h
+effect-lettered (ed.Copy to) listed x target e answer le w h k = entered-lettered target (texts (parts.between x.first x.last e.lines)) e (whole-texts (parts.between x.first x.last e.lines) (whole-block (x.first - 1) x.last e.lines h.whole)) h
+effect-lettered (ed.Substitute pattern replacement choice form) listed x target e answer le w h k = substitute-lettered listed pattern replacement choice form x e le h
+effect-lettered ed.LineNumber listed x target e answer le w h k = (h, λ k. k)
+effect-lettered ed.Null listed x target e answer le w h k = (h, λ k. k)
+effect-lettered (ed.Write form) listed x target e answer le w h k = (h, λ k. k)
+effect-lettered (ed.ReadFile path) listed x target e answer le w h k = read-lettered path answer x e h
+effect-lettered (ed.WriteFile path) listed x target e answer le w h k = write-lettered path answer x e h
+effect-lettered (ed.Edit path) listed x target e answer le w h k = edit-lettered path answer e
+effect-lettered (ed.EditAnyway path) listed x target e answer le w h k = edit_anyway-lettered path answer e
+effect-lettered (ed.FileName path) listed x target e answer le w h k = name-lettered path e h
+effect-lettered (ed.Global sense pattern) listed x target e answer le w h k = flagged-lettered sense pattern x e le h
+effect-lettered ed.Undo listed x target e answer le w h k = undo-lettered e.past e h k
+effect-lettered ed.Help listed x target e answer le w h k = (h, λ k. k)
+effect-lettered ed.HelpMode listed x target e answer le w h k = (h, λ k. k)
+effect-lettered ed.PromptMode listed x target e answer le w h k = (h, λ k. k)
+effect-lettered ed.Quit listed x target e answer le w h k = quit-lettered e h
+effect-lettered ed.QuitAnyway listed x target e answer le w h k = (h, λ k. k)
 
 -- what a command leaves
 abbrev pub LeavesLettered : Outcome → Type 0
@@ -305,7 +273,7 @@ LeavesLettered o = AreLettered o.state.lines × KeepsLettered o.state.past
 
 past-lettered : (listed : Bool) (e : editor.State) (past : Past) → AreLettered e.lines → KeepsLettered past → KeepsLettered (past_after listed (kept e) past)
 past-lettered true e past h k = k
-past-lettered false e past h k = h
+past-lettered false e past h k = lettered-kept e.lines h
 
 settled-lettered : (listed : Bool) (e : editor.State) (o : Outcome) → AreLettered e.lines → AreLettered o.state.lines → KeepsLettered o.state.past →
     AreLettered (settled listed (kept e) o).lines × KeepsLettered (settled listed (kept e) o).past
@@ -334,5 +302,5 @@ command-lettered c e answer w h k =
     (λ q still. OnMade-bind InOrder LeavesLettered (spanned (takes c.verb).taking (length e.lines) v.1) _ (spanned-order (takes c.verb).taking (length e.lines) v.1)
     (λ x le.
     let lines : q.0.lines ≡ e.lines = still.0 ∙ same.0 in
-    effect-then c e q.0 (effect_of c.verb c.listed x q.1 q.0 answer) (lines, still.1 ∙ same.1, still.2 ∙ same.2) h k
-    (effect-lettered c.verb c.listed x q.1 q.0 answer le w (subst (λ (ls : List Line). AreLettered ls) (sym lines) h))))))
+    effect-then c e q.0 (effect_of c.verb c.listed x q.1 q.0 answer) (lines, still.1 ∙ same.1, still.2 ∙ same.2, still.3 ∙ same.3) h k
+    (effect-lettered c.verb c.listed x q.1 q.0 answer le w (subst (λ (ls : List Line). AreLettered ls) (sym lines) h) (subst (λ (p : Past). KeepsLettered p) (sym (still.1 ∙ same.1)) k))))))

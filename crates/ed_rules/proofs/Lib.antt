@@ -13,19 +13,33 @@ pub mod Joining
 pub mod Searching
 pub mod Addressing
 pub mod Effects
-pub mod Commanding
 pub mod Keeping
 pub mod Moving
 pub mod Whole
+pub mod Flags
 pub mod Results
 pub mod Substituting
 pub mod SubstitutionEffects
 pub mod Answering
+pub mod Orders
+pub mod GlobalEffects
 pub mod Reading
 pub mod Filing
+pub mod Commanding
 pub mod Lettered
+pub mod Noting
 pub mod Asking
 pub mod Sound
+pub mod Looping
+pub mod Speaking
+pub mod Naming
+pub mod Saying
+pub mod SpeakingPieces
+pub mod RisingChoices
+pub mod Forming
+pub mod FormingAddresses
+pub mod FormingRows
+pub mod StatesFormed
 pub mod Weaker
 mod SubstitutingRows
 mod FilesRows

@@ -102,14 +102,14 @@ remembered-kind listed kinds (Some parts) h k =
 
 -- the pattern
 
-abbrev IsPossible : List Choice → List ℕ → Type 0
+abbrev pub IsPossible : List Choice → List ℕ → Type 0
 IsPossible patterns text = has_choice patterns (Some text) ≡ true
 
 remembered-pattern : (patterns : List Choice) (own : Option (List ℕ)) → has_choice patterns own ≡ true → not (has_choice patterns None) ≡ true → Agrees IsPossible (Ok patterns) (ok_or own fault.Pattern)
 remembered-pattern patterns None h k = not-true (has_choice patterns None) k h
 remembered-pattern patterns (Some text) h k = h
 
-patterns-sound : (own : Option (List ℕ)) (s : State) (e : editor.State) → has_choice s.patterns e.pattern ≡ true → Agrees IsPossible (possible_patterns own s) (used_pattern own e)
+pub patterns-sound : (own : Option (List ℕ)) (s : State) (e : editor.State) → has_choice s.patterns e.pattern ≡ true → Agrees IsPossible (possible_patterns own s) (used_pattern own e)
 patterns-sound None s e h = Agrees-needing IsPossible (not (has_choice s.patterns None)) fault.Pattern s.patterns (used_pattern None e) (λ k. remembered-pattern s.patterns e.pattern h k)
 patterns-sound (Some text) s e h = has_choice-only (Some text)
 

@@ -2,6 +2,7 @@
 pub mod Choices
 pub mod Marks
 pub mod States
+pub mod Formed
 pub mod StandsFor
 pub mod Order
 pub mod Pieces
@@ -10,7 +11,10 @@ pub mod Lines
 pub mod Move
 pub mod Substituting
 pub mod Files
+pub mod Undoing
 pub mod Rules
 pub mod Soundness
+pub mod Globals
+pub mod GlobalSoundness
 -- what only serves clauses inside the crate
 pub mod Reaching

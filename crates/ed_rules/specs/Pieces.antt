@@ -26,6 +26,10 @@ guarded_by zone x y (Some c) = after_guard zone x y c
 
 -- THE END OF EACH RULE
 
+-- the addresses are forgotten
+abbrev pub without_addresses : Bounds → Bounds
+without_addresses zone = after_forget (after_forget (after_forget zone first_address) second_address) target_address
+
 -- a line that is marked lies from 1 to the last line
 unfoldable pub mark_bounded : ℕ → Bounds → Bounds
 mark_bounded letter zone = after_guard (after_guard zone name.zero (mark_name letter) (negsuc 0)) (mark_name letter) last_line (pos 0)
@@ -34,9 +38,7 @@ mark_bounded letter zone = after_guard (after_guard zone name.zero (mark_name le
 unfoldable pub ended : List Bool → Bounds → Bounds
 ended marks zone =
     for_each_sure mark_bounded marks 26
-    (after_guard
-    (after_guard (after_forget (after_forget (after_forget zone first_address) second_address) target_address) name.zero current_line (pos 0))
-    current_line last_line (pos 0))
+    (after_guard (after_guard (without_addresses zone) name.zero current_line (pos 0)) current_line last_line (pos 0))
 
 -- MOD
 

@@ -18,8 +18,9 @@ use Rattle.ed_rules.specs.Pieces.{needing, with_zone, ended, lifted}
 use Rattle.ed_rules.specs.Addresses.{addressed, standing, last_given, targeted, ranged}
 use Rattle.ed_rules.specs.Lines.{appended, put_before, lifted_range, changed_to, deleted, joined_given, marked, current_at, copied_lines}
 use Rattle.ed_rules.specs.Move.{moved_lines}
-use Rattle.ed_rules.specs.Substituting.{substituted}
+use Rattle.ed_rules.specs.Substituting.{pattern_used, substituted}
 use Rattle.ed_rules.specs.Files.{file_read, whole_or_ranged, file_written, saved, edited, edited_anyway, file_named}
+use Rattle.ed_rules.specs.Undoing.{undone}
 
 -- what a command needs of its lines, by how many it takes
 abbrev pub taken : Taking → (given a : Addresses) → State → Result State Fault
@@ -32,7 +33,7 @@ taken many.Lines given a s =
 taken many.Range given a s = ranged s
 taken many.Whole given a s = whole_or_ranged given s
 
--- what a command does that began in the state `start`, its lines taken
+-- What a command does that began in the state `start`, its lines taken. Of `g` and `v` it is what comes before their list.
 abbrev pub effect : (listed : Bool) → (given : Addresses) → Verb → (start : State) → State → Result State Fault
 effect listed given (ed.Append text) start s = Ok (appended listed start (length text) s)
 effect listed given (ed.Insert text) start s = Ok (put_before listed start (length text) s)
@@ -55,6 +56,8 @@ effect listed given (ed.WriteFile path) start s = file_written given path s
 effect listed given (ed.Edit path) start s = edited path s
 effect listed given (ed.EditAnyway path) start s = edited_anyway path s
 effect listed given (ed.FileName path) start s = file_named path s
+effect listed given (ed.Global sense pattern) start s = pattern_used pattern s
+effect listed given ed.Undo start s = undone s
 effect listed given ed.Quit start s = saved s
 effect listed given ed.QuitAnyway start s = Ok s
 

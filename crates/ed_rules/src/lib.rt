@@ -5,6 +5,7 @@ mod addresses;
 mod change;
 mod choices;
 mod files;
+mod globals;
 mod laws;
 mod lines;
 mod marks;
@@ -14,9 +15,13 @@ mod pieces;
 mod rules;
 mod state;
 mod substitution;
+mod undoing;
 
 pub use choices::Choices;
-pub use laws::{commands_are_sound, weaker_states_stand_for_more};
+pub use globals::{body_entry, loop_end, loop_start};
+pub use laws::{
+    commands_are_sound, globals_are_sound, states_stay_formed, weaker_states_stand_for_more,
+};
 pub use marks::Marks;
 pub use rules::{after, needs};
 pub use state::{Changed, Old, Replacements, State, Undo};

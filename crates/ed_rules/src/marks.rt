@@ -1,6 +1,6 @@
 //! The letters that surely mark a line.
 
-ghost use Rattle.std.specs.Prelude.{◌≡◌, ◌<◌, true, false, slice_set, IsTrue, ◌↔◌};
+ghost use Rattle.std.specs.Prelude.{◌≡◌, ◌<◌, true, false, length, slice_set, IsTrue, ◌↔◌};
 ghost use Rattle.ed_rules.specs.Marks.{is_sure, no_marks, both_sure, AreAmong};
 
 use std::marker::Model;
@@ -35,6 +35,7 @@ impl Marks {
     pub fn is_sure(&self, letter: usize) -> bool
         requires letter { letter < 26 }
         ensures value { result ≡ is_sure self.now letter }
+        ensures well_formed { length self.now ≡ 26 }
     {
         self.sure[letter]
     }

@@ -6,7 +6,7 @@ ghost use Rattle.zones.specs.Zone.{bound};
 ghost use Rattle.zones.specs.Known.{least, greatest};
 ghost use Rattle.zones.specs.Steps.{after_shift};
 ghost use Rattle.ed_rules.specs.Marks.{mark_name, for_each_sure};
-ghost use Rattle.ed_rules.specs.Pieces.{guarded_by, mark_bounded, ended, mark_pushed, inserted, lifted, left_over, current_left, current_replaced};
+ghost use Rattle.ed_rules.specs.Pieces.{guarded_by, without_addresses, mark_bounded, ended, mark_pushed, inserted, lifted, left_over, current_left, current_replaced};
 
 use crate::marks::Marks;
 use zones::{Name, Zone};
@@ -68,14 +68,21 @@ fn bound_marks(zone: &mut Zone, marks: &Marks)
     }
 }
 
+/// The addresses are forgotten.
+pub(crate) fn forget_addresses(zone: &mut Zone)
+    ensures exact { zone.new ≡ without_addresses zone.old }
+{
+    zone.forget(Name::FIRST_ADDRESS);
+    zone.forget(Name::SECOND_ADDRESS);
+    zone.forget(Name::TARGET_ADDRESS);
+}
+
 /// The end of each rule: the addresses are forgotten, and what all buffers have is taken up.
 #[tactic(auto, unfolding(crate::specs::Pieces::ended))]
 pub(crate) fn end(zone: &mut Zone, marks: &Marks)
     ensures exact { zone.new ≡ ended marks.now zone.old }
 {
-    zone.forget(Name::FIRST_ADDRESS);
-    zone.forget(Name::SECOND_ADDRESS);
-    zone.forget(Name::TARGET_ADDRESS);
+    forget_addresses(zone);
     zone.guard(Name::ZERO, Name::CURRENT_LINE, 0);
     zone.guard(Name::CURRENT_LINE, Name::LAST_LINE, 0);
     bound_marks(zone, marks);

@@ -122,6 +122,8 @@ impl State {
             Verb::Edit(path) => self.edit(path)?,
             Verb::EditAnyway(path) => self.edit_anyway(path)?,
             Verb::FileName(path) => self.name_file(path)?,
+            Verb::Global { pattern, .. } => self.use_pattern(pattern)?,
+            Verb::Undo => self.undo_change()?,
             Verb::Quit => self.need_saved()?,
             Verb::QuitAnyway => {}
         }

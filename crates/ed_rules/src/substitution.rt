@@ -93,7 +93,7 @@ impl State {
     }
 
     /// The patterns that the command may look for are the possible ones.
-    fn use_pattern(&mut self, own: &Option<Pattern>) -> Result<(), Fault>
+    pub(crate) fn use_pattern(&mut self, own: &Option<Pattern>) -> Result<(), Fault>
         ensures exact { Reaches result self.new (pattern_used own.now self.old) }
     {
         if let Some(own) = own {

@@ -1,0 +1,155 @@
+-- Soundness of the rules of a global command beside that of the command itself.
+use Rattle.std.proofs.Common.{◌≡◌, ◌<◌, ◌≤◌, ◌+◌, ℕ, pos, negsuc, Bool, true, false, List, length, [], Option, None, Some, option_map, Result, Ok, Err, IfOk, arith, refl, sym, ap, subst}
+use Rattle.std.proofs.lemmas.Int.{ints}
+use Rattle.std.proofs.lemmas.List.Quantifiers.{position-Some}
+use Rattle.ed_base.specs.Buffer.{Line, plain_line, flagged_at, flagged_place}
+use Rattle.zones.specs.Zone.{Bounds, Numbers, Holds, updated}
+use Rattle.zones.specs.Steps.{after_forget}
+use Rattle.zones.proofs.Soundness.{Holds-after_guard, Holds-after_forget}
+use Rattle.zones.proofs.Known.{updated-other}
+use Rattle.ed_syntax.specs.Commands.{Command, Step}
+use Rattle.ed_syntax.specs.States as editor
+use Rattle.ed_syntax.specs.States.{Kept, Past, Same, Was, Open, kept}
+use Rattle.ed_base.specs.declared.fault.Fault.{Fault}
+use Rattle.ed_syntax.specs.Effects.{Outcome, Effect, Makes}
+use Rattle.ed_syntax.specs.declared.request.Answer.{Answer}
+use Rattle.ed_syntax.specs.Applied.{command}
+use Rattle.ed_rules.specs.Rules.{step}
+use Rattle.ed_rules.specs.declared.state.Undo.{Undo}
+use Rattle.ed_rules.specs.Soundness.{IsDone}
+use Rattle.ed_syntax.specs.Globals.{opened, taken_at, past_of_global, closed}
+use Rattle.ed_rules.specs.declared.state.State.{State}
+use Rattle.ed_rules.specs.StandsFor.{HoldsBy, StandsBy, StandsFor, AllowsPast, AllowsKept, KeepsLettered, AreLettered}
+use Rattle.ed_rules.specs.States.{old_of}
+use Rattle.ed_rules.specs.Pieces.{with_zone}
+use Rattle.ed_rules.specs.Globals.{finished, line_taken, body_entry, list_may_alter, old_if, undo_of_global, loop_end}
+use Rattle.ed_rules.specs.GlobalSoundness.{StartIsSound, TurnIsSound, EndIsSound}
+use Rattle.ed_rules.proofs.Standing.{Reads-current}
+use Rattle.ed_rules.proofs.Finishing.{StandsBy-ended}
+use Rattle.ed_rules.proofs.Flags.{HoldsBy-alike, kept-allowed, lettered-kept, lettered-alike, same-length, alike-flagged_at}
+use Rattle.ed_rules.proofs.Sound.{command_sound}
+
+-- the start: no state speaks of a global command that is open
+
+opened-stands : (t : State) (e : editor.State) (before : Kept) → StandsFor t e → StandsFor t (opened before e)
+opened-stands t e before st = record {
+  numbers = st.numbers;
+  stands = record { buffer = st.stands.buffer; remembered = st.stands.remembered; changed = st.stands.changed; past = st.stands.past };
+  lines = st.lines;
+  kept = st.kept;
+}
+
+pub start-sound : StartIsSound
+start-sound c s t e given o before st is makes =
+    opened-stands t o.state before (subst (λ (y : Result Effect Fault). IsDone c s t e given y) makes (command_sound c s t e given st is))
+
+-- a line is taken
+
+Holds-line_taken : (zone : Bounds) (v : Numbers) (n count : ℕ) → Holds zone v → v 0 ≡ pos 0 → v 2 ≡ pos count → 1 ≤ n → n ≤ count → Holds (line_taken zone) (updated v 1 (pos n))
+unfolding line_taken
+Holds-line_taken zone v n count holds v0 v2 from to =
+    let w : Numbers = updated v 1 (pos n) in
+    let gone : Holds (after_forget zone 1) w = Holds-after_forget zone 1 v w holds (updated-other v 1 (pos n)) in
+    let w0 : w 0 ≡ pos 0 = v0 in
+    let w1 : w 1 ≡ pos n = refl in
+    let w2 : w 2 ≡ pos count = v2 in
+    Holds-after_guard _ 1 2 (pos 0) w (omega arith) (omega arith)
+    (Holds-after_guard (after_forget zone 1) 0 1 (negsuc 0) w (omega arith) (omega arith) gone (omega (arith, ints))) (omega (arith, ints))
+
+StandsBy-taken : (s : State) (e : editor.State) (v : Numbers) (place : ℕ) → place < length e.lines → StandsBy s e v →
+    StandsBy (with_zone (line_taken s.zone) s) (taken_at e place) (updated v 1 (pos (place + 1)))
+StandsBy-taken s e v place h st =
+    let lines : List Line = flagged_at place false e.lines in
+    let b : HoldsBy s.zone s.marks lines e.current v = HoldsBy-alike s.zone s.marks e.lines lines e.current v (alike-flagged_at place false e.lines) st.buffer in
+    let size = same-length e.lines lines (alike-flagged_at place false e.lines) in
+    record {
+      buffer = record {
+        holds = Holds-line_taken s.zone v (place + 1) (length lines) b.holds b.reads.zero_is b.reads.last_is (omega arith) (omega arith);
+        reads = Reads-current s.marks lines e.current v (place + 1) b.reads;
+        inside = omega arith;
+      };
+      remembered = st.remembered;
+      changed = st.changed;
+      past = st.past;
+    }
+
+taken-stands : (s : State) (e : editor.State) (place : ℕ) → place < length e.lines → StandsFor s e → StandsFor (body_entry s) (taken_at e place)
+taken-stands s e place h st =
+    let v : Numbers = updated st.numbers 1 (pos (place + 1)) in
+    record {
+      numbers = v;
+      stands = StandsBy-ended (with_zone (line_taken s.zone) s) (taken_at e place) v (StandsBy-taken s e st.numbers place h st.stands);
+      lines = lettered-alike e.lines (flagged_at place false e.lines) (alike-flagged_at place false e.lines) st.lines;
+      kept = st.kept;
+    }
+
+-- the place of the line that is taken
+taken-from : (e f : editor.State) (p : Option ℕ) → option_map (taken_at e) p ≡ Some f → (place : ℕ) × (p ≡ Some place) × (taken_at e place ≡ f)
+taken-from e f None is = absurd cc
+taken-from e f (Some place) is = (place, refl, cc)
+
+pub turn-sound : (s : State) → TurnIsSound s (body_entry s)
+turn-sound s e f st is =
+    let q = taken-from e f (flagged_place e.lines) is in
+    let h = (position-Some (λ (line : Line). line.flag) e.lines q.0 (plain_line []) q.1).0 in
+    subst (λ (g : editor.State). StandsFor (body_entry s) g) q.2 (taken-stands s e q.0 h st)
+
+-- the end
+
+-- what is said of an editor once its global command is over
+abbrev over : editor.State → Open → editor.State
+over f g = record f { past = past_of_global g; global = None }
+
+closed-is : (f : editor.State) (g : Open) → f.global ≡ Some g → closed f ≡ over f g
+closed-is f g is = ap (λ (o : Option Open). elim o as (λ _. editor.State) [ None ↦ f | Some h ↦ over f h ]) is
+
+-- it is over with the old buffer where its list may have changed it
+module _ (before : State) (e : editor.State) (st : StandsFor before e) (list : List Command) (g : Open) (begun : g.before ≡ kept e) (may : g.altered ≡ true → list_may_alter list ≡ true) where
+  old-allowed : AllowsKept (Some (old_of before)) g.before
+  old-allowed = subst (λ (k : Kept). AllowsKept (Some (old_of before)) k) (sym begun) (kept-allowed before e (st.numbers, st.stands))
+
+  past-allowed : AllowsPast (undo_of_global list before) (past_of_global g)
+  past-allowed =
+      (elim g.altered as (λ b. (b ≡ true → list_may_alter list ≡ true) → AllowsPast (undo_of_global list before) (elim b as (λ _. Past) [ true ↦ Was g.before | false ↦ Same ])) [
+        | true ↦ λ k. subst (λ (b : Bool). AllowsKept (old_if b before) g.before) (sym (k refl)) old-allowed
+        | false ↦ λ k. refl
+      ]) may
+
+  past-lettered : KeepsLettered (past_of_global g)
+  past-lettered =
+      elim g.altered as (λ b. KeepsLettered (elim b as (λ _. Past) [ true ↦ Was g.before | false ↦ Same ])) [
+        | true ↦ subst (λ (k : Kept). AreLettered k.lines) (sym begun) (lettered-kept e.lines st.lines)
+        | false ↦ tt
+      ]
+
+over-stands : (s : State) (f : editor.State) (g : Open) (undo : Undo) → AllowsPast undo (past_of_global g) → KeepsLettered (past_of_global g) → StandsFor s f → StandsFor (finished (record s { undo = undo })) (over f g)
+over-stands s f g undo past kept st = record {
+  numbers = st.numbers;
+  stands = StandsBy-ended (record s { undo = undo }) (over f g) st.numbers
+      (record {
+        buffer = record { holds = st.stands.buffer.holds; reads = st.stands.buffer.reads; inside = st.stands.buffer.inside };
+        remembered = st.stands.remembered;
+        changed = st.stands.changed;
+        past = past;
+      });
+  lines = st.lines;
+  kept = kept;
+}
+
+pub end-sound : (x : Step) (before invariant : State) → EndIsSound x before invariant (loop_end x before invariant)
+end-sound x before invariant e f g st after is begun may =
+    subst (λ (h : editor.State). StandsFor (loop_end x before invariant) h) (sym (closed-is f g is))
+    (over-stands invariant f g (undo_of_global x.list before) (past-allowed before e st x.list g begun may) (past-lettered before e st x.list g begun may) after)
+
+-- of states that are given by their equations
+
+pub start-by : {E : Type 0} (c : Command) (s : State) (r : Result State E) → IfOk r (λ t. step c s ≡ Ok t) →
+    IfOk r (λ t. (e : editor.State) (given : Option Answer) (o : Outcome) (before : Kept) → StandsFor s e → command e c given ≡ Ok (Makes o) → StandsFor t (opened before o.state))
+start-by c s (Ok t) h = λ e given o before st makes. start-sound c s t e given o before st h makes
+start-by c s (Err f) h = tt
+
+pub turn-by : (s entry : State) → entry ≡ body_entry s → TurnIsSound s entry
+turn-by s entry is = subst (λ (t : State). TurnIsSound s t) (sym is) (turn-sound s)
+
+pub end-by : (x : Step) (before invariant end : State) → end ≡ loop_end x before invariant → EndIsSound x before invariant end
+end-by x before invariant end is = subst (λ (t : State). EndIsSound x before invariant t) (sym is) (end-sound x before invariant)

@@ -1,0 +1,111 @@
+-- States stay formed: the start, each rule, join and widening, the list of a global command.
+use Rattle.std.proofs.Common.{ℕ, pos, negsuc, neg_ℤ, Bool, true, false, length, Option, None, Some, refl}
+use Rattle.std.specs.Prelude.{IfOk}
+use Rattle.ed_base.specs.declared.fault.Fault.TheVariants as fault
+use Rattle.zones.specs.Known.{known}
+use Rattle.ed_syntax.specs.Commands as ed
+use Rattle.ed_syntax.specs.Commands.{Addresses, Verb, Form, Command, Step}
+use Rattle.ed_syntax.specs.Verbs.{takes, given_or}
+use Rattle.ed_rules.specs.declared.state.Undo.{Undo}
+use Rattle.ed_rules.specs.declared.state.State.{State}
+use Rattle.ed_rules.specs.Choices.{Choice}
+use Rattle.ed_rules.specs.Marks.{no_marks}
+use Rattle.ed_rules.specs.Formed.{ChoiceIsBytes, AddressesAreBytes, VerbIsBytes, TextsAreBytes, IsFormed}
+use Rattle.ed_rules.specs.States.{start}
+use Rattle.ed_rules.specs.Order.{join, widen}
+use Rattle.ed_rules.specs.Pieces.{with_zone, ended}
+use Rattle.ed_rules.specs.Addresses.{addressed, standing, targeted}
+use Rattle.ed_rules.specs.Rules.{taken, effect, suffixed, enters_lines, step_at, step}
+use Rattle.ed_rules.specs.Globals.{finished, line_taken, body_entry, list_may_alter, old_if, undo_of_global, loop_end}
+use Rattle.ed_rules.proofs.SpeakingPieces.{Speaks-start, Inner-line_taken}
+use Rattle.ed_rules.proofs.RisingChoices.{SetIsFormed-only}
+use Rattle.ed_rules.proofs.Forming.{OldSpeaks, Forming, Closed, Closed-forming, formed-Closed, Closed-formed, forming-zone, forming-change, Closed-finished, Closed-join, Closed-widen, IfOk-bind, IfOk-needing, IfOk-need_then, IfOk-weaker}
+use Rattle.ed_rules.proofs.FormingAddresses.{addressed-formed, targeted-formed, given-bytes, own-bytes, target-bytes, taken-formed}
+use Rattle.ed_rules.proofs.FormingRows.{appended-formed, inserted-formed, changed_to-formed, joined_given-formed, mark-formed, current_at-formed, copied_lines-formed, moved_lines-formed, pattern-formed, substituted-formed, read-formed, written-formed, saved-formed, edited_anyway-formed, edited-formed, file_named-formed, undone-formed}
+
+Closed-start : (path : Choice) (min : ℕ) (max : Option ℕ) → ChoiceIsBytes path → Closed (start path min max)
+unfolding start
+Closed-start path min max b = record {
+  letters = refl;
+  zone = Speaks-start no_marks max (neg_ℤ (pos min));
+  aside = record { patterns_are = SetIsFormed-only None tt; kind = refl; names_are = SetIsFormed-only path b; flag = refl; past = refl; old = tt };
+}
+
+pub start-formed : (path : Choice) (min : ℕ) (max : Option ℕ) → ChoiceIsBytes path → IsFormed (start path min max)
+start-formed path min max b = Closed-formed (start path min max) (Closed-start path min max b)
+
+pub join-formed : (one other : State) → IsFormed one → IsFormed other → IsFormed (join one other)
+join-formed one other h k = Closed-formed (join one other) (Closed-join one other (formed-Closed one h) (formed-Closed other k))
+
+pub widen-formed : (old new : State) → IsFormed old → IsFormed new → IsFormed (widen old new)
+widen-formed old new h k = Closed-formed (widen old new) (Closed-widen old new (formed-Closed old h) (formed-Closed new k))
+
+-- THE LIST OF A GLOBAL COMMAND
+
+pub entry-formed : (invariant : State) → IsFormed invariant → IsFormed (body_entry invariant)
+entry-formed invariant h =
+    let f : Forming invariant = Closed-forming invariant (formed-Closed invariant h) in
+    let t : State = with_zone (line_taken invariant.zone) invariant in
+    Closed-formed (finished t) (Closed-finished t (forming-zone invariant (line_taken invariant.zone) (Inner-line_taken invariant.marks invariant.zone f.zone) f))
+
+old_if-speaks : (b : Bool) (before : State) → Closed before → OldSpeaks (old_if b before)
+old_if-speaks true before h = (h.letters, h.zone)
+old_if-speaks false before h = tt
+
+pub end-formed : (x : Step) (before invariant : State) → IsFormed before → IsFormed invariant → IsFormed (loop_end x before invariant)
+end-formed x before invariant h k =
+    let f : Forming invariant = Closed-forming invariant (formed-Closed invariant k) in
+    let u : Undo = undo_of_global x.list before in
+    let t : State = record invariant { undo = u } in
+    Closed-formed (finished t)
+    (Closed-finished t (forming-change invariant invariant.changed u f.aside.flag refl (old_if-speaks (list_may_alter x.list) before (formed-Closed before h)) f))
+
+-- ONE COMMAND
+
+effect-formed : (listed : Bool) (given : Addresses) (verb : Verb) (start s : State) → VerbIsBytes verb → Closed start → Forming s → IfOk (effect listed given verb start s) Forming
+effect-formed listed given (ed.Append text) start s b c h = appended-formed listed start (length text) s c h
+effect-formed listed given (ed.Change text) start s b c h = changed_to-formed listed start (length text) s c h
+effect-formed listed given ed.Delete start s b c h = changed_to-formed listed start 0 s c h
+effect-formed listed given (ed.Insert text) start s b c h = inserted-formed listed start (length text) s c h
+effect-formed listed given ed.Join start s b c h = joined_given-formed given listed start s c h
+effect-formed listed given (ed.Mark letter) start s b c h = mark-formed letter s h
+effect-formed listed given (ed.Move to) start s b c h = moved_lines-formed listed start s c h
+effect-formed listed given (ed.Copy to) start s b c h = copied_lines-formed listed start s c h
+effect-formed listed given (ed.Substitute pattern replacement choice form) start s b c h = substituted-formed listed pattern replacement choice start s b c h
+effect-formed listed given ed.LineNumber start s b c h = h
+effect-formed listed given ed.Null start s b c h = current_at-formed 3 s refl h
+effect-formed listed given (ed.Write form) start s b c h = current_at-formed 4 s refl h
+effect-formed listed given (ed.ReadFile path) start s b c h = read-formed listed path start s b c h
+effect-formed listed given (ed.WriteFile path) start s b c h = written-formed given path s b h
+effect-formed listed given (ed.Edit path) start s b c h = edited-formed path s b h
+effect-formed listed given (ed.EditAnyway path) start s b c h = edited_anyway-formed path s b h
+effect-formed listed given (ed.FileName path) start s b c h = file_named-formed path s b h
+effect-formed listed given (ed.Global sense pattern) start s b c h = pattern-formed pattern s b h
+effect-formed listed given ed.Undo start s b c h = undone-formed s h
+effect-formed listed given ed.Help start s b c h = h
+effect-formed listed given ed.HelpMode start s b c h = h
+effect-formed listed given ed.PromptMode start s b c h = h
+effect-formed listed given ed.Quit start s b c h = saved-formed s h
+effect-formed listed given ed.QuitAnyway start s b c h = h
+
+suffixed-formed : (suffix : Option Form) (s : State) → Closed s → IfOk (suffixed suffix s) Closed
+suffixed-formed None s h = h
+suffixed-formed (Some form) s h = IfOk-needing Closed (known s.zone 0 1 (negsuc 0)) fault.Address s (λ e. h)
+
+step_at-formed : (a : Addresses) (c : Command) (s : State) → AddressesAreBytes a → VerbIsBytes c.verb → Closed s → IfOk (step_at a c s) Closed
+step_at-formed a c s b v h =
+    IfOk-bind Forming Closed (addressed a s) _ (addressed-formed a s b (Closed-forming s h))
+    (λ t f.
+    IfOk-bind Forming Closed (targeted (takes c.verb).target t) _ (targeted-formed (takes c.verb).target t (target-bytes c.verb v) f)
+    (λ p g.
+    IfOk-bind Forming Closed (taken (takes c.verb).taking c.addresses a p) _ (taken-formed (takes c.verb).taking c.addresses a p g)
+    (λ u k.
+    IfOk-bind Forming Closed (effect c.listed c.addresses c.verb s u) _ (effect-formed c.listed c.addresses c.verb s u v h k)
+    (λ r q. suffixed-formed c.suffix (with_zone (ended r.marks r.zone) r) (Closed-finished r q)))))
+
+pub command-formed : (c : Command) (s : State) → TextsAreBytes c → IsFormed s → IfOk (step c s) IsFormed
+command-formed c s b h =
+    let a : Addresses = given_or c.addresses (standing (takes c.verb).default) in
+    IfOk-weaker Closed IsFormed (step c s) Closed-formed
+    (IfOk-need_then Closed (enters_lines c.verb) fault.Syntax s (step_at a c)
+    (λ e. step_at-formed a c s (given-bytes c.addresses (standing (takes c.verb).default) b.0 (own-bytes c.verb)) b.1 (formed-Closed s h)))

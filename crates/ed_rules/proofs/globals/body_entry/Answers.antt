@@ -1,0 +1,6 @@
+use Rattle.std.proofs.Common.{rules}
+use Rattle.ed_rules.proofs.Looping.{turn-by}
+use Rattle.ed_rules.proofs.globals.body_entry.Goals as goal
+
+pub returns-clause-sound : goal.returns-clause-sound
+returns-clause-sound c = turn-by c.args.invariant.now _ (search rules)

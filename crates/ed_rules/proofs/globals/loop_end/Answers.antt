@@ -1,0 +1,7 @@
+use Rattle.std.proofs.Common.{rules}
+use Rattle.ed_syntax.specs.PublicTypes.{step_value}
+use Rattle.ed_rules.proofs.Looping.{end-by}
+use Rattle.ed_rules.proofs.globals.loop_end.Goals as goal
+
+pub returns-clause-sound : goal.returns-clause-sound
+returns-clause-sound c = end-by (step_value c.args.command.now) c.args.before.now c.args.invariant.now _ (search rules)

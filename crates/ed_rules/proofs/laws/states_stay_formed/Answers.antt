@@ -1,0 +1,12 @@
+use Rattle.ed_rules.proofs.StatesFormed.{start-formed, command-formed, join-formed, widen-formed, entry-formed, end-formed}
+use Rattle.ed_rules.proofs.laws.states_stay_formed.Goals as goal
+
+pub returns : goal.returns
+returns c = record {
+  start = start-formed;
+  command = command-formed;
+  join = join-formed;
+  widen = widen-formed;
+  entry = entry-formed;
+  end = end-formed;
+}

@@ -1,0 +1,64 @@
+-- The rules of a global command beside that of the command itself: the state in which its list is run for a line, and the state after
+-- its last line (XCU ed, "Global Command", "Global Non-Matched Command"). One state, the invariant, stands for the editor before each
+-- line is taken and after the last.
+use Rattle.std.specs.Prelude.{pos, negsuc, Bool, true, false, List, Option, Some, None}
+use Rattle.std.specs.List.{list_any}
+use Rattle.zones.specs.Name as name
+use Rattle.zones.specs.Name.{current_line, last_line}
+use Rattle.zones.specs.Zone.{Bounds}
+use Rattle.zones.specs.Steps.{after_guard, after_forget}
+use Rattle.ed_syntax.specs.Commands as ed
+use Rattle.ed_syntax.specs.Commands.{Verb, Command, Step}
+use Rattle.ed_rules.specs.declared.state.Old.{Old}
+use Rattle.ed_rules.specs.declared.state.Undo.{Undo}
+use Rattle.ed_rules.specs.declared.state.State.{State}
+use Rattle.ed_rules.specs.States.{old_of}
+use Rattle.ed_rules.specs.Pieces.{with_zone, ended}
+
+-- `g` or `v`
+abbrev pub is_global : Verb → Bool
+is_global (ed.Global sense pattern) = true
+is_global _ = false
+
+-- the end of a rule
+abbrev pub finished : State → State
+finished s = with_zone (ended s.marks s.zone) s
+
+-- some line is current
+unfoldable pub line_taken : Bounds → Bounds
+line_taken zone =
+    after_guard (after_guard (after_forget zone current_line) name.zero current_line (negsuc 0)) current_line last_line (pos 0)
+
+-- the state in which the list is run for a line that was taken
+abbrev pub body_entry : State → State
+body_entry invariant = finished (with_zone (line_taken invariant.zone) invariant)
+
+-- a command that may change the buffer, as part of a list
+abbrev pub may_alter : Verb → Bool
+may_alter (ed.Append text) = true
+may_alter (ed.Change text) = true
+may_alter ed.Delete = true
+may_alter (ed.Insert text) = true
+may_alter ed.Join = true
+may_alter (ed.Move to) = true
+may_alter (ed.Copy to) = true
+may_alter (ed.Substitute pattern replacement choice form) = true
+may_alter (ed.ReadFile path) = true
+may_alter _ = false
+
+-- a command of the list may change the buffer
+abbrev pub list_may_alter : List Command → Bool
+list_may_alter list = list_any (λ c. may_alter c.verb) list
+
+-- the buffer as it was before, where it may be changed
+abbrev pub old_if : Bool → (before : State) → Option Old
+old_if true before = Some (old_of before)
+old_if false before = None
+
+-- what undo may find after a global command: the buffer as it is, or the one before the command where its list may change it
+abbrev pub undo_of_global : List Command → (before : State) → Undo
+undo_of_global list before = record { nothing = false; same = true; was = old_if (list_may_alter list) before }
+
+-- the state after a global command that began in the state `before`
+abbrev pub loop_end : Step → (before invariant : State) → State
+loop_end x before invariant = finished (record invariant { undo = undo_of_global x.list before })

@@ -1,0 +1,109 @@
+//! The rules of global commands (XCU ed, "Global Command", "Global Non-Matched Command").
+
+ghost use Rattle.std.specs.Prelude.{◌≡◌, true, Ok, Option, None, IfOk};
+ghost use Rattle.ed_syntax.specs.PublicTypes.{verb_value, command_value, step_value};
+ghost use Rattle.ed_syntax.specs.States as editor;
+ghost use Rattle.ed_syntax.specs.States.{Kept};
+ghost use Rattle.ed_syntax.specs.Effects.{Outcome, Makes};
+ghost use Rattle.ed_syntax.specs.Globals.{opened};
+ghost use Rattle.ed_syntax.specs.Applied as editing;
+ghost use Rattle.ed_syntax.specs.declared.request.Answer.{Answer};
+ghost use Rattle.ed_rules.specs.Rules.{step, fault_of};
+ghost use Rattle.ed_rules.specs.StandsFor.{StandsFor};
+ghost use Rattle.ed_rules.specs.Globals.{is_global, line_taken, body_entry, may_alter, list_may_alter, loop_end};
+ghost use Rattle.ed_rules.specs.GlobalSoundness.{TurnIsSound, EndIsSound};
+
+use crate::pieces::end;
+use crate::rules::after;
+use crate::state::{State, Undo};
+use ed_syntax::{Command, Verb};
+use std::alloc::AllocError;
+use zones::{Name, Zone};
+
+/// Some line is current.
+#[tactic(auto, unfolding(crate::specs::Globals::line_taken))]
+fn take_line(zone: &mut Zone)
+    ensures exact { zone.new ≡ line_taken zone.old }
+{
+    zone.forget(Name::CURRENT_LINE);
+    zone.guard(Name::ZERO, Name::CURRENT_LINE, -1);
+    zone.guard(Name::CURRENT_LINE, Name::LAST_LINE, 0);
+}
+
+/// Whether a command may change the buffer, as part of a list.
+fn may_alter(verb: &Verb) -> bool
+    ensures value { result ≡ may_alter (verb_value verb.now) }
+{
+    match verb {
+        Verb::Append(_)
+        | Verb::Change(_)
+        | Verb::Delete
+        | Verb::Insert(_)
+        | Verb::Join
+        | Verb::Move(_)
+        | Verb::Copy(_)
+        | Verb::Substitute { .. }
+        | Verb::ReadFile(_) => true,
+        _ => false,
+    }
+}
+
+/// Whether a command of a list may change the buffer.
+fn list_may_alter(command: &Command) -> bool
+    ensures value { result ≡ list_may_alter (step_value command.now).list }
+{
+    for listed in command.list() {
+        if may_alter(&listed.verb) {
+            return true;
+        }
+    }
+    false
+}
+
+/// The state of a global command whose needs hold, before its list is run for any line. The invariant has to cover it, so that it
+/// stands for the editor also where no line is taken.
+pub fn loop_start(command: &Command, state: &State) -> Result<State, AllocError>
+    requires global { is_global (command_value command.now).verb ≡ true }
+    requires needed { fault_of (step (command_value command.now) state.now) ≡ None }
+    ensures exact { IfOk result (λ start. step (command_value command.now) state.now ≡ Ok start) }
+
+    // It stands for each editor that the command leaves, and also once the list is begun.
+    ensures sound { IfOk result (λ start. (e : editor.State) (given : Option Answer) (o : Outcome) (before : Kept) →
+        StandsFor state.now e → editing.command e (command_value command.now) given ≡ Ok (Makes o) →
+        StandsFor start (opened before o.state)) }
+{
+    after(command, state)
+}
+
+/// The state in which the list of a global command is run for a line, from the invariant: any line may be the current one.
+pub fn body_entry(invariant: &State) -> Result<State, AllocError>
+    ensures exact { IfOk result (λ entry. entry ≡ body_entry invariant.now) }
+    ensures sound { IfOk result (λ entry. TurnIsSound invariant.now entry) }
+{
+    let mut entry = invariant.try_copy()?;
+    take_line(&mut entry.zone);
+    end(&mut entry.zone, &entry.marks);
+    Ok(entry)
+}
+
+/// The state after a global command, of the state before it and of the invariant, which stands for the editor before each line is
+/// taken and after the last.
+pub fn loop_end(command: &Command, before: &State, invariant: &State) -> Result<State, AllocError>
+    requires global { is_global (command_value command.now).verb ≡ true }
+    ensures exact { IfOk result (λ end. end ≡ loop_end (step_value command.now) before.now invariant.now) }
+    ensures sound { IfOk result (λ end. EndIsSound (step_value command.now) before.now invariant.now end) }
+{
+    let mut after = invariant.try_copy()?;
+    let was = if list_may_alter(command) {
+        Some(before.old())
+    } else {
+        None
+    };
+    after.undo = Undo {
+        nothing: false,
+        same: true,
+        was,
+    };
+    end(&mut after.zone, &after.marks);
+    Ok(after)
+}
