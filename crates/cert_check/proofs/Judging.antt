@@ -1,21 +1,26 @@
 -- The verdict, one command further.
-use Rattle.std.proofs.Common.{◌≡◌, ◌<◌, ℕ, suc, ◌+◌, ◌==◌, Bool, true, false, not, ◌&&◌, ◌||◌, List, [], ◌∷◌, length, get_or, drop, Option, None, Some, is_none, Result, Ok, Err, IfOk, eq-eqb, cond, arith, refl, ◌∙◌, sym, ap, subst, add-one, drop-cons}
-use Rattle.std.proofs.lemmas.Bool.{ne_eqb}
-use Rattle.ed_syntax.specs.declared.command.Command.{Command}
-use Rattle.ed_syntax.specs.Commands.{Step, Script}
+use Rattle.std.proofs.Common.{◌≡◌, ◌<◌, ℕ, suc, ◌+◌, Bool, true, false, not, ◌&&◌, ◌||◌, List, [], ◌∷◌, length, map, get_or, drop, Option, None, Some, is_none, Result, Ok, Err, IfOk, cond, arith, IsTrue, refl, ◌∙◌, sym, ap, subst, add-one, drop-cons}
+use Rattle.std.proofs.lemmas.List.{drop-map, length-map}
+use Rattle.ed_syntax.specs.declared.command.Command as public_command
+use Rattle.ed_syntax.specs.Commands.{Command, Step, Script}
 use Rattle.ed_syntax.specs.PublicTypes.{command_value, step_value, steps_value}
 use Rattle.ed_rules.specs.declared.state.State.{State}
 use Rattle.ed_rules.specs.States.{start}
 use Rattle.cert_check.specs.Covering.{covers}
-use Rattle.cert_check.specs.declared.certificate.Note.{Note}
+use Rattle.cert_check.specs.declared.certificate.Note as public
 use Rattle.cert_check.specs.declared.passing.Passage.{Passage}
 use Rattle.cert_check.specs.declared.passing.Passage.TheVariants.{Left, Fails}
+use Rattle.cert_check.specs.declared.verdict.Place.{Place}
 use Rattle.cert_check.specs.declared.verdict.Verdict.{Verdict}
 use Rattle.cert_check.specs.declared.verdict.Verdict.TheVariants.{Accepted, Refused}
-use Rattle.cert_check.specs.Certificates.{Certificate}
-use Rattle.cert_check.specs.Valid.{Check, at, verdict_of, counted, has_quit, are_met, left_by, are_listed, knows_least, knows_most, end_checks, checks_from, judged}
-use Rattle.cert_check.specs.Passing.{verdict_at, passed, ends_well, GoesTo, verdict_after}
+use Rattle.cert_check.specs.Certificates.{Looped, Note, note_value, Certificate}
+use Rattle.cert_check.specs.Valid.{Check, at_place, command_at, inner_at, at, verdict_of, counted, has_quit, are_met, left_by, are_listed, knows_least, knows_most, end_checks, command_checks, list_checks, loop_checks, looped_checks, left_after, checks_from, fits, are_shaped, judged}
+use Rattle.cert_check.specs.Passing.{verdict_at, passed, ends_well, ListGoesTo, LoopGoesTo, StepGoesTo, GoesTo, verdict_after}
 use Rattle.cert_check.specs.Sound.{CannotFail}
+use Rattle.ed_syntax.specs.Verbs.{is_step}
+use Rattle.std.specs.List.{list_all}
+use Rattle.ed_rules.specs.Globals.{body_entry, loop_end}
+use Rattle.cert_check.proofs.Checks.{and-first, and-second}
 use Rattle.cert_check.proofs.Counting.{counted-next}
 
 -- one check and those after it, which stand at one number
@@ -39,37 +44,36 @@ end-verdict quit fault c number coming =
     last-check (knows_most c.last.zone c.high) number))))
 
 -- a check that fails is the verdict
-pub fails-at : (b : Bool) (number : ℕ) (later : List Check) → b ≡ false → verdict_of (at number b ∷ later) ≡ verdict_at number false
-fails-at true number later e = absurd cc
-fails-at false number later e = refl
+pub fails-at : (b : Bool) (p : Place) (later : List Check) → b ≡ false → verdict_of (at_place p b ∷ later) ≡ Refused p
+fails-at true p later e = absurd cc
+fails-at false p later e = refl
 
 -- a check that holds is passed
-pub holds-at : (b : Bool) (number : ℕ) (later : List Check) → b ≡ true → verdict_of (at number b ∷ later) ≡ verdict_of later
-holds-at true number later e = refl
-holds-at false number later e = absurd cc
+pub holds-at : (b : Bool) (p : Place) (later : List Check) → b ≡ true → verdict_of (at_place p b ∷ later) ≡ verdict_of later
+holds-at true p later e = refl
+holds-at false p later e = absurd cc
 
--- three checks at one number
-abbrev three : (number : ℕ) (a b l : Bool) (later : Verdict) → Verdict
-three number a b l later =
+-- ONE COMMAND
+
+-- three checks at one place
+abbrev three : (p : Place) (a b l : Bool) (later : Verdict) → Verdict
+three p a b l later =
     elim a as (λ _. Verdict) [
-      | true ↦ elim b as (λ _. Verdict) [
-        | true ↦ elim l as (λ _. Verdict) [ true ↦ later | false ↦ Refused (record { command = number; inner = None }) ]
-        | false ↦ Refused (record { command = number; inner = None })
-      ]
-      | false ↦ Refused (record { command = number; inner = None })
+      | true ↦ elim b as (λ _. Verdict) [ true ↦ elim l as (λ _. Verdict) [ true ↦ later | false ↦ Refused p ] | false ↦ Refused p ]
+      | false ↦ Refused p
     ]
 
-three-hold : (a b l : Bool) (number : ℕ) (later : Verdict) → a && (b && l) ≡ true → three number a b l later ≡ later
-three-hold true true true number later e = refl
-three-hold true true false number later e = absurd cc
-three-hold true false l number later e = absurd cc
-three-hold false b l number later e = absurd cc
+three-hold : (a b l : Bool) (p : Place) (later : Verdict) → a && (b && l) ≡ true → three p a b l later ≡ later
+three-hold true true true p later e = refl
+three-hold true true false p later e = absurd cc
+three-hold true false l p later e = absurd cc
+three-hold false b l p later e = absurd cc
 
-three-fail : (a b l : Bool) (number : ℕ) (later : Verdict) → a && (b && l) ≡ false → three number a b l later ≡ verdict_at number false
-three-fail true true true number later e = absurd cc
-three-fail true true false number later e = refl
-three-fail true false l number later e = refl
-three-fail false b l number later e = refl
+three-fail : (a b l : Bool) (p : Place) (later : Verdict) → a && (b && l) ≡ false → three p a b l later ≡ Refused p
+three-fail true true true p later e = absurd cc
+three-fail true true false p later e = refl
+three-fail true false l p later e = refl
+three-fail false b l p later e = refl
 
 some-if : (a b l : Bool) (u t : State) → cond a (cond l (cond b (Some u) None) None) None ≡ Some t → (a && (b && l) ≡ true) × (u ≡ t)
 some-if true true true u t e = (refl, cc)
@@ -83,118 +87,301 @@ none-if true true false u e = refl
 none-if true false l u e = refl
 none-if false b l u e = refl
 
-step-on : (writes : List (List ℕ)) (end : ℕ → State → List Check) (number : ℕ) (s t : State) (x : Step) (xs : List Step) (n : Note) (notes : List Note) →
-    passed writes x.command n.state s ≡ Some t → verdict_of (checks_from writes end number s (x ∷ xs) (n ∷ notes)) ≡ verdict_of (checks_from writes end (number + 1) t xs notes)
-step-on writes end number s t x xs n notes e =
-    let all = some-if (covers n.state s) (are_met x.command n.state) (are_listed writes x.command n.state) (left_by x.command n.state) t e in
-    three-hold (covers n.state s) (are_met x.command n.state) (are_listed writes x.command n.state) number (verdict_of (checks_from writes end (number + 1) (left_by x.command n.state) xs notes)) all.0
-    ∙ ap (λ (u : State). verdict_of (checks_from writes end (number + 1) u xs notes)) all.1
+-- where all checks of a command hold, those after it are left
+pub command-on : (p : Place) (writes : List (List ℕ)) (c : Command) (known coming t : State) → passed writes c known coming ≡ Some t →
+    ((later : List Check) → verdict_of (command_checks p writes c known coming later) ≡ verdict_of later) × (left_by c known ≡ t)
+command-on p writes c known coming t e =
+    let all = some-if (covers known coming) (are_met c known) (are_listed writes c known) (left_by c known) t e in
+    (λ later. three-hold (covers known coming) (are_met c known) (are_listed writes c known) p (verdict_of later) all.0, all.1)
 
-step-off : (writes : List (List ℕ)) (end : ℕ → State → List Check) (number : ℕ) (s : State) (x : Step) (xs : List Step) (n : Note) (notes : List Note) →
-    passed writes x.command n.state s ≡ None → verdict_of (checks_from writes end number s (x ∷ xs) (n ∷ notes)) ≡ verdict_at number false
-step-off writes end number s x xs n notes e =
-    three-fail (covers n.state s) (are_met x.command n.state) (are_listed writes x.command n.state) number (verdict_of (checks_from writes end (number + 1) (left_by x.command n.state) xs notes))
-    (none-if (covers n.state s) (are_met x.command n.state) (are_listed writes x.command n.state) (left_by x.command n.state) e)
+pub command-off : (p : Place) (writes : List (List ℕ)) (c : Command) (known coming : State) (later : List Check) → passed writes c known coming ≡ None →
+    verdict_of (command_checks p writes c known coming later) ≡ Refused p
+command-off p writes c known coming later e =
+    three-fail (covers known coming) (are_met c known) (are_listed writes c known) p (verdict_of later)
+    (none-if (covers known coming) (are_met c known) (are_listed writes c known) (left_by c known) e)
 
--- the commands and notes from a place on
-abbrev pub verdict_from : (writes : List (List ℕ)) → (ℕ → State → List Check) → List Command → List Note → (index : ℕ) → State → Verdict
-verdict_from writes end commands notes index s =
-    verdict_of (checks_from writes end (index + 1) s (drop index (counted (steps_value commands))) (drop index notes))
+-- A LIST
 
--- the command and the note at a place, and those after it
-from-here : (writes : List (List ℕ)) (end : ℕ → State → List Check) (commands : List Command) (notes : List Note) (index : ℕ) (d : Command) (n : Note) (s : State) → index < length notes →
-    length notes ≡ length (counted (steps_value commands)) → d ≡ get_or commands index d → n ≡ get_or notes index n →
-    verdict_from writes end commands notes index s
-    ≡ verdict_of (checks_from writes end (index + 1) s (step_value d ∷ drop (index + 1) (counted (steps_value commands))) (n ∷ drop (index + 1) notes))
-from-here writes end commands notes index d n s h size is_d is_n =
-    let xs : List Step = counted (steps_value commands) in
-    let more : suc index ≡ index + 1 = sym (add-one index) in
-    let steps : drop index xs ≡ step_value d ∷ drop (index + 1) xs =
-    counted-next commands index d (omega arith) ∙ ap (λ (e : Command). step_value e ∷ drop (suc index) xs) (sym is_d) ∙ ap (λ k. step_value d ∷ drop k xs) more in
-    let noted : drop index notes ≡ n ∷ drop (index + 1) notes =
-    drop-cons notes index n h ∙ ap (λ (e : Note). e ∷ drop (suc index) notes) (sym is_n) ∙ ap (λ k. n ∷ drop k notes) more in
-    ap (λ (ys : List Step). verdict_of (checks_from writes end (index + 1) s ys (drop index notes))) steps
-    ∙ ap (λ (ns : List Note). verdict_of (checks_from writes end (index + 1) s (step_value d ∷ drop (index + 1) xs) ns)) noted
+-- what a list in memory stands for, from a place on
+mapped-here : {A B : Type 0} (f : A → B) (xs : List A) (index : ℕ) (x : A) → index < length xs → x ≡ get_or xs index x →
+    drop index (map f xs) ≡ f x ∷ drop (index + 1) (map f xs)
+mapped-here {A = A} {B = B} f xs index x h is =
+    drop-map f index xs
+    ∙ ap (λ (ys : List A). map f ys) (drop-cons xs index x h)
+    ∙ ap (λ (y : A). f y ∷ map f (drop (suc index) xs)) (sym is)
+    ∙ ap (λ (ys : List B). f x ∷ ys) (sym (drop-map f (suc index) xs) ∙ ap (λ k. drop k (map f xs)) (sym (add-one index)))
 
-pub go-on : (writes : List (List ℕ)) (end : ℕ → State → List Check) (commands : List Command) (notes : List Note) (index : ℕ) (d : Command) (n : Note) (s t : State) → index < length notes →
-    length notes ≡ length (counted (steps_value commands)) → d ≡ get_or commands index d → n ≡ get_or notes index n → passed writes (command_value d) n.state s ≡ Some t →
-    verdict_from writes end commands notes index s ≡ verdict_from writes end commands notes (index + 1) t
-go-on writes end commands notes index d n s t h size is_d is_n is =
-    from-here writes end commands notes index d n s h size is_d is_n
-    ∙ step-on writes end (index + 1) s t (step_value d) (drop (index + 1) (counted (steps_value commands))) n (drop (index + 1) notes) is
-
-pub stop-here : (writes : List (List ℕ)) (end : ℕ → State → List Check) (commands : List Command) (notes : List Note) (index : ℕ) (d : Command) (n : Note) (s : State) → index < length notes →
-    length notes ≡ length (counted (steps_value commands)) → d ≡ get_or commands index d → n ≡ get_or notes index n → passed writes (command_value d) n.state s ≡ None →
-    verdict_from writes end commands notes index s ≡ verdict_at (index + 1) false
-stop-here writes end commands notes index d n s h size is_d is_n is =
-    from-here writes end commands notes index d n s h size is_d is_n
-    ∙ step-off writes end (index + 1) s (step_value d) (drop (index + 1) (counted (steps_value commands))) n (drop (index + 1) notes) is
+here : {A : Type 0} (xs : List A) (index : ℕ) (x : A) → index < length xs → x ≡ get_or xs index x → drop index xs ≡ x ∷ drop (index + 1) xs
+here {A = A} xs index x h is =
+    drop-cons xs index x h ∙ ap (λ (y : A). y ∷ drop (suc index) xs) (sym is) ∙ ap (λ k. x ∷ drop k xs) (sym (add-one index))
 
 none-left : {A : Type 0} (xs : List A) → drop (length xs) xs ≡ []
 none-left [] = refl
 none-left (x ∷ xs) = none-left xs
 
--- after the last note come the checks of the end
-pub gone-through : (writes : List (List ℕ)) (end : ℕ → State → List Check) (commands : List Command) (notes : List Note) (index : ℕ) (s : State) → index ≡ length notes →
-    length notes ≡ length (counted (steps_value commands)) → verdict_from writes end commands notes index s ≡ verdict_of (end (length notes + 1) s)
-gone-through writes end commands notes index s here size =
-    let xs : List Step = counted (steps_value commands) in
-    let steps : drop index xs ≡ [] = ap (λ n. drop n xs) (here ∙ size) ∙ none-left xs in
-    ap (λ (ys : List Step). verdict_of (checks_from writes end (index + 1) s ys (drop index notes))) steps ∙ ap (λ n. verdict_of (end (n + 1) s)) here
+-- the commands of a list and what is known before them, from a place on
+abbrev pub list_from : (number : ℕ) → (writes : List (List ℕ)) → List public_command.Command → List State → (turned : ℕ → State → List Check) → (index : ℕ) → State → Verdict
+list_from number writes list states turned index coming =
+    verdict_of (list_checks number (index + 1) writes coming (drop index (map command_value list)) (drop index states) turned)
 
--- before the first
-pub from-start : (writes : List (List ℕ)) (end : ℕ → State → List Check) (commands : List Command) (notes : List Note) (s : State) →
-    verdict_of (checks_from writes end 1 s (counted (steps_value commands)) notes) ≡ verdict_from writes end commands notes 0 s
-from-start writes end commands notes s = refl
+module _ (number : ℕ) (writes : List (List ℕ)) (list : List public_command.Command) (states : List State) (turned : ℕ → State → List Check) where
+  list-here : (index : ℕ) (d : public_command.Command) (known coming : State) → index < length states → length states ≡ length list → d ≡ get_or list index d → known ≡ get_or states index known →
+      list_from number writes list states turned index coming
+      ≡ verdict_of (command_checks (inner_at number (index + 1)) writes (command_value d) known coming
+      (list_checks number (index + 1 + 1) writes (left_by (command_value d) known) (drop (index + 1) (map command_value list)) (drop (index + 1) states) turned))
+  list-here index d known coming h size is_d is_known =
+      let commands : drop index (map command_value list) ≡ command_value d ∷ drop (index + 1) (map command_value list) = mapped-here command_value list index d (omega arith) is_d in
+      let knowns : drop index states ≡ known ∷ drop (index + 1) states = here states index known h is_known in
+      ap (λ (cs : List Command). verdict_of (list_checks number (index + 1) writes coming cs (drop index states) turned)) commands
+      ∙ ap (λ (ss : List State). verdict_of (list_checks number (index + 1) writes coming (command_value d ∷ drop (index + 1) (map command_value list)) ss turned)) knowns
+
+  pub list-on : (index : ℕ) (d : public_command.Command) (known coming t : State) → index < length states → length states ≡ length list → d ≡ get_or list index d → known ≡ get_or states index known →
+      passed writes (command_value d) known coming ≡ Some t → list_from number writes list states turned index coming ≡ list_from number writes list states turned (index + 1) t
+  list-on index d known coming t h size is_d is_known is =
+      let on = command-on (inner_at number (index + 1)) writes (command_value d) known coming t is in
+      list-here index d known coming h size is_d is_known
+      ∙ on.0 (list_checks number (index + 1 + 1) writes (left_by (command_value d) known) (drop (index + 1) (map command_value list)) (drop (index + 1) states) turned)
+      ∙ ap (λ (u : State). verdict_of (list_checks number (index + 1 + 1) writes u (drop (index + 1) (map command_value list)) (drop (index + 1) states) turned)) on.1
+
+  pub list-off : (index : ℕ) (d : public_command.Command) (known coming : State) → index < length states → length states ≡ length list → d ≡ get_or list index d → known ≡ get_or states index known →
+      passed writes (command_value d) known coming ≡ None → list_from number writes list states turned index coming ≡ Refused (inner_at number (index + 1))
+  list-off index d known coming h size is_d is_known is =
+      list-here index d known coming h size is_d is_known
+      ∙ command-off (inner_at number (index + 1)) writes (command_value d) known coming
+      (list_checks number (index + 1 + 1) writes (left_by (command_value d) known) (drop (index + 1) (map command_value list)) (drop (index + 1) states) turned) is
+
+  pub list-over : (index : ℕ) (coming : State) → index ≡ length states → length states ≡ length list →
+      list_from number writes list states turned index coming ≡ verdict_of (turned (length (map command_value list) + 1) coming)
+  list-over index coming at_end size =
+      let counts : length (map command_value list) ≡ length list = length-map list command_value in
+      let last : index ≡ length (map command_value list) = at_end ∙ size ∙ sym counts in
+      let none : drop index (map command_value list) ≡ [] = ap (λ n. drop n (map command_value list)) last ∙ none-left (map command_value list) in
+      ap (λ (cs : List Command). verdict_of (list_checks number (index + 1) writes coming cs (drop index states) turned)) none
+      ∙ ap (λ n. verdict_of (turned (n + 1) coming)) last
+
+-- WHAT IS KNOWN OF A LIST
+
+module _ (number : ℕ) (writes : List (List ℕ)) (x : Step) (l : Looped) (known start : State) where
+  -- the invariant says more than the state before the first line
+  pub loop-uncovered : covers l.invariant start ≡ false → LoopGoesTo number writes x l known start (Fails (command_at number))
+  loop-uncovered e = λ later.
+      fails-at (covers l.invariant start) (command_at number)
+      (list_checks number 1 writes (body_entry l.invariant) x.list l.inner (λ inner turned. at_place (inner_at number inner) (covers l.invariant turned) ∷ later)) e
+
+  abbrev turned_checks : List Check → ℕ → State → List Check
+  turned_checks later = λ inner turned. at_place (inner_at number inner) (covers l.invariant turned) ∷ later
+
+  begun : (later : List Check) → covers l.invariant start ≡ true →
+      verdict_of (loop_checks number writes x.list l start later) ≡ verdict_of (list_checks number 1 writes (body_entry l.invariant) x.list l.inner (turned_checks later))
+  begun later e =
+      holds-at (covers l.invariant start) (command_at number) (list_checks number 1 writes (body_entry l.invariant) x.list l.inner (turned_checks later)) e
+
+  module _ (covered : covers l.invariant start ≡ true) where
+    -- a check of the list fails
+    pub loop-fails : (place : Place) → ListGoesTo number writes x.list l.inner (body_entry l.invariant) (Fails place) → LoopGoesTo number writes x l known start (Fails place)
+    loop-fails place goes = λ later. begun later covered ∙ goes (turned_checks later)
+
+    -- the invariant says more than what the list leaves
+    pub loop-unturned : (t : State) → ListGoesTo number writes x.list l.inner (body_entry l.invariant) (Left t) → covers l.invariant t ≡ false →
+        LoopGoesTo number writes x l known start (Fails (inner_at number (length x.list + 1)))
+    loop-unturned t goes e = λ later.
+        begun later covered ∙ goes (turned_checks later) ∙ fails-at (covers l.invariant t) (inner_at number (length x.list + 1)) later e
+
+    pub loop-turned : (t end : State) → ListGoesTo number writes x.list l.inner (body_entry l.invariant) (Left t) → covers l.invariant t ≡ true → end ≡ loop_end x known l.invariant →
+        LoopGoesTo number writes x l known start (Left end)
+    loop-turned t end goes e is = (
+      is,
+      λ later.
+          begun later covered ∙ goes (turned_checks later) ∙ holds-at (covers l.invariant t) (inner_at number (length x.list + 1)) later e,
+    )
+
+-- A STEP
+
+module _ (number : ℕ) (writes : List (List ℕ)) (x : Step) (coming : State) where
+  pub step-off : (n : Note) → passed writes x.command n.state coming ≡ None → StepGoesTo number writes x n coming (Fails (command_at number))
+  step-off n e = λ later. command-off (command_at number) writes x.command n.state coming (looped_checks n.looped number writes x n.state later) e
+
+  pub step-plain : (known left : State) → passed writes x.command known coming ≡ Some left → StepGoesTo number writes x (record { state = known; looped = None }) coming (Left left)
+  step-plain known left e =
+      let on = command-on (command_at number) writes x.command known coming left e in
+      (sym on.1, λ later. on.0 later)
+
+  pub step-looped : (known left : State) (l : Looped) (p : Passage) → passed writes x.command known coming ≡ Some left → LoopGoesTo number writes x l known left p →
+      StepGoesTo number writes x (record { state = known; looped = Some l }) coming p
+  step-looped known left l (Left t) e goes =
+      let on = command-on (command_at number) writes x.command known coming left e in (
+        goes.0,
+        λ later.
+            on.0 (loop_checks number writes x.list l (left_by x.command known) later)
+            ∙ ap (λ (u : State). verdict_of (loop_checks number writes x.list l u later)) on.1
+            ∙ goes.1 later,
+      )
+  step-looped known left l (Fails place) e goes =
+      let on = command-on (command_at number) writes x.command known coming left e in
+      λ later.
+      on.0 (loop_checks number writes x.list l (left_by x.command known) later)
+      ∙ ap (λ (u : State). verdict_of (loop_checks number writes x.list l u later)) on.1
+      ∙ goes later
+
+-- THE STEPS
+
+-- the commands and notes from a place on
+abbrev pub verdict_from : (writes : List (List ℕ)) → (ℕ → State → List Check) → List public_command.Command → List public.Note → (index : ℕ) → State → Verdict
+verdict_from writes end commands notes index s =
+    verdict_of (checks_from writes end (index + 1) s (drop index (counted (steps_value commands))) (drop index (map note_value notes)))
+
+-- the command and the note at a place, and those after it
+steps-here : (commands : List public_command.Command) (index : ℕ) (d : public_command.Command) → index < length (counted (steps_value commands)) → d ≡ get_or commands index d →
+    drop index (counted (steps_value commands)) ≡ step_value d ∷ drop (index + 1) (counted (steps_value commands))
+steps-here commands index d h is_d =
+    let xs : List Step = counted (steps_value commands) in
+    counted-next commands index d h ∙ ap (λ (e : public_command.Command). step_value e ∷ drop (suc index) xs) (sym is_d) ∙ ap (λ k. step_value d ∷ drop k xs) (sym (add-one index))
+
+module _ (writes : List (List ℕ)) (end : ℕ → State → List Check) (commands : List public_command.Command) (notes : List public.Note) where
+  from-here : (index : ℕ) (d : public_command.Command) (n : public.Note) (s : State) → index < length notes →
+      length notes ≡ length (counted (steps_value commands)) → d ≡ get_or commands index d → n ≡ get_or notes index n →
+      verdict_from writes end commands notes index s
+      ≡ verdict_of (checks_from writes end (index + 1) s (step_value d ∷ drop (index + 1) (counted (steps_value commands))) (note_value n ∷ drop (index + 1) (map note_value notes)))
+  from-here index d n s h size is_d is_n =
+      let xs : List Step = counted (steps_value commands) in
+      ap (λ (ys : List Step). verdict_of (checks_from writes end (index + 1) s ys (drop index (map note_value notes)))) (steps-here commands index d (omega arith) is_d)
+      ∙ ap (λ (ns : List Note). verdict_of (checks_from writes end (index + 1) s (step_value d ∷ drop (index + 1) xs) ns)) (mapped-here note_value notes index n h is_n)
+
+  -- the checks after this step
+  abbrev later_checks : ℕ → public_command.Command → public.Note → List Check
+  later_checks index d n =
+      checks_from writes end (index + 1 + 1) (left_after (note_value n).looped (step_value d) n.state) (drop (index + 1) (counted (steps_value commands))) (drop (index + 1) (map note_value notes))
+
+  pub go-on : (index : ℕ) (d : public_command.Command) (n : public.Note) (s t : State) → index < length notes →
+      length notes ≡ length (counted (steps_value commands)) → d ≡ get_or commands index d → n ≡ get_or notes index n →
+      StepGoesTo (index + 1) writes (step_value d) (note_value n) s (Left t) →
+      verdict_from writes end commands notes index s ≡ verdict_from writes end commands notes (index + 1) t
+  go-on index d n s t h size is_d is_n goes =
+      from-here index d n s h size is_d is_n
+      ∙ goes.1 (later_checks index d n)
+      ∙ ap (λ (u : State). verdict_of (checks_from writes end (index + 1 + 1) u (drop (index + 1) (counted (steps_value commands))) (drop (index + 1) (map note_value notes)))) (sym goes.0)
+
+  pub stop-here : (index : ℕ) (d : public_command.Command) (n : public.Note) (s : State) (place : Place) → index < length notes →
+      length notes ≡ length (counted (steps_value commands)) → d ≡ get_or commands index d → n ≡ get_or notes index n →
+      StepGoesTo (index + 1) writes (step_value d) (note_value n) s (Fails place) → verdict_from writes end commands notes index s ≡ Refused place
+  stop-here index d n s place h size is_d is_n goes = from-here index d n s h size is_d is_n ∙ goes (later_checks index d n)
+
+  -- after the last note come the checks of the end
+  pub gone-through : (index : ℕ) (s : State) → index ≡ length notes →
+      length notes ≡ length (counted (steps_value commands)) → verdict_from writes end commands notes index s ≡ verdict_of (end (length (map note_value notes) + 1) s)
+  gone-through index s at_end size =
+      let xs : List Step = counted (steps_value commands) in
+      let counts : length (map note_value notes) ≡ length notes = length-map notes note_value in
+      let steps : drop index xs ≡ [] = ap (λ n. drop n xs) (at_end ∙ size) ∙ none-left xs in
+      ap (λ (ys : List Step). verdict_of (checks_from writes end (index + 1) s ys (drop index (map note_value notes)))) steps
+      ∙ ap (λ n. verdict_of (end (n + 1) s)) (at_end ∙ sym counts)
+
+-- THE SHAPE
+
+-- notes in the right shape are as many as the commands, and each fits its command
+pub shaped-length : (xs : List Step) (notes : List Note) → are_shaped xs notes ≡ true → length notes ≡ length xs
+shaped-length [] [] h = refl
+shaped-length [] (n ∷ notes) h = absurd cc
+shaped-length (x ∷ xs) [] h = absurd cc
+shaped-length (x ∷ xs) (n ∷ notes) h = ap suc (shaped-length xs notes (and-second (fits x n) (are_shaped xs notes) h))
+
+unshaped-length : (xs : List Step) (notes : List Note) → (length notes ≡ length xs → ⊥) → are_shaped xs notes ≡ false
+unshaped-length [] [] h = absurd (h refl)
+unshaped-length [] (n ∷ notes) h = refl
+unshaped-length (x ∷ xs) [] h = refl
+unshaped-length (x ∷ xs) (n ∷ notes) h =
+    rw (unshaped-length xs notes (λ e. h (ap suc e)))
+    (elim (fits x n) as (λ b. b && false ≡ false) [ true ↦ refl | false ↦ refl ])
+
+-- the shape of those from a place on
+abbrev pub shape_from : List public_command.Command → List public.Note → (index : ℕ) → Bool
+shape_from commands notes index = are_shaped (drop index (counted (steps_value commands))) (drop index (map note_value notes))
+
+module _ (commands : List public_command.Command) (notes : List public.Note) where
+  shape-here : (index : ℕ) (d : public_command.Command) (n : public.Note) → index < length notes → length notes ≡ length (counted (steps_value commands)) → d ≡ get_or commands index d → n ≡ get_or notes index n →
+      shape_from commands notes index ≡ fits (step_value d) (note_value n) && shape_from commands notes (index + 1)
+  shape-here index d n h size is_d is_n =
+      let xs : List Step = counted (steps_value commands) in
+      ap (λ (ys : List Step). are_shaped ys (drop index (map note_value notes))) (steps-here commands index d (omega arith) is_d)
+      ∙ ap (λ (ns : List Note). are_shaped (step_value d ∷ drop (index + 1) xs) ns) (mapped-here note_value notes index n h is_n)
+
+  pub shape-on : (index : ℕ) (d : public_command.Command) (n : public.Note) → index < length notes → length notes ≡ length (counted (steps_value commands)) → d ≡ get_or commands index d → n ≡ get_or notes index n →
+      fits (step_value d) (note_value n) ≡ true → shape_from commands notes index ≡ shape_from commands notes (index + 1)
+  shape-on index d n h size is_d is_n fit = shape-here index d n h size is_d is_n ∙ ap (λ b. b && shape_from commands notes (index + 1)) fit
+
+  pub shape-off : (index : ℕ) (d : public_command.Command) (n : public.Note) → index < length notes → length notes ≡ length (counted (steps_value commands)) → d ≡ get_or commands index d → n ≡ get_or notes index n →
+      fits (step_value d) (note_value n) ≡ false → shape_from commands notes index ≡ false
+  shape-off index d n h size is_d is_n unfit = shape-here index d n h size is_d is_n ∙ ap (λ b. b && shape_from commands notes (index + 1)) unfit
+
+  pub shape-over : (index : ℕ) → index ≡ length notes → length notes ≡ length (counted (steps_value commands)) → shape_from commands notes index ≡ true
+  shape-over index at_end size =
+      let xs : List Step = counted (steps_value commands) in
+      let counts : length (map note_value notes) ≡ length notes = length-map notes note_value in
+      ap (λ n. are_shaped (drop n xs) (drop index (map note_value notes))) (at_end ∙ size)
+      ∙ ap (λ (ys : List Step). are_shaped ys (drop index (map note_value notes))) (none-left xs)
+      ∙ ap (λ n. are_shaped [] (drop n (map note_value notes))) (at_end ∙ sym counts)
+      ∙ ap (λ (ns : List Note). are_shaped [] ns) (none-left (map note_value notes))
+
+  -- another number of notes
+  pub shape-size : (number : ℕ) → number ≡ length (counted (steps_value commands)) → (length notes ≡ number → ⊥) → are_shaped (counted (steps_value commands)) (map note_value notes) ≡ false
+  shape-size number is differ =
+      unshaped-length (counted (steps_value commands)) (map note_value notes) (λ e. differ (sym (length-map notes note_value) ∙ e ∙ sym is))
+
+  pub noted-length : are_shaped (counted (steps_value commands)) (map note_value notes) ≡ true → length notes ≡ length (counted (steps_value commands))
+  noted-length all = sym (length-map notes note_value) ∙ shaped-length (counted (steps_value commands)) (map note_value notes) all
+
+  -- of each note in the right shape the command fits
+  pub shape-fits : (index : ℕ) (d : public_command.Command) (n : public.Note) → index < length notes → d ≡ get_or commands index d → n ≡ get_or notes index n →
+      are_shaped (counted (steps_value commands)) (map note_value notes) ≡ true → shape_from commands notes index ≡ true → fits (step_value d) (note_value n) ≡ true
+  shape-fits index d n h is_d is_n all from =
+      and-first (fits (step_value d) (note_value n)) (shape_from commands notes (index + 1)) (sym (shape-here index d n h (noted-length all) is_d is_n) ∙ from)
 
 -- what is accepted can't fail, by the law
-pub sound-by : {E : Type 0} (r : Result Verdict E) (script : Script) (c : Certificate) → ((s : Script) (d : Certificate) → judged s d ≡ Accepted → CannotFail s d) →
-    IfOk r (λ answer. answer ≡ judged script c) → IfOk r (λ answer. answer ≡ Accepted → CannotFail script c)
-sound-by (Ok answer) script c law is = λ e. law script c (sym is ∙ e)
-sound-by (Err f) script c law is = tt
+pub sound-by : {E : Type 0} (r : Result Verdict E) (script : Script) (c : Certificate) → ((s : Script) (d : Certificate) → IsTrue (list_all is_step s.steps) → judged s d ≡ Accepted → CannotFail s d) →
+    IsTrue (list_all is_step script.steps) → IfOk r (λ answer. answer ≡ judged script c) → IfOk r (λ answer. answer ≡ Accepted → CannotFail script c)
+sound-by (Ok answer) script c law stands is = λ e. law script c stands (sym is ∙ e)
+sound-by (Err f) script c law stands is = tt
 
--- the verdict by what the checker finds: another number of notes, a command's check that fails, or the end
-judged-shape : (script : Script) (c : Certificate) → (length c.notes == length (counted script.steps)) ≡ false → judged script c ≡ verdict_at 0 false
+-- the verdict by what the checker finds: notes in another shape, a command's check that fails, or the end
+judged-shape : (script : Script) (c : Certificate) → are_shaped (counted script.steps) c.notes ≡ false → judged script c ≡ verdict_at 0 false
 judged-shape script c e =
-    fails-at (length c.notes == length (counted script.steps)) 0
+    fails-at (are_shaped (counted script.steps) c.notes) (command_at 0)
     (checks_from c.writes (end_checks (has_quit script.steps) script.fault c) 1 (start c.path c.min c.max) (counted script.steps) c.notes) e
 
-judged-fails : (script : Script) (c : Certificate) (number : ℕ) → length c.notes ≡ length (counted script.steps) →
-    GoesTo c.writes (counted script.steps) c.notes (start c.path c.min c.max) (Fails number) → judged script c ≡ verdict_at number false
-judged-fails script c number size goes =
+judged-fails : (script : Script) (c : Certificate) (place : Place) → are_shaped (counted script.steps) c.notes ≡ true →
+    GoesTo c.writes (counted script.steps) c.notes (start c.path c.min c.max) (Fails place) → judged script c ≡ Refused place
+judged-fails script c place shaped goes =
     let end : ℕ → State → List Check = end_checks (has_quit script.steps) script.fault c in
-    holds-at (length c.notes == length (counted script.steps)) 0 (checks_from c.writes end 1 (start c.path c.min c.max) (counted script.steps) c.notes)
-    (eq-eqb (length c.notes) (length (counted script.steps)) size)
+    holds-at (are_shaped (counted script.steps) c.notes) (command_at 0) (checks_from c.writes end 1 (start c.path c.min c.max) (counted script.steps) c.notes) shaped
     ∙ goes end
 
-judged-left : (script : Script) (c : Certificate) (t : State) → length c.notes ≡ length (counted script.steps) →
+judged-left : (script : Script) (c : Certificate) (t : State) → are_shaped (counted script.steps) c.notes ≡ true →
     GoesTo c.writes (counted script.steps) c.notes (start c.path c.min c.max) (Left t) →
     judged script c ≡ verdict_at (length c.notes + 1) (ends_well (has_quit script.steps) script.fault c t)
-judged-left script c t size goes =
+judged-left script c t shaped goes =
     let end : ℕ → State → List Check = end_checks (has_quit script.steps) script.fault c in
-    holds-at (length c.notes == length (counted script.steps)) 0 (checks_from c.writes end 1 (start c.path c.min c.max) (counted script.steps) c.notes)
-    (eq-eqb (length c.notes) (length (counted script.steps)) size)
+    holds-at (are_shaped (counted script.steps) c.notes) (command_at 0) (checks_from c.writes end 1 (start c.path c.min c.max) (counted script.steps) c.notes) shaped
     ∙ goes end ∙ end-verdict (has_quit script.steps) script.fault c (length c.notes + 1) t
 
-judged-passage : (script : Script) (c : Certificate) (p : Passage) → length c.notes ≡ length (counted script.steps) →
+judged-passage : (script : Script) (c : Certificate) (p : Passage) → are_shaped (counted script.steps) c.notes ≡ true →
     GoesTo c.writes (counted script.steps) c.notes (start c.path c.min c.max) p → judged script c ≡ verdict_after p (has_quit script.steps) script.fault c
-judged-passage script c (Left t) size goes = judged-left script c t size goes
-judged-passage script c (Fails number) size goes = judged-fails script c number size goes
+judged-passage script c (Left t) shaped goes = judged-left script c t shaped goes
+judged-passage script c (Fails place) shaped goes = judged-fails script c place shaped goes
 
 pub judged-by : (script : Script) (c : Certificate) (writes : List (List ℕ)) (xs : List Step) (notes : List Note) (s : State) (quit : Bool) (p : Passage) → writes ≡ c.writes → xs ≡ counted script.steps →
-    notes ≡ c.notes → s ≡ start c.path c.min c.max → quit ≡ has_quit script.steps → length notes ≡ length xs → GoesTo writes xs notes s p →
+    notes ≡ c.notes → s ≡ start c.path c.min c.max → quit ≡ has_quit script.steps → are_shaped xs notes ≡ true → GoesTo writes xs notes s p →
     verdict_after p quit script.fault c ≡ judged script c
-judged-by script c writes xs notes s quit p same_writes same_steps same_notes same_start same_quit size goes =
-    let counts : length c.notes ≡ length (counted script.steps) = sym (ap (λ (ns : List Note). length ns) same_notes) ∙ size ∙ ap (λ (ys : List Step). length ys) same_steps in
+judged-by script c writes xs notes s quit p same_writes same_steps same_notes same_start same_quit shaped goes =
+    let shape : are_shaped (counted script.steps) c.notes ≡ true =
+    subst (λ (ns : List Note). are_shaped (counted script.steps) ns ≡ true) same_notes (subst (λ (ys : List Step). are_shaped ys notes ≡ true) same_steps shaped) in
     let by_writes = subst (λ (ws : List (List ℕ)). GoesTo ws xs notes s p) same_writes goes in
     let by_steps = subst (λ (ys : List Step). GoesTo c.writes ys notes s p) same_steps by_writes in
     let by_notes = subst (λ (ns : List Note). GoesTo c.writes (counted script.steps) ns s p) same_notes by_steps in
     let by_start = subst (λ (t : State). GoesTo c.writes (counted script.steps) c.notes t p) same_start by_notes in
-    ap (λ (q : Bool). verdict_after p q script.fault c) same_quit ∙ sym (judged-passage script c p counts by_start)
+    ap (λ (q : Bool). verdict_after p q script.fault c) same_quit ∙ sym (judged-passage script c p shape by_start)
 
-pub judged-by_shape : (script : Script) (c : Certificate) (xs : List Step) (notes : List Note) (number : ℕ) → xs ≡ counted script.steps → notes ≡ c.notes → number ≡ length xs →
-    (length notes ≡ number → ⊥) → judged script c ≡ verdict_at 0 false
-judged-by_shape script c xs notes number same_steps same_notes same_number differ =
-    let by_number = subst (λ (n : ℕ). (length notes == n) ≡ false) (same_number ∙ ap (λ (ys : List Step). length ys) same_steps) (ne_eqb (length notes) number differ) in
-    let by_notes = subst (λ (ns : List Note). (length ns == length (counted script.steps)) ≡ false) same_notes by_number in
-    judged-shape script c by_notes
+pub judged-by_shape : (script : Script) (c : Certificate) (xs : List Step) (notes : List Note) → xs ≡ counted script.steps → notes ≡ c.notes →
+    are_shaped xs notes ≡ false → judged script c ≡ verdict_at 0 false
+judged-by_shape script c xs notes same_steps same_notes e =
+    judged-shape script c
+    (subst (λ (ns : List Note). are_shaped (counted script.steps) ns ≡ false) same_notes (subst (λ (ys : List Step). are_shaped ys notes ≡ false) same_steps e))

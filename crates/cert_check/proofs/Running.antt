@@ -1,5 +1,5 @@
 -- Accepted commands run to their end, from each state that what comes in stands for.
-use Rattle.std.proofs.Common.{◌≡◌, ◌<◌, ◌≤◌, inl, inr, ℕ, suc, ◌+◌, ℤ, pos, neg_ℤ, ◌-ℤ◌, ◌≤ℤ◌, Bool, true, false, not, ◌||◌, List, [], ◌∷◌, length, Option, None, Some, Result, Ok, Err, IsTrue, ◌↔◌, arith, refl, sym, ap, subst}
+use Rattle.std.proofs.Common.{◌≡◌, ◌<◌, ◌≤◌, inl, inr, ℕ, suc, ℤ, pos, neg_ℤ, ◌-ℤ◌, ◌≤ℤ◌, Bool, true, false, not, List, [], ◌∷◌, length, Option, None, Some, Result, Ok, Err, IsTrue, ◌↔◌, arith, refl, sym, ap, subst}
 use Rattle.std.specs.Prelude.{nat_eq}
 use Rattle.std.specs.List.{All, Contains, list_any}
 use Rattle.std.specs.Cmp.Lexicographic.{pointwise, bytes_decides}
@@ -15,29 +15,34 @@ use Rattle.ed_syntax.specs.declared.request.Request.TheVariants as request
 use Rattle.ed_syntax.specs.Commands as ed
 use Rattle.ed_syntax.specs.Commands.{Verb, Command, Step}
 use Rattle.ed_syntax.specs.States as editor
-use Rattle.ed_syntax.specs.Effects.{Effect, Makes, Asks}
+use Rattle.ed_syntax.specs.Effects.{Outcome, Effect, Makes, Asks}
 use Rattle.ed_syntax.specs.Applied.{command}
 use Rattle.ed_syntax.specs.Progress.{Present, Progress, Writes, asked_of, stop_of, failing, ending, quitting, count}
-use Rattle.ed_syntax.specs.Runs.{Further, with_state, answered, asking, turned, one, step_by, prompted, at_end, steps}
+use Rattle.ed_syntax.specs.Runs.{Further, with_state, answered, asking, turned, one, step_by, prompted, at_end}
 use Rattle.ed_rules.specs.declared.state.State.{State}
 use Rattle.ed_rules.specs.Order.{Covers}
 use Rattle.cert_check.specs.Covering.{covers}
 use Rattle.ed_rules.specs.Soundness.{MayAskFor, IsDone, CommandIsSound}
 use Rattle.ed_rules.specs.Files.{written_paths}
+use Rattle.ed_rules.specs.Globals.{is_global, body_entry, loop_end}
+use Rattle.ed_rules.specs.GlobalSoundness as global
+use Rattle.ed_rules.specs.GlobalSoundness.{TurnIsSound, ChangesAreNoted, EndIsSound}
 use Rattle.ed_rules.proofs.Choosing.{or-cases, has_choice-all}
 use Rattle.ed_rules.specs.StandsFor.{StandsFor, allows_change}
 use Rattle.cert_check.specs.Opening.{IsAtMost, IsWithin, StartIsSound}
-use Rattle.cert_check.specs.declared.certificate.Note.{Note}
-use Rattle.cert_check.specs.declared.verdict.Verdict.TheVariants.{Accepted}
 use Rattle.cert_check.specs.Certificates.{Certificate}
-use Rattle.cert_check.specs.Valid.{verdict_of, quits, has_quit, counted, are_met, left_by, is_listed, are_listed, knows_least, knows_most, end_checks, checks_from}
+use Rattle.cert_check.specs.Valid.{quits, counted, are_met, left_by, is_listed, are_listed, knows_least, knows_most}
 use Rattle.cert_check.specs.Sound.{MayAsk, StopsWell}
-use Rattle.cert_check.proofs.Checks.{first-holds, EndsSo, end-holds, met-gives}
+use Rattle.cert_check.proofs.Checks.{EndsSo, met-gives}
 use Rattle.cert_check.proofs.Quitting.{OnValue, SameMade, SavedMade, quit-leaves, saved-leaves}
 
 -- the laws of the crates below
 pub record Laws : Type 0 where
   pub command : CommandIsSound
+  pub begun : global.StartIsSound
+  pub turn : (invariant : State) → TurnIsSound invariant (body_entry invariant)
+  pub changes : ChangesAreNoted
+  pub over : (x : Step) (before invariant : State) → EndIsSound x before invariant (loop_end x before invariant)
   pub decided : (weak strong : State) → IsTrue (covers weak strong) ↔ Covers weak strong
   pub started : StartIsSound
   pub weaker : (weak strong : State) (e : editor.State) → Covers weak strong → StandsFor strong e → StandsFor weak e
@@ -48,7 +53,7 @@ abbrev pub RunsWell : Certificate → Progress → Type 0
 RunsWell c p = All (MayAsk c) (asked_of p) × StopsWell c (stop_of p)
 
 -- what covers a state stands for all that it stands for
-covers-stands : Laws → (weak strong : State) (e : editor.State) → covers weak strong ≡ true → StandsFor strong e → StandsFor weak e
+pub covers-stands : Laws → (weak strong : State) (e : editor.State) → covers weak strong ≡ true → StandsFor strong e → StandsFor weak e
 covers-stands k weak strong e h st = k.weaker weak strong e ((k.decided weak strong).0 h) st
 
 least-holds : Laws → (s : State) (low : ℕ) (e : editor.State) → knows_least s.zone low ≡ true → StandsFor s e → low ≤ length e.lines
@@ -74,7 +79,7 @@ within-end k quit bad c s e h st =
     let last : StandsFor c.last e = covers-stands k c.last s e h.covered st in
     (least-holds k c.last c.low e h.least last, most-holds k c.last c.high e h.most last)
 
-prompted-well : (c : Certificate) (m : Present) (p : Progress) → RunsWell c p → RunsWell c (prompted m p)
+pub prompted-well : (c : Certificate) (m : Present) (p : Progress) → RunsWell c p → RunsWell c (prompted m p)
 prompted-well c m p well =
     elim m.prompting as (λ b. RunsWell c (elim b as (λ _. Progress) [ true ↦ Writes m.help m.prompt p | false ↦ p ])) [ true ↦ well | false ↦ well ]
 
@@ -97,7 +102,7 @@ quitting-well k bad c s m h st =
       | false ↦ λ e. ending-well c m (within-end k false bad c s m.state h st)
     ]) refl
 
-at_end-well : Laws → (bad : Option ℕ) (c : Certificate) (s : State) (m : Present) → EndsSo false bad c s → StandsFor s m.state → RunsWell c (at_end bad m)
+pub at_end-well : Laws → (bad : Option ℕ) (c : Certificate) (s : State) (m : Present) → EndsSo false bad c s → StandsFor s m.state → RunsWell c (at_end bad m)
 at_end-well k None c s m h st = quitting-well k None c s m h st
 at_end-well k (Some line) c s m h st = let f : false ≡ true = h.readable in absurd cc
 
@@ -113,22 +118,28 @@ may-listed : (c : Certificate) (x : Command) (s : State) (r : Request) → are_l
 may-listed c x s (request.Read path) l h = tt
 may-listed c x s (request.Write path bytes) l h = listed-contained c.writes path (has_choice-all (is_listed c.writes) (written_paths x.verb s) (Some path) l h)
 
+-- a command leads from one state of the editor to another
+abbrev pub Leads : Command → (before after : editor.State) → Type 0
+Leads x e f = (given : Option Answer) × (o : Outcome) × (command e x given ≡ Ok (Makes o)) × (o.state ≡ f)
+
 -- what is made of an answer, and the run after it
-answered-well : (c : Certificate) (x : Command) (s t : State) (m : Present) (a : Answer) (counted : List ℕ) (y : Result Effect Fault) (go : Further) (answers : List Answer) → IsDone x s t m.state (Some a) y →
-    ((e : editor.State) (more : List Answer) → StandsFor t e → RunsWell c (go (with_state e m) more)) → RunsWell c (answered m counted y go answers)
-answered-well c x s t m a counted (Err f) go answers done h = (All-nil (MayAsk c), done.3)
-answered-well c x s t m a counted (Ok (Makes o)) go answers done h = h o.state answers done
-answered-well c x s t m a counted (Ok (Asks r)) go answers done h = absurd done
+answered-well : (c : Certificate) (x : Command) (s t : State) (m : Present) (a : Answer) (counted : List ℕ) (y : Result Effect Fault) (go : Further) (answers : List Answer) →
+    command m.state x (Some a) ≡ y → IsDone x s t m.state (Some a) y →
+    ((e : editor.State) (more : List Answer) → Leads x m.state e → StandsFor t e → RunsWell c (go (with_state e m) more)) → RunsWell c (answered m counted y go answers)
+answered-well c x s t m a counted (Err f) go answers is done h = (All-nil (MayAsk c), done.3)
+answered-well c x s t m a counted (Ok (Makes o)) go answers is done h = h o.state answers (Some a, o, is, refl) done
+answered-well c x s t m a counted (Ok (Asks r)) go answers is done h = absurd done
 
 -- a command that its rule vouches for, and the run after it
-asking-well : (c : Certificate) (x : Command) (s t : State) (m : Present) (y : Result Effect Fault) (again : Answer → Result Effect Fault) (go : Further) (answers : List Answer) → are_listed c.writes x s ≡ true →
-    IsDone x s t m.state None y → ((a : Answer) → IsDone x s t m.state (Some a) (again a)) → ((e : editor.State) (more : List Answer) → StandsFor t e → RunsWell c (go (with_state e m) more)) →
-    RunsWell c (asking m y again go answers)
-asking-well c x s t m (Err f) again go answers l done later h = absurd done
-asking-well c x s t m (Ok (Makes o)) again go answers l done later h = h o.state answers done
-asking-well c x s t m (Ok (Asks r)) again go [] l done later h = (All-nil (MayAsk c), may-listed c x s r l done)
-asking-well c x s t m (Ok (Asks r)) again go (a ∷ answers) l done later h =
-    let well = answered-well c x s t m a (count m.silent r a) (again a) go answers (later a) h in
+asking-well : (c : Certificate) (x : Command) (s t : State) (m : Present) (y : Result Effect Fault) (go : Further) (answers : List Answer) → are_listed c.writes x s ≡ true →
+    command m.state x None ≡ y → IsDone x s t m.state None y → ((a : Answer) → IsDone x s t m.state (Some a) (command m.state x (Some a))) →
+    ((e : editor.State) (more : List Answer) → Leads x m.state e → StandsFor t e → RunsWell c (go (with_state e m) more)) →
+    RunsWell c (asking m y (λ a. command m.state x (Some a)) go answers)
+asking-well c x s t m (Err f) go answers l is done later h = absurd done
+asking-well c x s t m (Ok (Makes o)) go answers l is done later h = h o.state answers (None, o, is, refl) done
+asking-well c x s t m (Ok (Asks r)) go [] l is done later h = (All-nil (MayAsk c), may-listed c x s r l done)
+asking-well c x s t m (Ok (Asks r)) go (a ∷ answers) l is done later h =
+    let well = answered-well c x s t m a (count m.silent r a) (command m.state x (Some a)) go answers refl (later a) h in
     (All-cons (MayAsk c) r _ (may-listed c x s r l done) well.0, well.1)
 
 turned-state : (v : Verb) (m : Present) → (turned v m).state ≡ m.state
@@ -136,20 +147,23 @@ turned-state ed.HelpMode m = refl
 turned-state ed.PromptMode m = refl
 turned-state _ m = refl
 
-one-well : Laws → (c : Certificate) (x : Command) (s : State) (m : Present) (go : Further) (answers : List Answer) → are_met x s ≡ true → are_listed c.writes x s ≡ true → StandsFor s m.state →
-    ((q : Present) (more : List Answer) → StandsFor (left_by x s) q.state → RunsWell c (go q more)) → RunsWell c (one x m go answers)
+pub one-well : Laws → (c : Certificate) (x : Command) (s : State) (m : Present) (go : Further) (answers : List Answer) → are_met x s ≡ true → are_listed c.writes x s ≡ true → StandsFor s m.state →
+    ((q : Present) (more : List Answer) → Leads x m.state q.state → StandsFor (left_by x s) q.state → RunsWell c (go q more)) → RunsWell c (one x m go answers)
 one-well k c x s m go answers met l st h =
     let t : State = left_by x s in
     let step = met-gives x s met in
-    asking-well c x s t m (command m.state x None) (λ a. command m.state x (Some a)) (λ q. go (turned x.verb q)) answers l
+    asking-well c x s t m (command m.state x None) (λ q. go (turned x.verb q)) answers l refl
     (k.command x s t m.state None st step) (λ a. k.command x s t m.state (Some a) st step)
-    (λ e more stands. h (turned x.verb (with_state e m)) more (subst (λ (u : editor.State). StandsFor t u) (sym (turned-state x.verb (with_state e m))) stands))
+    (λ e more leads stands.
+    let same = sym (turned-state x.verb (with_state e m)) in
+    h (turned x.verb (with_state e m)) more (subst (λ (u : editor.State). Leads x m.state u) same leads) (subst (λ (u : editor.State). StandsFor t u) same stands))
 
 -- a command that doesn't end the run
-going-on : (v : Verb) (x : Step) (m : Present) (go : Further) (answers : List Answer) → quits v ≡ false → step_by v x m go answers ≡ one x.command m go answers
-going-on ed.Quit x m go answers e = absurd cc
-going-on ed.QuitAnyway x m go answers e = absurd cc
-going-on _ x m go answers e = refl
+pub going-on : (v : Verb) (x : Step) (m : Present) (go : Further) (answers : List Answer) → quits v ≡ false → not (is_global v) ≡ true → step_by v x m go answers ≡ one x.command m go answers
+going-on ed.Quit x m go answers e single = absurd cc
+going-on ed.QuitAnyway x m go answers e single = absurd cc
+going-on (ed.Global sense pattern) x m go answers e single = absurd cc
+going-on _ x m go answers e single = refl
 
 -- the lines of what its rule stands for are those of the run
 quit-within : (c : Certificate) (x : Command) (s t : State) (e : editor.State) (y : Result Effect Fault) → IsDone x s t e None y → OnValue (SameMade e) y →
@@ -177,7 +191,7 @@ quitting-saved : (m : Present) → m.state.changed ≡ false → quitting m ≡ 
 quitting-saved m e = ap (λ (b : Bool). elim b as (λ _. Progress) [ true ↦ failing m fault.Unsaved | false ↦ ending m ]) e
 
 -- a command that ends it
-ended-well : Laws → (quit : Bool) (bad : Option ℕ) (c : Certificate) (x : Step) (s : State) (m : Present) (go : Further) (answers : List Answer) (v : Verb) → x.command.verb ≡ v → quits v ≡ true →
+pub ended-well : Laws → (quit : Bool) (bad : Option ℕ) (c : Certificate) (x : Step) (s : State) (m : Present) (go : Further) (answers : List Answer) (v : Verb) → x.command.verb ≡ v → quits v ≡ true →
     are_met x.command s ≡ true → StandsFor s m.state → EndsSo quit bad c (left_by x.command s) → RunsWell c (step_by v x m go answers)
 ended-well k quit bad c x s m go answers ed.QuitAnyway is e met st h =
     let d : Command = x.command in
@@ -191,29 +205,3 @@ ended-well k quit bad c x s m go answers ed.Quit is e met st h =
     (saved-leaves d.addresses d.suffix d.listed m.state None)) in
     subst (λ (p : Progress). RunsWell c p) (sym (quitting-saved m made.1)) (quit-well k quit bad c d s m made.0 met st h)
 ended-well k quit bad c x s m go answers _ is e met st h = absurd cc
-
--- the steps that are left, of which the counted ones and the end are accepted
-pub steps-well : Laws → (c : Certificate) (bad : Option ℕ) (quit : Bool) (xs : List Step) (number : ℕ) (s : State) (notes : List Note) → quit ≡ has_quit xs →
-    length notes ≡ length (counted xs) → verdict_of (checks_from c.writes (end_checks quit bad c) number s (counted xs) notes) ≡ Accepted →
-    (m : Present) → StandsFor s m.state → (answers : List Answer) → RunsWell c (steps xs bad m answers)
-steps-well k c bad quit [] number s notes q size h m st answers =
-    prompted-well c m (at_end bad m)
-    (at_end-well k bad c s m (subst (λ (b : Bool). EndsSo b bad c s) q (end-holds quit bad c number s h)) st)
-steps-well k c bad quit (x ∷ xs) number s [] q size h m st answers = absurd (omega arith)
-steps-well k c bad quit (x ∷ xs) number s (n ∷ notes) q size h m st answers =
-    let v : Verb = x.command.verb in
-    let go : Further = λ t more. steps xs bad t more in
-    let covered = first-holds (covers n.state s) _ _ h in
-    let met = first-holds (are_met x.command n.state) _ _ covered.1 in
-    let listed = first-holds (are_listed c.writes x.command n.state) _ _ met.1 in
-    let before : StandsFor n.state m.state = covers-stands k n.state s m.state covered.0 st in
-    prompted-well c m (step_by v x m go answers)
-    ((elim (quits v) as (λ b. quits v ≡ b → quit ≡ b || has_quit xs → length (n ∷ notes) ≡ length (x ∷ (elim b as (λ _. List Step) [ true ↦ [] | false ↦ counted xs ])) →
-    verdict_of (checks_from c.writes (end_checks quit bad c) (number + 1) (left_by x.command n.state) (elim b as (λ _. List Step) [ true ↦ [] | false ↦ counted xs ]) notes) ≡ Accepted →
-    RunsWell c (step_by v x m go answers)) [
-      | true ↦ λ e r l a. ended-well k quit bad c x n.state m go answers v refl e met.0 before (end-holds quit bad c (number + 1) (left_by x.command n.state) a)
-      | false ↦ λ e r l a.
-          subst (λ (p : Progress). RunsWell c p) (sym (going-on v x m go answers e))
-          (one-well k c x.command n.state m go answers met.0 listed.0 before
-          (λ t more stands. steps-well k c bad quit xs (number + 1) (left_by x.command n.state) notes r (omega arith) a t stands more))
-    ]) refl q size listed.1)

@@ -1,6 +1,5 @@
 -- A script with a valid certificate can't fail.
-use Rattle.std.proofs.Common.{◌≡◌, ℕ, ◌==◌, List, [], ◌∷◌, length, Option, None, Some, IfSome, refl, sym, subst}
-use Rattle.std.proofs.lemmas.Bool.{eqb-true}
+use Rattle.std.proofs.Common.{◌≡◌, ℕ, List, [], ◌∷◌, length, Option, None, Some, IfSome, IsTrue, refl, sym, subst}
 use Rattle.std.proofs.lemmas.List.Elements.{All-nil, All-cons}
 use Rattle.ed_base.specs.Lines.{lines_of}
 use Rattle.ed_syntax.specs.declared.request.Answer.{Answer}
@@ -18,10 +17,13 @@ use Rattle.ed_rules.specs.States.{start}
 use Rattle.cert_check.specs.Opening.{opened, IsWithin}
 use Rattle.cert_check.specs.declared.verdict.Verdict.TheVariants.{Accepted}
 use Rattle.cert_check.specs.Certificates.{Certificate}
-use Rattle.cert_check.specs.Valid.{counted, has_quit, judged}
+use Rattle.cert_check.specs.Valid.{counted, has_quit, are_shaped, judged}
 use Rattle.cert_check.specs.Sound.{start_lines, MayAsk, CannotFail}
 use Rattle.cert_check.proofs.Checks.{first-holds}
-use Rattle.cert_check.proofs.Running.{Laws, RunsWell, steps-well}
+use Rattle.cert_check.proofs.Running.{Laws, RunsWell}
+use Rattle.cert_check.proofs.Stepping.{steps-well}
+use Rattle.ed_syntax.specs.Verbs.{is_step}
+use Rattle.std.specs.List.{list_all}
 
 -- what is left runs well from each editor that was opened within the bounds
 abbrev GoesWell : Certificate → (path : Option (List ℕ)) → Further → Type 0
@@ -43,12 +45,11 @@ start-well c (Some path) m go (answer.Missing ∷ later) new within h =
 start-well c (Some path) m go (answer.Refused ∷ later) new within h = (All-cons (MayAsk c) (request.Read path) [] tt (All-nil (MayAsk c)), refl)
 start-well c (Some path) m go (answer.Done ∷ later) new within h = (All-cons (MayAsk c) (request.Read path) [] tt (All-nil (MayAsk c)), refl)
 
-pub accepted-safe : Laws → (script : Script) (c : Certificate) → judged script c ≡ Accepted → CannotFail script c
-accepted-safe k script c h o answers same within =
+pub accepted-safe : Laws → (script : Script) (c : Certificate) → IsTrue (list_all is_step script.steps) → judged script c ≡ Accepted → CannotFail script c
+accepted-safe k script c stands h o answers same within =
     let go : Further = steps script.steps script.fault in
-    let shape = first-holds (length c.notes == length (counted script.steps)) _ _ h in
-    let size : length c.notes ≡ length (counted script.steps) = eqb-true _ _ shape.0 in
+    let shape = first-holds (are_shaped (counted script.steps) c.notes) _ _ h in
     let goes : GoesWell c c.path go = λ bytes bounds m new more.
-    steps-well k c script.fault (has_quit script.steps) script.steps 1 (start c.path c.min c.max) c.notes refl size shape.1 m
+    steps-well k c script.fault (has_quit script.steps) script.steps 1 (start c.path c.min c.max) c.notes refl stands shape.0 shape.1 m
     (subst (λ (e : editor.State). StandsFor (start c.path c.min c.max) e) (sym new) (k.started c.path c.min c.max bytes bounds)) more in
     subst (λ (p : Option (List ℕ)). RunsWell c (runs.start p (present o) go answers)) (sym same) (start-well c c.path (present o) go answers refl within goes)

@@ -1,8 +1,19 @@
 -- What a certificate says, apart from where it lies in memory.
-use Rattle.std.specs.Prelude.{ℕ, List, Option}
+use Rattle.std.specs.Prelude.{ℕ, List, map, Option, option_map}
 use Rattle.ed_rules.specs.declared.state.State.{State}
-use Rattle.cert_check.specs.declared.certificate.Note.{Note}
+use Rattle.cert_check.specs.declared.certificate.Looped as looped
+use Rattle.cert_check.specs.declared.certificate.Note as note
 use Rattle.cert_check.specs.declared.certificate.Certificate as public
+
+-- what is known at every turn of a global command's list, and before each command of the list
+pub record Looped : Type 0 where
+  pub invariant : State
+  pub inner : List State
+
+-- what is known before a command, and, of a global command, of its list
+pub record Note : Type 0 where
+  pub state : State
+  pub looped : Option Looped
 
 -- The path that the run starts with, and how many lines the start may have; a note for each counted command, of what is known
 -- before it; what is known at the end, and how many lines there may be then; the paths that may be written.
@@ -16,13 +27,20 @@ pub record Certificate : Type 0 where
   pub high : Option ℕ
   pub writes : List (List ℕ)
 
+-- what a note in memory stands for
+abbrev pub looped_value : looped.Looped → Looped
+looped_value l = record { invariant = l.invariant; inner = l.inner.items }
+
+abbrev pub note_value : note.Note → Note
+note_value n = record { state = n.state; looped = option_map looped_value n.looped }
+
 -- what a certificate in memory stands for
 abbrev pub certificate_value : public.Certificate → Certificate
 certificate_value c = record {
   path = c.path;
   min = c.min;
   max = c.max;
-  notes = c.notes.items;
+  notes = map note_value c.notes.items;
   last = c.last;
   low = c.low;
   high = c.high;

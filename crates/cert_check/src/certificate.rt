@@ -3,10 +3,20 @@
 use ed_base::Bytes;
 use ed_rules::State;
 
-/// What is known of the editor before a command.
+/// What is known of a global command's list: at its start for each line, and before each of its commands.
+#[derive(Debug, Drop)]
+pub struct Looped {
+    /// What is known at every turn: before the list is run for the first line, and after each run of it.
+    pub invariant: State,
+    /// What is known before each command of the list, in their order.
+    pub inner: Vec<State>,
+}
+
+/// What is known of the editor before a command, and, where that is a global command, of its list.
 #[derive(Debug, Drop)]
 pub struct Note {
     pub state: State,
+    pub looped: Option<Looped>,
 }
 
 /// What a certificate says: the file that a run starts with and how long it may be, what is known before each counted command

@@ -9,7 +9,7 @@ ghost use Rattle.cert_check.specs.Sound.{CannotFail};
 
 use crate::certificate::Certificate;
 use crate::laws::accepted_scripts_cannot_fail;
-use crate::passing::{Passage, count, ends_well, go_through};
+use crate::passing::{Passage, are_shaped, count, ends_well, go_through};
 use crate::verdict::{Place, Verdict};
 use ed_rules::State;
 use ed_syntax::Script;
@@ -42,7 +42,7 @@ fn verdict_after(
             let holds = ends_well(quit, fault, certificate, &coming);
             verdict_at(certificate.notes.len() + 1, holds)
         }
-        Passage::Fails(number) => verdict_at(number, false),
+        Passage::Fails(place) => Verdict::Refused(place),
     }
 }
 
@@ -53,8 +53,7 @@ fn judge(script: &Script, certificate: &Certificate) -> Result<Verdict, AllocErr
     let commands = script.commands.as_slice();
     let notes = certificate.notes.as_slice();
     let counted = count(commands);
-    let shaped = notes.len() == counted.number;
-    if !shaped {
+    if !are_shaped(commands, counted.number, notes) {
         return Ok(verdict_at(0, false));
     }
     let start = State::start(

@@ -1,17 +1,21 @@
 //! Laws about certificates: contracts of functions that do nothing.
 
-ghost use Rattle.std.specs.Prelude.{◌≡◌, IsTrue, ◌↔◌};
+ghost use Rattle.std.specs.List.{list_all};
+ghost use Rattle.std.specs.Prelude.{◌≡◌, ℕ, List, IsTrue, ◌↔◌};
 ghost use Rattle.ed_syntax.specs.Commands as ed;
+ghost use Rattle.ed_syntax.specs.Verbs.{is_step};
 ghost use Rattle.ed_rules.specs.declared.state.State.{State};
 ghost use Rattle.ed_rules.specs.Order.{Covers};
 ghost use Rattle.cert_check.specs.declared.verdict.Verdict.TheVariants.{Accepted};
 ghost use Rattle.cert_check.specs.Certificates as plain;
 ghost use Rattle.cert_check.specs.Covering.{covers};
 ghost use Rattle.cert_check.specs.Valid.{judged};
+ghost use Rattle.cert_check.specs.HasText.{IsText};
+ghost use Rattle.cert_check.specs.Faults.{IsVersionFault, IsLineFault, IsSizeFault};
 ghost use Rattle.cert_check.specs.Opening.{StartIsSound};
 ghost use Rattle.cert_check.specs.Sound.{CannotFail};
 
-use ed_rules::{commands_are_sound, weaker_states_stand_for_more};
+use ed_rules::{commands_are_sound, globals_are_sound, weaker_states_stand_for_more};
 use zones::known_bounds_are_true;
 
 /// The test of covering says whether one state covers another.
@@ -24,14 +28,32 @@ pub fn starts_are_sound()
     ensures sound { StartIsSound }
 {}
 
-/// A script with a valid certificate can't fail.
+/// A script with a valid certificate can't fail; just the commands of lists are listed, as in each script that is read.
 pub fn accepted_scripts_cannot_fail()
-    ensures sound { (script : ed.Script) (c : plain.Certificate) → judged script c ≡ Accepted →
-        CannotFail script c }
+    ensures sound { (script : ed.Script) (c : plain.Certificate) → IsTrue (list_all is_step script.steps) →
+        judged script c ≡ Accepted → CannotFail script c }
 {
     commands_are_sound();
+    globals_are_sound();
     covering_is_decided();
     starts_are_sound();
     weaker_states_stand_for_more();
     known_bounds_are_true();
 }
+
+/// No bytes are the text of two certificates.
+pub fn texts_are_unambiguous()
+    ensures one { (bytes : List ℕ) (one other : plain.Certificate) → IsText bytes one → IsText bytes other →
+        one ≡ other }
+{}
+
+/// Bytes that are the text of a certificate have no fault, no two faults come together, and a line fault names one line. So what
+/// bytes are read as is determined, and what was written is read again as the same certificate.
+pub fn readings_are_told_apart()
+    ensures text { (bytes : List ℕ) (c : plain.Certificate) → IsText bytes c →
+        (IsVersionFault bytes → ⊥) × ((number : ℕ) → IsLineFault number bytes → ⊥) × (IsSizeFault bytes → ⊥) }
+    ensures version { (bytes : List ℕ) → IsVersionFault bytes →
+        ((number : ℕ) → IsLineFault number bytes → ⊥) × (IsSizeFault bytes → ⊥) }
+    ensures line { (bytes : List ℕ) (one other : ℕ) → IsLineFault one bytes → IsLineFault other bytes → one ≡ other }
+    ensures size { (bytes : List ℕ) (number : ℕ) → IsLineFault number bytes → IsSizeFault bytes → ⊥ }
+{}

@@ -1,15 +1,18 @@
 //! The checks of commands and of the end.
 
-ghost use Rattle.std.specs.Prelude.{◌≡◌, length, option_map, IfOk};
+ghost use Rattle.std.specs.Prelude.{◌≡◌, true, length, map, option_map, IfOk};
 ghost use Rattle.std.specs.List.{list_all};
-ghost use Rattle.ed_syntax.specs.PublicTypes.{verb_value, command_value, steps_value};
+ghost use Rattle.ed_syntax.specs.PublicTypes.{verb_value, command_value, step_value, steps_value};
+ghost use Rattle.ed_rules.specs.Globals.{is_global};
 ghost use Rattle.cert_check.specs.Covering.{covers};
-ghost use Rattle.cert_check.specs.Certificates.{certificate_value};
-ghost use Rattle.cert_check.specs.Valid.{quits, is_listed, are_listed, counted, has_quit, knows_least, knows_most};
-ghost use Rattle.cert_check.specs.Passing.{left_where_met, passed, ends_well, GoesTo};
+ghost use Rattle.cert_check.specs.Certificates.{note_value, certificate_value};
+ghost use Rattle.cert_check.specs.Valid.{quits, is_listed, are_listed, counted, has_quit, fits, are_shaped, knows_least, knows_most};
+ghost use Rattle.cert_check.specs.Passing.{left_where_met, passed, ends_well, StepGoesTo, GoesTo};
 
 use crate::certificate::{Certificate, Note};
 use crate::laws::covering_is_decided;
+use crate::loops::pass_loop;
+use crate::verdict::Place;
 use ed_base::Bytes;
 use ed_rules::{State, after, needs};
 use ed_syntax::{Command, Verb};
@@ -23,11 +26,11 @@ pub(crate) struct Counted {
     pub quit: bool,
 }
 
-/// What the checks of the commands come to: the state after the last one, or the number of the first that fails.
+/// What checks come to: the state after the last of their commands, or the place of the first that fails.
 #[derive(Drop)]
 pub(crate) enum Passage {
     Left(State),
-    Fails(usize),
+    Fails(Place),
 }
 
 fn quits(verb: &Verb) -> bool
@@ -57,7 +60,7 @@ pub(crate) fn count(commands: &[Command]) -> Counted
     }
 }
 
-fn is_covered(weak: &State, strong: &State) -> bool
+pub(crate) fn is_covered(weak: &State, strong: &State) -> bool
     ensures value { result ≡ covers weak.now strong.now }
 {
     covering_is_decided();
@@ -111,20 +114,82 @@ fn are_listed(writes: &[Bytes], command: &Command, note: &State) -> bool
     }
 }
 
-/// The same, where the note also says no more than what comes in, and the paths that may be written are listed.
-fn passed(
+/// The same, where what is known before it also says no more than what comes in, and the paths that may be written are listed.
+pub(crate) fn passed(
     writes: &[Bytes],
     command: &Command,
-    note: &State,
+    known: &State,
     coming: &State,
 ) -> Result<Option<State>, AllocError>
     ensures value { IfOk result (λ left. left ≡
-        passed writes.now (command_value command.now) note.now coming.now) }
+        passed writes.now (command_value command.now) known.now coming.now) }
 {
-    if is_covered(note, coming) && are_listed(writes, command, note) {
-        left_by(command, note)
+    if is_covered(known, coming) && are_listed(writes, command, known) {
+        left_by(command, known)
     } else {
         Ok(None)
+    }
+}
+
+/// Something is known of a list just where the command is global, and before each command of it.
+fn fits(command: &Command, note: &Note) -> bool
+    ensures value { result ≡ fits (step_value command.now) (note_value note.now) }
+{
+    match &note.looped {
+        None => !is_global(&command.verb),
+        Some(looped) => {
+            let states = looped.inner.len();
+            is_global(&command.verb) && states == command.list().len()
+        }
+    }
+}
+
+fn is_global(verb: &Verb) -> bool
+    ensures value { result ≡ is_global (verb_value verb.now) }
+{
+    match verb {
+        Verb::Global { .. } => true,
+        _ => false,
+    }
+}
+
+/// The notes are in the shape that goes with the commands, of which `number` are counted.
+pub(crate) fn are_shaped(commands: &[Command], number: usize, notes: &[Note]) -> bool
+    requires counted { number ≡ length (counted (steps_value commands.now)) }
+    ensures value { result ≡
+        are_shaped (counted (steps_value commands.now)) (map note_value notes.now) }
+{
+    if notes.len() != number {
+        return false;
+    }
+    for (index, note) in notes.iter().enumerate() {
+        if !fits(&commands[index], note) {
+            return false;
+        }
+    }
+    true
+}
+
+/// The checks of one command with its note.
+fn pass(
+    number: usize,
+    writes: &[Bytes],
+    command: &Command,
+    note: &Note,
+    coming: &State,
+) -> Result<Passage, AllocError>
+    requires shape { fits (step_value command.now) (note_value note.now) ≡ true }
+    ensures value { IfOk result (λ passage. StepGoesTo number writes.now (step_value command.now) (note_value note.now) coming.now passage) }
+{
+    match passed(writes, command, &note.state, coming)? {
+        None => Ok(Passage::Fails(Place {
+            command: number,
+            inner: None,
+        })),
+        Some(left) => match &note.looped {
+            None => Ok(Passage::Left(left)),
+            Some(looped) => pass_loop(number, writes, command, &note.state, &left, looped),
+        },
     }
 }
 
@@ -135,15 +200,14 @@ pub(crate) fn go_through(
     notes: &[Note],
     start: State,
 ) -> Result<Passage, AllocError>
-    requires shape { length notes.now ≡ length (counted (steps_value commands.now)) }
-    ensures value { IfOk result (λ passage. GoesTo writes.now (counted (steps_value commands.now)) notes.now start passage) }
+    requires shape { are_shaped (counted (steps_value commands.now)) (map note_value notes.now) ≡ true }
+    ensures value { IfOk result (λ passage. GoesTo writes.now (counted (steps_value commands.now)) (map note_value notes.now) start passage) }
 {
     let mut coming = start;
     for (index, note) in notes.iter().enumerate() {
-        let left = passed(writes, &commands[index], &note.state, &coming)?;
-        match left {
-            Some(state) => coming = state,
-            None => return Ok(Passage::Fails(index + 1)),
+        match pass(index + 1, writes, &commands[index], note, &coming)? {
+            Passage::Left(state) => coming = state,
+            Passage::Fails(place) => return Ok(Passage::Fails(place)),
         }
     }
     Ok(Passage::Left(coming))

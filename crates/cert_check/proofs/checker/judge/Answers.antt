@@ -1,26 +1,26 @@
-use Rattle.std.proofs.Common.{◌∙◌, ap, sym, rules}
+use Rattle.std.proofs.Common.{◌∙◌, map, ap, sym}
 use Rattle.ed_syntax.specs.PublicTypes.{steps_value}
 use Rattle.ed_syntax.specs.PublicScript.{script_value}
-use Rattle.cert_check.specs.Certificates.{certificate_value}
+use Rattle.cert_check.specs.Certificates.{note_value, certificate_value}
 use Rattle.cert_check.specs.Valid.{counted, has_quit}
 use Rattle.cert_check.proofs.Judging.{judged-by, judged-by_shape}
 use Rattle.cert_check.proofs.checker.judge.Goals as goal
 
-pub returns-then-not-shaped : goal.returns-then-not-shaped
-returns-then-not-shaped c = record {
+pub returns-then-not-are_shaped : goal.returns-then-not-are_shaped
+returns-then-not-are_shaped c = record {
   exact =
       c.verdict_at.ensures.value
-      ∙ sym (judged-by_shape (script_value c.args.script.now) (certificate_value c.args.certificate.now) (counted (steps_value c.as_slice-commands.result.now)) c.as_slice-notes.result.now
-      c.count-counted.result.number (ap (λ l. counted (steps_value l)) c.as_slice-commands.ensures.value) c.as_slice-notes.ensures.value
-      c.count-counted.ensures.number c.if-not-shaped.true);
+      ∙ sym (judged-by_shape (script_value c.args.script.now) (certificate_value c.args.certificate.now) (counted (steps_value c.as_slice-commands.result.now)) (map note_value c.as_slice-notes.result.now)
+      (ap (λ l. counted (steps_value l)) c.as_slice-commands.ensures.value) (ap (λ l. map note_value l) c.as_slice-notes.ensures.value)
+      (sym c.are_shaped.ensures.value ∙ c.if-not-are_shaped.true));
 }
 
 pub returns : goal.returns
 returns c = record {
   exact =
       c.verdict_after-verdict.ensures.value
-      ∙ judged-by (script_value c.args.script.now) (certificate_value c.args.certificate.now) c.as_slice-writes.result.now (counted (steps_value c.as_slice-commands.result.now)) c.as_slice-notes.result.now
+      ∙ judged-by (script_value c.args.script.now) (certificate_value c.args.certificate.now) c.as_slice-writes.result.now (counted (steps_value c.as_slice-commands.result.now)) (map note_value c.as_slice-notes.result.now)
       c.in_ok-start.start c.count-counted.result.quit c.in_ok-passage.passage
-      c.as_slice-writes.ensures.value (ap (λ l. counted (steps_value l)) c.as_slice-commands.ensures.value) c.as_slice-notes.ensures.value c.in_ok-start.ensures.value
-      (c.count-counted.ensures.quit ∙ ap (λ l. has_quit (steps_value l)) c.as_slice-commands.ensures.value) (search rules) c.in_ok-passage.ensures.value;
+      c.as_slice-writes.ensures.value (ap (λ l. counted (steps_value l)) c.as_slice-commands.ensures.value) (ap (λ l. map note_value l) c.as_slice-notes.ensures.value) c.in_ok-start.ensures.value
+      (c.count-counted.ensures.quit ∙ ap (λ l. has_quit (steps_value l)) c.as_slice-commands.ensures.value) (sym c.are_shaped.ensures.value ∙ c.if-not-are_shaped.false) c.in_ok-passage.ensures.value;
 }

@@ -6,6 +6,10 @@ pub returns : goal.returns
 returns c =
     let laws : Laws = record {
       command = c.commands_are_sound.ensures.sound;
+      begun = c.globals_are_sound.ensures.start;
+      turn = c.globals_are_sound.ensures.turn;
+      changes = c.globals_are_sound.ensures.changes;
+      over = c.globals_are_sound.ensures.end;
       decided = c.covering_is_decided.ensures.exact;
       started = c.starts_are_sound.ensures.sound;
       weaker = c.weaker_states_stand_for_more.ensures.covers;

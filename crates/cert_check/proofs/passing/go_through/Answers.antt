@@ -1,31 +1,51 @@
 use Rattle.std.proofs.Common.{arith, refl, sym, ◌∙◌}
 use Rattle.cert_check.proofs.Counting.{counted-bounded}
-use Rattle.cert_check.proofs.Judging.{go-on, stop-here, gone-through}
+use Rattle.cert_check.proofs.Judging.{go-on, stop-here, gone-through, shape-on, shape-fits, noted-length}
 use Rattle.cert_check.proofs.passing.go_through.Goals as goal
 
 pub loop-index-init : goal.loop-index-init
-loop-index-init c = λ end. refl
+loop-index-init c = record { shape = c.requires.shape; checks = λ end. refl }
 
 pub bounds-commands-index : goal.bounds-commands-index
-bounds-commands-index c = omega (arith, counted-bounded c.args.commands.now)
+bounds-commands-index c = omega (arith, counted-bounded c.args.commands.now, noted-length c.args.commands.now c.args.notes.now c.requires.shape)
+
+pub pass-requires : goal.pass-requires
+pass-requires c = record {
+  shape = shape-fits c.args.commands.now c.args.notes.now c.loop-index.index c.index-commands-index.result c.index-notes-index.result (omega arith) c.index-commands-index.is c.index-notes-index.is
+      c.requires.shape c.loop-index.invariant.shape;
+}
 
 pub loop-index-preserved : goal.loop-index-preserved
-loop-index-preserved c = λ end.
-    c.loop-index.invariant end
-    ∙ go-on c.args.writes.now end c.args.commands.now c.args.notes.now c.loop-index.index c.index-commands-index.result c.index-notes-index.result c.loop-index.coming c.in-Some.state
-    (omega arith) c.requires.shape c.index-commands-index.is c.index-notes-index.is (sym c.in_ok-left.ensures.value ∙ c.in-Some.is)
+loop-index-preserved c =
+    let size = noted-length c.args.commands.now c.args.notes.now c.requires.shape in
+    let goes = rw c.in-Left.is at c.in_ok-state.ensures.value in
+    let fit = shape-fits c.args.commands.now c.args.notes.now c.loop-index.index c.index-commands-index.result c.index-notes-index.result (omega arith) c.index-commands-index.is c.index-notes-index.is
+    c.requires.shape c.loop-index.invariant.shape in
+    record {
+      shape =
+          sym (shape-on c.args.commands.now c.args.notes.now c.loop-index.index c.index-commands-index.result c.index-notes-index.result (omega arith) size c.index-commands-index.is c.index-notes-index.is fit)
+          ∙ c.loop-index.invariant.shape;
+      checks = λ end.
+          c.loop-index.invariant.checks end
+          ∙ go-on c.args.writes.now end c.args.commands.now c.args.notes.now c.loop-index.index c.index-commands-index.result c.index-notes-index.result c.loop-index.coming c.in-Left.state
+          (omega arith) size c.index-commands-index.is c.index-notes-index.is goes;
+    }
 
-pub returns-in-None : goal.returns-in-None
-returns-in-None c = record {
-  value = λ end.
-      c.loop-index.invariant end
-      ∙ stop-here c.args.writes.now end c.args.commands.now c.args.notes.now c.loop-index.index c.index-commands-index.result c.index-notes-index.result c.loop-index.coming
-      (omega arith) c.requires.shape c.index-commands-index.is c.index-notes-index.is (sym c.in_ok-left.ensures.value ∙ c.in-None.is);
-}
+pub returns-in-Fails : goal.returns-in-Fails
+returns-in-Fails c =
+    let size = noted-length c.args.commands.now c.args.notes.now c.requires.shape in
+    let goes = rw c.in-Fails.is at c.in_ok-state.ensures.value in
+    record {
+      value = λ end.
+          c.loop-index.invariant.checks end
+          ∙ stop-here c.args.writes.now end c.args.commands.now c.args.notes.now c.loop-index.index c.index-commands-index.result c.index-notes-index.result c.loop-index.coming c.in-Fails.place
+          (omega arith) size c.index-commands-index.is c.index-notes-index.is goes;
+    }
 
 pub returns : goal.returns
 returns c = record {
   value = λ end.
-      c.loop-index.invariant end
-      ∙ gone-through c.args.writes.now end c.args.commands.now c.args.notes.now c.loop-index.index c.loop-index.coming (omega arith) c.requires.shape;
+      c.loop-index.invariant.checks end
+      ∙ gone-through c.args.writes.now end c.args.commands.now c.args.notes.now c.loop-index.index c.loop-index.coming (omega arith)
+      (noted-length c.args.commands.now c.args.notes.now c.requires.shape);
 }

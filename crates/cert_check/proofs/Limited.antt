@@ -1,0 +1,75 @@
+-- Which certificates have a text, test by test.
+use Rattle.std.proofs.Common.{◌≡◌, ◌<◌, ◌≤◌, ◌+◌, ◌-◌, ◌*◌, ◌/◌, ◌%◌, ◌∷◌, [], ℕ, zero, suc, Bool, true, false, List, length, get_or, map, take, drop, None, Some, arith, refl, ◌∙◌, sym, ap, subst, drop-cons, below_more}
+use Rattle.std.specs.List.{All}
+use Rattle.std.proofs.lemmas.List.{take_more, length-map, get_or-map}
+use Rattle.std.proofs.lemmas.List.Elements.{All-nil, All-cons, All-append}
+use Rattle.zones.specs.Zone.{Bounds, bound}
+use Rattle.ed_rules.specs.Choices.{Choice}
+use Rattle.ed_rules.specs.Formed.{may_say, ZoneIsFormed, is_rising}
+
+-- the test at a place
+pub at-place : (marks : List Bool) (zone : Bounds) (place : ℕ) →
+    may_say marks (place / 32) (place % 32) (bound zone (place / 32) (place % 32)) ≡ may_say marks (place / 32) (place % 32) (get_or zone place None)
+unfolding bound
+at-place marks zone place =
+    let at : 32 * (place / 32) + place % 32 ≡ place = omega arith in
+    ap (λ k. may_say marks (place / 32) (place % 32) (get_or zone k None)) at
+
+pub said-more : (marks : List Bool) (zone : Bounds) (place : ℕ) → ((k : ℕ) → k < place → may_say marks (k / 32) (k % 32) (get_or zone k None) ≡ true) →
+    may_say marks (place / 32) (place % 32) (bound zone (place / 32) (place % 32)) ≡ true →
+    (k : ℕ) → k < place + 1 → may_say marks (k / 32) (k % 32) (get_or zone k None) ≡ true
+said-more marks zone place before here =
+    below_more (λ k. may_say marks (k / 32) (k % 32) (get_or zone k None) ≡ true) place before (sym (at-place marks zone place) ∙ here)
+
+pub not-said : (marks : List Bool) (zone : Bounds) (place : ℕ) → place < 1024 →
+    may_say marks (place / 32) (place % 32) (bound zone (place / 32) (place % 32)) ≡ false → ZoneIsFormed marks zone → ⊥
+not-said marks zone place l e h = let said = sym e ∙ at-place marks zone place ∙ h.says place l in absurd cc
+
+none-left : {A : Type 0} (n : ℕ) → drop {A = A} n [] ≡ []
+none-left zero = refl
+none-left (suc n) = refl
+
+pub past-end : {A : Type 0} (xs : List A) (n : ℕ) → length xs ≤ n → drop n xs ≡ []
+past-end [] n l = none-left n
+past-end (x ∷ xs) zero l = absurd (omega arith)
+past-end (x ∷ xs) (suc n) l = past-end xs n (omega arith)
+
+-- the last choice alone rises
+pub last-rises : (set : List Choice) (next : ℕ) → length set ≤ next → 1 ≤ next → (1 ≤ length set → next ≤ length set) → is_rising (drop (next - 1) set) ≡ true
+last-rises [] next l one most = ap (λ (s : List Choice). is_rising s) (none-left (next - 1))
+last-rises (c ∷ set) next l one most =
+    let high : next ≤ length (c ∷ set) = most (omega arith) in
+    ap (λ (s : List Choice). is_rising s) (drop-cons (c ∷ set) (next - 1) c (omega arith))
+    ∙ ap (λ (s : List Choice). is_rising (get_or (c ∷ set) (next - 1) c ∷ s)) (past-end (c ∷ set) (suc (next - 1)) (omega arith))
+
+-- what holds of each element, one element further
+pub all-more : {X : Type 0} (P : X → Type 0) (xs : List X) (i : ℕ) (x : X) → i < length xs → x ≡ get_or xs i x → All P (take i xs) → P x → All P (take (i + 1) xs)
+all-more {X} P xs i x h is before here =
+    subst (λ (ys : List X). All P ys) (sym (take_more xs i x h))
+    (All-append P (take i xs) (get_or xs i x ∷ []) before (All-cons P (get_or xs i x) [] (subst (λ (y : X). P y) is here) (All-nil P)))
+
+taken : {X : Type 0} (xs : List X) (i : ℕ) → length xs ≤ i → take i xs ≡ xs
+taken [] zero h = refl
+taken [] (suc i) h = refl
+taken (x ∷ xs) zero h = absurd (omega arith)
+taken (x ∷ xs) (suc i) h = let rest : take i xs ≡ xs = taken xs i (omega arith) in cc
+
+pub all-end : {X : Type 0} (P : X → Type 0) (xs : List X) (i : ℕ) → length xs ≤ i → All P (take i xs) → All P xs
+all-end {X} P xs i h before = subst (λ (ys : List X). All P ys) (taken xs i h) before
+
+pub all-fails : {X : Type 0} (P : X → Type 0) (xs : List X) (i : ℕ) (x : X) → i < length xs → x ≡ get_or xs i x → (P x → ⊥) → All P xs → ⊥
+all-fails {X} P xs i x h is not_here all = not_here (subst (λ (y : X). P y) (sym is) (all i x h))
+
+-- the last path alone rises
+pub last-path-rises : (paths : List (List ℕ)) (next : ℕ) → length paths ≤ next → 1 ≤ next → (1 ≤ length paths → next ≤ length paths) →
+    is_rising (map (λ path. Some path) (drop (next - 1) paths)) ≡ true
+last-path-rises [] next l one most = ap (λ (s : List (List ℕ)). is_rising (map (λ path. Some path) s)) (none-left (next - 1))
+last-path-rises (c ∷ paths) next l one most =
+    let high : next ≤ length (c ∷ paths) = most (omega arith) in
+    ap (λ (s : List (List ℕ)). is_rising (map (λ path. Some path) s)) (drop-cons (c ∷ paths) (next - 1) c (omega arith))
+    ∙ ap (λ (s : List (List ℕ)). is_rising (Some (get_or (c ∷ paths) (next - 1) c) ∷ map (λ path. Some path) s)) (past-end (c ∷ paths) (suc (next - 1)) (omega arith))
+
+pub from-map : {X Y : Type 0} (P : X → Type 0) (f : Y → X) (ys : List Y) → All P (map f ys) → All (λ y. P (f y)) ys
+from-map {X} P f ys h k d l =
+    let size = length-map ys f in
+    subst (λ (x : X). P x) (get_or-map f ys k d (f d) l) (h k (f d) (omega arith))
