@@ -1,0 +1,13 @@
+pub mod Listing
+pub mod Sets
+pub mod Stepping
+pub mod Keeping
+pub mod Remembering
+pub mod Rooms
+pub mod Rounding
+pub mod Lowering
+pub mod Accepting
+pub mod Answering
+pub mod Going
+pub mod Determined
+pub mod Texting

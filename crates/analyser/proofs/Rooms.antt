@@ -1,0 +1,280 @@
+-- How often the invariant of the rounds of a list can still be weakened, and that this falls from each round to the next.
+use Rattle.std.proofs.Common.{pos, negsuc, ℤ, ◌≡◌, ◌≤◌, ◌<◌, ◌+◌, ◌*◌, ℕ, zero, suc, Bool, true, false, ◌||◌, ◌&&◌, List, [], ◌∷◌, length, get_or, Option, None, Some, ◌⊎◌, inl, inr, refl, ap, subst, arith}
+use Rattle.std.specs.Prelude.{nat_lt}
+use Rattle.std.specs.Ordering.{is_eq, nat_cmp}
+use Rattle.std.specs.Cmp.Lexicographic.{slice_cmp}
+use Rattle.std.specs.declared.cmp.Ordering.{Ordering}
+use Rattle.std.specs.declared.cmp.Ordering.TheVariants.{Less, Equal, Greater}
+use Rattle.std.proofs.lemmas.Int.{ints}
+use Rattle.std.proofs.lemmas.Bool.{cases_lt}
+use Rattle.std.proofs.lemmas.List.FromFn.{get_or-map-range_with_len}
+use Rattle.std.proofs.lemmas.Map.Lookups.{exact_bytes}
+use Rattle.zones.specs.Bound.{IsKept, covers_bound}
+use Rattle.zones.specs.Zone.{Bounds}
+use Rattle.zones.specs.Zone as zones
+use Rattle.zones.specs.Limits.{IsZone}
+use Rattle.zones.specs.Room.{room, total_room}
+use Rattle.zones.specs.Steps.{join_of, widening_of}
+use Rattle.zones.proofs.Kept.{IsZone-join_of, IsZone-widening_of}
+use Rattle.zones.proofs.Order.{each-Covers, Covers-through, Covers-join_of, Covers-join_of_other, Covers-widening_of, Covers-widening_of_other}
+use Rattle.zones.proofs.Rooms.{total_room-covers, total_room-not_covered}
+use Rattle.ed_rules.specs.declared.state.Old.{Old}
+use Rattle.ed_rules.specs.declared.state.State.{State}
+use Rattle.ed_rules.specs.Choices.{Choice, order_of, has_choice, union, are_choices}
+use Rattle.ed_rules.specs.Marks.{is_sure, both_sure}
+use Rattle.ed_rules.specs.Order.{old_of_both, united, join, widen}
+use Rattle.ed_rules.proofs.Basics.{and-both}
+use Rattle.ed_rules.proofs.Choosing.{or-cases, or-left, or-right, choice-itself, has-union, has-union_other}
+use Rattle.cert_check.specs.Covering.{zone_covers, allows, are_among, old_covers, covers}
+use Rattle.cert_check.proofs.Covering.{below-each}
+use Rattle.analyser.specs.Rounds.{next_invariant}
+use Rattle.analyser.specs.Walking.{OldIsZone, HasZones}
+use Rattle.analyser.proofs.Stepping.{either}
+
+-- a room doesn't grow, and it falls where the old part doesn't cover the other
+pub record Falls (covered : Bool) (new old : ℕ) : Type 0 where
+  pub no_more : new ≤ old
+  pub fewer : covered ≡ false → new < old
+
+falls-and : (a b : Bool) (m n p q : ℕ) → Falls a m n → Falls b p q → Falls (a && b) (m + p) (n + q)
+falls-and true b m n p q h k =
+    let first = h.no_more in
+    let second = k.no_more in
+    record { no_more = omega arith; fewer = λ e. let f : p < q = k.fewer e in omega arith }
+falls-and false b m n p q h k =
+    let first = h.no_more in
+    let second = k.no_more in
+    let f : m < n = h.fewer refl in
+    record { no_more = omega arith; fewer = λ e. omega arith }
+
+-- FLAGS
+
+abbrev pub flag_room : Bool → ℕ
+flag_room true = 0
+flag_room false = 1
+
+falls-flag : (weak strong : Bool) → Falls (allows weak strong) (flag_room (weak || strong)) (flag_room weak)
+falls-flag true true = record { no_more = omega arith; fewer = λ e. absurd cc }
+falls-flag true false = record { no_more = omega arith; fewer = λ e. absurd cc }
+falls-flag false true = record { no_more = omega arith; fewer = λ e. omega arith }
+falls-flag false false = record { no_more = omega arith; fewer = λ e. absurd cc }
+
+-- MARKS
+
+abbrev pub mark_room : Bool → ℕ
+mark_room true = 1
+mark_room false = 0
+
+abbrev pub sure_room : ℕ → List Bool → ℕ
+sure_room zero marks = 0
+sure_room (suc k) marks = mark_room (is_sure marks k) + sure_room k marks
+
+mark-falls : (few many both : Bool) → both ≡ few && many → (mark_room both ≤ mark_room few) × ((allows many few ≡ true) ⊎ (mark_room both < mark_room few))
+mark-falls true true both e = rw e (omega arith, inl refl)
+mark-falls true false both e = rw e (omega arith, inr (omega arith))
+mark-falls false true both e = rw e (omega arith, inl refl)
+mark-falls false false both e = rw e (omega arith, inl refl)
+
+both-is : (one other : List Bool) (k : ℕ) → k < 26 → is_sure (both_sure one other) k ≡ is_sure one k && is_sure other k
+unfolding both_sure
+both-is one other k l = get_or-map-range_with_len (λ (letter : ℕ). is_sure one letter && is_sure other letter) 0 26 k k false l (omega arith)
+
+sure-falls : (one other : List Bool) (n : ℕ) → n ≤ 26 →
+    (sure_room n (both_sure one other) ≤ sure_room n one)
+    × (((k : ℕ) → k < n → allows (is_sure other k) (is_sure one k) ≡ true) ⊎ (sure_room n (both_sure one other) < sure_room n one))
+sure-falls one other zero l = (omega arith, inl (λ k h. absurd (omega arith)))
+sure-falls one other (suc n) l =
+    let before = sure-falls one other n (omega arith) in
+    let here = mark-falls (is_sure one n) (is_sure other n) (is_sure (both_sure one other) n) (both-is one other n (omega arith)) in
+    let no_more = before.0 in
+    let not_here = here.0 in (
+      omega arith,
+      elim before.1 [
+        | inr f ↦ inr (omega arith)
+        | inl all ↦ elim here.1 [
+          | inr f ↦ inr (omega arith)
+          | inl e ↦ inl (λ k h. elim (cases_lt k n) [ inl m ↦ all k m | inr m ↦ let same : n ≡ k = omega arith in subst (λ (i : ℕ). allows (is_sure other i) (is_sure one i) ≡ true) same e ])
+        ]
+      ],
+    )
+
+among-each : (one other : List Bool) → ((k : ℕ) → k < 26 → allows (is_sure other k) (is_sure one k) ≡ true) → are_among one other ≡ true
+unfolding are_among
+among-each one other h = below-each (λ (k : ℕ). allows (is_sure other k) (is_sure one k)) 26 h
+
+falls-marks : (one other : List Bool) → Falls (are_among one other) (sure_room 26 (both_sure one other)) (sure_room 26 one)
+falls-marks one other =
+    let h = sure-falls one other 26 (omega arith) in
+    record { no_more = h.0; fewer = λ e. elim h.1 [ inr f ↦ f | inl all ↦ let a : are_among one other ≡ true = among-each one other all in absurd cc ] }
+
+-- ZONES
+
+says-zone : (weak strong : Bounds) → zones.Covers weak strong → zone_covers weak strong ≡ true
+unfolding zone_covers
+says-zone weak strong h = below-each (λ (k : ℕ). covers_bound (get_or weak k None) (get_or strong k None)) 1024 (each-Covers weak strong h)
+
+falls-zone : (old other new : Bounds) → IsZone old → IsZone new → zones.Covers new old → zones.Covers new other → Falls (zone_covers old other) (total_room new) (total_room old)
+falls-zone old other new h n covers_old covers_other = record {
+  no_more = total_room-covers new old n h covers_old;
+  fewer = λ e. total_room-not_covered new old n h covers_old (λ k. let a : zone_covers old other ≡ true = says-zone old other (Covers-through old new other k covers_other) in absurd cc);
+}
+
+-- SETS
+
+is-equal : (o : Ordering) → is_eq o ≡ true → o ≡ Equal
+is-equal Less h = absurd cc
+is-equal Equal h = refl
+is-equal Greater h = absurd cc
+
+same-choices : (c d : Choice) → is_eq (order_of c d) ≡ true → c ≡ d
+same-choices None None h = refl
+same-choices None (Some d) h = absurd cc
+same-choices (Some c) None h = absurd cc
+same-choices (Some c) (Some d) h = ap (λ (t : List ℕ). Some t) (exact_bytes c d (is-equal (slice_cmp nat_cmp c d) h))
+
+-- how many members of a list a set lacks
+abbrev pub lacking : List Choice → (set : List Choice) → ℕ
+lacking [] set = 0
+lacking (c ∷ cs) set = flag_room (has_choice set c) + lacking cs set
+
+abbrev Holds : (few many : List Choice) → Type 0
+Holds few many = (c : Choice) → has_choice few c ≡ true → has_choice many c ≡ true
+
+flag-less : (a b : Bool) → (a ≡ true → b ≡ true) → flag_room b ≤ flag_room a
+flag-less true b h = let e : b ≡ true = h refl in rw e (omega arith)
+flag-less false true h = omega arith
+flag-less false false h = omega arith
+
+lacking-less : (cs few many : List Choice) → Holds few many → lacking cs many ≤ lacking cs few
+lacking-less [] few many h = omega arith
+lacking-less (c ∷ cs) few many h =
+    let here = flag-less (has_choice few c) (has_choice many c) (h c) in
+    let later = lacking-less cs few many h in
+    omega arith
+
+flag-fewer : (a b : Bool) → a ≡ false → b ≡ true → flag_room b < flag_room a
+flag-fewer true b e f = absurd cc
+flag-fewer false true e f = omega arith
+flag-fewer false false e f = absurd cc
+
+lacking-fewer : (cs few many : List Choice) (c : Choice) → Holds few many → has_choice cs c ≡ true → has_choice few c ≡ false → has_choice many c ≡ true → lacking cs many < lacking cs few
+lacking-fewer [] few many c h i e f = absurd cc
+lacking-fewer (d ∷ cs) few many c h i e f = elim (or-cases (is_eq (order_of c d)) (has_choice cs c) i) [
+  | inl q ↦
+      let same : c ≡ d = same-choices c d q in
+      let here : flag_room (has_choice many d) < flag_room (has_choice few d) = flag-fewer (has_choice few d) (has_choice many d) (subst (λ (x : Choice). has_choice few x ≡ false) same e) (subst (λ (x : Choice). has_choice many x ≡ true) same f) in
+      let later = lacking-less cs few many h in
+      omega arith
+  | inr q ↦
+      let here = flag-less (has_choice few d) (has_choice many d) (h d) in
+      let later = lacking-fewer cs few many c h q e f in
+      omega arith
+]
+
+-- a set of which not all is in another one has a member that is not there
+set-fewer : (cs few many new : List Choice) → Holds few many → Holds new many → are_choices new cs ≡ true → are_choices new few ≡ false → lacking cs many < lacking cs few
+set-fewer cs few many [] h k within e = absurd cc
+set-fewer cs few many (c ∷ new) h k within e =
+    let inside = and-both (has_choice cs c) (are_choices new cs) within in
+    (elim (has_choice few c) as (λ b. has_choice few c ≡ b → b && are_choices new few ≡ false → lacking cs many < lacking cs few) [
+      | true ↦ λ q f. set-fewer cs few many new h (λ d i. k d (or-right (is_eq (order_of d c)) (has_choice new d) i)) inside.1 f
+      | false ↦ λ q f. lacking-fewer cs few many c h inside.0 q (k c (or-left (is_eq (order_of c c)) (has_choice new c) (choice-itself c)))
+    ]) refl e
+
+falls-set : (cs one other : List Choice) → are_choices other cs ≡ true → Falls (are_choices other one) (lacking cs (union one other)) (lacking cs one)
+falls-set cs one other within = record {
+  no_more = lacking-less cs one (union one other) (λ c h. has-union one other c h);
+  fewer = λ e. set-fewer cs one (union one other) other (λ c h. has-union one other c h) (λ c h. has-union_other one other c h) within e;
+}
+
+-- UNDO
+
+-- no room of an earlier buffer is as large
+abbrev pub most_room : ℕ
+most_room = 2048000000000001051
+
+abbrev pub old_room : Option Old → ℕ
+old_room None = most_room
+old_room (Some old) = total_room old.zone + sure_room 26 old.marks
+
+room-most : (b : Option ℤ) → IsKept b → room b ≤ 2000000000000001
+room-most None h = omega arith
+room-most (Some (pos n)) h = omega arith
+room-most (Some (negsuc n)) h = let low = h.0 in omega (arith, ints)
+
+total-most : (zone : Bounds) → ((k : ℕ) → IsKept (get_or zone k None)) → total_room zone ≤ length zone * 2000000000000001
+total-most [] h = omega arith
+total-most (b ∷ zone) h =
+    let here = room-most b (h 0) in
+    let later = total-most zone (λ k. h (suc k)) in
+    omega arith
+
+mark-most : (b : Bool) → mark_room b ≤ 1
+mark-most true = omega arith
+mark-most false = omega arith
+
+sure-most : (n : ℕ) (marks : List Bool) → sure_room n marks ≤ n
+sure-most zero marks = omega arith
+sure-most (suc n) marks =
+    let here = mark-most (is_sure marks n) in
+    let later = sure-most n marks in
+    omega arith
+
+old-most : (old : Old) → IsZone old.zone → total_room old.zone + sure_room 26 old.marks < most_room
+old-most old h =
+    let size = h.size in
+    let zone : total_room old.zone ≤ 1024 * 2000000000000001 = subst (λ (n : ℕ). total_room old.zone ≤ n * 2000000000000001) size (total-most old.zone h.kept) in
+    let marks = sure-most 26 old.marks in
+    omega arith
+
+falls-old : (one other : Option Old) → OldIsZone one → OldIsZone other → Falls (old_covers one other) (old_room (old_of_both one other)) (old_room one)
+falls-old None None h k = record { no_more = omega arith; fewer = λ e. absurd cc }
+falls-old (Some one) None h k = record { no_more = omega arith; fewer = λ e. absurd cc }
+falls-old None (Some other) h k = let f = old-most other k in record { no_more = omega arith; fewer = λ e. f }
+falls-old (Some one) (Some other) h k =
+    falls-and (zone_covers one.zone other.zone) (are_among one.marks other.marks) (total_room (join_of one.zone other.zone)) (total_room one.zone)
+    (sure_room 26 (both_sure one.marks other.marks)) (sure_room 26 one.marks)
+    (falls-zone one.zone other.zone (join_of one.zone other.zone) h (IsZone-join_of one.zone other.zone h k) (Covers-join_of one.zone other.zone) (Covers-join_of_other one.zone other.zone))
+    (falls-marks one.marks other.marks)
+
+-- A STATE, beside the patterns and the paths that may ever be remembered
+
+abbrev pub state_room : (patterns names : List Choice) → State → ℕ
+state_room patterns names s =
+    total_room s.zone + (sure_room 26 s.marks + (lacking patterns s.patterns
+    + ((flag_room s.replacements.none + (flag_room s.replacements.plain + flag_room s.replacements.split)) + (lacking names s.names
+    + ((flag_room s.changed.no + flag_room s.changed.yes) + (flag_room s.undo.nothing + (flag_room s.undo.same + old_room s.undo.was)))))))
+
+module _ (patterns names : List Choice) where
+  falls-united : (one other : State) (zone : Bounds) → HasZones one → HasZones other → are_choices other.patterns patterns ≡ true → are_choices other.names names ≡ true →
+      IsZone zone → zones.Covers zone one.zone → zones.Covers zone other.zone → Falls (covers one other) (state_room patterns names (united one other zone)) (state_room patterns names one)
+  unfolding covers
+  falls-united one other zone h k p n z covers_one covers_other =
+      falls-and _ _ _ _ _ _ (falls-zone one.zone other.zone zone h.zone z covers_one covers_other) (
+      falls-and _ _ _ _ _ _ (falls-marks one.marks other.marks) (
+      falls-and _ _ _ _ _ _ (falls-set patterns one.patterns other.patterns p) (
+      falls-and _ _ _ _ _ _
+      (falls-and _ _ _ _ _ _ (falls-flag one.replacements.none other.replacements.none)
+      (falls-and _ _ _ _ _ _ (falls-flag one.replacements.plain other.replacements.plain) (falls-flag one.replacements.split other.replacements.split))) (
+      falls-and _ _ _ _ _ _ (falls-set names one.names other.names n) (
+      falls-and _ _ _ _ _ _ (falls-and _ _ _ _ _ _ (falls-flag one.changed.no other.changed.no) (falls-flag one.changed.yes other.changed.yes)) (
+      falls-and _ _ _ _ _ _ (falls-flag one.undo.nothing other.undo.nothing) (
+      falls-and _ _ _ _ _ _ (falls-flag one.undo.same other.undo.same) (falls-old one.undo.was other.undo.was h.old k.old))))))))
+
+  falls-join : (one other : State) → HasZones one → HasZones other → are_choices other.patterns patterns ≡ true → are_choices other.names names ≡ true →
+      Falls (covers one other) (state_room patterns names (join one other)) (state_room patterns names one)
+  unfolding join
+  falls-join one other h k p n =
+      falls-united one other (join_of one.zone other.zone) h k p n (IsZone-join_of one.zone other.zone h.zone k.zone) (Covers-join_of one.zone other.zone) (Covers-join_of_other one.zone other.zone)
+
+  falls-widen : (one other : State) → HasZones one → HasZones other → are_choices other.patterns patterns ≡ true → are_choices other.names names ≡ true →
+      Falls (covers one other) (state_room patterns names (widen one other)) (state_room patterns names one)
+  unfolding widen
+  falls-widen one other h k p n =
+      falls-united one other (widening_of one.zone other.zone) h k p n (IsZone-widening_of one.zone other.zone h.zone k.zone) (Covers-widening_of one.zone other.zone) (Covers-widening_of_other one.zone other.zone)
+
+  pub falls-next : (before : ℕ) (one other : State) → HasZones one → HasZones other → are_choices other.patterns patterns ≡ true → are_choices other.names names ≡ true →
+      Falls (covers one other) (state_room patterns names (next_invariant before one other)) (state_room patterns names one)
+  falls-next before one other h k p n =
+      either (λ (u : State). Falls (covers one other) (state_room patterns names u) (state_room patterns names one)) (nat_lt before 2) (join one other) (widen one other)
+      (falls-join one other h k p n) (falls-widen one other h k p n)

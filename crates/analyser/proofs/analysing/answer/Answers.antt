@@ -1,0 +1,80 @@
+use Rattle.std.proofs.Common.{List, ℕ, Some, ◌≡◌, ◌+◌, length, map, None, inl, inr, arith, refl, ap, ◌∙◌, subst}
+use Rattle.ed_syntax.specs.PublicScript.{script_value}
+use Rattle.ed_syntax.specs.PublicTypes.{steps_value}
+use Rattle.cert_check.specs.Certificates.{note_value}
+use Rattle.cert_check.specs.Valid.{counted}
+use Rattle.analyser.specs.Following.{begun, paths_from}
+use Rattle.analyser.specs.Walking.{IsOutcome}
+use Rattle.analyser.proofs.Lowering as low
+use Rattle.analyser.proofs.Listing.{listed-by}
+use Rattle.ed_rules.specs.Formed.{ChoiceIsBytes}
+use Rattle.std.specs.List.{All}
+use Rattle.analyser.proofs.Texting as text
+use Rattle.analyser.proofs.Texting.{has-text}
+use Rattle.analyser.proofs.Accepting.{Laws, accepted}
+use Rattle.analyser.proofs.Answering.{end-is, stops-at, stops-at_end}
+use Rattle.analyser.proofs.analysing.answer.Goals as goal
+
+pub returns-in-Fails-clause-exact : goal.returns-in-Fails-clause-exact
+returns-in-Fails-clause-exact c =
+    let stops = subst (λ o. IsOutcome (steps_value c.args.script.now.commands.items) (begun c.args.start) c.args.walk o) c.in-Fails.is c.requires.walked in
+    inl (stops-at (script_value c.args.script.now) c.args.start c.args.walk.notes.items c.in-Fails.place c.in-Fails.why stops.0 stops.1)
+
+pub returns-in-Some-clause-exact : goal.returns-in-Some-clause-exact
+returns-in-Some-clause-exact c =
+    let script = script_value c.args.script.now in
+    let start = c.args.start in
+    let left = subst (λ o. IsOutcome (steps_value c.args.script.now.commands.items) (begun start) c.args.walk o) c.in-Left.is c.requires.walked in
+    let ends = end-is script c.args.walk.quit c.in-Left.last _ c.end_fault.result left.3 left.1 c.end_fault.ensures.value ∙ c.in-Some.is in
+    let size : c.len.result ≡ length c.args.walk.notes.items = let counts = c.len.ensures in omega (arith, c.args.walk.notes.ok.0) in
+    inr (stops-at_end script start c.args.walk.notes.items c.place_of.result c.in-Some.why left.0 ends
+    (c.place_of.ensures.value ∙ ap (λ n. record { command = n + 1; inner = None }) size))
+
+pub returns-in-None-clause-exact : goal.returns-in-None-clause-exact
+returns-in-None-clause-exact c =
+    let script = script_value c.args.script.now in
+    let start = c.args.start in
+    let left = subst (λ o. IsOutcome (steps_value c.args.script.now.commands.items) (begun start) c.args.walk o) c.in-Left.is c.requires.walked in
+    let ends = end-is script c.args.walk.quit c.in-Left.last _ c.end_fault.result left.3 refl c.end_fault.ensures.value ∙ c.in-None.is in
+    record {
+      path = refl;
+      min = refl;
+      max = refl;
+      notes = left.0;
+      last = left.1;
+      end = ends;
+      low = c.low_of.ensures.value;
+      high = c.high_of.ensures.value;
+      writes = listed-by (paths_from (counted script.steps) (map note_value c.args.walk.notes.items)) c.args.walk.writes.items left.2;
+    }
+
+pub returns-in-None-clause-valid : goal.returns-in-None-clause-valid
+returns-in-None-clause-valid c =
+    let steps : low.Laws = record {
+      any = c.steps_keep_diagonals_low.ensures.any;
+      kept = record {
+        guard = c.steps_keep_diagonals_low.ensures.guard;
+        set = c.steps_keep_diagonals_low.ensures.set;
+        shift = c.steps_keep_diagonals_low.ensures.shift;
+        forget = c.steps_keep_diagonals_low.ensures.forget;
+        join = c.steps_keep_diagonals_low.ensures.join;
+        widen = c.steps_keep_diagonals_low.ensures.widen;
+      };
+      guard = c.steps_are_formulas.ensures.guard;
+      set = c.steps_are_formulas.ensures.set;
+    } in
+    let laws : Laws = record { bounds = steps; same = c.covering_is_an_order.ensures.same; decided = c.covering_is_decided.ensures.exact } in
+    accepted laws (script_value c.args.script.now) c.args.start _ (returns-in-None-clause-exact c)
+
+pub returns-in-None-clause-texts : goal.returns-in-None-clause-texts
+returns-in-None-clause-texts c =
+    let laws : text.Laws = record {
+      start = c.states_stay_formed.ensures.start;
+      command = c.states_stay_formed.ensures.command;
+      join = c.states_stay_formed.ensures.join;
+      widen = c.states_stay_formed.ensures.widen;
+      entry = c.states_stay_formed.ensures.entry;
+      end = c.states_stay_formed.ensures.end;
+    } in
+    has-text laws (script_value c.args.script.now) c.args.start _ c.requires.bytes c.path_is_bytes.ensures.bytes
+    (subst (λ (ps : List (List ℕ)). All ChoiceIsBytes (map (λ path. Some path) ps)) c.as_slice.ensures.value c.paths_are_bytes.ensures.bytes) c.requires.ordered c.requires.low c.requires.high (returns-in-None-clause-exact c)

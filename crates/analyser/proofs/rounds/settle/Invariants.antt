@@ -1,0 +1,12 @@
+use Rattle.ed_syntax.specs.PublicTypes.{step_value}
+use Rattle.analyser.proofs.Rooms.{state_room}
+use Rattle.analyser.proofs.Rounding.{Rounds, patterns_of, names_of}
+use Rattle.analyser.proofs.rounds.settle.Given as goal
+
+-- the rounds before this one don't end
+abbrev pub invariant-loop-known : goal.invariant-loop-known
+invariant-loop-known l = Rounds (step_value l.command).list l.fn.first l.before l.known
+
+-- each round leaves fewer ways to weaken the invariant
+abbrev pub decreases-loop-known : goal.decreases-loop-known
+decreases-loop-known l = state_room (patterns_of (step_value l.command).list l.fn.first) (names_of (step_value l.command).list l.fn.first) l.known

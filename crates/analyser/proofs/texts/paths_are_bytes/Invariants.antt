@@ -1,0 +1,7 @@
+use Rattle.std.proofs.Common.{take, Some}
+use Rattle.std.specs.List.{All}
+use Rattle.ed_rules.specs.Formed.{ChoiceIsBytes}
+use Rattle.analyser.proofs.texts.paths_are_bytes.Given as goal
+
+abbrev pub invariant-loop-path : goal.invariant-loop-path
+invariant-loop-path l = All (λ path. ChoiceIsBytes (Some path)) (take l.path-index l.paths)

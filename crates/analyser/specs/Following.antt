@@ -1,0 +1,96 @@
+-- What follows from a start by the rules: what is known before each counted command and at the end, and the first need that fails.
+use Rattle.std.specs.Prelude.{◌≡◌, ℕ, Bool, true, false, List, [], ◌∷◌, ◌++◌, length, Option, Some, None, is_some, if◌then◌else◌}
+use Rattle.ed_base.specs.declared.fault.Fault.{Fault}
+use Rattle.ed_base.specs.declared.fault.Fault.TheVariants as fault
+use Rattle.ed_syntax.specs.Commands.{Command, Step}
+use Rattle.ed_rules.specs.declared.state.State.{State}
+use Rattle.ed_rules.specs.Choices.{Choice}
+use Rattle.ed_rules.specs.States as states
+use Rattle.ed_rules.specs.Files.{written_paths}
+use Rattle.ed_rules.specs.Rules.{step, fault_of}
+use Rattle.ed_rules.specs.Globals.{is_global, body_entry}
+use Rattle.cert_check.specs.Certificates.{Looped, Note}
+use Rattle.cert_check.specs.Valid.{are_met, left_by, left_after}
+use Rattle.analyser.specs.declared.analysis.Start.{Start}
+use Rattle.analyser.specs.Rounds.{IsSettled, AreInner, InnerFail}
+
+-- ONE COMMAND, of which a state comes in
+
+-- What is known of its list, where no need of the command or of its list fails: nothing where it has none; else the invariant of the
+-- last round, and what is known before each command of the list in that round. The first round's invariant is the state before the
+-- first line is taken.
+abbrev pub IsKnownOfList : (global : Bool) → Step → (coming : State) → Option Looped → Type 0
+IsKnownOfList false x s None = Unit {0}
+IsKnownOfList false x s (Some l) = ⊥
+IsKnownOfList true x s None = ⊥
+IsKnownOfList true x s (Some l) = IsSettled x.list (left_by x.command s) l.invariant × AreInner x.list (body_entry l.invariant) l.inner
+
+-- its note, where no need fails
+pub record IsNote (x : Step) (coming : State) (n : Note) : Type 0 where
+  pub state : n.state ≡ coming
+  pub met : are_met x.command coming ≡ true
+  pub list : IsKnownOfList (is_global x.command.verb) x coming n.looped
+
+-- A need of its list fails, and the needs of the command hold: the invariant of the last round, and what is known before the list's
+-- commands up to the one whose need fails, which is told by its number.
+pub record ListFails (inner : ℕ) (why : Fault) (x : Step) (coming : State) (l : Looped) : Type 0 where
+  pub met : are_met x.command coming ≡ true
+  pub global : is_global x.command.verb ≡ true
+  pub settled : IsSettled x.list (left_by x.command coming) l.invariant
+  pub states : InnerFail why x.list (body_entry l.invariant) l.inner
+  pub number : inner ≡ length l.inner
+
+-- its first need that fails, by this fault: one of its own, or of its list
+abbrev pub NeedFails : (inner : Option ℕ) → Fault → Step → (coming : State) → Option Looped → Type 0
+NeedFails None why x s None = fault_of (step x.command s) ≡ Some why
+NeedFails None why x s (Some l) = ⊥
+NeedFails (Some inner) why x s None = ⊥
+NeedFails (Some inner) why x s (Some l) = ListFails inner why x s l
+
+-- COMMANDS ONE AFTER ANOTHER, from the state on that comes in
+
+-- Their notes, where no need fails: the first is of the state that comes in, each later one of the result of the command before it.
+abbrev pub AreNotes : List Step → (coming : State) → List Note → Type 0
+AreNotes [] s [] = Unit {0}
+AreNotes [] s (n ∷ ns) = ⊥
+AreNotes (x ∷ xs) s [] = ⊥
+AreNotes (x ∷ xs) s (n ∷ ns) = IsNote x s n × AreNotes xs (left_after n.looped x s) ns
+
+-- their notes up to the command with the first need that fails, which is that of the last note
+abbrev pub NotesFail : (inner : Option ℕ) → Fault → List Step → (coming : State) → List Note → Type 0
+NotesFail inner why [] s ns = ⊥
+NotesFail inner why (x ∷ xs) s [] = ⊥
+NotesFail inner why (x ∷ xs) s (n ∷ []) = (n.state ≡ s) × NeedFails inner why x s n.looped
+NotesFail inner why (x ∷ xs) s (n ∷ m ∷ ns) = IsNote x s n × NotesFail inner why xs (left_after n.looped x s) (m ∷ ns)
+
+-- the result of the last command, by the notes
+abbrev pub result_from : List Step → (coming : State) → List Note → State
+result_from [] s ns = s
+result_from (x ∷ xs) s [] = s
+result_from (x ∷ xs) s (n ∷ ns) = result_from xs (left_after n.looped x s) ns
+
+-- the paths that the commands of a list may write, by what is known before each
+abbrev pub list_paths : List Command → List State → List Choice
+list_paths [] ss = []
+list_paths (c ∷ cs) [] = []
+list_paths (c ∷ cs) (s ∷ ss) = written_paths c.verb s ++ list_paths cs ss
+
+abbrev pub looped_paths : List Command → Option Looped → List Choice
+looped_paths list None = []
+looped_paths list (Some l) = list_paths list l.inner
+
+-- the paths that the commands may write, those of lists among them
+abbrev pub paths_from : List Step → List Note → List Choice
+paths_from [] ns = []
+paths_from (x ∷ xs) [] = []
+paths_from (x ∷ xs) (n ∷ ns) = (written_paths x.command.verb n.state ++ looped_paths x.list n.looped) ++ paths_from xs ns
+
+-- A SCRIPT
+
+-- what is known at the start
+abbrev pub begun : Start → State
+begun start = states.start start.path start.min start.max
+
+-- A script without `q` and `Q` ends by a `q`: what can't be read is reached then, and no change may be left.
+abbrev pub end_fault : (quit : Bool) → (bad : Option ℕ) → State → Option Fault
+end_fault quit bad s = if quit then None else if is_some bad then Some fault.Syntax else if s.changed.yes then Some fault.Unsaved else None

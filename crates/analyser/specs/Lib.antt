@@ -1,0 +1,6 @@
+-- what a reader has to believe, in the order of reading
+pub mod Rounds
+pub mod Following
+pub mod Analysis
+-- what only serves clauses inside the crate
+pub mod Walking

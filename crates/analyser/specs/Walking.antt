@@ -1,0 +1,88 @@
+-- How the analyser goes through the commands: what its own functions answer.
+use Rattle.std.specs.Prelude.{◌≡◌, ℕ, List, [], ◌∷◌, map, length, Option, Some, None, option_map, Result, Ok, Err, if◌then◌else◌}
+use Rattle.std.specs.List.{All}
+use Rattle.std.specs.Ordering.{nat_cmp}
+use Rattle.std.specs.Cmp.Lexicographic.{slice_cmp}
+use Rattle.std.specs.declared.cmp.Ordering.TheVariants.{Less, Equal, Greater}
+use Rattle.ed_base.specs.declared.fault.Fault.{Fault}
+use Rattle.ed_syntax.specs.Commands.{Command, Step}
+use Rattle.zones.specs.Limits.{IsZone}
+use Rattle.ed_rules.specs.declared.state.Old.{Old}
+use Rattle.ed_rules.specs.declared.state.State.{State}
+use Rattle.ed_rules.specs.Choices.{Choice}
+use Rattle.ed_rules.specs.Globals.{body_entry}
+use Rattle.ed_rules.specs.Formed.{TextsAreBytes}
+use Rattle.cert_check.specs.Covering.{covers}
+use Rattle.cert_check.specs.declared.certificate.Looped.{Looped}
+use Rattle.cert_check.specs.Certificates.{looped_value, note_value}
+use Rattle.cert_check.specs.Valid.{counted, has_quit, left_after}
+use Rattle.analyser.specs.declared.rounds.Settled.{Settled}
+use Rattle.analyser.specs.declared.walk.End.{End}
+use Rattle.analyser.specs.declared.walk.End.TheVariants.{Leaves, Stops}
+use Rattle.analyser.specs.declared.walk.Walk.{Walk}
+use Rattle.analyser.specs.declared.walk.Outcome.{Outcome}
+use Rattle.analyser.specs.declared.walk.Outcome.TheVariants.{Left, Fails}
+use Rattle.analyser.specs.Rounds.{left_by_list, AreInner, InnerFail, next_invariant, IsSettled}
+use Rattle.analyser.specs.Following.{IsNote, NeedFails, AreNotes, NotesFail, result_from, paths_from}
+
+-- a path put in its place, where it isn't there already
+abbrev pub with_path : List ℕ → List (List ℕ) → List (List ℕ)
+with_path path [] = path ∷ []
+with_path path (p ∷ paths) =
+    elim (slice_cmp nat_cmp path p) [ Less ↦ path ∷ p ∷ paths | Equal ↦ p ∷ paths | Greater ↦ p ∷ with_path path paths ]
+
+-- the paths among choices, put in one after another
+abbrev pub with_paths : List Choice → List (List ℕ) → List (List ℕ)
+with_paths [] paths = paths
+with_paths (None ∷ choices) paths = with_paths choices paths
+with_paths (Some path ∷ choices) paths = with_paths choices (with_path path paths)
+
+-- what a round of a list comes to, from a state on
+abbrev pub IsRound : List Command → State → List State → Result State Fault → Type 0
+IsRound list s inner (Ok t) = AreInner list s inner × (t ≡ left_by_list list s)
+IsRound list s inner (Err why) = InnerFail why list s inner
+
+-- the invariant of the round after one that comes to this; there is none after the last round
+abbrev pub invariant_after : (before : ℕ) → State → Result State Fault → Option State
+invariant_after n invariant (Err why) = None
+invariant_after n invariant (Ok t) = if covers invariant t then None else Some (next_invariant n invariant t)
+
+-- the zones of a state are zones, also the one that undo may bring back
+abbrev pub OldIsZone : Option Old → Type 0
+OldIsZone None = Unit {0}
+OldIsZone (Some old) = IsZone old.zone
+
+pub record HasZones (s : State) : Type 0 where
+  pub zone : IsZone s.zone
+  pub old : OldIsZone s.undo.was
+
+-- what the last round of a list comes to
+pub record IsLastRound (list : List Command) (first : State) (s : Settled) : Type 0 where
+  pub settled : IsSettled list first s.invariant
+  pub round : IsRound list (body_entry s.invariant) s.round.inner.items s.round.end
+
+-- what is told of a list by its last round
+abbrev pub looped_of : Settled → Looped
+looped_of s = record { invariant = s.invariant; inner = s.round.inner }
+
+-- what a command comes to, its list included
+abbrev pub IsTaken : Step → State → Option Looped → End → Type 0
+IsTaken x s l (Leaves t) = IsNote x s (record { state = s; looped = option_map looped_value l }) × (t ≡ left_after (option_map looped_value l) x s)
+IsTaken x s l (Stops inner why) = NeedFails inner why x s (option_map looped_value l)
+
+-- what the counted ones of these commands come to, from a state on
+abbrev pub IsOutcome : List Step → State → Walk → Outcome → Type 0
+IsOutcome steps s w (Left t) =
+    AreNotes (counted steps) s (map note_value w.notes.items)
+    × (t ≡ result_from (counted steps) s (map note_value w.notes.items))
+    × (w.writes.items ≡ with_paths (paths_from (counted steps) (map note_value w.notes.items)) [])
+    × (w.quit ≡ has_quit steps)
+IsOutcome steps s w (Fails place why) =
+    (place.command ≡ length w.notes.items) × NotesFail place.inner why (counted steps) s (map note_value w.notes.items)
+
+abbrev pub IsWalk : List Step → State → Walk → Type 0
+IsWalk steps s w = IsOutcome steps s w w.outcome
+
+-- the texts of a command and of its list are bytes
+abbrev pub StepIsBytes : Step → Type 0
+StepIsBytes x = TextsAreBytes x.command × All TextsAreBytes x.list

@@ -1,0 +1,104 @@
+//! The analyser.
+
+ghost use Rattle.std.specs.Prelude.{◌≡◌, ◌≤◌, All, IfOk, IfSome};
+ghost use Rattle.ed_syntax.specs.PublicTypes.{steps_value};
+ghost use Rattle.ed_syntax.specs.PublicScript.{script_value};
+ghost use Rattle.cert_check.specs.Opening.{IsAtMost};
+ghost use Rattle.analyser.specs.Following.{begun, end_fault};
+ghost use Rattle.analyser.specs.Analysis.{most_lines, IsAnswer, IsValid, HasTextIfVouched};
+ghost use Rattle.analyser.specs.Walking.{IsWalk, StepIsBytes};
+
+use crate::analysis::{Analysis, Start};
+use crate::bounds::{high_of, low_of};
+use crate::texts::{path_is_bytes, paths_are_bytes, steps_are_bytes};
+use crate::walk::{Outcome, Walk, go_through, place_of};
+use cert_check::{Certificate, covering_is_decided};
+use ed_base::Fault;
+use ed_rules::{State, states_stay_formed};
+use ed_syntax::Script;
+use std::alloc::AllocError;
+use zones::{covering_is_an_order, steps_are_formulas, steps_keep_diagonals_low};
+
+/// The fault that may come at the end of a script.
+fn end_fault(quit: bool, fault: Option<usize>, last: &State) -> Option<Fault>
+    ensures value { result ≡ end_fault quit fault last.now }
+{
+    if quit {
+        None
+    } else if fault.is_some() {
+        Some(Fault::Syntax)
+    } else if last.changed.yes {
+        Some(Fault::Unsaved)
+    } else {
+        None
+    }
+}
+
+/// The answer, by what the walk over the counted commands came to.
+fn answer(script: &Script, start: Start, walk: Walk) -> Analysis
+    requires walked { IsWalk (steps_value script.now.commands.items) (begun start) walk }
+    requires ordered { IsAtMost start.min start.max }
+    requires low { start.min ≤ most_lines }
+    requires high { IfSome start.max (λ most. most ≤ most_lines) }
+    requires bytes { All StepIsBytes (steps_value script.now.commands.items) }
+    ensures exact { IsAnswer (script_value script.now) start result }
+    ensures valid { IsValid (script_value script.now) result }
+    ensures texts { HasTextIfVouched result }
+{
+    states_stay_formed();
+    covering_is_decided();
+    covering_is_an_order();
+    steps_are_formulas();
+    steps_keep_diagonals_low();
+    let Walk {
+        notes,
+        writes,
+        quit,
+        outcome,
+    } = walk;
+    path_is_bytes(&start.path);
+    paths_are_bytes(writes.as_slice());
+    match outcome {
+        Outcome::Fails { place, why } => Analysis::Cannot { place, why, notes },
+        Outcome::Left(last) => match end_fault(quit, script.fault, &last) {
+            Some(why) => Analysis::Cannot {
+                place: place_of(notes.len() + 1, None),
+                why,
+                notes,
+            },
+            None => Analysis::Vouched(Certificate {
+                path: start.path,
+                min: start.min,
+                max: start.max,
+                notes,
+                low: low_of(&last.zone),
+                high: high_of(&last.zone),
+                last,
+                writes,
+            }),
+        },
+    }
+}
+
+/// Makes the certificate that a script can't fail over any start of these bounds, or tells the first need that fails. It goes
+/// through the script once, and through the list of a global command in rounds.
+pub fn analyse(script: &Script, start: Start) -> Result<Analysis, AllocError>
+    requires ordered { IsAtMost start.min start.max }
+    requires low { start.min ≤ most_lines }
+    requires high { IfSome start.max (λ most. most ≤ most_lines) }
+
+    // Whether a script is vouched for is determined: it is just where no need fails.
+    ensures exact { IfOk result (λ answer. IsAnswer (script_value script.now) start answer) }
+
+    // What is vouched for the checker accepts.
+    ensures valid { IfOk result (λ answer. IsValid (script_value script.now) answer) }
+
+    // What is vouched for has a text.
+    ensures texts { IfOk result (λ answer. HasTextIfVouched answer) }
+{
+    let alloc = *script.commands.allocator();
+    steps_are_bytes(script.commands.as_slice());
+    let begun = State::start(alloc, &start.path, start.min, start.max)?;
+    let walk = go_through(alloc, script.commands.as_slice(), begun)?;
+    Ok(answer(script, start, walk))
+}
