@@ -8,14 +8,14 @@ use std::alloc::{AllocError, Global};
 
 /// What a run starts with: a file F of so many lines, or no file.
 #[derive(Clone, Copy)]
-pub struct Start {
+pub(crate) struct Start {
     pub named: bool,
     pub min: u64,
     pub max: Option<u64>,
 }
 
 /// The path of a start, where it has one.
-pub fn path_of(alloc: Global, start: Start) -> Result<Option<Bytes>, AllocError> {
+pub(crate) fn path_of(alloc: Global, start: Start) -> Result<Option<Bytes>, AllocError> {
     if start.named {
         Ok(Some(Bytes::from_slice(alloc, b"F")?))
     } else {
@@ -24,20 +24,20 @@ pub fn path_of(alloc: Global, start: Start) -> Result<Option<Bytes>, AllocError>
 }
 
 /// The state at the start.
-pub fn state_of(alloc: Global, start: Start) -> Result<State, AllocError> {
+pub(crate) fn state_of(alloc: Global, start: Start) -> Result<State, AllocError> {
     State::start(alloc, &path_of(alloc, start)?, start.min, start.max)
 }
 
 /// How many lines there may be at the end.
 #[derive(Clone, Copy)]
-pub struct Final {
+pub(crate) struct Final {
     pub low: u64,
     pub high: Option<u64>,
 }
 
 /// The certificate whose notes are what the rules give from the start on, one after another, up to the first `Q`; or the fault of
 /// the first need that fails.
-pub fn certificate_of(
+pub(crate) fn certificate_of(
     alloc: Global,
     script: &Script,
     start: Start,
@@ -50,7 +50,10 @@ pub fn certificate_of(
             return Ok(Err(fault));
         }
         let next = after(command, &state)?;
-        notes.push(Note { state })?;
+        notes.push(Note {
+            state,
+            looped: None,
+        })?;
         state = next;
         if command.verb == Verb::QuitAnyway {
             break;

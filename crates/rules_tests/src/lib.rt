@@ -1,11 +1,17 @@
-//! Tests of the public calls of `ed_rules` and `cert_check`.
+//! Tests of the public calls of `ed_rules`, `cert_check` and `analyser`.
 #![tactic(auto)]
 
+#[cfg(test)]
+mod analysing;
 #[cfg(test)]
 mod certifying;
 #[cfg(test)]
 mod checking;
 #[cfg(test)]
+mod globals;
+#[cfg(test)]
 mod rules;
 #[cfg(test)]
 mod substitution;
+#[cfg(test)]
+mod text;

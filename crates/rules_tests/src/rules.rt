@@ -9,7 +9,7 @@ use std::test::Fail;
 use zones::Name;
 
 /// The number of a script's first command whose needs fail, with its fault; or the state at the end.
-pub fn walked(
+pub(crate) fn walked(
     alloc: Global,
     script: &[u8],
     start: Start,
@@ -26,7 +26,7 @@ pub fn walked(
 }
 
 /// A start from a file of so many lines.
-pub const fn lines(min: u64, max: Option<u64>) -> Start {
+pub(crate) const fn lines(min: u64, max: Option<u64>) -> Start {
     Start {
         named: true,
         min,
@@ -96,7 +96,7 @@ fn the_number_of_lines_is_bounded(rt: HostRuntime) -> Result<(), Fail> {
 }
 
 /// Three scripts that remember patterns, mark lines and change the buffer.
-pub const SCRIPTS: [&[u8]; 3] = [
+pub(crate) static SCRIPTS: [&[u8]; 3] = [
     b"/x*/ka\n//d\n$p\nQ\n",
     b"1,2c\none\ntwo\n.\n1,2j\n.t$\nQ\n",
     b"3m0\n2kb\n?a*?l\n'b=\nQ\n",

@@ -72,22 +72,24 @@ fn substitution(
 }
 
 #[rattlefmt::skip]
+static NEEDS: [Row; 11] = [
+    Row { first: 1, last: 1, pattern: Some(b"$"), parts: Some(SEMICOLON), which: Which::First, listed: false, min: 1, max: None, need: None },
+    Row { first: 1, last: 3, pattern: Some(b"x*"), parts: Some(SPLIT), which: Which::All, listed: false, min: 3, max: Some(4), need: None },
+    Row { first: 1, last: 2, pattern: Some(b"$"), parts: Some(SEMICOLON), which: Which::First, listed: false, min: 1, max: None, need: Some(Fault::Address) },
+    Row { first: 1, last: 1, pattern: Some(b"x"), parts: Some(SEMICOLON), which: Which::First, listed: false, min: 1, max: None, need: Some(Fault::NoMatch) },
+    Row { first: 1, last: 1, pattern: Some(b"x"), parts: Some(SEMICOLON), which: Which::First, listed: true, min: 1, max: None, need: None },
+    Row { first: 1, last: 1, pattern: Some(b"$"), parts: None, which: Which::First, listed: false, min: 1, max: None, need: Some(Fault::Replacement) },
+    Row { first: 1, last: 1, pattern: None, parts: None, which: Which::First, listed: false, min: 1, max: None, need: Some(Fault::Replacement) },
+    Row { first: 1, last: 1, pattern: None, parts: Some(SEMICOLON), which: Which::First, listed: false, min: 1, max: None, need: Some(Fault::Pattern) },
+    Row { first: 1, last: 1, pattern: Some(b"x*"), parts: Some(SEMICOLON), which: Which::Nth(2), listed: false, min: 1, max: None, need: Some(Fault::NoMatch) },
+    Row { first: 1, last: 1, pattern: Some(b"x*"), parts: Some(SEMICOLON), which: Which::Nth(1), listed: false, min: 1, max: None, need: None },
+    Row { first: 1, last: 1, pattern: Some(b"x"), parts: Some(SPLIT), which: Which::First, listed: true, min: 1, max: None, need: Some(Fault::Replacement) },
+];
+
+#[rattlefmt::skip]
 #[test]
 fn the_first_need_that_fails_is_told(rt: HostRuntime) -> Result<(), Fail> {
-    let rows = [
-        Row { first: 1, last: 1, pattern: Some(b"$"), parts: Some(SEMICOLON), which: Which::First, listed: false, min: 1, max: None, need: None },
-        Row { first: 1, last: 3, pattern: Some(b"x*"), parts: Some(SPLIT), which: Which::All, listed: false, min: 3, max: Some(4), need: None },
-        Row { first: 1, last: 2, pattern: Some(b"$"), parts: Some(SEMICOLON), which: Which::First, listed: false, min: 1, max: None, need: Some(Fault::Address) },
-        Row { first: 1, last: 1, pattern: Some(b"x"), parts: Some(SEMICOLON), which: Which::First, listed: false, min: 1, max: None, need: Some(Fault::NoMatch) },
-        Row { first: 1, last: 1, pattern: Some(b"x"), parts: Some(SEMICOLON), which: Which::First, listed: true, min: 1, max: None, need: None },
-        Row { first: 1, last: 1, pattern: Some(b"$"), parts: None, which: Which::First, listed: false, min: 1, max: None, need: Some(Fault::Replacement) },
-        Row { first: 1, last: 1, pattern: None, parts: None, which: Which::First, listed: false, min: 1, max: None, need: Some(Fault::Replacement) },
-        Row { first: 1, last: 1, pattern: None, parts: Some(SEMICOLON), which: Which::First, listed: false, min: 1, max: None, need: Some(Fault::Pattern) },
-        Row { first: 1, last: 1, pattern: Some(b"x*"), parts: Some(SEMICOLON), which: Which::Nth(2), listed: false, min: 1, max: None, need: Some(Fault::NoMatch) },
-        Row { first: 1, last: 1, pattern: Some(b"x*"), parts: Some(SEMICOLON), which: Which::Nth(1), listed: false, min: 1, max: None, need: None },
-        Row { first: 1, last: 1, pattern: Some(b"x"), parts: Some(SPLIT), which: Which::First, listed: true, min: 1, max: None, need: Some(Fault::Replacement) },
-    ];
-    for (index, row) in rows.iter().enumerate() {
+    for (index, row) in NEEDS.iter().enumerate() {
         let state = State::start(rt.alloc(), &None, row.min, row.max)?;
         let command = substitution(rt.alloc(), row.first, row.last, row.pattern, row.parts, row.which, row.listed)?;
         assert_eq!(rt; needs(&command, &state)?, row.need, "row {index}");
