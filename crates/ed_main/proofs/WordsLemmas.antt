@@ -1,8 +1,10 @@
 -- What words give, by what `clap` ensures of them.
-use Rattle.std.proofs.Common.{◌≡◌, ◌≢◌, ◌⊎◌, ◌∙◌, Bool, true, false, List, [], ◌∷◌, codes, option_map, Option, Some, None, refl, sym, ap, ap₂, subst, inl, inr}
-use Rattle.std.proofs.lemmas.Slice.Eq.{bytes_eq-Decides}
+use Rattle.std.proofs.Common.{◌≡◌, ◌≢◌, ◌⊎◌, ◌∙◌, ◌<◌, ◌≤◌, ◌^◌, ◌&&◌, ℕ, Bool, true, false, List, [], ◌∷◌, length, option_map, Option, Some, None, refl, sym, ap, ap₂, subst, inl, inr, arith, if◌then◌else◌, nat_lt, lt-ltb, ltb-true}
+use Rattle.std.proofs.lemmas.Bool.{and_from, and_parts, leb-true}
+use Rattle.std.specs.Char.{digit_value}
+use Rattle.std.specs.List.{list_all}
+use Rattle.std.specs.Str.Parse.{AllDigits, IsNumeral, digits_value, without_leading_plus}
 use Rattle.std.specs.Box.{box_value}
-use Rattle.std.specs.Str.{bytes_eq}
 use Rattle.clap.proofs.OnLiterals.{clap_on_literals}
 use Rattle.clap.specs.Words.{App, IsAmong, Kinds, Row, Text, fault_of, is_simple, is_simple_and_free, rows_of, found_of, subcommand_name_of, subcommand_of, subcommand_rows, subcommand_rows_of}
 use Rattle.std.specs.Prelude.{Box}
@@ -14,7 +16,8 @@ use Rattle.clap.specs.declared.error.kind.ErrorKind.TheVariants as kind
 use Rattle.ed_main.specs.declared.job.Job.{Job}
 use Rattle.ed_main.specs.declared.words.WordsFault.{WordsFault}
 use Rattle.ed_main.specs.declared.words.WordsFault.TheVariants as fault
-use Rattle.ed_main.specs.Words.{program, editing, options_in, job_of, job_named, unless_refused}
+use Rattle.cert_check.specs.HasText.{is_few}
+use Rattle.ed_main.specs.Words.{program, are_digits, lines_in, job_by_name, job_of, job_named, unless_refused}
 
 -- `clap` says of the program all that it says of simple commands
 simple : is_simple program ≡ true
@@ -55,30 +58,59 @@ pub refused_by : (a : App) (words : List Text) (k : ErrorKind) (f : WordsFault) 
 refused_by a words k f e has memory other =
     refused_for words k f (subst (λ (b : App). (k ≡ kind.OutOfMemory) ⊎ IsAmong k (fault_of b words)) e (has (ap is_simple_and_free e ∙ simple_and_free))) memory other
 
-unnamed : (b : Bool) (rows : List Row) → (b ≡ true → ⊥) → ◌≡◌ {A = Option Job} (elim b [ true ↦ editing (options_in rows) | false ↦ None ]) None
-unnamed true rows differs = absurd (differs refl)
-unnamed false rows differs = refl
-
 module _ {Z : Type 0} where
-  other : (o : Option (Box SubCommand Z)) → (option_map (λ b. (out-SubCommand (box_value b)).name.now) o ≡ Some (codes "edit") → ⊥) → job_named (subcommand_rows o) ≡ None
-  other None differs = refl
-  other (Some b) differs =
-      let name : Text = (out-SubCommand (box_value b)).name.now in
-      unnamed (bytes_eq name (codes "edit")) (rows_of (found_of (out-SubCommand (box_value b)).matches)) (λ e. differs (ap Some ((bytes_eq-Decides name (codes "edit")).0 e)))
-
-  edit_named : (o : Option (Box SubCommand Z)) (rows : List Row) → option_map (λ b. (out-SubCommand (box_value b)).name.now) o ≡ Some (codes "edit")
-      → option_map (λ p. p.1) (subcommand_rows o) ≡ Some rows → job_named (subcommand_rows o) ≡ editing (options_in rows)
-  edit_named None rows name found = cc
-  edit_named (Some b) rows name found =
-      let n : (out-SubCommand (box_value b)).name.now ≡ codes "edit" = cc in
+  named : (o : Option (Box SubCommand Z)) (name : Text) (rows : List Row) → option_map (λ b. (out-SubCommand (box_value b)).name.now) o ≡ Some name
+      → option_map (λ p. p.1) (subcommand_rows o) ≡ Some rows → job_named (subcommand_rows o) ≡ job_by_name name rows
+  named None name rows is found = cc
+  named (Some b) name rows is found =
+      let n : (out-SubCommand (box_value b)).name.now ≡ name = cc in
       let r : rows_of (found_of (out-SubCommand (box_value b)).matches) ≡ rows = cc in
-      ap₂ (λ (t : Text) (rs : List Row). job_named (Some (t, rs))) n r
+      ap₂ (λ (t : Text) (rs : List Row). job_by_name t rs) n r
 
--- another subcommand than `edit` gives no job
-pub other_named : (m : ArgMatches) → (subcommand_name_of m ≡ Some (codes "edit") → ⊥) → job_named (subcommand_rows_of m) ≡ None
-other_named m differs = other (out-ArgMatches m).subcommand differs
+  none : (o : Option (Box SubCommand Z)) → option_map (λ b. (out-SubCommand (box_value b)).name.now) o ≡ None → job_named (subcommand_rows o) ≡ None
+  none None is = refl
+  none (Some b) is = cc
 
--- `edit` gives the one of its options
-pub is_edit : (m : ArgMatches) (rows : List Row) → subcommand_name_of m ≡ Some (codes "edit") → option_map (λ p. p.1) (subcommand_rows_of m) ≡ Some rows
-    → job_named (subcommand_rows_of m) ≡ editing (options_in rows)
-is_edit m rows name found = edit_named (out-ArgMatches m).subcommand rows name found
+-- a subcommand gives the job of its name
+pub is_named : (m : ArgMatches) (name : Text) (rows : List Row) → subcommand_name_of m ≡ Some name → option_map (λ p. p.1) (subcommand_rows_of m) ≡ Some rows
+    → job_named (subcommand_rows_of m) ≡ job_by_name name rows
+is_named m name rows is found = named (out-ArgMatches m).subcommand name rows is found
+
+-- and none gives no job
+pub none_named : (m : ArgMatches) → subcommand_name_of m ≡ None → job_named (subcommand_rows_of m) ≡ None
+none_named m is = none (out-ArgMatches m).subcommand is
+
+digits_pass : (ds : List ℕ) → AllDigits 10 ds → list_all (λ d. nat_lt (digit_value d) 10) ds ≡ true
+digits_pass [] h = refl
+digits_pass (d ∷ ds) h = and_from _ _ (lt-ltb _ 10 h.0) (digits_pass ds h.1)
+
+digits_from : (ds : List ℕ) → list_all (λ d. nat_lt (digit_value d) 10) ds ≡ true → AllDigits 10 ds
+digits_from [] h = tt
+digits_from (d ∷ ds) h = let both = and_parts (nat_lt (digit_value d) 10) _ h in (ltb-true _ 10 both.0, digits_from ds both.1)
+
+-- digits that spell a number which has a place in memory
+abbrev Spelled : Text → Type 0
+Spelled text = IsNumeral 10 (without_leading_plus text) × (digits_value 10 (without_leading_plus text) < 2 ^ 64)
+
+-- a number that `parse` reads, where it is few lines
+pub lines_parsed : (text : Text) (n : ℕ) → Spelled text × (n ≡ digits_value 10 (without_leading_plus text)) → lines_in text ≡ (if is_few n then Some n else None)
+lines_parsed text n h =
+    let ds = without_leading_plus text in
+    let digits : are_digits ds ≡ true = and_from _ _ (lt-ltb 0 (length ds) h.0.0.0) (digits_pass ds h.0.0.1) in
+    rw (h.1, digits) refl
+
+lines_none : (text : Text) (b : Bool) → (are_digits (without_leading_plus text) && is_few (digits_value 10 (without_leading_plus text))) ≡ b → (b ≡ true → ⊥) → lines_in text ≡ None
+lines_none text true e other = absurd (other refl)
+lines_none text false e other = rw e refl
+
+few_fits : (n : ℕ) → is_few n ≡ true → n < 2 ^ 64
+few_fits n h = let le : n ≤ 1000000000000 = leb-true _ _ h in omega arith
+
+-- and a text that it doesn't read
+pub lines_unparsed : (text : Text) → (Spelled text → ⊥) → lines_in text ≡ None
+lines_unparsed text h =
+    let ds = without_leading_plus text in
+    lines_none text (are_digits ds && is_few (digits_value 10 ds)) refl (λ all.
+    let outer = and_parts (are_digits ds) (is_few (digits_value 10 ds)) all in
+    let inner = and_parts (nat_lt 0 (length ds)) _ outer.0 in
+    h ((ltb-true 0 _ inner.0, digits_from ds inner.1), few_fits _ outer.1))

@@ -9,6 +9,14 @@ use Rattle.ed_main.specs.declared.job.Job.TheVariants as job
 abbrev edit : Bool → Option (List ℕ) → Option (List ℕ) → Option Job
 edit silent prompt path = Some (job.Edit (record { silent = silent; prompt = prompt; path = path }))
 
+-- a certificate for these bounds
+abbrev vouch : ℕ → Option ℕ → Option (List ℕ) → Option Job
+vouch min max path = Some (job.Vouch (record { path = path; min = min; max = max }))
+
+-- a run that is checked first
+abbrev run : List ℕ → Bool → Option (List ℕ) → Option Job
+run certificate silent path = Some (job.Run certificate (record { silent = silent; prompt = None; path = path }))
+
 -- the job of words behind the program's name
 abbrev job_given : List (List ℕ) → Option Job
 job_given words = job_of (codes "ed_main" ∷ words)
@@ -120,3 +128,163 @@ a_prompt_like_an_option_in_one_word = refl
 an_option_before_edit : job_given (codes "-s" ∷ codes "edit" ∷ []) ≡ None
 unfolding clap_on_literals program job_of
 an_option_before_edit = refl
+
+vouched : job_given (codes "vouch" ∷ codes "--min" ∷ codes "1" ∷ codes "--max" ∷ codes "3" ∷ codes "F" ∷ []) ≡ vouch 1 (Some 3) (Some (codes "F"))
+unfolding clap_on_literals program job_of
+vouched = refl
+
+vouched_in_one_word_each : job_given (codes "vouch" ∷ codes "--min=1" ∷ codes "--max=3" ∷ codes "F" ∷ []) ≡ vouch 1 (Some 3) (Some (codes "F"))
+unfolding clap_on_literals program job_of
+vouched_in_one_word_each = refl
+
+vouched_without_a_file : job_given (codes "vouch" ∷ codes "--max" ∷ codes "any" ∷ codes "--min" ∷ codes "0" ∷ []) ≡ vouch 0 None None
+unfolding clap_on_literals program job_of
+vouched_without_a_file = refl
+
+any_after_equals : job_given (codes "vouch" ∷ codes "F" ∷ codes "--min=0" ∷ codes "--max=any" ∷ []) ≡ vouch 0 None (Some (codes "F"))
+unfolding clap_on_literals program job_of
+any_after_equals = refl
+
+numbers_with_a_plus_and_zeros : job_given (codes "vouch" ∷ codes "--min" ∷ codes "+3" ∷ codes "--max" ∷ codes "007" ∷ []) ≡ vouch 3 (Some 7) None
+unfolding clap_on_literals program job_of
+numbers_with_a_plus_and_zeros = refl
+
+the_most_lines : job_given (codes "vouch" ∷ codes "--min" ∷ codes "1000000000000" ∷ codes "--max" ∷ codes "1000000000000" ∷ []) ≡ vouch 1000000000000 (Some 1000000000000) None
+unfolding clap_on_literals program job_of
+the_most_lines = refl
+
+a_vouched_file_after_two_hyphens : job_given (codes "vouch" ∷ codes "--min" ∷ codes "0" ∷ codes "--max" ∷ codes "0" ∷ codes "--" ∷ codes "-x" ∷ []) ≡ vouch 0 (Some 0) (Some (codes "-x"))
+unfolding clap_on_literals program job_of
+a_vouched_file_after_two_hyphens = refl
+
+more_than_the_most_lines : job_given (codes "vouch" ∷ codes "--min" ∷ codes "1000000000001" ∷ codes "--max" ∷ codes "any" ∷ []) ≡ None
+unfolding clap_on_literals program job_of
+more_than_the_most_lines = refl
+
+a_limit_above_the_most_lines : job_given (codes "vouch" ∷ codes "--min" ∷ codes "0" ∷ codes "--max" ∷ codes "1000000000001" ∷ []) ≡ None
+unfolding clap_on_literals program job_of
+a_limit_above_the_most_lines = refl
+
+min_above_max : job_given (codes "vouch" ∷ codes "--min" ∷ codes "2" ∷ codes "--max" ∷ codes "1" ∷ []) ≡ None
+unfolding clap_on_literals program job_of
+min_above_max = refl
+
+min_any : job_given (codes "vouch" ∷ codes "--min" ∷ codes "any" ∷ codes "--max" ∷ codes "any" ∷ []) ≡ None
+unfolding clap_on_literals program job_of
+min_any = refl
+
+no_number : job_given (codes "vouch" ∷ codes "--min" ∷ [] ∷ codes "--max" ∷ codes "any" ∷ []) ≡ None
+unfolding clap_on_literals program job_of
+no_number = refl
+
+a_number_below_zero : job_given (codes "vouch" ∷ codes "--min=-1" ∷ codes "--max" ∷ codes "any" ∷ []) ≡ None
+unfolding clap_on_literals program job_of
+a_number_below_zero = refl
+
+a_number_with_a_blank : job_given (codes "vouch" ∷ codes "--min" ∷ codes " 1" ∷ codes "--max" ∷ codes "any" ∷ []) ≡ None
+unfolding clap_on_literals program job_of
+a_number_with_a_blank = refl
+
+two_pluses : job_given (codes "vouch" ∷ codes "--min" ∷ codes "++1" ∷ codes "--max" ∷ codes "any" ∷ []) ≡ None
+unfolding clap_on_literals program job_of
+two_pluses = refl
+
+no_min : job_given (codes "vouch" ∷ codes "--max" ∷ codes "any" ∷ []) ≡ None
+unfolding clap_on_literals program job_of
+no_min = refl
+
+no_max : job_given (codes "vouch" ∷ codes "--min" ∷ codes "0" ∷ []) ≡ None
+unfolding clap_on_literals program job_of
+no_max = refl
+
+two_mins : job_given (codes "vouch" ∷ codes "--min" ∷ codes "0" ∷ codes "--min" ∷ codes "1" ∷ codes "--max" ∷ codes "any" ∷ []) ≡ None
+unfolding clap_on_literals program job_of
+two_mins = refl
+
+two_vouched_files : job_given (codes "vouch" ∷ codes "--min" ∷ codes "0" ∷ codes "--max" ∷ codes "any" ∷ codes "F" ∷ codes "G" ∷ []) ≡ None
+unfolding clap_on_literals program job_of
+two_vouched_files = refl
+
+an_empty_vouched_file : job_given (codes "vouch" ∷ codes "--min" ∷ codes "0" ∷ codes "--max" ∷ codes "any" ∷ [] ∷ []) ≡ None
+unfolding clap_on_literals program job_of
+an_empty_vouched_file = refl
+
+a_vouched_hyphen : job_given (codes "vouch" ∷ codes "--min" ∷ codes "0" ∷ codes "--max" ∷ codes "any" ∷ codes "-" ∷ []) ≡ None
+unfolding clap_on_literals program job_of
+a_vouched_hyphen = refl
+
+silent_vouching : job_given (codes "vouch" ∷ codes "-s" ∷ codes "--min" ∷ codes "0" ∷ codes "--max" ∷ codes "any" ∷ []) ≡ None
+unfolding clap_on_literals program job_of
+silent_vouching = refl
+
+help_of_vouch : job_given (codes "vouch" ∷ codes "--help" ∷ []) ≡ None
+unfolding clap_on_literals program job_of
+help_of_vouch = refl
+
+checked : job_given (codes "check" ∷ codes "C" ∷ []) ≡ Some (job.Check (codes "C"))
+unfolding clap_on_literals program job_of
+checked = refl
+
+checked_after_two_hyphens : job_given (codes "check" ∷ codes "--" ∷ codes "-x" ∷ []) ≡ Some (job.Check (codes "-x"))
+unfolding clap_on_literals program job_of
+checked_after_two_hyphens = refl
+
+no_certificate : job_given (codes "check" ∷ []) ≡ None
+unfolding clap_on_literals program job_of
+no_certificate = refl
+
+two_certificates : job_given (codes "check" ∷ codes "C" ∷ codes "D" ∷ []) ≡ None
+unfolding clap_on_literals program job_of
+two_certificates = refl
+
+an_empty_certificate : job_given (codes "check" ∷ [] ∷ []) ≡ None
+unfolding clap_on_literals program job_of
+an_empty_certificate = refl
+
+a_hyphen_as_a_certificate : job_given (codes "check" ∷ codes "-" ∷ []) ≡ None
+unfolding clap_on_literals program job_of
+a_hyphen_as_a_certificate = refl
+
+run_with_a_file : job_given (codes "run" ∷ codes "C" ∷ codes "F" ∷ []) ≡ run (codes "C") false (Some (codes "F"))
+unfolding clap_on_literals program job_of
+run_with_a_file = refl
+
+run_without_a_file : job_given (codes "run" ∷ codes "C" ∷ []) ≡ run (codes "C") false None
+unfolding clap_on_literals program job_of
+run_without_a_file = refl
+
+run_silent_before_the_certificate : job_given (codes "run" ∷ codes "-s" ∷ codes "C" ∷ codes "F" ∷ []) ≡ run (codes "C") true (Some (codes "F"))
+unfolding clap_on_literals program job_of
+run_silent_before_the_certificate = refl
+
+run_silent_after_the_certificate : job_given (codes "run" ∷ codes "C" ∷ codes "-s" ∷ codes "F" ∷ []) ≡ run (codes "C") true (Some (codes "F"))
+unfolding clap_on_literals program job_of
+run_silent_after_the_certificate = refl
+
+run_silent_at_the_end : job_given (codes "run" ∷ codes "C" ∷ codes "F" ∷ codes "-s" ∷ []) ≡ run (codes "C") true (Some (codes "F"))
+unfolding clap_on_literals program job_of
+run_silent_at_the_end = refl
+
+run_silent_twice : job_given (codes "run" ∷ codes "-s" ∷ codes "C" ∷ codes "-s" ∷ []) ≡ None
+unfolding clap_on_literals program job_of
+run_silent_twice = refl
+
+run_without_a_certificate : job_given (codes "run" ∷ codes "-s" ∷ []) ≡ None
+unfolding clap_on_literals program job_of
+run_without_a_certificate = refl
+
+run_with_a_prompt : job_given (codes "run" ∷ codes "-p" ∷ codes "a" ∷ codes "C" ∷ []) ≡ None
+unfolding clap_on_literals program job_of
+run_with_a_prompt = refl
+
+run_on_an_empty_file : job_given (codes "run" ∷ codes "C" ∷ [] ∷ []) ≡ None
+unfolding clap_on_literals program job_of
+run_on_an_empty_file = refl
+
+run_on_a_hyphen : job_given (codes "run" ∷ codes "C" ∷ codes "-" ∷ []) ≡ None
+unfolding clap_on_literals program job_of
+run_on_a_hyphen = refl
+
+run_with_two_files : job_given (codes "run" ∷ codes "C" ∷ codes "F" ∷ codes "G" ∷ []) ≡ None
+unfolding clap_on_literals program job_of
+run_with_two_files = refl

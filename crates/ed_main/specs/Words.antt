@@ -1,12 +1,16 @@
 -- The words that the program is given, as `clap` reads them, and the job that they give (XCU ed, "Synopsis"; our choice: a subcommand,
 -- and no prompt or file that reads as an option).
-use Rattle.std.specs.Prelude.{ℕ, Bool, true, false, not, ◌&&◌, List, [], ◌∷◌, codes, nat_eq, Option, Some, None}
+use Rattle.std.specs.Prelude.{ℕ, Bool, true, false, not, ◌&&◌, List, [], ◌∷◌, codes, length, nat_eq, nat_lt, Option, Some, None, option_and_then, option_map, if◌then◌else◌}
+use Rattle.std.specs.List.{list_all}
 use Rattle.std.specs.Option.{option_map_or}
+use Rattle.std.specs.Char.{digit_value}
 use Rattle.std.specs.Str.{bytes_eq}
+use Rattle.std.specs.Str.Parse.{digits_value, without_leading_plus}
 use Rattle.clap.specs.Words.{App, Kinds, Row, Rule, fault_of, first_of, new_app, new_rule, subcommand_of, with_rule, with_subcommand}
 use Rattle.clap.specs.Simple.{on_top}
 use Rattle.clap.specs.declared.builder.action.ArgAction.TheVariants.{Set, SetTrue}
 use Rattle.ed_syntax.specs.declared.options.Options.{Options}
+use Rattle.cert_check.specs.HasText.{is_few, is_within}
 use Rattle.ed_main.specs.declared.job.Job.{Job}
 use Rattle.ed_main.specs.declared.job.Job.TheVariants as job
 
@@ -22,13 +26,40 @@ prompt = record (new_rule (codes "prompt")) { short = Some 112; action = Some Se
 abbrev pub file : Rule
 file = record (new_rule (codes "file")) { action = Some Set; value_names = 1 }
 
+-- `--min N`
+abbrev pub min : Rule
+min = record (new_rule (codes "min")) { long = Some (codes "min"); action = Some Set; value_names = 1; required = true }
+
+-- `--max M`
+abbrev pub max : Rule
+max = record (new_rule (codes "max")) { long = Some (codes "max"); action = Some Set; value_names = 1; required = true }
+
+-- `CERT`
+abbrev pub certificate : Rule
+certificate = record (new_rule (codes "certificate")) { action = Some Set; value_names = 1; required = true }
+
 -- `edit [-s] [-p STRING] [FILE]`
 abbrev pub edit : App
 edit = with_rule (with_rule (with_rule (new_app (codes "edit")) silent) prompt) file
 
--- the program, which wants a subcommand
+-- `vouch --min N --max M [FILE]`
+abbrev pub vouch : App
+vouch = with_rule (with_rule (with_rule (new_app (codes "vouch")) min) max) file
+
+-- `check CERT`
+abbrev pub check : App
+check = with_rule (new_app (codes "check")) certificate
+
+-- `run CERT [-s] [FILE]`
+abbrev pub run : App
+run = with_rule (with_rule (with_rule (new_app (codes "run")) certificate) silent) file
+
+-- the program without its subcommands, of which it wants one
+abbrev pub bare : App
+bare = on_top (λ s. record s { has_version = true; subcommand_required = true }) (new_app (codes "ed_main"))
+
 unfoldable pub program : App
-program = with_subcommand (on_top (λ s. record s { has_version = true; subcommand_required = true }) (new_app (codes "ed_main"))) edit.top
+program = with_subcommand (with_subcommand (with_subcommand (with_subcommand bare edit.top) vouch.top) check.top) run.top
 
 -- a string that may be a prompt: it doesn't begin with a hyphen
 abbrev pub is_prompt : Option (List ℕ) → Bool
@@ -59,10 +90,70 @@ options_in rows = record {
 abbrev pub editing : Options → Option Job
 editing o = elim (is_prompt o.prompt && is_path o.path) [ true ↦ Some (job.Edit o) | false ↦ None ]
 
--- the job of a subcommand with what it was given
+-- digits, of which there is one at least
+abbrev pub are_digits : List ℕ → Bool
+are_digits text = nat_lt 0 (length text) && list_all (λ d. nat_lt (digit_value d) 10) text
+
+-- a number of lines as digits, before which a plus may stand, of at most 10^12
+abbrev pub lines_in : List ℕ → Option ℕ
+lines_in text =
+    let digits = without_leading_plus text in
+    if are_digits digits && is_few (digits_value 10 digits) then Some (digits_value 10 digits) else None
+
+-- a limit on lines: such a number, or `any` for none
+abbrev pub limit_in : List ℕ → Option (Option ℕ)
+limit_in text = elim (bytes_eq text (codes "any")) [ true ↦ Some None | false ↦ option_map (λ n. Some n) (lines_in text) ]
+
+-- a certificate for starts of these bounds, where the low one isn't above the high one
+abbrev pub vouching_within : ℕ → Option ℕ → Option (List ℕ) → Option Job
+vouching_within least most path =
+    elim (is_within least most && is_path path) [ true ↦ Some (job.Vouch (record { path = path; min = least; max = most })) | false ↦ None ]
+
+abbrev pub vouching_from : ℕ → Option (Option ℕ) → Option (List ℕ) → Option Job
+vouching_from least None path = None
+vouching_from least (Some most) path = vouching_within least most path
+
+abbrev pub vouching_read : Option ℕ → Option (Option ℕ) → Option (List ℕ) → Option Job
+vouching_read None most path = None
+vouching_read (Some least) most path = vouching_from least most path
+
+-- the same by the texts of the bounds
+abbrev pub vouching : (min max : Option (List ℕ)) → (path : Option (List ℕ)) → Option Job
+vouching min max path = vouching_read (option_and_then lines_in min) (option_and_then limit_in max) path
+
+-- a check of the certificate at a path that may be given
+abbrev pub checking : Option (List ℕ) → Option Job
+checking None = None
+checking (Some path) = elim (is_path (Some path)) [ true ↦ Some (job.Check path) | false ↦ None ]
+
+-- a run of a script that is checked first
+abbrev pub running : Option (List ℕ) → Options → Option Job
+running None o = None
+running (Some path) o = elim (is_path (Some path) && is_path o.path) [ true ↦ Some (job.Run path o) | false ↦ None ]
+
+-- the job of each subcommand with what it was given
+abbrev pub edit_job : List Row → Option Job
+edit_job rows = editing (options_in rows)
+
+abbrev pub vouch_job : List Row → Option Job
+vouch_job rows = vouching (first_of (codes "min") rows) (first_of (codes "max") rows) (first_of (codes "file") rows)
+
+abbrev pub check_job : List Row → Option Job
+check_job rows = checking (first_of (codes "certificate") rows)
+
+-- there is no prompt here
+abbrev pub run_job : List Row → Option Job
+run_job rows = running (first_of (codes "certificate") rows) (record (options_in rows) { prompt = None })
+
+-- the job of a subcommand by its name
+abbrev pub job_by_name : List ℕ → List Row → Option Job
+job_by_name name rows =
+    if bytes_eq name (codes "edit") then edit_job rows else if bytes_eq name (codes "vouch") then vouch_job rows
+    else if bytes_eq name (codes "check") then check_job rows else if bytes_eq name (codes "run") then run_job rows else None
+
 abbrev pub job_named : Option (List ℕ × List Row) → Option Job
 job_named None = None
-job_named (Some p) = elim (bytes_eq p.0 (codes "edit")) [ true ↦ editing (options_in p.1) | false ↦ None ]
+job_named (Some p) = job_by_name p.0 p.1
 
 -- the job, where `clap` finds no fault
 abbrev pub unless_refused : Kinds → Option Job → Option Job

@@ -1,11 +1,17 @@
 //! One run of the program: its words, its script, its files, and the status that it ends with.
-ghost use Rattle.std.specs.Prelude.{◌≤◌};
-ghost use Rattle.ed_main.specs.Outcomes.{CameTo};
+ghost use Rattle.std.specs.Prelude.{◌≤◌, IfOk};
+ghost use Rattle.ed_main.specs.Answers.{Checks, Vouches};
+ghost use Rattle.ed_main.specs.Given.{IsGiven};
+ghost use Rattle.ed_main.specs.Outcomes.{CameTo, CameToRun, CameToSay};
+ghost use Rattle.ed_main.specs.declared.job.Job.TheVariants as job;
 
+use crate::checking::check_text;
 use crate::job::Job;
 use crate::reading::{In, ReadFault, read_all};
-use crate::running::edit;
-use crate::words::{WordsFault, read_words};
+use crate::running::{edit, run};
+use crate::vouching::vouch_text;
+use crate::words::{USAGE, WordsFault, read_words};
+use analyser::Start;
 use ed_base::{Bytes, Fault};
 use ed_session::{DiskFiles, Out};
 use ed_syntax::Options;
@@ -14,7 +20,7 @@ use std::fs::File;
 use std::rt::{Env, Files};
 use std::{env, io};
 
-/// How many bytes of standard input are read at most.
+/// How many bytes of standard input, and of a certificate, are read at most.
 const LIMIT: usize = 1 << 30;
 
 /// The status of words that aren't understood.
@@ -27,7 +33,10 @@ where
     ensures status { result ≤ 4 }
 {
     match job_of_run(rt) {
-        Ok(Job::Edit(options)) => edit_file(rt, options),
+        Ok(job) => match read_all(rt.alloc(), &mut In::new(rt.reader()), LIMIT) {
+            Ok(script) => do_job(rt, script, job),
+            Err(fault) => status_of_read(fault),
+        },
         Err(fault) => refuse(rt, &fault),
     }
 }
@@ -46,11 +55,16 @@ fn refuse(rt: &impl Eprint, fault: &WordsFault) -> u8
 }
 
 // The job that the program's words give.
-fn job_of_run<R: Env + AllocGlobal>(rt: &R) -> Result<Job, WordsFault> {
+fn job_of_run<R: Env + AllocGlobal>(rt: &R) -> Result<Job, WordsFault>
+    ensures given { IfOk result IsGiven }
+{
     let words = match env::args(rt) {
         Ok(words) => words.collect::<Vec<String>>(rt.alloc())?,
         Err(error) if error.kind() == io::ErrorKind::OutOfMemory => return Err(WordsFault::Memory),
-        Err(_) => return Err(WordsFault::of(rt.alloc(), "error: a word that isn't UTF-8")),
+        Err(_) => {
+            let wrong = "error: a word that isn't UTF-8";
+            return Err(WordsFault::of(rt.alloc(), wrong, USAGE));
+        }
     };
     let mut texts = Vec::new(rt.alloc());
     for word in words.as_slice() {
@@ -59,27 +73,105 @@ fn job_of_run<R: Env + AllocGlobal>(rt: &R) -> Result<Job, WordsFault> {
     read_words(rt.alloc(), texts.as_slice())
 }
 
-/// Reads the script, and runs it on the file of these options.
-fn edit_file<R>(rt: &R, options: Options) -> u8
-where
-    R: Files<File = File> + Input + Print + AllocGlobal,
-    ensures status { result ≤ 3 }
+// The status of input that wasn't read.
+fn status_of_read(fault: ReadFault) -> u8
+    ensures status { result ≤ 4 }
 {
-    match read_all(rt.alloc(), &mut In::new(rt.reader()), LIMIT) {
-        Ok(script) => run(rt, script, options),
-        Err(ReadFault::Refused) => Fault::File.status(),
-        Err(ReadFault::Memory) => Fault::Memory.status(),
+    match fault {
+        ReadFault::Refused => Fault::File.status(),
+        ReadFault::Memory => Fault::Memory.status(),
+    }
+}
+
+// Does a job with the script's bytes.
+fn do_job<R>(rt: &R, script: Bytes, job: Job) -> u8
+where
+    R: Files<File = File> + Print + Eprint + AllocGlobal,
+    requires given { IsGiven job }
+    ensures status { result ≤ 4 }
+{
+    match job {
+        Job::Edit(options) => edit_file(rt, script, options),
+        Job::Vouch(start) => vouch_file(rt, script.as_slice(), start),
+        Job::Check(path) => match certificate_at(rt, &path) {
+            Ok(certificate) => check_file(rt, script.as_slice(), certificate.as_slice()),
+            Err(fault) => status_of_read(fault),
+        },
+        Job::Run {
+            certificate,
+            options,
+        } => match certificate_at(rt, &certificate) {
+            Ok(certificate) => run_file(rt, script.as_slice(), certificate.as_slice(), options),
+            Err(fault) => status_of_read(fault),
+        },
+    }
+}
+
+// The bytes of the file at this path.
+fn certificate_at<R>(rt: &R, path: &Bytes) -> Result<Bytes, ReadFault>
+where
+    R: Files<File = File> + AllocGlobal,
+{
+    let Ok(path) = str::from_utf8(path.as_slice()) else {
+        return Err(ReadFault::Refused);
+    };
+    match File::open(rt, path) {
+        Ok(file) => read_all(rt.alloc(), &mut In::new(file), LIMIT),
+        Err(error) if error.kind() == io::ErrorKind::OutOfMemory => Err(ReadFault::Memory),
+        Err(_) => Err(ReadFault::Refused),
     }
 }
 
 // Runs the script's bytes over the system's files and the standard output.
-fn run<R>(rt: &R, script: Bytes, options: Options) -> u8
+fn edit_file<R>(rt: &R, script: Bytes, options: Options) -> u8
 where
     R: Files<File = File> + Print + AllocGlobal,
-    ensures status { result ≤ 3 }
+    ensures status { result ≤ 4 }
     ensures came { CameTo script options result }
 {
     let mut files = DiskFiles::new(rt.alloc(), rt);
     let mut output = Out::new(io::writer(rt));
     edit(rt.alloc(), script, options, &mut files, &mut output)
+}
+
+// Tells the standard output the certificate of the script's bytes, or why there is none.
+fn vouch_file<R>(rt: &R, script: &[u8], start: Start) -> u8
+where
+    R: Print + Eprint + AllocGlobal,
+    requires given { IsGiven (job.Vouch start) }
+    ensures status { result ≤ 4 }
+    ensures came { CameToSay (Vouches script.now start) result }
+{
+    let mut output = Out::new(io::writer(rt));
+    vouch_text(rt.alloc(), rt, script, start, &mut output)
+}
+
+// Tells the standard output the verdict on a certificate for the script's bytes.
+fn check_file<R>(rt: &R, script: &[u8], certificate: &[u8]) -> u8
+where
+    R: Print + AllocGlobal,
+    ensures status { result ≤ 4 }
+    ensures came { CameToSay (Checks script.now certificate.now) result }
+{
+    let mut output = Out::new(io::writer(rt));
+    check_text(rt.alloc(), script, certificate, &mut output)
+}
+
+// Runs the script's bytes as `edit_file`, where the certificate allows it.
+fn run_file<R>(rt: &R, script: &[u8], certificate: &[u8], options: Options) -> u8
+where
+    R: Files<File = File> + Print + AllocGlobal,
+    ensures status { result ≤ 4 }
+    ensures came { CameToRun script.now certificate.now options result }
+{
+    let mut files = DiskFiles::new(rt.alloc(), rt);
+    let mut output = Out::new(io::writer(rt));
+    run(
+        rt.alloc(),
+        script,
+        certificate,
+        options,
+        &mut files,
+        &mut output,
+    )
 }

@@ -1,10 +1,15 @@
 //! `ed` for scripts: runs the script on standard input over a file.
 #![tactic(auto)]
 
+mod checked;
+mod checking;
 mod editing;
 mod job;
+mod known;
 mod reading;
 mod running;
+mod telling;
+mod vouching;
 mod words;
 
 use std::process::ExitCode;

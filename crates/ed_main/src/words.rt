@@ -1,10 +1,14 @@
 //! The words that the program is given, as `clap` reads them.
-ghost use Rattle.std.specs.Prelude.{◌≡◌, ◌≢◌, Some, None, false, map, IfOk, IfErr, option_map};
+ghost use Rattle.std.specs.Prelude.{◌≡◌, ◌≢◌, List, Some, None, false, if◌then◌else◌, map, IfOk, IfErr, option_and_then, option_map};
 ghost use Rattle.clap.specs.Words.{app_of, found_of, first_of, kind_of, rows_of, rule_of, subcommand_rows_of};
+ghost use Rattle.clap.specs.declared.builder.command.Command.TheViews.{out-Command as fields_of};
+ghost use Rattle.cert_check.specs.HasText as text;
 ghost use Rattle.ed_main.specs.Words as meaning;
-ghost use Rattle.ed_main.specs.Words.{job_of, job_named, editing, options_in};
+ghost use Rattle.ed_main.specs.Words.{job_of, job_named, options_in};
+ghost use Rattle.ed_main.specs.Given.{IsGiven};
 
 use crate::job::Job;
+use analyser::Start;
 use clap::error::ErrorKind;
 use clap::{Arg, ArgAction, ArgMatches, Command};
 use ed_base::Bytes;
@@ -35,8 +39,8 @@ impl From<AllocError> for WordsFault {
 
 impl WordsFault {
     /// What is wrong with the words, and how the program is used.
-    pub fn of(alloc: Global, wrong: &str) -> WordsFault {
-        match format!(in alloc; "{wrong}\n{USAGE}") {
+    pub fn of(alloc: Global, wrong: &str, usage: &str) -> WordsFault {
+        match format!(in alloc; "{wrong}\n{usage}") {
             Ok(text) => WordsFault::Usage(text),
             Err(_) => WordsFault::Memory,
         }
@@ -44,17 +48,38 @@ impl WordsFault {
 }
 
 /// How the program is used.
-const USAGE: &str = "usage: ed_main edit [-s] [-p STRING] [FILE] <SCRIPT\n";
+pub const USAGE: &str = "\
+usage: ed_main edit [-s] [-p STRING] [FILE] <SCRIPT
+       ed_main vouch --min N --max M [FILE] <SCRIPT
+       ed_main check CERT <SCRIPT
+       ed_main run CERT [-s] [FILE] <SCRIPT
+";
+
+const EDIT_USAGE: &str = "usage: ed_main edit [-s] [-p STRING] [FILE] <SCRIPT\n";
+
+const VOUCH_USAGE: &str = "usage: ed_main vouch --min N --max M [FILE] <SCRIPT\n";
+
+const CHECK_USAGE: &str = "usage: ed_main check CERT <SCRIPT\n";
+
+const RUN_USAGE: &str = "usage: ed_main run CERT [-s] [FILE] <SCRIPT\n";
+
+const NO_FILE: &str = "error: a file without a name, or named -";
+
+const NO_CERTIFICATE: &str = "error: a certificate without a name, or named -";
+
+/// The most lines that a start may have.
+const MOST_LINES: u64 = 1_000_000_000_000;
 
 /// The job that these words give, of which the first is the program's own name.
 pub fn read_words(alloc: Global, words: &[&str]) -> Result<Job, WordsFault>
     ensures value { IfOk result (λ job. job_of (map (λ w. w.now) words.entry.now) ≡ Some job) }
     ensures only_if_refused { IfErr result (λ fault. fault ≢ WordsFault.Memory →
         job_of (map (λ w. w.now) words.entry.now) ≡ None) }
+    ensures given { IfOk result IsGiven }
 {
     match program(alloc)?.try_get_matches_from(words) {
         Ok(matches) => job_of_matches(alloc, &matches),
-        Err(error) => Err(refused(alloc, &error)),
+        Err(error) => Err(refused(alloc, &error, usage_of(words))),
     }
 }
 
@@ -62,10 +87,26 @@ fn job_of_matches(alloc: Global, matches: &ArgMatches<'_>) -> Result<Job, WordsF
     ensures value { IfOk result (λ job. job_named (subcommand_rows_of matches.now) ≡ Some job) }
     ensures only_if_refused { IfErr result (λ fault. fault ≢ WordsFault.Memory →
         job_named (subcommand_rows_of matches.now) ≡ None) }
+    ensures given { IfOk result IsGiven }
 {
-    match matches.subcommand_matches("edit") {
-        Some(given) => edit_job(alloc, given),
-        None => Err(WordsFault::of(alloc, "error: no subcommand")),
+    match matches.subcommand() {
+        Some((name, given)) => job_by_name(alloc, name, given),
+        None => Err(WordsFault::of(alloc, "error: no subcommand", USAGE)),
+    }
+}
+
+fn job_by_name(alloc: Global, name: &str, given: &ArgMatches<'_>) -> Result<Job, WordsFault>
+    ensures value { IfOk result (λ job. meaning.job_by_name name.now (rows_of (found_of given.now)) ≡ Some job) }
+    ensures only_if_refused { IfErr result (λ fault. fault ≢ WordsFault.Memory →
+        meaning.job_by_name name.now (rows_of (found_of given.now)) ≡ None) }
+    ensures given { IfOk result IsGiven }
+{
+    match name {
+        "edit" => edit_job(alloc, given),
+        "vouch" => vouch_job(alloc, given),
+        "check" => check_job(alloc, given),
+        "run" => run_job(alloc, given),
+        _ => Err(WordsFault::of(alloc, "error: no subcommand", USAGE)),
     }
 }
 
@@ -73,16 +114,60 @@ fn job_of_matches(alloc: Global, matches: &ArgMatches<'_>) -> Result<Job, WordsF
 fn program<'a>(alloc: Global) -> Result<Command<'a>, AllocError>
     ensures value { IfOk result (λ command. app_of command ≡ meaning.program) }
 {
-    let edit = Command::new(alloc, "edit")
+    let command = Command::new(alloc, "ed_main")
+        .about("The line editor ed, for scripts that are checked before they are run")
+        .version("0.1")
+        .subcommand_required(true)
+        .subcommand(edit(alloc)?)?
+        .subcommand(vouch(alloc)?)?
+        .subcommand(check(alloc)?)?
+        .subcommand(run(alloc)?)?;
+    Ok(command)
+}
+
+fn edit<'a>(alloc: Global) -> Result<Command<'a>, AllocError>
+    ensures value { IfOk result (λ command. app_of command ≡ meaning.edit) }
+    ensures local { IfOk result (λ command. (fields_of command).has_globals ≡ false) }
+{
+    let command = Command::new(alloc, "edit")
         .about("Runs the script on standard input on a file")
         .arg(silent(alloc))?
         .arg(prompt(alloc))?
         .arg(file(alloc))?;
-    let command = Command::new(alloc, "ed_main")
-        .about("The line editor ed, for scripts")
-        .version("0.1")
-        .subcommand_required(true)
-        .subcommand(edit)?;
+    Ok(command)
+}
+
+fn vouch<'a>(alloc: Global) -> Result<Command<'a>, AllocError>
+    ensures value { IfOk result (λ command. app_of command ≡ meaning.vouch) }
+    ensures local { IfOk result (λ command. (fields_of command).has_globals ≡ false) }
+{
+    let command = Command::new(alloc, "vouch")
+        .about("Writes a certificate that the script on standard input can't fail, or where it can")
+        .arg(min(alloc))?
+        .arg(max(alloc))?
+        .arg(file(alloc))?;
+    Ok(command)
+}
+
+fn check<'a>(alloc: Global) -> Result<Command<'a>, AllocError>
+    ensures value { IfOk result (λ command. app_of command ≡ meaning.check) }
+    ensures local { IfOk result (λ command. (fields_of command).has_globals ≡ false) }
+{
+    let command = Command::new(alloc, "check")
+        .about("Checks a certificate for the script on standard input")
+        .arg(certificate(alloc))?;
+    Ok(command)
+}
+
+fn run<'a>(alloc: Global) -> Result<Command<'a>, AllocError>
+    ensures value { IfOk result (λ command. app_of command ≡ meaning.run) }
+    ensures local { IfOk result (λ command. (fields_of command).has_globals ≡ false) }
+{
+    let command = Command::new(alloc, "run")
+        .about("Runs the script on standard input on a file if a certificate for both is accepted")
+        .arg(certificate(alloc))?
+        .arg(silent(alloc))?
+        .arg(file(alloc))?;
     Ok(command)
 }
 
@@ -117,24 +202,128 @@ fn file<'a>(alloc: Global) -> Arg<'a>
         .help("The file that is edited")
 }
 
+fn min<'a>(alloc: Global) -> Arg<'a>
+    ensures value { rule_of result ≡ meaning.min }
+    ensures local { result.global ≡ false }
+{
+    Arg::new(alloc, "min")
+        .long("min")
+        .action(ArgAction::Set)
+        .value_name("N")
+        .required(true)
+        .help("The fewest lines that the file may have, at most 10^12")
+}
+
+fn max<'a>(alloc: Global) -> Arg<'a>
+    ensures value { rule_of result ≡ meaning.max }
+    ensures local { result.global ≡ false }
+{
+    Arg::new(alloc, "max")
+        .long("max")
+        .action(ArgAction::Set)
+        .value_name("M")
+        .required(true)
+        .help("The most lines that the file may have, at most 10^12, or any")
+}
+
+fn certificate<'a>(alloc: Global) -> Arg<'a>
+    ensures value { rule_of result ≡ meaning.certificate }
+    ensures local { result.global ≡ false }
+{
+    Arg::new(alloc, "certificate")
+        .action(ArgAction::Set)
+        .value_name("CERT")
+        .required(true)
+        .help("The file with the certificate")
+}
+
 fn edit_job(alloc: Global, given: &ArgMatches<'_>) -> Result<Job, WordsFault>
-    ensures value { IfOk result (λ job. editing (options_in (rows_of (found_of given.now))) ≡ Some job) }
+    ensures value { IfOk result (λ job. meaning.edit_job (rows_of (found_of given.now)) ≡ Some job) }
     ensures only_if_refused { IfErr result (λ fault. fault ≢ WordsFault.Memory →
-        editing (options_in (rows_of (found_of given.now))) ≡ None) }
+        meaning.edit_job (rows_of (found_of given.now)) ≡ None) }
+    ensures given { IfOk result IsGiven }
 {
     let prompt = text_of(given, "prompt");
     let path = text_of(given, "file");
     if !is_prompt(prompt) {
-        return Err(WordsFault::of(alloc, "error: a prompt that begins with a hyphen"));
+        let wrong = "error: a prompt that begins with a hyphen";
+        return Err(WordsFault::of(alloc, wrong, EDIT_USAGE));
     }
     if !is_path(path) {
-        return Err(WordsFault::of(alloc, "error: a file without a name, or named -"));
+        return Err(WordsFault::of(alloc, NO_FILE, EDIT_USAGE));
     }
     Ok(Job::Edit(Options {
         silent: is_given(text_of(given, "silent")),
         prompt: bytes_of(alloc, prompt)?,
         path: bytes_of(alloc, path)?,
     }))
+}
+
+fn vouch_job(alloc: Global, given: &ArgMatches<'_>) -> Result<Job, WordsFault>
+    ensures value { IfOk result (λ job. meaning.vouch_job (rows_of (found_of given.now)) ≡ Some job) }
+    ensures only_if_refused { IfErr result (λ fault. fault ≢ WordsFault.Memory →
+        meaning.vouch_job (rows_of (found_of given.now)) ≡ None) }
+    ensures given { IfOk result IsGiven }
+{
+    let path = text_of(given, "file");
+    let Some(min) = lines_in(text_of(given, "min")) else {
+        let wrong = "error: --min isn't a number of lines up to 10^12";
+        return Err(WordsFault::of(alloc, wrong, VOUCH_USAGE));
+    };
+    let Some(max) = limit_in(text_of(given, "max")) else {
+        let wrong = "error: --max is neither a number of lines up to 10^12 nor any";
+        return Err(WordsFault::of(alloc, wrong, VOUCH_USAGE));
+    };
+    if !is_within(min, max) {
+        return Err(WordsFault::of(alloc, "error: --min is above --max", VOUCH_USAGE));
+    }
+    if !is_path(path) {
+        return Err(WordsFault::of(alloc, NO_FILE, VOUCH_USAGE));
+    }
+    Ok(Job::Vouch(Start {
+        path: bytes_of(alloc, path)?,
+        min,
+        max,
+    }))
+}
+
+fn check_job(alloc: Global, given: &ArgMatches<'_>) -> Result<Job, WordsFault>
+    ensures value { IfOk result (λ job. meaning.check_job (rows_of (found_of given.now)) ≡ Some job) }
+    ensures only_if_refused { IfErr result (λ fault. fault ≢ WordsFault.Memory →
+        meaning.check_job (rows_of (found_of given.now)) ≡ None) }
+    ensures given { IfOk result IsGiven }
+{
+    match text_of(given, "certificate") {
+        Some(path) if is_path(Some(path)) => {
+            Ok(Job::Check(Bytes::from_slice(alloc, path.as_bytes())?))
+        }
+        _ => Err(WordsFault::of(alloc, NO_CERTIFICATE, CHECK_USAGE)),
+    }
+}
+
+fn run_job(alloc: Global, given: &ArgMatches<'_>) -> Result<Job, WordsFault>
+    ensures value { IfOk result (λ job. meaning.run_job (rows_of (found_of given.now)) ≡ Some job) }
+    ensures only_if_refused { IfErr result (λ fault. fault ≢ WordsFault.Memory →
+        meaning.run_job (rows_of (found_of given.now)) ≡ None) }
+    ensures given { IfOk result IsGiven }
+{
+    let path = text_of(given, "file");
+    let certificate = match text_of(given, "certificate") {
+        Some(path) if is_path(Some(path)) => Bytes::from_slice(alloc, path.as_bytes())?,
+        _ => return Err(WordsFault::of(alloc, NO_CERTIFICATE, RUN_USAGE)),
+    };
+    if !is_path(path) {
+        return Err(WordsFault::of(alloc, NO_FILE, RUN_USAGE));
+    }
+    let options = Options {
+        silent: is_given(text_of(given, "silent")),
+        prompt: None,
+        path: bytes_of(alloc, path)?,
+    };
+    Ok(Job::Run {
+        certificate,
+        options,
+    })
 }
 
 // The first value of an argument.
@@ -180,8 +369,48 @@ fn bytes_of(alloc: Global, text: Option<&str>) -> Result<Option<Bytes>, AllocErr
     }
 }
 
+fn lines_in(text: Option<&str>) -> Option<u64>
+    ensures value { result ≡ option_and_then meaning.lines_in (option_map (λ text. text.now) text.entry) }
+{
+    match text?.parse::<u64>() {
+        Ok(lines) => few(lines),
+        Err(_) => None,
+    }
+}
+
+fn few(lines: u64) -> Option<u64>
+    ensures value { result ≡ (if text.is_few lines then Some lines else None) }
+{
+    if lines <= MOST_LINES {
+        Some(lines)
+    } else {
+        None
+    }
+}
+
+fn limit_in(text: Option<&str>) -> Option<Option<u64>>
+    ensures value { result ≡ option_and_then meaning.limit_in (option_map (λ text. text.now) text.entry) }
+{
+    if text? == "any" {
+        return Some(None);
+    }
+    match lines_in(text) {
+        Some(lines) => Some(Some(lines)),
+        None => None,
+    }
+}
+
+fn is_within(min: u64, max: Option<u64>) -> bool
+    ensures value { result ≡ text.is_within min max }
+{
+    match max {
+        Some(max) => min <= max,
+        None => true,
+    }
+}
+
 // What is shown of words that `clap` refuses, or the help that they ask for.
-fn refused(alloc: Global, error: &clap::Error) -> WordsFault
+fn refused(alloc: Global, error: &clap::Error, usage: &str) -> WordsFault
     ensures memory { kind_of error.now ≡ ErrorKind.OutOfMemory → result ≡ WordsFault.Memory }
 {
     if error.kind() == ErrorKind::OutOfMemory {
@@ -190,12 +419,23 @@ fn refused(alloc: Global, error: &clap::Error) -> WordsFault
     match error.to_string(alloc) {
         Ok(text) => {
             if error.use_stderr() {
-                WordsFault::of(alloc, first_line(text.as_str()))
+                WordsFault::of(alloc, first_line(text.as_str()), usage)
             } else {
                 WordsFault::Usage(text)
             }
         }
         Err(_) => WordsFault::Memory,
+    }
+}
+
+// How the subcommand that the words begin with is used.
+fn usage_of(words: &[&str]) -> &'static str {
+    match words {
+        [_, "edit", ..] => EDIT_USAGE,
+        [_, "vouch", ..] => VOUCH_USAGE,
+        [_, "check", ..] => CHECK_USAGE,
+        [_, "run", ..] => RUN_USAGE,
+        _ => USAGE,
     }
 }
 
@@ -211,21 +451,26 @@ mod tests {
     use super::*;
     use std::test::Fail;
 
-    /// Words behind the program's name, and what is shown of them.
+    /// Words, the program's name first, and what is shown of them.
     struct Row {
         words: &'static [&'static str],
         shown: &'static str,
     }
 
     #[rattlefmt::skip]
-    const ROWS: [Row; 3] = [
+    const ROWS: [Row; 8] = [
         Row { words: &["ed_main", "edit", "-x"], shown: "error: unexpected argument '-x' found\nusage: ed_main edit [-s] [-p STRING] [FILE] <SCRIPT\n" },
         Row { words: &["ed_main", "edit", "-"], shown: "error: a file without a name, or named -\nusage: ed_main edit [-s] [-p STRING] [FILE] <SCRIPT\n" },
-        Row { words: &["ed_main"], shown: "error: 'ed_main' requires a subcommand but one was not provided\nusage: ed_main edit [-s] [-p STRING] [FILE] <SCRIPT\n" },
+        Row { words: &["ed_main", "vouch", "--min", "0"], shown: "error: the following required arguments were not provided:\nusage: ed_main vouch --min N --max M [FILE] <SCRIPT\n" },
+        Row { words: &["ed_main", "vouch", "--min", "x", "--max", "3"], shown: "error: --min isn't a number of lines up to 10^12\nusage: ed_main vouch --min N --max M [FILE] <SCRIPT\n" },
+        Row { words: &["ed_main", "vouch", "--min", "2", "--max", "1"], shown: "error: --min is above --max\nusage: ed_main vouch --min N --max M [FILE] <SCRIPT\n" },
+        Row { words: &["ed_main", "check", ""], shown: "error: a certificate without a name, or named -\nusage: ed_main check CERT <SCRIPT\n" },
+        Row { words: &["ed_main", "run", "C", "-p", "a"], shown: "error: unexpected argument '-p' found\nusage: ed_main run CERT [-s] [FILE] <SCRIPT\n" },
+        Row { words: &["ed_main"], shown: "error: 'ed_main' requires a subcommand but one was not provided\nusage: ed_main edit [-s] [-p STRING] [FILE] <SCRIPT\n       ed_main vouch --min N --max M [FILE] <SCRIPT\n       ed_main check CERT <SCRIPT\n       ed_main run CERT [-s] [FILE] <SCRIPT\n" },
     ];
 
     #[test]
-    fn wrong_words_are_shown_on_two_lines(rt: HostRuntime) -> Result<(), Fail> {
+    fn wrong_words_are_shown_with_how_the_program_is_used(rt: HostRuntime) -> Result<(), Fail> {
         for row in &ROWS {
             match read_words(rt.alloc(), row.words) {
                 Err(fault) => assert_eq!(rt; fault.to_string(rt.alloc())?.as_str(), row.shown),

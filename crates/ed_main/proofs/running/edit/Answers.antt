@@ -5,8 +5,9 @@ use Rattle.ed_main.proofs.running.edit.Goals as goal
 pub returns-in-Ok-clause-correct : goal.returns-in-Ok-clause-correct
 returns-in-Ok-clause-correct g c =
     let s = c.in-Ok.ensures in
-    rw c.status_of_end.ensures.value (driven_correct _ c.args.script c.args.options _ _ _ _ _ _ s.rest s.pending c.drive.ensures.run)
+    let spelled = c.scripts_are_read_as_spelled.ensures.spelled in
+    rw c.status_of_end.ensures.value (driven_correct spelled c.cut_runs_write_a_front.ensures.after _ c.args.script c.args.options _ _ _ _ _ _ s.rest s.pending c.drive.ensures.run)
 
 pub returns-in-Err-clause-correct : goal.returns-in-Err-clause-correct
 returns-in-Err-clause-correct g c =
-    unbegun_correct c.args.script c.args.options _ _ _ (drop-length (g.O.Outside.log c.args.outside.now)) c.status.ensures.value
+    unbegun_correct c.scripts_are_read_as_spelled.ensures.spelled c.args.script c.args.options _ _ _ (drop-length (g.O.Outside.log c.args.outside.now)) c.status.ensures.value

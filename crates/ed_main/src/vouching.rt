@@ -1,0 +1,134 @@
+//! The certificate of a script, or the need that fails.
+ghost use Rattle.std.specs.Prelude.{◌<◌, ◌≤◌, ◌-◌, ◌^◌, IfOk, IfSome};
+ghost use Rattle.cert_check.specs.Opening.{IsAtMost};
+ghost use Rattle.analyser.specs.Analysis.{HasTextIfVouched, most_lines};
+ghost use Rattle.ed_main.specs.Answers.{IsToldOf, Says, Vouches};
+ghost use Rattle.ed_main.specs.Vouching.{Answers};
+
+use crate::known::show_known;
+use crate::telling::{Told, cannot_told, tell};
+use analyser::{Analysis, Start, analyse};
+use ed_base::Fault;
+use ed_session::Sink;
+use ed_syntax::{read_script, scripts_are_read_as_spelled};
+use std::alloc::{AllocError, Global};
+
+/// Tells a sink the certificate of the script that these bytes spell, for starts of these bounds, or the need that fails, and gives
+/// the exit status. What is known where it fails is shown to a person.
+pub fn vouch_text<W: Sink>(
+    alloc: Global,
+    rt: &impl Eprint,
+    script: &[u8],
+    start: Start,
+    sink: &mut W,
+) -> u8
+    requires count { W.failures sink.old < 2 ^ 64 - 1 }
+    requires ordered { IsAtMost start.min start.max }
+    requires low { start.min ≤ most_lines }
+    requires high { IfSome start.max (λ most. most ≤ most_lines) }
+    ensures says { Says (Vouches script.now start) (W.taken sink.old) (W.taken sink.new) result }
+    ensures status { result ≤ 4 }
+{
+    match answer(alloc, script, start) {
+        Ok(analysis) => {
+            let status = tell(told_of(alloc, &analysis), sink);
+            if status == 1 {
+                show_known(alloc, rt, &analysis);
+            }
+            status
+        }
+        Err(AllocError) => Fault::Memory.status(),
+    }
+}
+
+fn answer(alloc: Global, script: &[u8], start: Start) -> Result<Analysis, AllocError>
+    requires ordered { IsAtMost start.min start.max }
+    requires low { start.min ≤ most_lines }
+    requires high { IfSome start.max (λ most. most ≤ most_lines) }
+    ensures answers { IfOk result (Answers script.now start) }
+    ensures texts { IfOk result HasTextIfVouched }
+{
+    scripts_are_read_as_spelled();
+    analyse(&read_script(alloc, script)?, start)
+}
+
+fn told_of(alloc: Global, analysis: &Analysis) -> Result<Told, AllocError>
+    requires texts { HasTextIfVouched analysis.now }
+    ensures value { IfOk result (IsToldOf analysis.now) }
+{
+    match analysis {
+        Analysis::Vouched(certificate) => Ok(Told {
+            output: certificate.write()?,
+            status: 0,
+        }),
+        Analysis::Cannot { place, why, .. } => cannot_told(alloc, *place, *why),
+    }
+}
+
+#[cfg(test)]
+mod tests {
+    use super::*;
+    use ed_base::Bytes;
+    use ed_session::MemSink;
+    use std::test::Fail;
+
+    /// A script for starts of `F` with these bounds, and what is told of it.
+    struct Row {
+        script: &'static [u8],
+        min: u64,
+        max: Option<u64>,
+        output: &'static [u8],
+        status: u8,
+    }
+
+    #[rattlefmt::skip]
+    const ROWS: [Row; 7] = [
+        Row { script: b"Q\n", min: 0, max: Some(0), output: CERTIFICATE, status: 0 },
+        Row { script: b"1d\nw\nq\n", min: 0, max: Some(3), output: b"cannot: command 1: invalid address\n", status: 1 },
+        Row { script: b"2ka\n1,2d\n'ap\nQ\n", min: 2, max: None, output: b"cannot: command 3: mark not set\n", status: 1 },
+        Row { script: b"s/x/y/\nw\nq\n", min: 1, max: None, output: b"cannot: command 1: no match\n", status: 1 },
+        Row { script: b"1m$\nw\nq\n", min: 1, max: None, output: b"cannot: command 1: invalid destination\n", status: 1 },
+        Row { script: b"1d\n", min: 1, max: None, output: b"cannot: command 2: buffer modified\n", status: 1 },
+        Row { script: b"x\n", min: 1, max: None, output: b"cannot: command 1: invalid command\n", status: 1 },
+    ];
+
+    const CERTIFICATE: &[u8] = b"ed-certificate 1
+path =F
+start 0 0
+note
+zone 0-.<=0 0-$<=0 .-0<=0 .-$<=0 $-0<=0 $-.<=0
+marks
+patterns -
+replacements none
+names =F
+changed no
+undo nothing
+end
+zone 0-.<=0 0-$<=0 .-0<=0 .-$<=0 $-0<=0 $-.<=0
+marks
+patterns -
+replacements none
+names =F
+changed no
+undo nothing
+final 0 0
+writes
+";
+
+    #[test]
+    fn a_certificate_or_the_first_need_that_fails_is_told(rt: HostRuntime) -> Result<(), Fail> {
+        for row in &ROWS {
+            let alloc = rt.alloc();
+            let mut sink = MemSink::new(alloc, 4096, 8)?;
+            let start = Start {
+                path: Some(Bytes::from_slice(alloc, b"F")?),
+                min: row.min,
+                max: row.max,
+            };
+            let status = vouch_text(alloc, &rt, row.script, start, &mut sink);
+            assert_eq!(rt; (row.script, status), (row.script, row.status));
+            assert_eq!(rt; (row.script, sink.taken()), (row.script, row.output));
+        }
+        Ok(())
+    }
+}
