@@ -12,7 +12,6 @@ if ! [ -x "$program" ] || ! cc -shared -fPIC -O1 -o "$work/refuse.so" refuse.c -
     echo "0 passed, 1 failed"
     exit 1
 fi
-printf 'a\nb\nc\n' > "$work/FILE"
 cd "$work" || exit 1
 passed=0
 failed=0
@@ -33,16 +32,30 @@ is_front() {
     grep -q '^H$' script && is_behind_front full "$1"
 }
 
+# The file as each run finds it.
+fresh() {
+    printf 'a\nb\nc\n' > FILE
+}
+
+# The file is as it was, or as the whole run left it: it was written at once or not at all.
+is_whole() {
+    cmp -s FILE written || printf 'a\nb\nc\n' | cmp -s - FILE
+}
+
 # Refuses the allocations of the script's run one after the other, until none is left to refuse.
 each_is_refused() {
-    "$program" edit -s FILE < script > whole
+    fresh
+    "$program" edit $words FILE < script > whole
     ends=$?
+    cp FILE written
     refused=0
     while :; do
-        REFUSE=$((refused + 1)) LD_PRELOAD="$work/refuse.so" "$program" edit -s FILE < script > output 2> errors
+        fresh
+        REFUSE=$((refused + 1)) LD_PRELOAD="$work/refuse.so" "$program" edit $words FILE < script > output 2> errors
         status=$?
         grep -q '^refused$' errors || break
         refused=$((refused + 1))
+        is_whole || return 1
         if [ "$status" -eq 2 ] && is_front output; then continue; fi
         if [ "$status" -eq "$ends" ] && cmp -s output whole; then continue; fi
         return 1
@@ -50,8 +63,9 @@ each_is_refused() {
     [ "$refused" -gt 0 ]
 }
 
-on() { # SCRIPT
+on() { # SCRIPT [WORDS]
     printf "$1" > script
+    words=${2--s}
     if each_is_refused; then
         echo "$refused allocations, each refused once"
         passed=$((passed + 1))
@@ -67,5 +81,10 @@ on '1,2a\nz\n.\n,p\nQ\n'
 on '1p\n2a\nx\ny\n.\n1d\n,p\n$p\nQ\n'
 on 'P\n1p\nH\nP\n9p\n'
 on '/b/ka\n1m$\n1t.\n1,$j\n2i\nx\n.\n,l\n,n\nQ\n'
+on '1,2s/[ab]/<&>/gp\n,s/\\(.\\)/\\1\\\n/\n,n\nQ\n'
+on '$a\nd\n.\nw\nf\nq\n' ''
+on 'g/^/m0\\\nka\n,p\nu\nu\nv/b/d\nu\n,n\nQ\n'
+on '1d\nu\nu\n,p\nQ\n'
+on '2r FILE\n,p\nE\n1d\nw\nq\n' ''
 echo "$passed passed, $failed failed"
 [ "$failed" -eq 0 ]
