@@ -3,18 +3,24 @@
 Each measure is the best of three runs. For each size the table gives seconds of processor time, mebibytes of peak memory
 and the ratio to `ed`; the last lines give the exponent by which the time grows from the smallest size to the largest.
 A peak of some 10 MiB is that of this script, from which each program is started: the program's own lies below it.
+
+    measure.py PROGRAM [WORD..]     with words, only what has one of them in its title
 """
 
 import math
 import os
 import random
+import resource
 import shutil
 import subprocess
 import sys
 import tempfile
 
-OURS = sys.argv[1]
-RUNS = 3
+OURS, WORDS = sys.argv[1], sys.argv[2:]
+RUNS = 1
+
+# In seconds of processor time: a program that takes longer is ended, and isn't run on the next sizes.
+LIMIT = 20
 
 
 class Work:
@@ -131,12 +137,58 @@ def substitute_at_random(folder, n):
     return Work(folder, "s random", n, text_lines(n), [b"%ds/^/x/\n" % line for line in lines] + [b"Q\n"], vim=True)
 
 
+def edit_and_write(folder, n):
+    """The file is 47 bytes a line; the whole of it is written to another one."""
+    return Work(folder, "write", n, text_lines(n), [b"1d\nw %s\nQ\n" % os.path.join(folder, "written").encode()], sed=["sed", "1d"], vim=True)
+
+
+def update(folder, hunks):
+    """As `diff -e` makes it: from the last line to the first, changed, deleted and added lines by turns."""
+    script = []
+    for number, line in enumerate(reversed(changed_lines(300_000, hunks))):
+        script.append((b"%dc\nx\n.\n", b"%dd\n", b"%da\nx\ny\n.\n")[number % 3] % line)
+    return Work(folder, "update", hunks, text_lines(300_000), script + [b"Q\n"], vim=True)
+
+
+def things(count):
+    """Every second line has a word with a number."""
+    return (b"%07d foo%d of a line\n" % (i, i * 7919 % 1000) if i % 2 else b"%07d bar of a line\n" % i for i in range(count))
+
+
+def substitute_matching(folder, n):
+    return Work(folder, "g-s", n, things(n), [b"g/foo[0-9]*/s//x/\nQ\n"], vim=True, sed=["sed", "/foo[0-9]*/s//x/"],
+                perl=["perl", "-pe", "s/foo[0-9]*/x/"])
+
+
+def delete_matching(folder, n):
+    return Work(folder, "g-d", n, things(n), [b"g/foo/d\nQ\n"], vim=True, sed=["sed", "/foo/d"], perl=["perl", "-ne", "print unless /foo/"])
+
+
+def reverse(folder, n):
+    return Work(folder, "g-m0", n, things(n), [b"g/^/m0\nQ\n"], vim=True)
+
+
+def join_pairs(folder, n):
+    return Work(folder, "g-j", n, things(n), [b"g/^/.,+1j\nQ\n"], vim=True)
+
+
+def delete_and_undo(folder, n):
+    chance = random.Random(1)
+    script = [b"%dd\nu\n" % chance.randint(1, n) for _ in range(5_000)] + [b"Q\n"]
+    return Work(folder, "undo", n, text_lines(n), script, vim=True)
+
+
+def undo_of_a_global(folder, n):
+    return Work(folder, "g-u", n, things(n), [b"g/foo/d\nu\nu\nu\nQ\n"], vim=True)
+
+
 def measured(words, work):
     """Processor seconds and peak mebibytes of the runs of the work."""
     seconds, peak = 0.0, 0
     for _ in range(work.repeat):
         with open(work.script, "rb") as script, open(os.devnull, "wb") as out:
-            child = subprocess.Popen(words + [work.file], stdin=script, stdout=out, stderr=out)
+            limited = lambda: resource.setrlimit(resource.RLIMIT_CPU, (LIMIT, LIMIT))
+            child = subprocess.Popen(words + [work.file], stdin=script, stdout=out, stderr=out, preexec_fn=limited)
             _, status, usage = os.wait4(child.pid, 0)
             child.returncode = os.waitstatus_to_exitcode(status)
         seconds += usage.ru_utime + usage.ru_stime
@@ -176,13 +228,17 @@ def ratio_to_ed(figures, name):
 
 def report(title, works):
     print(title)
-    first, last = {}, {}
+    first, last, slow = {}, {}, set()
     for work in works:
-        figures = best(programs_for(work), work)
+        programs = {name: words for name, words in programs_for(work).items() if name not in slow}
+        figures = best(programs, work)
         for name, (seconds, peak) in figures.items():
-            print(f"  {work.size:>8} {name:<5} {seconds:8.3f} s {peak:8.1f} MiB {ratio_to_ed(figures, name)}")
+            late = " ended there" if seconds > 0.9 * LIMIT else ""
+            print(f"  {work.size:>8} {name:<5} {seconds:8.3f} s {peak:8.1f} MiB {ratio_to_ed(figures, name)}{late}", flush=True)
             first.setdefault(name, (work.size, seconds))
             last[name] = (work.size, seconds)
+            if seconds > 0.9 * LIMIT:
+                slow.add(name)
     for name, (size, seconds) in last.items():
         size_before, before = first[name]
         if size > size_before and before > 0 and seconds > 0:
@@ -190,26 +246,41 @@ def report(title, works):
             print(f"  growth of {name}: n^{grows:.2f}")
 
 
+WORKS = (
+    ("print all lines of a file (lines)", print_all, (250_000, 500_000, 1_000_000)),
+    ("start on a file of three lines (runs)", start, (50, 100, 200)),
+    ("enter a text by a script (lines)", enter, (50_000, 100_000, 200_000)),
+    ("delete lines one by one from the end (lines)", delete_from_end, (25_000, 50_000, 100_000)),
+    ("change 10,000 lines at rising places (lines)", change_rising, (250_000, 500_000, 1_000_000)),
+    ("change 10,000 lines in random order (lines)", change_at_random, (250_000, 500_000, 1_000_000)),
+    ("move each line to the front (lines)", move_to_front, (12_500, 25_000, 50_000)),
+    ("double 1,000 lines by 1,$t$ (lines)", double, (512_000, 1_024_000, 2_048_000)),
+    ("exchange two fields of each line by s (lines)", swap_fields, (50_000, 100_000, 200_000)),
+    ("replace bytes in one line by s (MiB)", replace_in_a_long_line, (5, 10, 20, 50)),
+    ("10,000 times s on one line, at rising places (lines)", substitute_rising, (250_000, 500_000, 1_000_000)),
+    ("10,000 times s on one line, in random order (lines)", substitute_at_random, (250_000, 500_000, 1_000_000)),
+    ("search onwards in 100,000 lines (searches)", search_onwards, (250, 500, 1_000)),
+    ("search around 100,000 lines (searches)", search_around, (10, 20, 40)),
+    ("print ten of 100,000 lines between marks (times)", print_between_marks, (2_500, 5_000, 10_000)),
+    ("mark one of 100,000 lines and tell its number (times)", move_a_mark, (2_500, 5_000, 10_000)),
+    ("load, delete a line and write the others to a file (lines)", edit_and_write, (600_000, 1_200_000, 2_400_000)),
+    ("an update of 300,000 lines as diff -e makes it (hunks)", update, (5_000, 10_000, 20_000)),
+    ("global: replace a word in each second line, g/foo[0-9]*/s//x/ (lines)", substitute_matching, (250_000, 500_000, 1_000_000)),
+    ("global: delete each second line, g/foo/d (lines)", delete_matching, (100_000, 200_000, 400_000)),
+    ("global: move each line to the front, g/^/m0 (lines)", reverse, (50_000, 100_000, 200_000)),
+    ("global: join lines in pairs, g/^/.,+1j (lines)", join_pairs, (50_000, 100_000, 200_000)),
+    ("global: delete each second line, and undo that three times (lines)", undo_of_a_global, (50_000, 100_000, 200_000)),
+    ("undo: 5,000 times Nd and u, at random places (lines)", delete_and_undo, (50_000, 100_000, 200_000)),
+)
+
+
 def main():
     if not shutil.which("ed"):
         print("no `ed` on this machine (Debian's package is called ed): our figures stand alone")
     with tempfile.TemporaryDirectory() as folder:
-        report("print all lines of a file (lines)", [print_all(folder, n) for n in (250_000, 500_000, 1_000_000)])
-        report("start on a file of three lines (runs)", [start(folder, n) for n in (50, 100, 200)])
-        report("enter a text by a script (lines)", [enter(folder, n) for n in (50_000, 100_000, 200_000)])
-        report("delete lines one by one from the end (lines)", [delete_from_end(folder, n) for n in (25_000, 50_000, 100_000)])
-        report("change 10,000 lines at rising places (lines)", [change_rising(folder, n) for n in (250_000, 500_000, 1_000_000)])
-        report("change 10,000 lines in random order (lines)", [change_at_random(folder, n) for n in (250_000, 500_000, 1_000_000)])
-        report("move each line to the front (lines)", [move_to_front(folder, n) for n in (12_500, 25_000, 50_000)])
-        report("double 1,000 lines by 1,$t$ (lines)", [double(folder, n) for n in (512_000, 1_024_000, 2_048_000)])
-        report("exchange two fields of each line by s (lines)", [swap_fields(folder, n) for n in (50_000, 100_000, 200_000)])
-        report("replace bytes in one line by s (MiB)", [replace_in_a_long_line(folder, n) for n in (5, 10, 20, 50)])
-        report("10,000 times s on one line, at rising places (lines)", [substitute_rising(folder, n) for n in (250_000, 500_000, 1_000_000)])
-        report("10,000 times s on one line, in random order (lines)", [substitute_at_random(folder, n) for n in (250_000, 500_000, 1_000_000)])
-        report("search onwards in 100,000 lines (searches)", [search_onwards(folder, n) for n in (250, 500, 1_000)])
-        report("search around 100,000 lines (searches)", [search_around(folder, n) for n in (10, 20, 40)])
-        report("print ten of 100,000 lines between marks (times)", [print_between_marks(folder, n) for n in (2_500, 5_000, 10_000)])
-        report("mark one of 100,000 lines and tell its number (times)", [move_a_mark(folder, n) for n in (2_500, 5_000, 10_000)])
+        for title, work, sizes in WORKS:
+            if not WORDS or any(word in title for word in WORDS):
+                report(title, (work(folder, size) for size in sizes))
 
 
 main()

@@ -19,6 +19,7 @@ HERE = os.path.dirname(os.path.abspath(__file__))
 sys.path.insert(0, os.path.join(HERE, '../patterns'))
 import compare
 import reference
+from substitution import replaced
 
 PROGRAM = os.path.join(HERE, '../../crates/ed_main/out/ed_main')
 SHOWN = 5
@@ -48,49 +49,11 @@ def replacement(chance, groups):
     return parts
 
 
-def taken(tree, line):
-    """The matches from the left, an empty one not directly after one that isn't."""
-    found, place, full_end = [], 0, None
-    while place <= len(line):
-        match = reference.Match(line).find(tree, place)
-        if match is None:
-            break
-        start, (end, groups) = match
-        if end > start:
-            found.append((start, end, groups))
-            place = full_end = end
-        else:
-            if start != full_end:
-                found.append((start, end, groups))
-            place = start + 1
-    return found
-
-
-def stands_for(part, line, match):
-    if isinstance(part, str):
-        return part
-    span = match[:2] if part == 0 else match[2][part - 1]
-    return '' if span is None else line[span[0]:span[1]]
-
-
-def substituted(tree, parts, which, line):
-    """The lines that come of a line, or None where nothing is replaced."""
-    matches = taken(tree, line)
-    picked = matches if which == 'g' else matches[which - 1:which]
-    if not picked:
-        return None
-    result, place = '', 0
-    for match in picked:
-        result += line[place:match[0]] + ''.join(stands_for(part, line, match) for _, part in parts)
-        place = match[1]
-    return (result + line[place:]).split('\n')
-
-
 def expected(tree, parts, which, lines, first, last):
     """The numbered lines that are printed at the end, after the last line that was made; or the fault's report."""
     made, at = [], None
     for number, line in enumerate(lines, 1):
-        new = substituted(tree, parts, which, line) if first <= number <= last else None
+        new = replaced(tree, [part for _, part in parts], which, line) if first <= number <= last else None
         made += [line] if new is None else new
         at = at if new is None else len(made)
     if at is None:
