@@ -17,7 +17,7 @@ import sys
 import tempfile
 
 OURS, WORDS = sys.argv[1], sys.argv[2:]
-RUNS = 1
+RUNS = 3
 
 # In seconds of processor time: a program that takes longer is ended, and isn't run on the next sizes.
 LIMIT = 20
