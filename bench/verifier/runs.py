@@ -1,13 +1,13 @@
 #!/usr/bin/env python3
 """Runs random scripts that the verifier vouches for, and looks for one that fails.
 
-    python3 runs.py COUNT SEED [PROCESSES]
+    python3 runs.py COUNT SEED [PROCESSES [RUNS]]
 
 Each script is that of ../scripts/compare.py, with bounds on the lines of its start file. Where `ed_main vouch` prints a certificate,
 `ed_main check` has to accept it, and the plain editor of ../scripts/editor.py runs the script on start files of every size within the
 bounds, with random lines, and random other files that may be missing: no run may meet a fault but that of a missing file, leave a number of lines outside
 the certificate's, or write a path that it doesn't list. Some of the runs are those of `ed_main run` too. Where there is no certificate, it is counted whether
-one of the runs failed: in the others the alarm was false, or they were too few. Build the program first.
+one of RUNS runs (12 if left out) failed: in the others the alarm was false, or they were too few. Build the program first.
 """
 import collections
 import multiprocessing
@@ -23,7 +23,7 @@ import editor
 from compare import PROGRAM, WORDS, Writer, ran
 
 SHOWN = 10
-RUNS = 12
+RUNS = int(sys.argv[4]) if len(sys.argv) > 4 else 12
 
 
 def lines_of(content):
