@@ -10,3 +10,4 @@ pub mod Fixed
 pub mod Guarded
 pub mod Known
 pub mod Isolated
+pub mod Writes

@@ -33,6 +33,11 @@ zone_by-each f zone size each =
     fill_by_all (λ k. f (k / 32) (k % 32)) zone 1024 None size
     (λ k l. ap (λ i. get_or zone i None) (sym (place-row_column k)) ∙ each (k / 32) (k % 32) (omega arith) (omega arith))
 
+pub zone_by-places : (f : ℕ → ℕ → Option ℤ) (zone : Bounds) → length zone ≡ 1024 →
+    ((k : ℕ) → k < 1024 → get_or zone k None ≡ f (k / 32) (k % 32)) → zone ≡ zone_by f
+unfolding zone_by
+zone_by-places f zone size each = fill_by_all (λ k. f (k / 32) (k % 32)) zone 1024 None size each
+
 -- one more bound of a table that is being filled
 pub each-set : (P : ℕ → Option ℤ → Type 0) (table : List (Option ℤ)) (i : ℕ) (v : Option ℤ) → i < length table → P i v →
     ((k : ℕ) → k < i → P k (get_or table k None)) → (k : ℕ) → k < i + 1 → P k (get_or (set table i v) k None)

@@ -1,8 +1,11 @@
-//! The bounds of a zone as an array, row by row: what each step makes of them.
+//! The bounds of a zone as an array, row by row. The steps write in place: a fresh table for each
+//! would cost far more than the few bounds that most steps change.
 
-ghost use Rattle.std.specs.Prelude.{◌≡◌, ℕ, ◌<◌, length, IsTrue, ◌↔◌};
+ghost use Rattle.std.specs.Prelude.{◌≡◌, ◌≢◌, ◌==◌, if◌then◌else◌, ℕ, ◌<◌, pos, Some, None, length, get_or, IsTrue, ◌↔◌};
+ghost use Rattle.zones.specs.Bound.{IsKept, tighten, raise, lower};
 ghost use Rattle.zones.specs.Zone.{bound, Covers};
-ghost use Rattle.zones.specs.Steps.{any_bound, any_zone, guard_bound, after_guard, set_bound, after_set, shift_bound, after_shift, forget_bound, after_forget, join_bound, join_of, widening_bound, widening_of, put_bound, after_put};
+ghost use Rattle.zones.specs.Steps.{any_bound, any_zone, after_guard, after_set, after_shift, after_forget, join_of, widening_of, after_put};
+ghost use Rattle.zones.specs.Limits.{IsZone};
 
 use crate::number::{
     clip_bound, covers_bound, greater, lower, raise, tighten, widen_bound, widen_diagonal,
@@ -10,6 +13,9 @@ use crate::number::{
 
 /// The bound of the pair (p, q) lies at `32 * p + q`; none is any.
 pub(crate) type Table = [Option<i64>; 1024];
+
+/// A bound for each name: a row or a column of a table.
+type Line = [Option<i64>; 32];
 
 /// The table of the bounds that a function gives.
 fn filled<F: Fn(usize, usize) -> Option<i64>>(bound_at: F) -> Table
@@ -36,208 +42,220 @@ pub(crate) fn any_table() -> Table
     )
 }
 
-#[tactic(auto, unfolding(crate::specs::Zone::bound, crate::specs::Steps::guard_bound))]
-fn bound_after_guard(old: &Table, x: usize, y: usize, c: i64, p: usize, q: usize) -> Option<i64>
+/// The line of the bounds that a function gives.
+fn line_of<F: Fn(usize) -> Option<i64>>(bound_at: F) -> Line
+    requires total { (p : ℕ) → p < 32 → F.pre bound_at p }
+    ensures each { (p : ℕ) → p < 32 → F.post bound_at p (get_or result p None) }
+{
+    let mut line = [None; 32];
+    for p in 0..32 {
+        line[p] = bound_at(p);
+    }
+    line
+}
+
+/// Writes the row and the column of the name at `x`. Where they meet the row's bound stands.
+fn write_cross(table: &mut Table, x: usize, row: &Line, column: &Line)
+    requires x_in_range { x < 32 }
+    ensures size { length table.new ≡ 1024 }
+    ensures each { (p q : ℕ) → p < 32 → q < 32 → bound table.new p q ≡
+        (if p == x then get_or row.now q None
+        else if q == x then get_or column.now p None
+        else bound table.old p q) }
+{
+    for p in 0..32 {
+        table[32 * p + x] = column[p];
+    }
+    for q in 0..32 {
+        table[32 * x + q] = row[q];
+    }
+}
+
+/// Tightens the bounds of the row at `p` by the ways that lead over `to` and `c` into another row.
+fn tighten_row(table: &mut Table, p: usize, to: i64, c: i64, row: &Line)
+    requires p_in_range { p < 32 }
+    requires kept { (q : ℕ) → q < 32 → IsKept (bound table.old p q) }
+    ensures size { length table.new ≡ 1024 }
+    ensures here { (q : ℕ) → q < 32 →
+        bound table.new p q ≡ tighten (bound table.old p q) (Some to) c (get_or row.now q None) }
+    ensures others { (other q : ℕ) → other ≢ p → other < 32 → q < 32 →
+        bound table.new other q ≡ bound table.old other q }
+{
+    for q in 0..32 {
+        // Where the other row has no bound, no way leads to the pair.
+        if let Some(from) = row[q] {
+            let place = 32 * p + q;
+            table[place] = tighten(table[place], Some(to), c, Some(from));
+        }
+    }
+}
+
+/// The row of the name at `y`.
+#[tactic(auto, unfolding(crate::specs::Zone::bound))]
+fn row_of(table: &Table, y: usize) -> Line
+    requires y_in_range { y < 32 }
+    ensures each { (q : ℕ) → q < 32 → get_or result q None ≡ bound table.now y q }
+{
+    line_of(
+        |q: usize| -> Option<i64>
+            requires { (y < 32) × (q < 32) }
+            ensures { result ≡ bound table.entry.now y q }
+        { table[32 * y + q] },
+    )
+}
+
+/// Takes up that the difference of the names at `x` and `y` is at most `c`.
+pub(crate) fn guard_table(table: &mut Table, x: usize, y: usize, c: i64)
     requires x_in_range { x < 32 }
     requires y_in_range { y < 32 }
-    requires p_in_range { p < 32 }
-    requires q_in_range { q < 32 }
-    ensures exact { result ≡ guard_bound old.now x y c p q }
+    requires kept { IsZone table.old }
+    ensures exact { table.new ≡ after_guard table.old x y c }
 {
-    tighten(old[32 * p + q], old[32 * p + x], c, old[32 * y + q])
+    let row = row_of(table, y);
+    for p in 0..32 {
+        // Only the row itself is read here, and that of `y` as it was before the step. A row with no
+        // bound up to `x` stays, since no way leads on.
+        if let Some(to) = table[32 * p + x] {
+            tighten_row(table, p, to, c, &row);
+        }
+    }
 }
 
-/// The bounds once the difference of the names at `x` and `y` is known to be at most `c`.
-pub(crate) fn guard_table(old: &Table, x: usize, y: usize, c: i64) -> Table
+/// The row of the name at `x` once it stands for `c` more than that at `y`.
+#[tactic(auto, unfolding(crate::specs::Zone::bound))]
+fn row_after_set(old: &Table, x: usize, y: usize, c: i64) -> Line
+    requires y_in_range { y < 32 }
+    ensures each { (q : ℕ) → q < 32 → get_or result q None ≡
+        (if q == x then Some (pos 0) else raise (bound old.now y q) (Some c)) }
+{
+    line_of(
+        |q: usize| -> Option<i64>
+            requires { (y < 32) × (q < 32) }
+            ensures { result ≡
+                (if q == x then Some (pos 0) else raise (bound old.entry.now y q) (Some c)) }
+        {
+            if q == x {
+                Some(0)
+            } else {
+                raise(old[32 * y + q], Some(c))
+            }
+        },
+    )
+}
+
+/// The column of a name once it stands for `c` more than that at `y`.
+#[tactic(auto, unfolding(crate::specs::Zone::bound))]
+fn column_after_set(old: &Table, y: usize, c: i64) -> Line
+    requires y_in_range { y < 32 }
+    ensures each { (p : ℕ) → p < 32 →
+        get_or result p None ≡ lower (bound old.now p y) (Some c) }
+{
+    line_of(
+        |p: usize| -> Option<i64>
+            requires { (y < 32) × (p < 32) }
+            ensures { result ≡ lower (bound old.entry.now p y) (Some c) }
+        { lower(old[32 * p + y], Some(c)) },
+    )
+}
+
+/// Sets the name at `x` to `c` more than that at `y`.
+pub(crate) fn set_table(table: &mut Table, x: usize, y: usize, c: i64)
     requires x_in_range { x < 32 }
     requires y_in_range { y < 32 }
-    ensures exact { result ≡ after_guard old.now x y c }
+    ensures exact { table.new ≡ after_set table.old x y c }
 {
-    filled(
-        |p: usize, q: usize| -> Option<i64>
-            requires { (x < 32) × (y < 32) × (p < 32) × (q < 32) }
-            ensures { result ≡ guard_bound old.entry.now x y c p q }
-        { bound_after_guard(old, x, y, c, p, q) },
+    let row = row_after_set(table, x, y, c);
+    let column = column_after_set(table, y, c);
+    write_cross(table, x, &row, &column);
+}
+
+/// The row of the name at `x` once it has grown by at most `high`.
+#[tactic(auto, unfolding(crate::specs::Zone::bound))]
+fn row_after_shift(old: &Table, x: usize, high: Option<i64>) -> Line
+    requires x_in_range { x < 32 }
+    ensures each { (q : ℕ) → q < 32 → get_or result q None ≡
+        (if q == x then bound old.now x x else raise (bound old.now x q) high) }
+{
+    line_of(
+        |q: usize| -> Option<i64>
+            requires { (x < 32) × (q < 32) }
+            ensures { result ≡
+                (if q == x then bound old.entry.now x x else raise (bound old.entry.now x q) high) }
+        {
+            let direct = old[32 * x + q];
+            if q == x { direct } else { raise(direct, high) }
+        },
     )
 }
 
-#[tactic(auto, unfolding(crate::specs::Zone::bound, crate::specs::Steps::set_bound))]
-fn bound_after_set(old: &Table, x: usize, y: usize, c: i64, p: usize, q: usize) -> Option<i64>
-    requires y_in_range { y < 32 }
-    requires p_in_range { p < 32 }
-    requires q_in_range { q < 32 }
-    ensures exact { result ≡ set_bound old.now x y c p q }
+/// The column of the name at `x` once it has grown by at least `low`.
+#[tactic(auto, unfolding(crate::specs::Zone::bound))]
+fn column_after_shift(old: &Table, x: usize, low: Option<i64>) -> Line
+    requires x_in_range { x < 32 }
+    ensures each { (p : ℕ) → p < 32 → get_or result p None ≡ lower (bound old.now p x) low }
 {
-    if p == x {
-        if q == x {
-            Some(0)
+    line_of(
+        |p: usize| -> Option<i64>
+            requires { (x < 32) × (p < 32) }
+            ensures { result ≡ lower (bound old.entry.now p x) low }
+        { lower(old[32 * p + x], low) },
+    )
+}
+
+/// Lets the name at `x` grow by a number from `low` to `high`.
+pub(crate) fn shift_table(table: &mut Table, x: usize, low: Option<i64>, high: Option<i64>)
+    requires x_in_range { x < 32 }
+    ensures exact { table.new ≡ after_shift table.old x low high }
+{
+    let row = row_after_shift(table, x, high);
+    let column = column_after_shift(table, x, low);
+    write_cross(table, x, &row, &column);
+}
+
+/// Lets the name at `x` stand for any number.
+pub(crate) fn forget_table(table: &mut Table, x: usize)
+    requires x_in_range { x < 32 }
+    ensures exact { table.new ≡ after_forget table.old x }
+{
+    let row = line_of(
+        |q: usize| -> Option<i64>
+            ensures { result ≡ (if q == x then Some (pos 0) else None) }
+        { if q == x { Some(0) } else { None } },
+    );
+    write_cross(table, x, &row, &[None; 32]);
+}
+
+/// Keeps the greater bound of each pair.
+pub(crate) fn join_table(table: &mut Table, other: &Table)
+    ensures exact { table.new ≡ join_of table.old other.now }
+{
+    for place in 0..1024 {
+        table[place] = greater(table[place], other[place]);
+    }
+}
+
+/// Keeps the bound of each pair for which it did not rise in a newer table.
+pub(crate) fn widen_table(table: &mut Table, new: &Table)
+    ensures exact { table.new ≡ widening_of table.old new.now }
+{
+    for place in 0..1024 {
+        let before = table[place];
+        let after = new[place];
+        table[place] = if place / 32 == place % 32 {
+            widen_diagonal(before, after)
         } else {
-            raise(old[32 * y + q], Some(c))
-        }
-    } else if q == x {
-        lower(old[32 * p + y], Some(c))
-    } else {
-        old[32 * p + q]
+            widen_bound(before, after)
+        };
     }
 }
 
-/// The bounds once the name at `x` stands for `c` more than that at `y`.
-pub(crate) fn set_table(old: &Table, x: usize, y: usize, c: i64) -> Table
+/// Replaces the bound of (`x`, `y`).
+pub(crate) fn put_table(table: &mut Table, x: usize, y: usize, number: Option<i64>)
+    requires x_in_range { x < 32 }
     requires y_in_range { y < 32 }
-    ensures exact { result ≡ after_set old.now x y c }
+    ensures exact { table.new ≡ after_put table.old x y number }
 {
-    filled(
-        |p: usize, q: usize| -> Option<i64>
-            requires { (y < 32) × (p < 32) × (q < 32) }
-            ensures { result ≡ set_bound old.entry.now x y c p q }
-        { bound_after_set(old, x, y, c, p, q) },
-    )
-}
-
-#[tactic(auto, unfolding(crate::specs::Zone::bound, crate::specs::Steps::shift_bound))]
-fn bound_after_shift(
-    old: &Table,
-    x: usize,
-    low: Option<i64>,
-    high: Option<i64>,
-    p: usize,
-    q: usize,
-) -> Option<i64>
-    requires p_in_range { p < 32 }
-    requires q_in_range { q < 32 }
-    ensures exact { result ≡ shift_bound old.now x low high p q }
-{
-    let direct = old[32 * p + q];
-    if p == x {
-        if q == x { direct } else { raise(direct, high) }
-    } else if q == x {
-        lower(direct, low)
-    } else {
-        direct
-    }
-}
-
-/// The bounds once the name at `x` has grown by a number from `low` to `high`.
-pub(crate) fn shift_table(old: &Table, x: usize, low: Option<i64>, high: Option<i64>) -> Table
-    ensures exact { result ≡ after_shift old.now x low high }
-{
-    filled(
-        |p: usize, q: usize| -> Option<i64>
-            requires { (p < 32) × (q < 32) }
-            ensures { result ≡ shift_bound old.entry.now x low high p q }
-        { bound_after_shift(old, x, low, high, p, q) },
-    )
-}
-
-#[tactic(auto, unfolding(crate::specs::Zone::bound, crate::specs::Steps::forget_bound))]
-fn bound_after_forget(old: &Table, x: usize, p: usize, q: usize) -> Option<i64>
-    requires p_in_range { p < 32 }
-    requires q_in_range { q < 32 }
-    ensures exact { result ≡ forget_bound old.now x p q }
-{
-    if p == x {
-        if q == x { Some(0) } else { None }
-    } else if q == x {
-        None
-    } else {
-        old[32 * p + q]
-    }
-}
-
-/// The bounds once the name at `x` may stand for any number.
-pub(crate) fn forget_table(old: &Table, x: usize) -> Table
-    ensures exact { result ≡ after_forget old.now x }
-{
-    filled(
-        |p: usize, q: usize| -> Option<i64>
-            requires { (p < 32) × (q < 32) }
-            ensures { result ≡ forget_bound old.entry.now x p q }
-        { bound_after_forget(old, x, p, q) },
-    )
-}
-
-#[tactic(auto, unfolding(crate::specs::Zone::bound, crate::specs::Steps::join_bound))]
-fn bound_of_join(one: &Table, other: &Table, p: usize, q: usize) -> Option<i64>
-    requires p_in_range { p < 32 }
-    requires q_in_range { q < 32 }
-    ensures exact { result ≡ join_bound one.now other.now p q }
-{
-    greater(one[32 * p + q], other[32 * p + q])
-}
-
-/// The greater bound of each pair.
-pub(crate) fn join_table(one: &Table, other: &Table) -> Table
-    ensures exact { result ≡ join_of one.now other.now }
-{
-    filled(
-        |p: usize, q: usize| -> Option<i64>
-            requires { (p < 32) × (q < 32) }
-            ensures { result ≡ join_bound one.entry.now other.entry.now p q }
-        { bound_of_join(one, other, p, q) },
-    )
-}
-
-#[tactic(auto, unfolding(crate::specs::Zone::bound, crate::specs::Steps::widening_bound))]
-fn bound_of_widening(old: &Table, new: &Table, p: usize, q: usize) -> Option<i64>
-    requires p_in_range { p < 32 }
-    requires q_in_range { q < 32 }
-    ensures exact { result ≡ widening_bound old.now new.now p q }
-{
-    let before = old[32 * p + q];
-    let after = new[32 * p + q];
-    if p == q {
-        widen_diagonal(before, after)
-    } else {
-        widen_bound(before, after)
-    }
-}
-
-/// The old bound of each pair for which it did not rise.
-pub(crate) fn widening_table(old: &Table, new: &Table) -> Table
-    ensures exact { result ≡ widening_of old.now new.now }
-{
-    filled(
-        |p: usize, q: usize| -> Option<i64>
-            requires { (p < 32) × (q < 32) }
-            ensures { result ≡ widening_bound old.entry.now new.entry.now p q }
-        { bound_of_widening(old, new, p, q) },
-    )
-}
-
-#[tactic(auto, unfolding(crate::specs::Zone::bound, crate::specs::Steps::put_bound))]
-fn bound_after_put(
-    old: &Table,
-    x: usize,
-    y: usize,
-    number: Option<i64>,
-    p: usize,
-    q: usize,
-) -> Option<i64>
-    requires p_in_range { p < 32 }
-    requires q_in_range { q < 32 }
-    ensures exact { result ≡ put_bound old.now x y number p q }
-{
-    if p == x {
-        if q == y {
-            clip_bound(number)
-        } else {
-            old[32 * p + q]
-        }
-    } else {
-        old[32 * p + q]
-    }
-}
-
-/// The bounds with that of (`x`, `y`) replaced.
-pub(crate) fn put_table(old: &Table, x: usize, y: usize, number: Option<i64>) -> Table
-    ensures exact { result ≡ after_put old.now x y number }
-{
-    filled(
-        |p: usize, q: usize| -> Option<i64>
-            requires { (p < 32) × (q < 32) }
-            ensures { result ≡ put_bound old.entry.now x y number p q }
-        { bound_after_put(old, x, y, number, p, q) },
-    )
+    table[32 * x + y] = clip_bound(number);
 }
 
 /// Whether no bound of the first table is less than the second's.

@@ -9,7 +9,7 @@ ghost use Rattle.zones.specs.Limits.{IsZone};
 use crate::name::Name;
 use crate::table::{
     Table, any_table, forget_table, guard_table, join_table, put_table, set_table, shift_table,
-    table_covers, widening_table,
+    table_covers, widen_table,
 };
 use std::marker::Model;
 
@@ -69,7 +69,7 @@ impl Zone {
         ensures sound { (number : Numbers) → Holds self.old number → (number x -ℤ number y) ≤ℤ c →
             Holds self.new number }
     {
-        self.table = guard_table(&self.table, x.place(), y.place(), c);
+        guard_table(&mut self.table, x.place(), y.place(), c);
     }
 
     /// Sets `x` to `y + c`. A name that is set from itself moves by `c`.
@@ -78,7 +78,7 @@ impl Zone {
         ensures sound { (before after : Numbers) → Holds self.old before →
             ChangesOnly x before after → after x ≡ before y +ℤ c → Holds self.new after }
     {
-        self.table = set_table(&self.table, x.place(), y.place(), c);
+        set_table(&mut self.table, x.place(), y.place(), c);
     }
 
     /// Lets `x` grow by some number from `low` to `high`; a side that is `None` has no limit.
@@ -88,7 +88,7 @@ impl Zone {
             ChangesOnly x before after → Obeys (after x -ℤ before x) high →
             Obeys (before x -ℤ after x) (negative_of low) → Holds self.new after }
     {
-        self.table = shift_table(&self.table, x.place(), low, high);
+        shift_table(&mut self.table, x.place(), low, high);
     }
 
     /// Lets `x` become any number.
@@ -97,7 +97,7 @@ impl Zone {
         ensures sound { (before after : Numbers) → Holds self.old before →
             ChangesOnly x before after → Holds self.new after }
     {
-        self.table = forget_table(&self.table, x.place());
+        forget_table(&mut self.table, x.place());
     }
 
     /// Keeps what both zones say.
@@ -109,7 +109,7 @@ impl Zone {
         ensures covers { Covers self.new self.old }
         ensures covers_other { Covers self.new other.now }
     {
-        self.table = join_table(&self.table, &other.table);
+        join_table(&mut self.table, &other.table);
     }
 
     /// Keeps what of this zone did not rise in a newer one.
@@ -120,7 +120,7 @@ impl Zone {
         ensures covers { Covers self.new self.old }
         ensures covers_other { Covers self.new new.now }
     {
-        self.table = widening_table(&self.table, &new.table);
+        widen_table(&mut self.table, &new.table);
     }
 
     /// Whether this zone is the weaker: no bound of it is less than the other's.
@@ -140,6 +140,6 @@ impl Zone {
         ensures sound { (numbers : Numbers) → Holds self.old numbers →
             Obeys (numbers x -ℤ numbers y) number → Holds self.new numbers }
     {
-        self.table = put_table(&self.table, x.place(), y.place(), number);
+        put_table(&mut self.table, x.place(), y.place(), number);
     }
 }

@@ -1,11 +1,23 @@
+use Rattle.std.proofs.Common.{◌==◌, if◌then◌else◌, pos, Some}
 use Rattle.std.proofs.lemmas.Int.{to_z-of_z}
+use Rattle.zones.specs.Bound.{raise, lower}
+use Rattle.zones.specs.Zone.{bound}
 use Rattle.zones.specs.Steps.{after_set, set_bound}
 use Rattle.zones.proofs.Places.{zone_by-each}
+use Rattle.zones.proofs.Writes.{cross-is}
 use Rattle.zones.proofs.table.set_table.Goals as goal
 
 pub returns : goal.returns
-unfolding after_set
-returns c = record {
-  exact = zone_by-each (set_bound c.args.old.now c.args.x c.args.y c.args.c) _ c.filled.ensures.size
-      (simp (to_z-of_z _ _ c.ranges.c) at c.filled.ensures.each);
-}
+unfolding after_set set_bound
+returns c =
+    let old = c.args.table.now in
+    let x = c.args.x in
+    let y = c.args.y in
+    let number = c.args.c in
+    record {
+      exact = zone_by-each (set_bound old x y number) _ c.write_cross.ensures.size
+          (cross-is old _ _ _ x (λ q. if q == x then Some (pos 0) else raise (bound old y q) (Some number)) (λ p. lower (bound old p y) (Some number))
+          c.write_cross.ensures.each
+          (simp (to_z-of_z _ _ c.ranges.c) at c.row_after_set-row.ensures.each)
+          (simp (to_z-of_z _ _ c.ranges.c) at c.column_after_set-column.ensures.each));
+    }

@@ -4,16 +4,16 @@ use Rattle.zones.proofs.Soundness.{Holds-join_of, Holds-join_of_other}
 use Rattle.zones.proofs.zone.Zone.join.Goals as goal
 
 pub returns-clause-sound : goal.returns-clause-sound
-returns-clause-sound c number h = rw c.join_table-self-inside.ensures.exact (Holds-join_of _ _ number (rw c.self.view_is h))
+returns-clause-sound c number h = rw c.join_table.ensures.exact (Holds-join_of _ _ number (rw c.self.view_is h))
 
 pub returns-clause-sound_of_other : goal.returns-clause-sound_of_other
-returns-clause-sound_of_other c number h = rw c.join_table-self-inside.ensures.exact (Holds-join_of_other _ _ number (rw c.other.view_is h))
+returns-clause-sound_of_other c number h = rw c.join_table.ensures.exact (Holds-join_of_other _ _ number (rw c.other.view_is h))
 
 pub returns-clause-covers : goal.returns-clause-covers
-returns-clause-covers c = rw (c.join_table-self-inside.ensures.exact, ← c.self.view_is) (Covers-join_of _ _)
+returns-clause-covers c = rw (c.join_table.ensures.exact, ← c.self.view_is) (Covers-join_of _ _)
 
 pub returns-clause-covers_other : goal.returns-clause-covers_other
-returns-clause-covers_other c = rw (c.join_table-self-inside.ensures.exact, ← c.other.view_is) (Covers-join_of_other _ _)
+returns-clause-covers_other c = rw (c.join_table.ensures.exact, ← c.other.view_is) (Covers-join_of_other _ _)
 
 pub invariant_of-self : goal.invariant_of-self
-invariant_of-self c = rw c.join_table-self-inside.ensures.exact (IsZone-join_of _ _ c.self.invariant c.other.invariant)
+invariant_of-self c = rw c.join_table.ensures.exact (IsZone-join_of _ _ c.self.invariant c.other.invariant)

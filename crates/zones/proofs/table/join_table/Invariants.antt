@@ -1,0 +1,10 @@
+use Rattle.std.proofs.Common.{◌≡◌, ◌<◌, ◌≤◌, ◌/◌, ◌%◌, ℕ, get_or, length, None}
+use Rattle.zones.specs.Steps.{join_bound}
+use Rattle.zones.proofs.table.join_table.Given as goal
+
+abbrev pub invariant-loop-place : goal.invariant-loop-place
+invariant-loop-place l = record {
+  size : length l.table ≡ 1024;
+  done : (k : ℕ) → k < l.place → get_or l.table k None ≡ join_bound l.fn.table l.other (k / 32) (k % 32);
+  rest : (k : ℕ) → l.place ≤ k → get_or l.table k None ≡ get_or l.fn.table k None;
+}
