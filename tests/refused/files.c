@@ -1,0 +1,100 @@
+/* To be preloaded. With REFUSE="KIND N" the Nth call of that kind, counted from 1, fails: open, stat, read, write, ftruncate, fsync or close.
+   "refused KIND WHERE PLACE" is said then on standard error: WHERE is `input`, `output`, or the number of the opened file, counted from
+   1 with those that couldn't be opened; PLACE is how many bytes lie before the place in it. With BYTES="KIND.." each read, write or both
+   take one byte at most. Calls on standard error are never refused. */
+#define _GNU_SOURCE
+#include <errno.h>
+#include <fcntl.h>
+#include <stdarg.h>
+#include <stdio.h>
+#include <stdlib.h>
+#include <string.h>
+#include <sys/stat.h>
+#include <sys/syscall.h>
+#include <unistd.h>
+
+static long opened;
+static long numbers[1024];
+
+/* The number is that of a file that isn't open yet, or 0 for what a descriptor stands for. */
+static void say_refused(const char *kind, int fd, long number) {
+    char where[32], said[96];
+    if (!number && fd >= 0 && fd < 1024)
+        number = numbers[fd];
+    if (fd == 0 || fd == 1)
+        snprintf(where, sizeof where, "%s", fd == 0 ? "input" : "output");
+    else
+        snprintf(where, sizeof where, "%ld", number);
+    long place = fd < 0 ? 0 : lseek(fd, 0, SEEK_CUR);
+    int size = snprintf(said, sizeof said, "refused %s %s %ld\n", kind, where, place);
+    syscall(SYS_write, 2, said, size);
+}
+
+static int is_refused(const char *kind, int fd, long number, int error) {
+    static long seen;
+    const char *refuse = getenv("REFUSE");
+    size_t size = strlen(kind);
+    if (fd == 2 || !refuse || strncmp(refuse, kind, size) != 0 || refuse[size] != ' ')
+        return 0;
+    if (++seen != atol(refuse + size))
+        return 0;
+    say_refused(kind, fd, number);
+    errno = error;
+    return 1;
+}
+
+static size_t taken_at_once(const char *kind, size_t size) {
+    const char *bytes = getenv("BYTES");
+    return bytes && strstr(bytes, kind) && size > 1 ? 1 : size;
+}
+
+int open(const char *path, int flags, ...) {
+    va_list rest;
+    va_start(rest, flags);
+    mode_t mode = flags & O_CREAT ? va_arg(rest, mode_t) : 0;
+    va_end(rest);
+    opened++;
+    if (is_refused("open", -1, opened, EACCES))
+        return -1;
+    int fd = syscall(SYS_openat, AT_FDCWD, path, flags, mode);
+    if (fd >= 0 && fd < 1024)
+        numbers[fd] = opened;
+    return fd;
+}
+
+int statx(int fd, const char *restrict path, int flags, unsigned wanted, struct statx *restrict status) {
+    if (is_refused("stat", fd, 0, EIO))
+        return -1;
+    return syscall(SYS_statx, fd, path, flags, wanted, status);
+}
+
+ssize_t read(int fd, void *room, size_t size) {
+    if (is_refused("read", fd, 0, EIO))
+        return -1;
+    return syscall(SYS_read, fd, room, taken_at_once("read", size));
+}
+
+ssize_t write(int fd, const void *piece, size_t size) {
+    if (is_refused("write", fd, 0, ENOSPC))
+        return -1;
+    return syscall(SYS_write, fd, piece, taken_at_once("write", size));
+}
+
+int ftruncate(int fd, off_t size) {
+    return is_refused("ftruncate", fd, 0, EIO) ? -1 : syscall(SYS_ftruncate, fd, size);
+}
+
+/* Nothing is really synced: that takes long and shows nothing here. */
+int fsync(int fd) {
+    return is_refused("fsync", fd, 0, EIO) ? -1 : 0;
+}
+
+/* A file is closed even where that is answered by an error. */
+int close(int fd) {
+    int refused = is_refused("close", fd, 0, EIO);
+    int status = syscall(SYS_close, fd);
+    if (!refused)
+        return status;
+    errno = EIO;
+    return -1;
+}
