@@ -1,5 +1,5 @@
 -- No two readings of bytes come together.
-use Rattle.std.proofs.Common.{◌≡◌, ◌≢◌, ◌≤◌, ◌+◌, ◌++◌, ◌∷◌, [], ℕ, suc, List, length, arith, refl, ◌∙◌, sym, ap, subst, append_assoc, append-nil, length-append}
+use Rattle.std.proofs.Common.{◌≡◌, ◌≢◌, ◌≤◌, ◌++◌, ◌∷◌, [], ℕ, List, length, arith, refl, ◌∙◌, sym, ap, subst, append_assoc, append-nil, length-append}
 use Rattle.std.proofs.lemmas.List.Elements.{All-nil, All-cons, All-head, All-tail, All-append}
 use Rattle.ed_base.specs.Lines.{newline, IsLine, AreLines, bytes_of}
 use Rattle.cert_check.specs.Certificates.{Certificate}
@@ -10,7 +10,7 @@ use Rattle.cert_check.specs.Pieces.{texts, rest_lines}
 use Rattle.cert_check.proofs.Pieces.{first-of, later-of, bytes_of-append}
 use Rattle.cert_check.proofs.Stated.{after-same}
 use Rattle.cert_check.proofs.Certified.{rest-ends}
-use Rattle.cert_check.proofs.Told.{version, no-newline, first-cut, no-bytes, Goes, begins-goes, text-is, text-lines}
+use Rattle.cert_check.proofs.Told.{version, no-newline, first-cut, no-bytes, begins-goes, text-is, text-lines}
 
 -- lines and lines at the front of the same bytes
 data Compared (a b : List (List ℕ)) (x y : List ℕ) : Type 0 where

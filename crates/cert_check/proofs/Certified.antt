@@ -1,5 +1,5 @@
 -- What follows what in the lines of a certificate.
-use Rattle.std.proofs.Common.{◌≡◌, ◌++◌, ◌∷◌, [], ℕ, Bool, true, ◌&&◌, List, Option, None, Some, refl, ◌∙◌, sym, ap, append_assoc, append-nil}
+use Rattle.std.proofs.Common.{◌≡◌, ◌++◌, ◌∷◌, [], ℕ, List, Option, None, refl, ◌∙◌, sym, ap, append_assoc, append-nil}
 use Rattle.std.specs.Prelude.{codes}
 use Rattle.std.specs.List.{All}
 use Rattle.std.proofs.lemmas.List.Elements.{All-nil}
@@ -11,7 +11,7 @@ use Rattle.cert_check.specs.HasText.{NoteHasText, HasText}
 use Rattle.cert_check.specs.Text.{state_lines, path_line, writes_line}
 use Rattle.cert_check.specs.Pieces.{Left, Took, texts, IsOf, alone, limits_line, AreLimits, AreStartLimits, ArePaths, notes_lines, rest_lines}
 use Rattle.cert_check.proofs.OneText.{certificate_made}
-use Rattle.cert_check.proofs.Pieces.{first-of, later-of, texts-append, took-more, GoesOn, Expects}
+use Rattle.cert_check.proofs.Pieces.{later-of, texts-append, took-more, Expects}
 use Rattle.cert_check.proofs.Plainest.{plain_state, plain-state}
 use Rattle.cert_check.proofs.Noted.{front-state, front-notes, took-is}
 

@@ -13,9 +13,9 @@ use Rattle.cert_check.specs.HasText.{LoopedHasText, NoteHasText}
 use Rattle.cert_check.specs.Text as text
 use Rattle.cert_check.specs.Text.{Word, line_text, state_lines, headed_lines, looped_lines, note_lines}
 use Rattle.cert_check.specs.Pieces.{Left, Took, texts, IsOf, alone, either_line, head_line, inner_lines, list_lines, ListIsFormed, noted_lines, NotedIsFormed, notes_lines}
-use Rattle.cert_check.proofs.Separated.{head-same, Above, Above-from_test, AreLinesOfWords, AreLinesOfWords-append}
-use Rattle.cert_check.proofs.Unambiguous.{later-lines, letter-differs, state-same, notes-same, after_notes, after_inner, inner-same, looped_made, looped-by, note_made, note-by}
-use Rattle.cert_check.proofs.OneText.{state-words, inner-words, looped-words, notes-words}
+use Rattle.cert_check.proofs.Separated.{head-same, Above-from_test, AreLinesOfWords, AreLinesOfWords-append}
+use Rattle.cert_check.proofs.Unambiguous.{state-same, notes-same, after_notes, after_inner, inner-same, looped_made, looped-by, note_made}
+use Rattle.cert_check.proofs.OneText.{state-words, inner-words, notes-words}
 use Rattle.cert_check.proofs.Pieces.{first-of, later-of, texts-append, took-more, Continued, GoesOn, Expects, Determined, texts-determined}
 use Rattle.cert_check.proofs.Plainest.{plain_state, plain-state}
 use Rattle.cert_check.proofs.Stated.{state-determined}

@@ -1,5 +1,5 @@
 -- Pieces of a text: a piece that can't be read is a fault of the text in which it stands.
-use Rattle.std.proofs.Common.{◌≡◌, ◌+◌, ◌++◌, ◌∷◌, [], ℕ, suc, List, length, Option, Result, Ok, Err, None, Some, arith, refl, ◌∙◌, sym, ap, subst, append_assoc, append-nil, length-append}
+use Rattle.std.proofs.Common.{◌≡◌, ◌++◌, ◌∷◌, [], ℕ, List, Option, Result, Err, None, Some, arith, refl, ◌∙◌, sym, ap, subst, append_assoc, append-nil, length-append}
 use Rattle.ed_base.specs.Lines.{newline, IsLine, bytes_of}
 use Rattle.cert_check.specs.declared.fault.CertFault.{CertFault}
 use Rattle.cert_check.specs.declared.fault.CertFault.TheVariants.{Version, Line, Size, Memory}

@@ -1,9 +1,7 @@
 -- The plainest state, certificate and so on: what has been read can be gone on with by these.
-use Rattle.std.proofs.Common.{◌≡◌, ◌<◌, ◌+◌, ◌*◌, ◌/◌, ◌%◌, ◌==◌, ◌∷◌, [], ℕ, Bool, true, false, not, ◌&&◌, ◌||◌, List, length, get_or, Option, None, Some, pos, inl, inr, arith, refl, ◌∙◌, sym, ap}
-use Rattle.std.specs.Prelude.{is_some, replicate, cond}
-use Rattle.std.specs.List.{All}
+use Rattle.std.proofs.Common.{◌≡◌, ◌<◌, ◌/◌, ◌%◌, ◌==◌, ◌∷◌, [], ℕ, Bool, true, false, not, ◌&&◌, ◌||◌, List, length, None, Some, pos, arith, refl, ◌∙◌, sym, ap}
+use Rattle.std.specs.Prelude.{cond}
 use Rattle.std.proofs.lemmas.List.Elements.{All-nil, All-cons}
-use Rattle.zones.specs.Zone.{bound}
 use Rattle.zones.specs.Steps.{any_bound, any_zone}
 use Rattle.zones.proofs.Formulas.{bound-any_zone}
 use Rattle.zones.proofs.Kept.{IsZone-any_zone}
@@ -13,12 +11,10 @@ use Rattle.ed_rules.specs.declared.state.Changed.{Changed}
 use Rattle.ed_rules.specs.declared.state.Undo.{Undo}
 use Rattle.ed_rules.specs.declared.state.State.{State}
 use Rattle.ed_rules.specs.Choices.{Choice}
-use Rattle.ed_rules.specs.Formed.{ChoiceIsBytes, SetIsFormed, ZoneIsFormed, StateIsFormed, has_name, may_say, says_nothing}
+use Rattle.ed_rules.specs.Formed.{ChoiceIsBytes, SetIsFormed, ZoneIsFormed, StateIsFormed, has_name, may_say}
 use Rattle.cert_check.specs.declared.lines.Found.{Found}
-use Rattle.cert_check.specs.Certificates.{Looped, Note}
 use Rattle.cert_check.specs.Pieces.{UndoIsFormed, MarkedIsFormed, IsSomeReplacement, IsSomeChange}
 use Rattle.cert_check.specs.Reading.{all_marks}
-use Rattle.cert_check.proofs.Worded.{test}
 use Rattle.cert_check.proofs.Limited.{at-place}
 use Rattle.cert_check.proofs.Unambiguous.{state_made}
 

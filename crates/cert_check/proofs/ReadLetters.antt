@@ -1,9 +1,9 @@
 -- Letters, one by one, as they are read.
 use Rattle.std.proofs.Common.{◌≡◌, ◌≢◌, ◌<◌, ◌≤◌, ◌+◌, ◌++◌, ◌∷◌, [], ℕ, zero, suc, Bool, true, false, List, length, get_or, set, drop, replicate, arith, refl, ◌∙◌, sym, ap, append-nil, drop-cons}
 use Rattle.std.proofs.lemmas.List.{same_lists, get_or_default, get_or-replicate}
-use Rattle.cert_check.specs.Text.{Word, space, spaced, sure_letters, letters_words}
+use Rattle.cert_check.specs.Text.{spaced, sure_letters, letters_words}
 use Rattle.cert_check.specs.Reading.{all_marks}
-use Rattle.cert_check.proofs.Separated.{head-same, tail-same}
+use Rattle.cert_check.proofs.Separated.{tail-same}
 use Rattle.cert_check.proofs.Chosen.{later-letters}
 use Rattle.cert_check.proofs.Limited.{past-end}
 

@@ -1,10 +1,10 @@
 -- What the readers of lines rest on.
-use Rattle.std.proofs.Common.{◌≡◌, ◌≢◌, ◌<◌, ◌^◌, ◌++◌, ◌∷◌, [], ℕ, Bool, true, false, ◌&&◌, List, map, length, Option, None, Some, arith, refl, ◌∙◌, sym, ap, subst}
+use Rattle.std.proofs.Common.{◌≡◌, ◌≢◌, ◌<◌, ◌^◌, ◌++◌, ◌∷◌, [], ℕ, true, false, ◌&&◌, List, Option, None, Some, refl, ◌∙◌, sym, ap, subst}
 use Rattle.std.specs.Prelude.{codes, decimal}
 use Rattle.std.proofs.lemmas.Fmt.{decimal_injective}
 use Rattle.std.proofs.lemmas.List.{append_cancel_left}
 use Rattle.cert_check.specs.HasText.{is_few, is_limit}
-use Rattle.cert_check.specs.Text.{Word, Line, space, spaced, line_text, limit_word, bounds_line}
+use Rattle.cert_check.specs.Text.{Word, space, spaced, line_text, limit_word, bounds_line}
 use Rattle.cert_check.specs.Reading.{IsFirstWord}
 use Rattle.cert_check.proofs.Separated.{Above, AreWords, and-both, tail-same}
 use Rattle.cert_check.proofs.Worded.{decimal-above}

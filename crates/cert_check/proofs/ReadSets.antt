@@ -1,8 +1,7 @@
 -- Words of one kind, each after a space, as they are read.
-use Rattle.std.proofs.Common.{◌≡◌, ◌≢◌, ◌<◌, ◌++◌, ◌∷◌, [], ℕ, Bool, false, List, map, length, None, Some, arith, refl, ◌∙◌, sym, ap, subst}
+use Rattle.std.proofs.Common.{◌≡◌, ◌≢◌, ◌<◌, ◌++◌, ◌∷◌, [], ℕ, List, map, length, Some, refl, ◌∙◌, sym, ap, subst}
 use Rattle.std.specs.List.{flat_map, All}
 use Rattle.std.proofs.lemmas.List.{append_cancel_left}
-use Rattle.ed_rules.specs.Choices.{Choice}
 use Rattle.cert_check.specs.Text.{Word, space, spaced, line_text, choice_word}
 use Rattle.cert_check.specs.Reading.{IsFirstWord, EndsWord}
 use Rattle.cert_check.proofs.Separated.{Above, tail-same}

@@ -1,21 +1,20 @@
 -- A zone, bound by bound, as it is read.
-use Rattle.std.proofs.Common.{◌≡◌, ◌≢◌, ◌<◌, ◌≤◌, ◌+◌, ◌*◌, ◌/◌, ◌%◌, ◌^◌, ◌==◌, ◌++◌, ◌∷◌, [], ℕ, zero, suc, ℤ, Bool, true, false, cond, List, length, get_or, take, drop, Option, None, Some, inl, inr, arith, refl, ◌∙◌, sym, ap, subst, append_assoc, append-nil, drop-cons, below_more}
+use Rattle.std.proofs.Common.{◌≡◌, ◌≢◌, ◌<◌, ◌≤◌, ◌+◌, ◌*◌, ◌/◌, ◌%◌, ◌==◌, ◌++◌, ◌∷◌, [], ℕ, zero, suc, ℤ, true, List, length, get_or, take, drop, Option, None, Some, inl, inr, arith, refl, ◌∙◌, sym, ap, subst, below_more}
 use Rattle.std.specs.Prelude.{codes}
 use Rattle.std.specs.Fmt.{signed_decimal}
 use Rattle.std.specs.List.{prefix_len}
 use Rattle.std.proofs.lemmas.List.{take-append-drop}
 use Rattle.std.proofs.lemmas.Bool.{eqb-true, eqb-false}
-use lib.Signed.{mag}
 use Rattle.zones.specs.Bound.{IsKept, clip_bound}
-use Rattle.zones.specs.Zone.{Bounds, bound, zone_by}
+use Rattle.zones.specs.Zone.{Bounds, bound}
 use Rattle.zones.specs.Steps.{any_bound, any_zone, after_put, put_bound}
 use Rattle.zones.proofs.Places.{bound-zone_by, length-zone_by, zone_by-each}
 use Rattle.zones.proofs.Formulas.{bound-after_put}
 use Rattle.zones.proofs.Kept.{clip-is}
-use Rattle.ed_rules.specs.Formed.{may_say, ZoneIsFormed}
+use Rattle.ed_rules.specs.Formed.{ZoneIsFormed}
 use Rattle.cert_check.specs.Text.{Word, space, spaced, name_word, bound_words, bounds_words}
 use Rattle.cert_check.specs.Reading.{all_marks, is_in_word, IsUnspaced, EndsWord, IsFirstWord, IsNamed, IsSigned, said_word, IsSaid}
-use Rattle.cert_check.proofs.Separated.{Above, AreWords, AreWords-append}
+use Rattle.cert_check.proofs.Separated.{AreWords}
 use Rattle.cert_check.proofs.Worded.{signed-above, test, cond-true, cond-false, bound_word, bound-above, bound-same}
 use Rattle.cert_check.proofs.Zoned.{Said, silent, spoken, AllSaid, said, zone-said, bounds-are-words, later-differ}
 use Rattle.cert_check.proofs.Spoken.{bounds-here}

@@ -13,11 +13,10 @@ use Rattle.ed_rules.specs.Choices.{Choice}
 use Rattle.ed_rules.specs.Formed.{SetIsFormed, ZoneIsFormed, StateIsFormed, OldIsFormed, has_name, may_say, says_nothing}
 use Rattle.ed_rules.specs.Marks.{is_sure}
 use Rattle.cert_check.specs.declared.lines.Found.{Found}
-use Rattle.cert_check.specs.Text as text
 use Rattle.cert_check.specs.Text.{Word, spaced, bounds_words, line_text, possible, zone_line, marks_line, choices_line, replacements_line, changed_line, undo_line, old_lines, state_lines}
 use Rattle.cert_check.specs.Pieces.{found_line, texts, IsOf, alone, marked_lines, MarkedIsFormed, undo_lines, UndoIsFormed, IsSomeReplacement, IsSomeChange, IsFound}
 use Rattle.cert_check.specs.Reading.{all_marks}
-use Rattle.cert_check.proofs.Separated.{Above, Above-from_test, AreWords, AreWords-append, IsLineOfWords, and-both, tail-same, words-same, line-same}
+use Rattle.cert_check.proofs.Separated.{Above-from_test, AreWords, AreWords-append, IsLineOfWords, and-both, tail-same, words-same, line-same}
 use Rattle.cert_check.proofs.Zoned.{zone-said, bounds-are-words}
 use Rattle.cert_check.proofs.Chosen.{possible-words, undo-same}
 use Rattle.cert_check.proofs.Unambiguous.{state-same, zone-same, later-words}

@@ -1,23 +1,23 @@
 -- Why bytes are not the text of a certificate, from what their lines begin.
-use Rattle.std.proofs.Common.{◌≡◌, ◌≢◌, ◌<◌, ◌+◌, ◌++◌, ◌∷◌, [], ℕ, suc, Bool, true, false, not, nat_eq, List, length, Result, Ok, Err, arith, refl, ◌∙◌, sym, ap, subst, append_assoc, append-nil}
+use Rattle.std.proofs.Common.{◌≡◌, ◌≢◌, ◌++◌, ◌∷◌, [], ℕ, Bool, true, false, not, nat_eq, List, Result, Err, arith, refl, ◌∙◌, sym, ap, subst, append_assoc, append-nil}
 use Rattle.std.specs.Prelude.{codes, IsTrue, ◌↔◌}
 use Rattle.std.specs.Cmp.Lexicographic.{pointwise, bytes_decides}
-use Rattle.std.specs.List.{All, flat_map}
+use Rattle.std.specs.List.{flat_map}
 use Rattle.std.proofs.lemmas.List.Elements.{All-nil, All-cons, All-head, All-tail, All-append}
 use Rattle.ed_base.specs.Lines.{newline, IsLine, AreLines, bytes_of}
 use Rattle.cert_check.specs.declared.certificate.Certificate as public
 use Rattle.cert_check.specs.declared.fault.CertFault.{CertFault}
 use Rattle.cert_check.specs.declared.fault.CertFault.TheVariants.{Version, Line, Size, Memory}
-use Rattle.cert_check.specs.Certificates.{Certificate, certificate_value}
+use Rattle.cert_check.specs.Certificates.{Certificate}
 use Rattle.cert_check.specs.Text as text
 use Rattle.cert_check.specs.Text.{line_text, version_line, opening_lines, closing_lines, note_lines, state_lines, path_line, bounds_line, writes_line, text_of}
 use Rattle.cert_check.specs.HasText.{HasText, IsText}
 use Rattle.cert_check.specs.Faults.{Begins, IsWhole, IsVersionFault, IsLineFault, IsSizeFault, more, less, IsReading}
-use Rattle.cert_check.specs.Pieces.{Left, IsNext, Took, texts, IsOf, IsStrange, IsShort, IsFault, rest_lines}
+use Rattle.cert_check.specs.Pieces.{Left, Took, texts, IsOf, IsStrange, IsShort, IsFault, rest_lines}
 use Rattle.cert_check.proofs.Separated.{head-same, tail-same, Above, Above-line, AreLinesOfWords}
 use Rattle.cert_check.proofs.OneText.{certificate-words}
 use Rattle.cert_check.proofs.Stated.{was-true}
-use Rattle.cert_check.proofs.Pieces.{first-of, later-of, bytes_of-append}
+use Rattle.cert_check.proofs.Pieces.{later-of, bytes_of-append}
 
 abbrev pub version : List ℕ
 version = line_text version_line

@@ -1,5 +1,5 @@
 -- How a certificate is read, one piece of its text after another.
-use Rattle.std.specs.Prelude.{◌≡◌, ℕ, suc, ◌+◌, Bool, true, false, ◌&&◌, ◌||◌, List, [], ◌∷◌, ◌++◌, length, map, codes, Option, Some, None, is_some, Result, Ok, Err, All}
+use Rattle.std.specs.Prelude.{◌≡◌, ℕ, suc, ◌+◌, Bool, true, false, ◌&&◌, ◌||◌, List, [], ◌∷◌, ◌++◌, length, map, codes, Option, Some, is_some, Result, Ok, Err, All}
 use Rattle.std.specs.List.{flat_map}
 use Rattle.ed_base.specs.Lines.{newline, IsLine, bytes_of}
 use Rattle.ed_rules.specs.declared.state.Old.{Old}
@@ -18,7 +18,7 @@ use Rattle.cert_check.specs.Certificates.{Looped, Note, Certificate, note_value}
 use Rattle.cert_check.specs.Text as text
 use Rattle.cert_check.specs.Text.{Word, line_text, zone_line, marks_line, undo_line, old_lines, state_lines, headed_lines, looped_lines, note_lines, path_line, bounds_line, writes_line}
 use Rattle.cert_check.specs.Reading.{undo_words_line}
-use Rattle.cert_check.specs.HasText.{is_few, is_limit, is_within, LoopedHasText, NoteHasText}
+use Rattle.cert_check.specs.HasText.{is_few, is_limit, is_within, NoteHasText}
 
 -- where a reader stands: the bytes that are left, and how many lines stand above them
 pub record Left : Type 0 where

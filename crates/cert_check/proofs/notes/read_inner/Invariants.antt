@@ -1,4 +1,4 @@
-use Rattle.std.proofs.Common.{ℕ, length}
+use Rattle.std.proofs.Common.{length}
 use Rattle.std.specs.List.{All}
 use Rattle.ed_rules.specs.Formed.{StateIsFormed}
 use Rattle.cert_check.specs.Pieces.{Took}

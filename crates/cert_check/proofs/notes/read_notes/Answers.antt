@@ -1,4 +1,4 @@
-use Rattle.std.proofs.Common.{◌∷◌, [], ◌++◌, ◌∙◌, ap, map, true, sym, List}
+use Rattle.std.proofs.Common.{◌∷◌, [], ◌∙◌, ap, map, true, List}
 use Rattle.std.proofs.lemmas.List.{map-append}
 use Rattle.std.proofs.lemmas.Result.{err_from_is_err_and}
 use Rattle.cert_check.specs.declared.certificate.Note as public

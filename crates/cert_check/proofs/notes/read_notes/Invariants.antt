@@ -1,4 +1,4 @@
-use Rattle.std.proofs.Common.{ℕ, length, map, ◌++◌}
+use Rattle.std.proofs.Common.{length, map, ◌++◌}
 use Rattle.std.specs.List.{All}
 use Rattle.cert_check.specs.Certificates.{note_value}
 use Rattle.cert_check.specs.HasText.{NoteHasText}

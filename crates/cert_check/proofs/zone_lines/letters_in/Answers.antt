@@ -1,4 +1,4 @@
-use Rattle.std.proofs.Common.{◌≡◌, ◌+◌, ◌++◌, ◌∷◌, [], ℕ, Bool, true, false, List, length, get_or, set, arith, ◌∙◌, sym, ap, append_assoc}
+use Rattle.std.proofs.Common.{◌≡◌, ◌+◌, ◌++◌, ◌∷◌, [], ℕ, Bool, true, false, List, length, get_or, arith, ◌∙◌, sym, ap, append_assoc}
 use Rattle.std.proofs.lemmas.List.{length-set}
 use Rattle.cert_check.specs.Text.{sure_letters}
 use Rattle.cert_check.proofs.ReadLetters.{letter-added, unsure-later, letter-taken, letter-kept, none-sure}
