@@ -5,7 +5,8 @@
     python3 changed.py --large
 
 For each of SCRIPTS `ed_main vouch` makes a certificate. It is then given to `ed_main check` with each line doubled, dropped or exchanged
-with the next one, each number one more or less, each byte changed to five others, zero bytes, CRLF line ends, and cut at each place. The
+with the next one, each set with each other choice of its words, a mark more or less, an entry of a zone less, each number one more or less,
+each byte changed to five others, zero bytes, CRLF line ends, and cut at each place. The
 checker in this file reads the text, and says once more and as plainly as it can what the verifier's rules say; the answers and the exit
 statuses have to be the same. Each difference is printed. SEED chooses the bytes. The last line counts the certificates.
 
@@ -13,6 +14,7 @@ statuses have to be the same. Each difference is printed. SEED chooses the bytes
 """
 import collections
 import dataclasses
+import itertools
 import math
 import multiprocessing
 import os
@@ -44,6 +46,9 @@ ANSWERS = ('accepted', 'refused', 'certificate: line', 'certificate: size', 'cer
 BYTES = b'0123456789abcdefghijklmnopqrstuvwxyz \n\r\t\0\xff-.$=<%_,'
 OTHERS = 5
 ZEROS = 10
+# The words that a line of a set may have, in their order.
+SETS = {b'replacements': (b'none', b'plain', b'split'), b'changed': (b'no', b'yes'), b'undo': (b'nothing', b'same', b'was')}
+ADDED_MARKS = b'aby'
 
 # Zones. A number that is any is infinite.
 
@@ -866,6 +871,28 @@ def changes_of_lines(text):
         start = end
 
 
+def other_choices(line):
+    """The line with each other choice of what it lists, as far as the line alone can show."""
+    key, *words = line.split() or [b'']
+    if key in SETS:
+        choices = (chosen for size in range(len(SETS[key]) + 1) for chosen in itertools.combinations(SETS[key], size))
+        yield from (b' '.join((key, *chosen)) for chosen in choices if list(chosen) != words)
+    elif key.endswith(b'marks'):
+        marks = set(words[0]) if words else set()
+        for letter in marks.union(ADDED_MARKS):
+            yield b' '.join([key, bytes(sorted(marks ^ {letter}))]).rstrip()
+    elif key.endswith(b'zone'):
+        yield from (b' '.join((key, *words[:place], *words[place + 1:])) for place in range(len(words)))
+
+
+def changes_of_choices(text):
+    start = 0
+    for number, line in enumerate(text.splitlines(keepends=True), 1):
+        for other in other_choices(line):
+            yield f'line {number} as {other.decode()}', start, start + len(line), other + b'\n'
+        start += len(line)
+
+
 def changes_of_bytes(text, chance):
     for number in re.finditer(rb'(?:(?<==)|(?<= ))-?[0-9]+(?=[ \n])', text):
         for step in (-1, 1):
@@ -881,6 +908,7 @@ def changes(text, chance):
     yield 'none', 0, 0, b''
     yield 'CRLF', 0, len(text), text.replace(b'\n', b'\r\n')
     yield from changes_of_lines(text)
+    yield from changes_of_choices(text)
     yield from changes_of_bytes(text, chance)
     for place in range(len(text)):
         yield f'cut at byte {place}', place, len(text), b''
