@@ -9,3 +9,5 @@ pub mod Limits
 pub mod Differences
 pub mod Isolated
 pub mod Room
+-- how a bound is kept as one number
+pub mod Entry

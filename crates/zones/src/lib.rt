@@ -1,6 +1,7 @@
 //! Bounds on the differences of 32 named whole numbers, by steps that are exact and sound.
 #![tactic(auto)]
 
+mod entry;
 mod laws;
 mod name;
 mod number;

@@ -4,6 +4,8 @@ ghost use Rattle.std.specs.Prelude.{◌≡◌, ◌+ℤ◌, Some};
 ghost use Rattle.zones.specs.Limits.{clamp, clamp_side};
 ghost use Rattle.zones.specs.Bound.{clip, clip_bound, sum_of, lesser_of, greater_of, tighten, raise, lower, widen_bound, widen_diagonal, covers_bound};
 
+use crate::entry::Entry;
+
 /// The greatest number that a zone keeps, and with a minus sign the least.
 pub const LIMIT: i64 = 1_000_000_000_000_000;
 
@@ -34,34 +36,34 @@ pub(crate) fn clamped_side(offset: Option<i128>) -> Option<i64>
 }
 
 /// The number as a zone keeps it: one above the limit says nothing, one below it is raised.
-pub(crate) fn clip(number: i128) -> Option<i64>
+pub(crate) fn clip(number: i128) -> Entry
     ensures value { result ≡ clip number }
 {
     if number > i128::from(LIMIT) {
-        None
+        Entry::any()
     } else if number < -i128::from(LIMIT) {
-        Some(-LIMIT)
+        Entry::of(Some(-LIMIT))
     } else {
-        Some(number as i64)
+        Entry::of(Some(number as i64))
     }
 }
 
-fn clip_wide(number: Option<i128>) -> Option<i64>
+fn clip_wide(number: Option<i128>) -> Entry
     ensures value { result ≡ clip_bound number }
 {
     match number {
         Some(number) => clip(number),
-        None => None,
+        None => Entry::any(),
     }
 }
 
 /// The bound as a zone keeps it.
-pub(crate) fn clip_bound(number: Option<i64>) -> Option<i64>
+pub(crate) fn clip_bound(number: Option<i64>) -> Entry
     ensures value { result ≡ clip_bound number }
 {
     match number {
         Some(number) => clip(i128::from(number)),
-        None => None,
+        None => Entry::any(),
     }
 }
 
@@ -97,78 +99,73 @@ fn lesser(direct: Option<i64>, other: Option<i128>) -> Option<i128>
 }
 
 /// The lesser of a direct bound and of that by a way of three parts.
-pub(crate) fn tighten(
-    direct: Option<i64>,
-    to: Option<i64>,
-    c: i64,
-    from: Option<i64>,
-) -> Option<i64>
+pub(crate) fn tighten(direct: Entry, to: Option<i64>, c: i64, from: Option<i64>) -> Entry
     ensures value { result ≡ tighten direct to c from }
 {
-    clip_wide(lesser(direct, way(to, c, from)))
+    clip_wide(lesser(direct.get(), way(to, c, from)))
 }
 
 /// The bound plus a number; any, where either is unbounded.
-pub(crate) fn raise(number: Option<i64>, by: Option<i64>) -> Option<i64>
-    ensures value { result ≡ raise number by }
+pub(crate) fn raise(bound: Entry, by: Option<i64>) -> Entry
+    ensures value { result ≡ raise bound by }
 {
-    match (number, by) {
+    match (bound.get(), by) {
         (Some(number), Some(by)) => clip(i128::from(number) + i128::from(by)),
-        _ => None,
+        _ => Entry::any(),
     }
 }
 
 /// The bound minus a number; any, where either is unbounded.
-pub(crate) fn lower(number: Option<i64>, by: Option<i64>) -> Option<i64>
-    ensures value { result ≡ lower number by }
+pub(crate) fn lower(bound: Entry, by: Option<i64>) -> Entry
+    ensures value { result ≡ lower bound by }
 {
-    match (number, by) {
+    match (bound.get(), by) {
         (Some(number), Some(by)) => clip(i128::from(number) - i128::from(by)),
-        _ => None,
+        _ => Entry::any(),
     }
 }
 
 /// The weaker of two bounds.
-pub(crate) fn greater(one: Option<i64>, other: Option<i64>) -> Option<i64>
+pub(crate) fn greater(one: Entry, other: Entry) -> Entry
     ensures value { result ≡ greater_of one other }
 {
-    match (one, other) {
-        (Some(one), Some(other)) => { if one < other { Some(other) } else { Some(one) } }
-        _ => None,
+    match (one.get(), other.get()) {
+        (Some(number), Some(other_number)) => { if number < other_number { other } else { one } }
+        _ => Entry::any(),
     }
 }
 
 /// The old bound where the new one is not greater, else any.
-pub(crate) fn widen_bound(old: Option<i64>, new: Option<i64>) -> Option<i64>
+pub(crate) fn widen_bound(old: Entry, new: Entry) -> Entry
     ensures value { result ≡ widen_bound old new }
 {
-    match (old, new) {
-        (Some(old), Some(new)) => { if old < new { None } else { Some(old) } }
-        _ => None,
+    match (old.get(), new.get()) {
+        (Some(before), Some(after)) => { if before < after { Entry::any() } else { old } }
+        _ => Entry::any(),
     }
 }
 
 /// The old bound of a diagonal where the new one is not greater, else the greater of 0 and the new one.
-pub(crate) fn widen_diagonal(old: Option<i64>, new: Option<i64>) -> Option<i64>
+pub(crate) fn widen_diagonal(old: Entry, new: Entry) -> Entry
     ensures value { result ≡ widen_diagonal old new }
 {
-    match (old, new) {
-        (Some(old), Some(new)) => {
-            if old < new {
-                if 0 < new { Some(new) } else { Some(0) }
+    match (old.get(), new.get()) {
+        (Some(before), Some(after)) => {
+            if before < after {
+                if 0 < after { new } else { Entry::of(Some(0)) }
             } else {
-                Some(old)
+                old
             }
         }
-        _ => None,
+        _ => Entry::any(),
     }
 }
 
 /// Whether the first bound is no less than the second.
-pub(crate) fn covers_bound(weak: Option<i64>, strong: Option<i64>) -> bool
+pub(crate) fn covers_bound(weak: Entry, strong: Entry) -> bool
     ensures value { result ≡ covers_bound weak strong }
 {
-    match (weak, strong) {
+    match (weak.get(), strong.get()) {
         (Some(weak), Some(strong)) => strong <= weak,
         (Some(_), None) => false,
         (None, _) => true,

@@ -7,23 +7,24 @@ ghost use Rattle.zones.specs.Zone.{bound, Covers};
 ghost use Rattle.zones.specs.Steps.{any_bound, any_zone, after_guard, after_set, after_shift, after_forget, join_of, widening_of, after_put};
 ghost use Rattle.zones.specs.Limits.{IsZone};
 
+use crate::entry::Entry;
 use crate::number::{
     clip_bound, covers_bound, greater, lower, raise, tighten, widen_bound, widen_diagonal,
 };
 
-/// The bound of the pair (p, q) lies at `32 * p + q`; none is any.
-pub(crate) type Table = [Option<i64>; 1024];
+/// The bound of the pair (p, q) lies at `32 * p + q`.
+pub(crate) type Table = [Entry; 1024];
 
 /// A bound for each name: a row or a column of a table.
-type Line = [Option<i64>; 32];
+type Line = [Entry; 32];
 
 /// The table of the bounds that a function gives.
-fn filled<F: Fn(usize, usize) -> Option<i64>>(bound_at: F) -> Table
+fn filled<F: Fn(usize, usize) -> Entry>(bound_at: F) -> Table
     requires total { (p q : ℕ) → p < 32 → q < 32 → F.pre bound_at p q }
     ensures size { length result ≡ 1024 }
     ensures each { (p q : ℕ) → p < 32 → q < 32 → F.post bound_at p q (bound result p q) }
 {
-    let mut table = [None; 1024];
+    let mut table = [Entry::any(); 1024];
     for place in 0..1024 {
         table[place] = bound_at(place / 32, place % 32);
     }
@@ -35,19 +36,19 @@ pub(crate) fn any_table() -> Table
     ensures exact { result ≡ any_zone }
 {
     filled(
-        |p: usize, q: usize| -> Option<i64>
+        |p: usize, q: usize| -> Entry
             requires { (p < 32) × (q < 32) }
             ensures { result ≡ any_bound p q }
-        { if p == q { Some(0) } else { None } },
+        { Entry::of(if p == q { Some(0) } else { None }) },
     )
 }
 
 /// The line of the bounds that a function gives.
-fn line_of<F: Fn(usize) -> Option<i64>>(bound_at: F) -> Line
+fn line_of<F: Fn(usize) -> Entry>(bound_at: F) -> Line
     requires total { (p : ℕ) → p < 32 → F.pre bound_at p }
     ensures each { (p : ℕ) → p < 32 → F.post bound_at p (get_or result p None) }
 {
-    let mut line = [None; 32];
+    let mut line = [Entry::any(); 32];
     for p in 0..32 {
         line[p] = bound_at(p);
     }
@@ -83,7 +84,7 @@ fn tighten_row(table: &mut Table, p: usize, to: i64, c: i64, row: &Line)
 {
     for q in 0..32 {
         // Where the other row has no bound, no way leads to the pair.
-        if let Some(from) = row[q] {
+        if let Some(from) = row[q].get() {
             let place = 32 * p + q;
             table[place] = tighten(table[place], Some(to), c, Some(from));
         }
@@ -97,7 +98,7 @@ fn row_of(table: &Table, y: usize) -> Line
     ensures each { (q : ℕ) → q < 32 → get_or result q None ≡ bound table.now y q }
 {
     line_of(
-        |q: usize| -> Option<i64>
+        |q: usize| -> Entry
             requires { (y < 32) × (q < 32) }
             ensures { result ≡ bound table.entry.now y q }
         { table[32 * y + q] },
@@ -115,7 +116,7 @@ pub(crate) fn guard_table(table: &mut Table, x: usize, y: usize, c: i64)
     for p in 0..32 {
         // Only the row itself is read here, and that of `y` as it was before the step. A row with no
         // bound up to `x` stays, since no way leads on.
-        if let Some(to) = table[32 * p + x] {
+        if let Some(to) = table[32 * p + x].get() {
             tighten_row(table, p, to, c, &row);
         }
     }
@@ -129,13 +130,13 @@ fn row_after_set(old: &Table, x: usize, y: usize, c: i64) -> Line
         (if q == x then Some (pos 0) else raise (bound old.now y q) (Some c)) }
 {
     line_of(
-        |q: usize| -> Option<i64>
+        |q: usize| -> Entry
             requires { (y < 32) × (q < 32) }
             ensures { result ≡
                 (if q == x then Some (pos 0) else raise (bound old.entry.now y q) (Some c)) }
         {
             if q == x {
-                Some(0)
+                Entry::of(Some(0))
             } else {
                 raise(old[32 * y + q], Some(c))
             }
@@ -151,7 +152,7 @@ fn column_after_set(old: &Table, y: usize, c: i64) -> Line
         get_or result p None ≡ lower (bound old.now p y) (Some c) }
 {
     line_of(
-        |p: usize| -> Option<i64>
+        |p: usize| -> Entry
             requires { (y < 32) × (p < 32) }
             ensures { result ≡ lower (bound old.entry.now p y) (Some c) }
         { lower(old[32 * p + y], Some(c)) },
@@ -177,7 +178,7 @@ fn row_after_shift(old: &Table, x: usize, high: Option<i64>) -> Line
         (if q == x then bound old.now x x else raise (bound old.now x q) high) }
 {
     line_of(
-        |q: usize| -> Option<i64>
+        |q: usize| -> Entry
             requires { (x < 32) × (q < 32) }
             ensures { result ≡
                 (if q == x then bound old.entry.now x x else raise (bound old.entry.now x q) high) }
@@ -195,7 +196,7 @@ fn column_after_shift(old: &Table, x: usize, low: Option<i64>) -> Line
     ensures each { (p : ℕ) → p < 32 → get_or result p None ≡ lower (bound old.now p x) low }
 {
     line_of(
-        |p: usize| -> Option<i64>
+        |p: usize| -> Entry
             requires { (x < 32) × (p < 32) }
             ensures { result ≡ lower (bound old.entry.now p x) low }
         { lower(old[32 * p + x], low) },
@@ -218,11 +219,11 @@ pub(crate) fn forget_table(table: &mut Table, x: usize)
     ensures exact { table.new ≡ after_forget table.old x }
 {
     let row = line_of(
-        |q: usize| -> Option<i64>
+        |q: usize| -> Entry
             ensures { result ≡ (if q == x then Some (pos 0) else None) }
-        { if q == x { Some(0) } else { None } },
+        { Entry::of(if q == x { Some(0) } else { None }) },
     );
-    write_cross(table, x, &row, &[None; 32]);
+    write_cross(table, x, &row, &[Entry::any(); 32]);
 }
 
 /// Keeps the greater bound of each pair.

@@ -60,7 +60,7 @@ impl Zone {
         ensures kept { IsKept result }
         ensures well_formed { IsZone self.now }
     {
-        self.table[32 * x.place() + y.place()]
+        self.table[32 * x.place() + y.place()].get()
     }
 
     /// Takes up that `x - y` is at most `c`.

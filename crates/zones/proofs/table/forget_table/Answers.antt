@@ -1,4 +1,4 @@
-use Rattle.std.proofs.Common.{◌==◌, if◌then◌else◌, pos, Some, None, replicate}
+use Rattle.std.proofs.Common.{◌==◌, if◌then◌else◌, pos, Some, None, replicate, ◌∙◌}
 use Rattle.std.proofs.lemmas.List.{get_or-replicate}
 use Rattle.zones.specs.Steps.{after_forget, forget_bound}
 use Rattle.zones.proofs.Places.{zone_by-each}
@@ -12,5 +12,5 @@ returns c =
     let x = c.args.x in
     record {
       exact = zone_by-each (forget_bound old x) _ c.write_cross.ensures.size
-          (cross-is old _ _ (replicate 32 None) x (λ q. if q == x then Some (pos 0) else None) (λ p. None) c.write_cross.ensures.each c.line_of-row.ensures.each (λ p h. get_or-replicate 32 p None None h));
+          (cross-is old _ _ (replicate 32 c.any.result) x (λ q. if q == x then Some (pos 0) else None) (λ p. None) c.write_cross.ensures.each c.line_of-row.ensures.each (λ p h. get_or-replicate 32 p c.any.result None h ∙ c.any.ensures.value));
     }

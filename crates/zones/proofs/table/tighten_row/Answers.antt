@@ -1,4 +1,5 @@
-use Rattle.std.proofs.Common.{◌≡◌, Some, None, w64, FitsSigned, to_z, of_z, get_or, length-set, arith, ◌∙◌, ap, sym, below_more, rules}
+use Rattle.std.proofs.Common.{◌≡◌, ◌+◌, ◌*◌, Some, None, w64, FitsSigned, to_z, of_z, get_or, length-set, arith, ◌∙◌, ap, sym, below_more, rules}
+use Rattle.std.proofs.lemmas.List.{get_or_default}
 use Rattle.std.proofs.lemmas.Int.{to_z-of_z}
 use Rattle.zones.specs.Bound.{tighten}
 use Rattle.zones.specs.Zone.{bound}
@@ -17,15 +18,16 @@ loop-q-preserved c =
     let number = to_z w64 (of_z w64 c.args.c) in
     let row = c.args.row.now in
     let before = c.loop-q.invariant.rest q (omega arith) hq in
-    elim c.match-row-q.branch [
+    let read : c.get.result ≡ get_or row q None = c.get.ensures.value ∙ get_or_default row q _ None (omega arith) in
+    elim c.match-get.branch [
       | in-Some w ↦
           let from = w.in-Some.from in
           let fits : FitsSigned w64 from = search rules in
           let here : w.tighten.result ≡ tighten (bound old p q) (Some to) number (get_or row q None) =
           w.tighten.ensures.value
-          ∙ ap (λ d. tighten d (Some to) number (Some (to_z w64 (of_z w64 from)))) before
+          ∙ ap (λ d. tighten d (Some to) number (Some (to_z w64 (of_z w64 from)))) (get_or_default c.loop-q.table (32 * p + q) _ None (omega arith) ∙ before)
           ∙ ap (λ f. tighten (bound old p q) (Some to) number (Some f)) (to_z-of_z w64 from fits)
-          ∙ ap (tighten (bound old p q) (Some to) number) (sym w.in-Some.is) in
+          ∙ ap (tighten (bound old p q) (Some to) number) (sym w.in-Some.is ∙ read) in
           rw w.table-is (record {
             size = length-set _ _ _ ∙ c.loop-q.invariant.size;
             here = row-set _ (λ b. tighten (bound old p b) (Some to) number (get_or row b None)) _ _ _ hq (omega arith) here c.loop-q.invariant.here;
@@ -36,7 +38,7 @@ loop-q-preserved c =
         size = c.loop-q.invariant.size;
         here = below_more (λ b. bound c.loop-q.table p b ≡ tighten (bound old p b) (Some to) number (get_or row b None)) q c.loop-q.invariant.here
             (before ∙ sym (tighten-no_way_from (bound old p q) to number (c.requires.kept q hq))
-            ∙ ap (tighten (bound old p q) (Some to) number) (sym w.in_default.is));
+            ∙ ap (tighten (bound old p q) (Some to) number) (sym w.in_default.is ∙ read));
         rest = λ b l hb. c.loop-q.invariant.rest b (omega arith) hb;
         others = c.loop-q.invariant.others;
       })

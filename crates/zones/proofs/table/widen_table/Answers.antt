@@ -1,4 +1,5 @@
 use Rattle.std.proofs.Common.{◌≡◌, ◌/◌, ◌%◌, get_or, None, length-set, arith, ◌∙◌, ap, sym}
+use Rattle.std.proofs.lemmas.List.{get_or_default}
 use Rattle.zones.specs.Bound.{widen_bound, widen_diagonal}
 use Rattle.zones.specs.Steps.{widening_of, widening_bound}
 use Rattle.zones.proofs.Places.{zone_by-places, each-set}
@@ -11,14 +12,15 @@ loop-place-preserved c =
     let old = c.args.table.now in
     let new = c.args.new.now in
     let place = c.loop-place.place in
-    let before = c.loop-place.invariant.rest place (omega arith) in
+    let before = get_or_default c.loop-place.table place c.index-table-place.result None (omega arith) ∙ c.loop-place.invariant.rest place (omega arith) in
+    let after = get_or_default new place c.index-new-place.result None (omega arith) in
     let here : c.if-place.table ≡ widening_bound old new (place / 32) (place % 32) =
     elim c.if-place.branch [
       | then-place w ↦
-          w.table-is ∙ w.widen_diagonal.ensures.value ∙ ap (λ b. widen_diagonal b (get_or new place None)) before
+          w.table-is ∙ w.widen_diagonal.ensures.value ∙ ap (λ b. widen_diagonal b (get_or new place c.index-new-place.result)) before ∙ ap (widen_diagonal (get_or old place None)) after
           ∙ sym (widening_bound-place_on old new place w.if-place.true)
       | else-place w ↦
-          w.table-is ∙ w.widen_bound.ensures.value ∙ ap (λ b. widen_bound b (get_or new place None)) before
+          w.table-is ∙ w.widen_bound.ensures.value ∙ ap (λ b. widen_bound b (get_or new place c.index-new-place.result)) before ∙ ap (widen_bound (get_or old place None)) after
           ∙ sym (widening_bound-place_off old new place w.if-place.false)
     ] in
     record {

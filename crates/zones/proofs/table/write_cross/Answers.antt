@@ -1,4 +1,5 @@
-use Rattle.std.proofs.Common.{get_or, None, length-set, arith, ◌∙◌, refl}
+use Rattle.std.proofs.Common.{get_or, None, length-set, arith, ◌∙◌}
+use Rattle.std.proofs.lemmas.List.{get_or_default}
 use Rattle.zones.proofs.Writes.{bound-set_row, bound-set_column, column-set, row-set, cross-cases}
 use Rattle.zones.proofs.table.write_cross.Goals as goal
 
@@ -7,7 +8,7 @@ loop-p-preserved c =
     let hx = c.requires.x_in_range in
     record {
       size = length-set _ _ _ ∙ c.loop-p.invariant.size;
-      column = column-set _ (λ a. get_or c.args.column.now a None) _ _ _ hx (omega arith) refl c.loop-p.invariant.column;
+      column = column-set _ (λ a. get_or c.args.column.now a None) _ _ _ hx (omega arith) (get_or_default c.args.column.now c.loop-p.p _ None (omega arith)) c.loop-p.invariant.column;
       rest = λ a b hb n. bound-set_column _ _ _ a b _ hx hb n ∙ c.loop-p.invariant.rest a b hb n;
     }
 
@@ -25,7 +26,7 @@ loop-q-preserved c =
     let hq = c.loop-q-test.true in
     record {
       size = length-set _ _ _ ∙ c.loop-q.invariant.size;
-      row = row-set _ (λ b. get_or c.args.row.now b None) _ _ _ hq (omega arith) refl c.loop-q.invariant.row;
+      row = row-set _ (λ b. get_or c.args.row.now b None) _ _ _ hq (omega arith) (get_or_default c.args.row.now c.loop-q.q _ None (omega arith)) c.loop-q.invariant.row;
       column = λ a ha n. bound-set_row _ _ _ a _ _ hq hx n ∙ c.loop-q.invariant.column a ha n;
       rest = λ a b hb n m. bound-set_row _ _ _ a b _ hq hb n ∙ c.loop-q.invariant.rest a b hb n m;
     }
