@@ -1,5 +1,5 @@
 -- What is told of a script with its certificate is what the program says.
-use Rattle.std.proofs.Common.{◌≡◌, ◌∙◌, ◌≤◌, ◌++◌, ℕ, List, [], Option, Some, None, Result, Ok, Err, refl, sym, ap, subst, arith, append-nil}
+use Rattle.std.proofs.Common.{◌≡◌, ◌≢◌, ◌≤◌, ℕ, List, [], Option, Some, None, Result, Ok, Err, sym, subst, arith, append-nil}
 use Rattle.std.specs.Prelude.{IfOk}
 use Rattle.std.specs.declared.alloc.AllocError.{AllocError}
 use Rattle.std.specs.Io.KnownBytes.{Appends}
@@ -22,7 +22,7 @@ use Rattle.ed_main.specs.declared.checked.Ran.{Ran}
 use Rattle.ed_main.specs.declared.checked.Ran.TheVariants as ran
 use Rattle.ed_main.specs.declared.telling.Told.{Told}
 use Rattle.ed_main.specs.Answers as answers
-use Rattle.ed_main.specs.Answers.{Checks, IsToldOf, Runs, Says, Vouches}
+use Rattle.ed_main.specs.Answers.{Checks, IsToldOf, Runs, Says, Tells, Vouches}
 use Rattle.ed_main.specs.Telling as telling
 use Rattle.ed_main.specs.Telling.{IsUnread, ran_told, verdict_told}
 use Rattle.ed_main.specs.CheckedRuns.{CheckedRun}
@@ -30,14 +30,20 @@ use Rattle.ed_main.specs.Headline.{Headline}
 use Rattle.ed_main.specs.Vouching.{Answers}
 
 -- what is said of some telling is said of each that it implies
-pub says_more : (P Q : Told → Type 0) (old new : Option (List ℕ)) (status : ℕ) → ((t : Told) → P t → Q t) → Says P old new status → Says Q old new status
-says_more P Q old new status f (answers.all t p took is) = answers.all t (f t p) took is
-says_more P Q old new status f (answers.front t p took is) = answers.front t (f t p) took is
-says_more P Q old new status f (answers.nothing same is) = answers.nothing same is
+pub says_more : (P Q : Told → Type 0) (old new : Option (List ℕ)) (before failed status : ℕ) → ((t : Told) → P t → Q t) → Says P old new before failed status → Says Q old new before failed status
+says_more P Q old new before failed status f (answers.tells t p told) = answers.tells t (f t p) told
+says_more P Q old new before failed status f (answers.nothing same is) = answers.nothing same is
 
 -- what one call made was told
-pub says_of : (P : Told → Type 0) (made : Result Told AllocError) (old new : Option (List ℕ)) (status : ℕ) → IfOk made P → Says (λ one. made ≡ Ok one) old new status → Says P old new status
-says_of P made old new status is says = says_more (λ one. made ≡ Ok one) P old new status (λ t e. subst (λ r. IfOk r P) e is) says
+pub says_of : (P : Told → Type 0) (made : Result Told AllocError) (old new : Option (List ℕ)) (before failed status : ℕ) → IfOk made P → Says (λ one. made ≡ Ok one) old new before failed status
+    → Says P old new before failed status
+says_of P made old new before failed status is says = says_more (λ one. made ≡ Ok one) P old new before failed status (λ t e. subst (λ r. IfOk r P) e is) says
+
+-- where only one thing may have been made, that was told, or there was no memory for it
+tells_only : (told : Told) (made : Result Told AllocError) (old new : Option (List ℕ)) (before failed status : ℕ) → told.output ≢ [] → IfOk made (λ t. t ≡ told)
+    → Says (λ one. made ≡ Ok one) old new before failed status → Tells told old new before failed status
+tells_only told made old new before failed status some is (answers.tells t p x) = subst (λ o. Tells o old new before failed status) (subst (λ r. IfOk r (λ o. o ≡ told)) p is) x
+tells_only told made old new before failed status some is (answers.nothing same ends) = answers.untold some same ends
 
 -- nothing more was taken
 pub none_taken : (a : Option (List ℕ)) → Appends a a []
@@ -46,10 +52,14 @@ none_taken (Some a) = sym (append-nil a)
 
 -- STATUSES
 
-says_few : (P : Told → Type 0) (old new : Option (List ℕ)) (status : ℕ) → ((t : Told) → P t → t.status ≤ 4) → Says P old new status → status ≤ 4
-says_few P old new status few (answers.all t p took is) = subst (λ n. n ≤ 4) (sym is) (few t p)
-says_few P old new status few (answers.front t p took is) = rw is (omega arith)
-says_few P old new status few (answers.nothing same is) = rw is (omega arith)
+tells_few : (told : Told) (old new : Option (List ℕ)) (before failed status : ℕ) → told.status ≤ 4 → Tells told old new before failed status → status ≤ 4
+tells_few told old new before failed status few (answers.all took is) = subst (λ n. n ≤ 4) (sym is) few
+tells_few told old new before failed status few (answers.front took risen is) = rw is (omega arith)
+tells_few told old new before failed status few (answers.untold some same is) = rw is (omega arith)
+
+says_few : (P : Told → Type 0) (old new : Option (List ℕ)) (before failed status : ℕ) → ((t : Told) → P t → t.status ≤ 4) → Says P old new before failed status → status ≤ 4
+says_few P old new before failed status few (answers.tells t p told) = tells_few t old new before failed status (few t p) told
+says_few P old new before failed status few (answers.nothing same is) = rw is (omega arith)
 
 verdict_few : (verdict : Verdict) → (verdict_told verdict).status ≤ 4
 verdict_few Accepted = omega arith
@@ -72,14 +82,14 @@ answer_few (Vouched c) told is = rw is.1 (omega arith)
 answer_few (Cannot place why notes) told is = told_few told _ is (omega arith)
 
 -- the statuses of what is told
-pub check_status : (script certificate : List ℕ) (old new : Option (List ℕ)) (status : ℕ) → Says (Checks script certificate) old new status → status ≤ 4
-check_status script certificate old new status says = says_few (Checks script certificate) old new status (checks_few script certificate) says
+pub check_status : (script certificate : List ℕ) (old new : Option (List ℕ)) (before failed status : ℕ) → Says (Checks script certificate) old new before failed status → status ≤ 4
+check_status script certificate old new before failed status says = says_few (Checks script certificate) old new before failed status (checks_few script certificate) says
 
-pub vouch_status : (script : List ℕ) (start : Start) (old new : Option (List ℕ)) (status : ℕ) → Says (Vouches script start) old new status → status ≤ 4
-vouch_status script start old new status says = says_few (Vouches script start) old new status (λ told v. answer_few v.answer told v.told_so) says
+pub vouch_status : (script : List ℕ) (start : Start) (old new : Option (List ℕ)) (before failed status : ℕ) → Says (Vouches script start) old new before failed status → status ≤ 4
+vouch_status script start old new before failed status says = says_few (Vouches script start) old new before failed status (λ told v. answer_few v.answer told v.told_so) says
 
-pub unread_status : (bytes : List ℕ) (old new : Option (List ℕ)) (status : ℕ) → Says (IsUnread bytes) old new status → status ≤ 4
-unread_status bytes old new status says = says_few (IsUnread bytes) old new status (unread_few bytes) says
+pub unread_status : (bytes : List ℕ) (old new : Option (List ℕ)) (before failed status : ℕ) → Says (IsUnread bytes) old new before failed status → status ≤ 4
+unread_status bytes old new before failed status says = says_few (IsUnread bytes) old new before failed status (unread_few bytes) says
 
 fault_few : (f : Fault) → status_of f ≤ 4
 fault_few fault.Memory = omega arith
@@ -93,8 +103,8 @@ ran_few (Ok ran.StartOutside) = omega arith
 ran_few (Ok (ran.Done ending)) = omega arith
 ran_few (Err f) = fault_few f
 
-pub ran_status : (result : Result Ran Fault) (old new : Option (List ℕ)) (status : ℕ) → Says (λ told. told ≡ ran_told result) old new status → status ≤ 4
-ran_status result old new status says = says_few (λ told. told ≡ ran_told result) old new status (λ told is. told_few told _ is (ran_few result)) says
+pub ran_status : (result : Result Ran Fault) (old new : Option (List ℕ)) (before failed status : ℕ) → Tells (ran_told result) old new before failed status → status ≤ 4
+ran_status result old new before failed status told = tells_few (ran_told result) old new before failed status (ran_few result) told
 
 -- A RUN THAT IS CHECKED FIRST
 
@@ -104,33 +114,34 @@ headline_ok s c o log one other (ran.Refused place) h = h
 headline_ok s c o log one other ran.StartOutside h = h
 headline_ok s c o log one other (ran.Done ending) h = h
 
-module _ (spells : SpellsWhatIsRead script_of) (bytes certificate : List ℕ) (s : Script) (c : Certificate) (o : Options) (log : Log) (old written : Option (List ℕ)) (result : Result Ran Fault)
-    (read : s ≡ script_of bytes) (text : IsText certificate c) (came : CheckedRun s c o log old written result) where
-  runs_of : (may_fail : Fault → Type 0) (new : Option (List ℕ)) (status : ℕ) → Headline s c o log may_fail result → Says (λ told. told ≡ ran_told result) written new status
-      → Runs bytes certificate o log may_fail old new status
-  runs_of may_fail new status headline says =
-      answers.checked (script_of bytes) c result written (spells bytes) text (subst (λ s. CheckedRun s c o log old written result) read came)
-      (subst (λ s. Headline s c o log may_fail result) read headline) says
+module _ (spells : SpellsWhatIsRead script_of) (bytes certificate : List ℕ) (s : Script) (c : Certificate) (o : Options) (log : Log) (old written : Option (List ℕ)) (before between : ℕ) (result : Result Ran Fault)
+    (read : s ≡ script_of bytes) (text : IsText certificate c) (came : CheckedRun s c o log old written before between result) where
+  runs_of : (may_fail : Fault → Type 0) (new : Option (List ℕ)) (failed status : ℕ) → Headline s c o log may_fail result → Tells (ran_told result) written new between failed status
+      → Runs bytes certificate o log may_fail old new before failed status
+  runs_of may_fail new failed status headline told =
+      answers.checked (script_of bytes) c result written between (spells bytes) text (subst (λ s. CheckedRun s c o log old written before between result) read came)
+      (subst (λ s. Headline s c o log may_fail result) read headline) told
 
   -- what came of it was told
-  pub runs_told : (one other : Fault → Type 0) (r : Ran) (made : Result Told AllocError) (new : Option (List ℕ)) (status : ℕ) → result ≡ Ok r → Headline s c o log one result
-      → IfOk made (λ told. told ≡ ran_told (Ok r)) → Says (λ t. made ≡ Ok t) written new status → Runs bytes certificate o log other old new status
-  runs_told one other r made new status is headline told says =
-      runs_of other new status
+  pub runs_told : (one other : Fault → Type 0) (r : Ran) (made : Result Told AllocError) (new : Option (List ℕ)) (failed status : ℕ) → result ≡ Ok r → Headline s c o log one result
+      → (ran_told (Ok r)).output ≢ [] → IfOk made (λ told. told ≡ ran_told (Ok r)) → Says (λ t. made ≡ Ok t) written new between failed status
+      → Runs bytes certificate o log other old new before failed status
+  runs_told one other r made new failed status is headline some told says =
+      runs_of other new failed status
       (subst (λ x. Headline s c o log other x) (sym is) (headline_ok s c o log one other r (subst (λ x. Headline s c o log one x) is headline)))
-      (says_of (λ t. t ≡ ran_told result) made written new status (subst (λ x. IfOk made (λ t. t ≡ ran_told x)) (sym is) told) says)
+      (subst (λ x. Tells (ran_told x) written new between failed status) (sym is) (tells_only (ran_told (Ok r)) made written new between failed status some told says))
 
   -- it was run to its end, of which no more is told
   pub runs_ended : (may_fail : Fault → Type 0) (status : ℕ) (end : Result Ran Fault) → result ≡ end → Headline s c o log may_fail result → (ran_told end).output ≡ [] → status ≡ (ran_told end).status
-      → Runs bytes certificate o log may_fail old written status
+      → Runs bytes certificate o log may_fail old written before between status
   runs_ended may_fail status end is headline none ends =
-      runs_of may_fail written status headline
-      (answers.all (ran_told end) (ap ran_told (sym is)) (subst (λ l. Appends written written l) (sym none) (none_taken written)) ends)
+      runs_of may_fail written between status headline
+      (subst (λ x. Tells (ran_told x) written written between between status) (sym is) (answers.all (subst (λ l. Appends written written l) (sym none) (none_taken written)) ends))
 
 -- the analyser's answer was told
-pub vouches_of : (script : List ℕ) (start : Start) (answer : Analysis) (made : Result Told AllocError) (old new : Option (List ℕ)) (status : ℕ) → Answers script start answer
-    → IfOk made (IsToldOf answer) → Says (λ one. made ≡ Ok one) old new status → Says (Vouches script start) old new status
-vouches_of script start answer made old new status is told says =
-    says_more (IsToldOf answer) (Vouches script start) old new status
+pub vouches_of : (script : List ℕ) (start : Start) (answer : Analysis) (made : Result Told AllocError) (old new : Option (List ℕ)) (before failed status : ℕ) → Answers script start answer
+    → IfOk made (IsToldOf answer) → Says (λ one. made ≡ Ok one) old new before failed status → Says (Vouches script start) old new before failed status
+vouches_of script start answer made old new before failed status is told says =
+    says_more (IsToldOf answer) (Vouches script start) old new before failed status
     (λ t told_so. record { read = is.read; spelled = is.spelled; answer = answer; is_answer = is.exact; is_valid = is.valid; told_so = told_so })
-    (says_of (IsToldOf answer) made old new status told says)
+    (says_of (IsToldOf answer) made old new before failed status told says)

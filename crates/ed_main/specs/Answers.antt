@@ -1,5 +1,5 @@
 -- What `check`, `vouch` and `run` tell of a script and its certificate, and the statuses that they end with.
-use Rattle.std.specs.Prelude.{◌≡◌, ℕ, List, [], Option, Result}
+use Rattle.std.specs.Prelude.{◌≡◌, ◌≢◌, ◌<◌, ℕ, List, [], Option, Result}
 use Rattle.std.specs.Io.KnownBytes.{Appends}
 use Rattle.ed_base.specs.Fault.{status_of}
 use Rattle.ed_base.specs.declared.fault.Fault.{Fault}
@@ -41,15 +41,21 @@ pub record Vouches (script : List ℕ) (start : Start) (told : Told) : Type 0 wh
   pub is_valid : IsValid read answer
   pub told_so : IsToldOf answer told
 
--- The program told one of these and ended with its status; or the output was refused midway; or there was no memory and nothing was told.
-pub data Says (Telling : Told → Type 0) (old new : Option (List ℕ)) (status : ℕ) : Type 0 where
-  all : (told : Told) → Telling told → Appends old new told.output → status ≡ told.status → Says Telling old new status
-  front : (told : Told) → Telling told → AppendsFront old new told.output → status ≡ status_of fault.Output → Says Telling old new status
-  nothing : new ≡ old → status ≡ status_of fault.Memory → Says Telling old new status
+-- The program told this and ended with its status; or the sink failed midway; or there was no memory for what is to be told, and
+-- nothing was. The sink's count of failures went from before to failed.
+pub data Tells (told : Told) (old new : Option (List ℕ)) (before failed : ℕ) (status : ℕ) : Type 0 where
+  all : Appends old new told.output → status ≡ told.status → Tells told old new before failed status
+  front : AppendsFront old new told.output → before < failed → status ≡ status_of fault.Output → Tells told old new before failed status
+  untold : told.output ≢ [] → new ≡ old → status ≡ status_of fault.Memory → Tells told old new before failed status
+
+-- it told one of these so, or there was no memory to find out which
+pub data Says (Telling : Told → Type 0) (old new : Option (List ℕ)) (before failed : ℕ) (status : ℕ) : Type 0 where
+  tells : (told : Told) → Telling told → Tells told old new before failed status → Says Telling old new before failed status
+  nothing : new ≡ old → status ≡ status_of fault.Memory → Says Telling old new before failed status
 
 -- `run`: there is no certificate, or the script that these bytes spell was checked and run, and what came of that was told
-pub data Runs (script certificate : List ℕ) (o : Options) (log : Log) (may_fail : Fault → Type 0) (old new : Option (List ℕ)) (status : ℕ) : Type 0 where
-  unbegun : log ≡ [] → Says (IsUnread certificate) old new status → Runs script certificate o log may_fail old new status
-  checked : (s : Script) (c : Certificate) (result : Result Ran Fault) (written : Option (List ℕ)) → SpellsScript script s → IsText certificate c →
-      CheckedRun s c o log old written result → Headline s c o log may_fail result → Says (λ told. told ≡ ran_told result) written new status →
-      Runs script certificate o log may_fail old new status
+pub data Runs (script certificate : List ℕ) (o : Options) (log : Log) (may_fail : Fault → Type 0) (old new : Option (List ℕ)) (before failed : ℕ) (status : ℕ) : Type 0 where
+  unbegun : log ≡ [] → Says (IsUnread certificate) old new before failed status → Runs script certificate o log may_fail old new before failed status
+  checked : (s : Script) (c : Certificate) (result : Result Ran Fault) (written : Option (List ℕ)) (between : ℕ) → SpellsScript script s → IsText certificate c →
+      CheckedRun s c o log old written before between result → Headline s c o log may_fail result → Tells (ran_told result) written new between failed status →
+      Runs script certificate o log may_fail old new before failed status

@@ -48,12 +48,13 @@ abbrev pub told_of : Result Ending Fault → Result Ran Fault
 told_of (Ok ending) = Ok (ran.Done ending)
 told_of (Err fault) = Err fault
 
--- A script with its certificate came to this, while what is known of the sink grew from old to new. The certificate is refused; or
--- the start is another; or the script was run over the start that was read; or before that there was no memory.
-pub data CheckedRun (script : Script) (c : Certificate) (o : Options) (log : Log) (old new : Option (List ℕ)) (result : Result Ran Fault) : Type 0 where
-  refused : (place : Place) → judged script c ≡ Refused place → log ≡ [] → new ≡ old → result ≡ Ok (ran.Refused place) → CheckedRun script c o log old new result
-  outside : judged script c ≡ Accepted → StartsOutside c o.path log → new ≡ old → result ≡ Ok ran.StartOutside → CheckedRun script c o log old new result
+-- A script with its certificate came to this, while what is known of the sink grew from old to new, and its count of failures went from
+-- before to failed. The certificate is refused; or the start is another; or the script was run over the start that was read; or before that
+-- there was no memory.
+pub data CheckedRun (script : Script) (c : Certificate) (o : Options) (log : Log) (old new : Option (List ℕ)) (before failed : ℕ) (result : Result Ran Fault) : Type 0 where
+  refused : (place : Place) → judged script c ≡ Refused place → log ≡ [] → new ≡ old → result ≡ Ok (ran.Refused place) → CheckedRun script c o log old new before failed result
+  outside : judged script c ≡ Accepted → StartsOutside c o.path log → new ≡ old → result ≡ Ok ran.StartOutside → CheckedRun script c o log old new before failed result
   driven : (ended : Result Ending Fault) → judged script c ≡ Accepted → StartsInside c o.path log →
-      ComesTo (run script o (answers log)) (requests log) old new ended → result ≡ told_of ended → CheckedRun script c o log old new result
+      ComesTo (run script o (answers log)) (requests log) old new before failed ended → result ≡ told_of ended → CheckedRun script c o log old new before failed result
   no_memory : (log ≡ []) ⊎ (judged script c ≡ Accepted) × ((start : StartsInside c o.path log) × (start.later ≡ [])) →
-      new ≡ old → result ≡ Err Memory → CheckedRun script c o log old new result
+      new ≡ old → result ≡ Err Memory → CheckedRun script c o log old new before failed result

@@ -20,12 +20,12 @@ abbrev pub after_start : Option (List ℕ) → Log → Log
 after_start None log = log
 after_start (Some path) log = drop 1 log
 
--- The faults that no certificate excludes, by the counts of refused files and output before and after: there was no memory; the start
--- was refused, or another file was, or a command read one that isn't there; the sink refused the output.
+-- The faults that no certificate excludes, by the counts of refused files and output before and after: there was no memory; a file was
+-- refused, as the start may be, or a command read one that isn't there; the sink refused the output.
 abbrev pub MayFail : Option (List ℕ) → Log → (files_before files outputs_before outputs : ℕ) → Fault → Type 0
 MayFail path log files_before files outputs_before outputs Memory = Unit {0}
 MayFail path log files_before files outputs_before outputs File =
-    (start_lines path (answers log) ≡ None) ⊎ ((files_before < files) ⊎ EndsMissing (after_start path log))
+    (files_before < files) ⊎ EndsMissing (after_start path log)
 MayFail path log files_before files outputs_before outputs Output = outputs_before < outputs
 MayFail path log files_before files outputs_before outputs other = ⊥
 

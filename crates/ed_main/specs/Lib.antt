@@ -6,8 +6,9 @@ pub mod CheckedRuns
 pub mod Headline
 pub mod Telling
 pub mod Answers
--- what serves clauses inside the crate
 pub mod Given
 pub mod Outcomes
+pub mod Endings
+-- what serves clauses inside the crate
 pub mod Starts
 pub mod Vouching

@@ -8,12 +8,14 @@ use Rattle.ed_main.specs.Correct.{Correct}
 use Rattle.ed_main.specs.Headline.{MayFail}
 
 -- The run of the script that these bytes spell came to this status, with what some log of requests answers; what is known of the
--- output grew from old to new.
+-- output grew from old to new, and its count of failures went from before to failed.
 pub record CameTo (bytes : List ℕ) (options : Options) (status : ℕ) : Type 0 where
   pub log : Log
   pub old : Option (List ℕ)
   pub new : Option (List ℕ)
-  pub correct : Correct bytes options log old new status
+  pub before : ℕ
+  pub failed : ℕ
+  pub correct : Correct bytes options log old new before failed status
 
 -- The same of a script with a certificate, both by their bytes.
 pub record CameToRun (script certificate : List ℕ) (o : Options) (status : ℕ) : Type 0 where
@@ -24,10 +26,12 @@ pub record CameToRun (script certificate : List ℕ) (o : Options) (status : ℕ
   pub files : ℕ
   pub outputs_before : ℕ
   pub outputs : ℕ
-  pub runs : Runs script certificate o log (MayFail o.path log files_before files outputs_before outputs) old new status
+  pub runs : Runs script certificate o log (MayFail o.path log files_before files outputs_before outputs) old new outputs_before outputs status
 
 -- The program told one of these and ended with this status; what is known of the output grew from old to new.
 pub record CameToSay (Telling : Told → Type 0) (status : ℕ) : Type 0 where
   pub old : Option (List ℕ)
   pub new : Option (List ℕ)
-  pub says : Says Telling old new status
+  pub before : ℕ
+  pub failed : ℕ
+  pub says : Says Telling old new before failed status

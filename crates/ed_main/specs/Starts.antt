@@ -22,10 +22,10 @@ lines_told answer.Missing = Some 0
 lines_told other = None
 
 -- A script was run over a start that was answered so, and was answered this from then on; or there was no memory to begin.
-pub data RunsOver (script : Script) (o : Options) (start : Answer) (later : Log) (old new : Option (List ℕ)) (result : Result Ending Fault) : Type 0 where
-  driven : ComesTo (run script o (answers (reading o.path start ++ later))) (requests (reading o.path start ++ later)) old new result →
-      RunsOver script o start later old new result
-  no_memory : later ≡ [] → new ≡ old → result ≡ Err Memory → RunsOver script o start later old new result
+pub data RunsOver (script : Script) (o : Options) (start : Answer) (later : Log) (old new : Option (List ℕ)) (before failed : ℕ) (result : Result Ending Fault) : Type 0 where
+  driven : ComesTo (run script o (answers (reading o.path start ++ later))) (requests (reading o.path start ++ later)) old new before failed result →
+      RunsOver script o start later old new before failed result
+  no_memory : later ≡ [] → new ≡ old → result ≡ Err Memory → RunsOver script o start later old new before failed result
 
 -- where a script wasn't run, the count of failures is as before
 abbrev pub KeepsCount : Ran → (old new : ℕ) → Type 0

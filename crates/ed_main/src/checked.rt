@@ -1,5 +1,5 @@
 //! A script that is run only over a start that its certificate allows, and only where the checker accepts it.
-ghost use Rattle.std.specs.Prelude.{◌≡◌, ◌<◌, ◌≤◌, ◌-◌, ◌^◌, ◌++◌, ◌⊎◌, ◌↔◌, IsTrue, IsFalse, None, Err, IfSome, IfOk, OnErr};
+ghost use Rattle.std.specs.Prelude.{◌≡◌, ◌≢◌, ◌<◌, ◌≤◌, ◌-◌, ◌^◌, ◌++◌, ◌⊎◌, ◌↔◌, IsTrue, IsFalse, None, Err, IfSome, IfOk, OnErr};
 ghost use Rattle.ed_syntax.specs.Laws.{starts};
 ghost use Rattle.ed_syntax.specs.PublicScript.{script_value};
 ghost use Rattle.ed_session.specs.Drives.{added, EndsMissing};
@@ -48,7 +48,8 @@ pub fn run_checked<S: LineStore, O: Outside, W: Sink>(
 
     // It is told which of these came, and in a run each request, all output and the end are those that the script's run has.
     ensures came { CheckedRun (script_value script) (certificate_value certificate.now) options
-        (added (O.log outside.old) (O.log outside.new)) (W.taken sink.old) (W.taken sink.new) result }
+        (added (O.log outside.old) (O.log outside.new))
+        (W.taken sink.old) (W.taken sink.new) (W.failures sink.old) (W.failures sink.new) result }
 
     // An accepted script can't fail.
     ensures headline { let log = added (O.log outside.old) (O.log outside.new) in
@@ -86,7 +87,11 @@ fn read_start<O: Outside>(path: &Option<Bytes>, outside: &mut O) -> Result<Answe
     ensures asked { IfOk result (λ a. O.log outside.new ≡ O.log outside.old ++ reading path.now a) }
     ensures missing { path.now ≡ None → IfOk result (λ a. a ≡ Answer.Missing) }
     ensures unchanged { OnErr result (O.log outside.new ≡ O.log outside.old) }
+    ensures not_done { IfOk result (λ a. a ≢ Answer.Done) }
+
+    // The outside's count of failures doesn't fall, and rises where it refuses.
     ensures rises { O.failures outside.old ≤ O.failures outside.new }
+    ensures refused { IfOk result (λ a. a ≡ Answer.Refused → O.failures outside.old < O.failures outside.new) }
 {
     match path {
         Some(path) => outside.read(path.as_slice()),
@@ -130,7 +135,9 @@ fn run_over<S: LineStore, O: Outside, W: Sink>(
     requires count { W.failures sink.old < 2 ^ 64 - 1 }
     ensures log { O.log outside.new ≡ O.log outside.old ++ added (O.log outside.old) (O.log outside.new) }
     ensures ran { RunsOver (script_value script) options start
-        (added (O.log outside.old) (O.log outside.new)) (W.taken sink.old) (W.taken sink.new) result }
+        (added (O.log outside.old) (O.log outside.new))
+        (W.taken sink.old) (W.taken sink.new) (W.failures sink.old) (W.failures sink.new) result }
+    ensures rises { O.failures outside.old ≤ O.failures outside.new }
     ensures file_refused { result ≡ Err Fault.File → IsFalse (starts start) ⊎
         ((O.failures outside.old < O.failures outside.new) ⊎ EndsMissing (added (O.log outside.old) (O.log outside.new))) }
     ensures output_refused { result ≡ Err Fault.Output → W.failures sink.old < W.failures sink.new }
@@ -240,7 +247,7 @@ mod tests {
 
     #[test]
     fn a_script_is_run_where_its_certificate_allows(rt: HostRuntime) -> Result<(), Fail> {
-        for (number, row) in ROWS.iter().enumerate() {
+        for row in &ROWS {
             let alloc = rt.alloc();
             let mut files = MemFiles::new(alloc);
             if let Some(bytes) = row.file {
@@ -259,9 +266,19 @@ mod tests {
                 &mut files,
                 &mut sink,
             );
-            assert_eq!(rt; (number, told), (number, row.told));
-            assert_eq!(rt; (number, sink.taken()), (number, row.output));
-            assert_eq!(rt; (number, files.file(b"F")), (number, row.left));
+            assert_eq!(rt; (row.path, told), (row.path, row.told), "{:?}", row.file);
+            assert_eq!(rt;
+                (row.path, sink.taken()),
+                (row.path, row.output),
+                "{:?}",
+                row.file
+            );
+            assert_eq!(rt;
+                (row.path, files.file(b"F")),
+                (row.path, row.left),
+                "{:?}",
+                row.file
+            );
         }
         Ok(())
     }

@@ -12,7 +12,8 @@ use std::alloc::{AllocError, Global};
 /// and gives the exit status.
 pub fn check_text<W: Sink>(alloc: Global, script: &[u8], certificate: &[u8], sink: &mut W) -> u8
     requires count { W.failures sink.old < 2 ^ 64 - 1 }
-    ensures says { Says (Checks script.now certificate.now) (W.taken sink.old) (W.taken sink.new) result }
+    ensures says { Says (Checks script.now certificate.now)
+        (W.taken sink.old) (W.taken sink.new) (W.failures sink.old) (W.failures sink.new) result }
     ensures status { result ≤ 4 }
 {
     tell(checked(alloc, script, certificate), sink)

@@ -1,6 +1,7 @@
 //! One run of the program: its words, its script, its files, and the status that it ends with.
-ghost use Rattle.std.specs.Prelude.{◌≤◌, IfOk};
+ghost use Rattle.std.specs.Prelude.{◌≡◌, ◌≤◌, IfOk};
 ghost use Rattle.ed_main.specs.Answers.{Checks, Vouches};
+ghost use Rattle.ed_main.specs.Endings.{Does, IsEnding, status_of_unread, status_of_words};
 ghost use Rattle.ed_main.specs.Given.{IsGiven};
 ghost use Rattle.ed_main.specs.Outcomes.{CameTo, CameToRun, CameToSay};
 ghost use Rattle.ed_main.specs.declared.job.Job.TheVariants as job;
@@ -31,6 +32,7 @@ pub fn status_of_run<R>(rt: &R) -> u8
 where
     R: Env + Files<File = File> + Input + Print + Eprint + AllocGlobal,
     ensures status { result ≤ 4 }
+    ensures ending { IsEnding result }
 {
     match job_of_run(rt) {
         Ok(job) => match read_all(rt.alloc(), &mut In::new(rt.reader()), LIMIT) {
@@ -44,6 +46,7 @@ where
 // Shows what is wrong with the words.
 fn refuse(rt: &impl Eprint, fault: &WordsFault) -> u8
     ensures status { result ≤ 4 }
+    ensures value { result ≡ status_of_words fault.now }
 {
     match fault {
         WordsFault::Memory => Fault::Memory.status(),
@@ -76,6 +79,7 @@ fn job_of_run<R: Env + AllocGlobal>(rt: &R) -> Result<Job, WordsFault>
 // The status of input that wasn't read.
 fn status_of_read(fault: ReadFault) -> u8
     ensures status { result ≤ 4 }
+    ensures value { result ≡ status_of_unread fault }
 {
     match fault {
         ReadFault::Refused => Fault::File.status(),
@@ -89,6 +93,7 @@ where
     R: Files<File = File> + Print + Eprint + AllocGlobal,
     requires given { IsGiven job }
     ensures status { result ≤ 4 }
+    ensures did { Does script job result }
 {
     match job {
         Job::Edit(options) => edit_file(rt, script, options),

@@ -33,7 +33,7 @@ pub fn edit<O: Outside, W: Sink>(
     // What was asked is added to the log; all else is what the run of the script says.
     ensures log { O.log outside.new ≡ O.log outside.old ++ added (O.log outside.old) (O.log outside.new) }
     ensures correct { Correct script options (added (O.log outside.old) (O.log outside.new))
-        (W.taken sink.old) (W.taken sink.new) result }
+        (W.taken sink.old) (W.taken sink.new) (W.failures sink.old) (W.failures sink.new) result }
 
     ensures status { result ≤ 3 }
 {
@@ -60,7 +60,7 @@ pub fn run<O: Outside, W: Sink>(
     ensures came { let log = added (O.log outside.old) (O.log outside.new) in
         Runs script.now certificate.now options log
         (MayFail options.path log (O.failures outside.old) (O.failures outside.new) (W.failures sink.old) (W.failures sink.new))
-        (W.taken sink.old) (W.taken sink.new) result }
+        (W.taken sink.old) (W.taken sink.new) (W.failures sink.old) (W.failures sink.new) result }
     ensures status { result ≤ 4 }
 {
     scripts_are_read_as_spelled();

@@ -22,7 +22,7 @@ pub struct Told {
 /// Gives what is told to a sink, and says which status the program ends with. Without memory nothing is told.
 pub fn tell<W: Sink>(told: Result<Told, AllocError>, sink: &mut W) -> u8
     requires count { W.failures sink.old < 2 ^ 64 - 1 }
-    ensures says { Says (λ one. told ≡ Ok one) (W.taken sink.old) (W.taken sink.new) result }
+    ensures says { Says (λ one. told ≡ Ok one) (W.taken sink.old) (W.taken sink.new) (W.failures sink.old) (W.failures sink.new) result }
 {
     match told {
         Ok(told) => {

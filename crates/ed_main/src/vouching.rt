@@ -26,7 +26,8 @@ pub fn vouch_text<W: Sink>(
     requires ordered { IsAtMost start.min start.max }
     requires low { start.min ≤ most_lines }
     requires high { IfSome start.max (λ most. most ≤ most_lines) }
-    ensures says { Says (Vouches script.now start) (W.taken sink.old) (W.taken sink.new) result }
+    ensures says { Says (Vouches script.now start)
+        (W.taken sink.old) (W.taken sink.new) (W.failures sink.old) (W.failures sink.new) result }
     ensures status { result ≤ 4 }
 {
     match answer(alloc, script, start) {

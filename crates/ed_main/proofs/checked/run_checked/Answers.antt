@@ -12,14 +12,14 @@ returns-in-Refused-clause-came g c =
 
 pub returns-then-lies_outside-clause-came : goal.returns-then-lies_outside-clause-came
 returns-then-lies_outside-clause-came g c =
-    came_outside (script_value c.args.script) (certificate_value c.args.certificate.now) c.args.options c.in_ok-start.start _ _
+    came_outside (script_value c.args.script) (certificate_value c.args.certificate.now) c.args.options c.in_ok-start.start _ _ _ _
     (sym c.in_ok-place.ensures.exact ∙ c.in_default.is) (c.if-not-is_path.ensures.exact.0 refl)
     c.in_ok-start.ensures.missing (c.if-lies_outside.ensures.outside refl) (added_is _ _ _ c.in_ok-start.ensures.asked)
 
 pub returns-clause-came : goal.returns-clause-came
 returns-clause-came g c =
     let s = c.in_ok-start in
-    came_of (script_value c.args.script) (certificate_value c.args.certificate.now) c.args.options s.start _ _ _ _
+    came_of (script_value c.args.script) (certificate_value c.args.certificate.now) c.args.options s.start _ _ _ _ _ _
     (sym c.in_ok-place.ensures.exact ∙ c.in_default.is) (c.if-not-is_path.ensures.exact.0 refl)
     s.ensures.missing (c.if-lies_outside.ensures.inside refl) _ _
     (added_twice _ _ _ _ _ s.ensures.asked c.run_over.ensures.log) c.told.ensures.value c.run_over.ensures.ran
@@ -28,9 +28,9 @@ pub returns-clause-headline : goal.returns-clause-headline
 returns-clause-headline g c =
     let s = c.in_ok-start in
     let accepted = c.in_default.is in
-    headline_of (script_value c.args.script) (certificate_value c.args.certificate.now) c.args.options s.start _ _ _ _
+    headline_of (script_value c.args.script) (certificate_value c.args.certificate.now) c.args.options s.start _ _ _ _ _ _
     (sym c.in_ok-place.ensures.exact ∙ accepted) (c.if-not-is_path.ensures.exact.0 refl)
-    s.ensures.missing (c.if-lies_outside.ensures.inside refl) _ _ _ _ _ c.read_start.ensures.rises _ _
+    s.ensures.missing (c.if-lies_outside.ensures.inside refl) _ _ _ _ _ c.read_start.ensures.rises s.ensures.refused s.ensures.not_done c.run_over.ensures.rises _ _
     (added_twice _ _ _ _ _ s.ensures.asked c.run_over.ensures.log) c.told.ensures.value (c.in_ok-place.ensures.sound accepted) c.run_over.ensures.ran
     c.run_over.ensures.file_refused c.run_over.ensures.output_refused
 

@@ -10,4 +10,4 @@ returns-in-Ok-clause-correct g c =
 
 pub returns-in-Err-clause-correct : goal.returns-in-Err-clause-correct
 returns-in-Err-clause-correct g c =
-    unbegun_correct c.scripts_are_read_as_spelled.ensures.spelled c.args.script c.args.options _ _ _ (drop-length (g.O.Outside.log c.args.outside.now)) c.status.ensures.value
+    unbegun_correct c.scripts_are_read_as_spelled.ensures.spelled c.args.script c.args.options _ _ _ _ _ (drop-length (g.O.Outside.log c.args.outside.now)) c.status.ensures.value

@@ -1,5 +1,5 @@
 -- A number of lines is one that `parse` reads, and few enough.
-use Rattle.std.proofs.Common.{◌≡◌, ◌∙◌, ℕ, List, Option, Some, None, Bor, sym, ap, option_and_then, option_map}
+use Rattle.std.proofs.Common.{◌≡◌, ◌∙◌, ℕ, List, Option, Bor, sym, ap, option_and_then, option_map}
 use Rattle.ed_main.specs.Words as meaning
 use Rattle.ed_main.proofs.WordsLemmas.{lines_parsed, lines_unparsed}
 use Rattle.ed_main.proofs.words.lines_in.Goals as goal

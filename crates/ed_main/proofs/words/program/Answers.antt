@@ -1,8 +1,7 @@
 -- What `clap` is told is the program's own definition.
-use Rattle.std.proofs.Common.{rules, ◌∙◌, ◌≡◌, true, ap, ap₂}
+use Rattle.std.proofs.Common.{◌∙◌, true, ap, ap₂}
 use Rattle.clap.specs.Simple.{App, app_of_fields, on_top}
-use Rattle.clap.specs.Words.{app_of, with_subcommand}
-use Rattle.ed_main.specs.Words as meaning
+use Rattle.clap.specs.Words.{with_subcommand}
 use Rattle.ed_main.specs.Words.{program}
 use Rattle.ed_main.proofs.words.program.Goals as goal
 
