@@ -6,4 +6,5 @@ pub mod Own
 mod Cuts
 mod MarkRows
 pub mod Joined
+pub mod Near
 pub mod Offsets

@@ -1,5 +1,5 @@
 //! Lines in chunks.
-ghost use Rattle.std.specs.Prelude.{ℕ, ◌≡◌, ◌+◌, ◌-◌, ◌*◌, ◌<◌, ◌≤◌, [], length, ◌^◌, slice_index_or, slice_set, insert, remove, IfOk, IsOk, OnOk};
+ghost use Rattle.std.specs.Prelude.{ℕ, ◌≡◌, ◌↔◌, ◌+◌, ◌-◌, ◌*◌, ◌<◌, ◌≤◌, [], length, ◌^◌, slice_index_or, slice_set, insert, remove, IfOk, IsOk, IsTrue, OnOk};
 ghost use Rattle.ed_base.specs.Buffer.{flagged_at};
 ghost use Rattle.line_store.specs.Chunks.{ChunksValue, Fits, StandsIn, Touches, full, joined, lines_before, near_chunk, with_near};
 
@@ -64,8 +64,35 @@ impl ChunkLines {
         self.count - self.offsets[k]
     }
 
-    // The chunk of a line.
+    // Whether a line stands in a chunk.
+    fn is_in(&self, i: usize, k: usize) -> bool
+        ensures value { IsTrue result ↔ StandsIn i k self.now.chunks }
+    {
+        if k >= self.chunks.len() {
+            return false;
+        }
+        let start = self.start(k);
+        start <= i && i - start < self.chunks[k].len()
+    }
+
+    // The chunk of a line. It is searched only where it is neither the one that it would be if all chunks were full, as they
+    // are in a file that was just read, nor the one that was used last.
     fn chunk_of(&self, i: usize) -> usize
+        requires place { i < length (joined self.now.chunks) }
+        ensures chunk { StandsIn i result self.now.chunks }
+    {
+        let guess = i / FULL;
+        if self.is_in(i, guess) {
+            return guess;
+        }
+        if self.is_in(i, self.near) {
+            return self.near;
+        }
+        self.search_chunk(i)
+    }
+
+    // The chunk of a line, which is searched by halves.
+    fn search_chunk(&self, i: usize) -> usize
         requires place { i < length (joined self.now.chunks) }
         ensures chunk { StandsIn i result self.now.chunks }
     {

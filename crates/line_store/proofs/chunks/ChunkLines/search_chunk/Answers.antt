@@ -2,7 +2,7 @@
 use Rattle.std.proofs.Common.{◌≡◌, ◌+◌, ◌<◌, ap, length, arith}
 use Rattle.line_store.specs.Chunks.{lines_before}
 use Rattle.line_store.proofs.Joined.{before-next, before-end, some-chunk}
-use Rattle.line_store.proofs.chunks.ChunkLines.chunk_of.Goals as goal
+use Rattle.line_store.proofs.chunks.ChunkLines.search_chunk.Goals as goal
 
 pub halves-init : goal.halves-init
 halves-init c =

@@ -1,7 +1,7 @@
 -- The line stands in one of the chunks between.
 use Rattle.std.proofs.Common.{◌<◌, ◌≤◌, ◌-◌, length}
 use Rattle.line_store.specs.Chunks.{lines_before}
-use Rattle.line_store.proofs.chunks.ChunkLines.chunk_of.Given as goal
+use Rattle.line_store.proofs.chunks.ChunkLines.search_chunk.Given as goal
 
 abbrev pub invariant-halves : goal.invariant-halves
 invariant-halves l = record {
