@@ -3,12 +3,12 @@ use Rattle.std.proofs.Common.{◌≡◌, ℕ, zero, suc, refl, ◌+◌, ◌-◌,
 use Rattle.std.specs.Prelude.{Option, Some}
 use Rattle.std.specs.Option.{option_to_list}
 use Rattle.std.specs.List.{concat}
-use Rattle.std.proofs.lemmas.List.{take_at, drop_at, take-take, take-append-drop, drop-append-le, length-take-le, length-drop, length-append, take_more, map-append, drop_all, length-take, append-nil, take-set, drop-set}
+use Rattle.std.proofs.lemmas.List.{get_or_append_left, get_or-append_right, get_or-take, get_or-drop, take_at, drop_at, take-take, take-append-drop, drop-append-le, length-take-le, length-drop, length-append, take_more, map-append, drop_all, length-take, append-nil, take-set, drop-set}
 use Rattle.std.proofs.lemmas.List.Folds.{concat-append}
 use Rattle.std.proofs.lemmas.List.Elements.{All-append, All-same}
 use Rattle.ed_base.specs.Lines.{newline, IsLine, AreLines, bytes_of}
 use Rattle.ed_base.specs.Buffer.{Line, plain_line, texts}
-use Rattle.ed_base.specs.Parts.{block, exchanged, carried}
+use Rattle.ed_base.specs.Parts.{block, exchanged, inserted, carried}
 
 pub length-block : {X : Type 0} (a b : ℕ) (xs : List X) → b ≤ length xs → length (block a b xs) ≡ b - a
 length-block a b xs h = length-drop a (take b xs) ∙ ap (λ n. n - a) (length-take-le b xs h)
@@ -81,6 +81,18 @@ carried-back a b place xs h k l =
     ∙ put-there a b moved xs (omega arith)
     ∙ whole a b xs h
 
+-- an element of a list into which others were put: one in front of them, and one behind them
+pub get_or-before : {X : Type 0} (a i : ℕ) (new xs : List X) (d : X) → i < a → a ≤ length xs → get_or (inserted a new xs) i d ≡ get_or xs i d
+get_or-before a i new xs d h k =
+    get_or_append_left (take a xs) (new ++ drop a xs) d i (omega (arith, length-take-le a xs k)) ∙ get_or-take a xs i d h
+
+pub get_or-behind : {X : Type 0} (a i j : ℕ) (new xs : List X) (d : X) → a ≤ i → a ≤ length xs → j ≡ i + length new → get_or (inserted a new xs) j d ≡ get_or xs i d
+get_or-behind a i j new xs d h k e =
+    get_or-append_right (take a xs) (new ++ drop a xs) a j d (length-take-le a xs k) (omega arith)
+    ∙ get_or-append_right new (drop a xs) (length new) (j - a) d refl (omega arith)
+    ∙ get_or-drop a xs (j - a - length new) d
+    ∙ ap (λ n. get_or xs n d) (let f : a + (j - a - length new) ≡ i = omega arith in f)
+
 pub block-none : {X : Type 0} (a : ℕ) (xs : List X) → block a a xs ≡ []
 block-none a xs = drop_all a (take a xs) (omega (arith, length-take a xs))
 
@@ -97,7 +109,7 @@ set-one i y xs h =
     ∙ ap (λ t. take i xs ++ t) (drop-set xs i y h)
 
 -- the texts of one more line
-texts-more : (a i : ℕ) (lines : List Line) (text : List ℕ) → a ≤ i → i < length lines → text ≡ (get_or lines i (plain_line [])).bytes →
+pub texts-more : (a i : ℕ) (lines : List Line) (text : List ℕ) → a ≤ i → i < length lines → text ≡ (get_or lines i (plain_line [])).bytes →
     texts (block a (i + 1) lines) ≡ texts (block a i lines) ++ text ∷ []
 texts-more a i lines text h k e =
     ap texts (block-more a i lines (plain_line []) h k)

@@ -6,7 +6,7 @@ use Rattle.ed_base.specs.Buffer.{Line, plain_line, texts, flagged_at, flagged_pl
 use Rattle.ed_base.specs.declared.fault.Fault.{Fault}
 use Rattle.ed_base.specs.declared.fault.Fault.TheVariants.{Destination}
 use Rattle.line_store.specs.Marks.{lettered}
-use Rattle.ed_base.specs.Parts.{between, carried, exchanged, inserted}
+use Rattle.ed_base.specs.Parts.{between, block, carried, exchanged, inserted}
 use Rattle.ed_syntax.specs.States.{State}
 use Rattle.ed_syntax.specs.Globals.{next_taken, taken_at}
 use Rattle.ed_syntax.specs.Ranges as ranges
@@ -85,6 +85,19 @@ entered-some a [] s h new = absurd (h refl)
 entered-some a (line ∷ more) s h new =
     ap (λ t. altered (inserted a t s.lines) (a + length (texts (line ∷ more))) s) new
     ∙ ap (λ n. altered (inserted a (line ∷ more) s.lines) (a + n) s) (length-map (line ∷ more) (λ line. line.bytes))
+
+pub entered-text : (a : ℕ) (text : List (List ℕ)) (s : State) → text ≢ [] → entered a text s ≡ altered (inserted a (map plain_line text) s.lines) (a + length text) s
+entered-text a [] s h = absurd (h refl)
+entered-text a (line ∷ more) s h = refl
+
+-- some lines copied
+pub copied-some : (a b target : ℕ) (s : State) → 1 ≤ a → a ≤ b → b ≤ length s.lines →
+    effect.copy (ranges.span a b) target s ≡ altered (inserted target (map plain_line (texts (block (a - 1) b s.lines))) s.lines) (target + (b - (a - 1))) s
+copied-some a b target s h k l =
+    let text = texts (block (a - 1) b s.lines) in
+    let long : length text ≡ b - (a - 1) = length-map (block (a - 1) b s.lines) (λ line. line.bytes) ∙ length-block (a - 1) b s.lines l in
+    entered-text target text s (λ none. absurd (omega (arith, ap length none)))
+    ∙ ap (λ n. altered (inserted target (map plain_line text) s.lines) (target + n) s) long
 
 -- a text before a line, and in place of lines
 pub inserted-some : (text : List (List ℕ)) (x : ranges.Span) (s : State) → text ≢ [] → effect.insert text x s ≡ entered (x.first - 1) text s

@@ -9,7 +9,7 @@ ghost use Rattle.ed_commands.specs.Editors.{AreNew, place_beside, span_value};
 
 use crate::editor::addressing::Span;
 use crate::substitution::is_one_line;
-use ed_base::{Bytes, Text, join_lines, written_lines_are_read_back};
+use ed_base::{Bytes, Text, join_lines};
 use line_store::{FileLines, Line, LineStore};
 use std::alloc::{AllocError, Global};
 
@@ -18,23 +18,6 @@ pub fn new_lines(alloc: Global, texts: &Text) -> Result<Vec<Line>, AllocError>
     ensures value { IfOk result (λ lines. lines.items ≡ map plain_line texts.now) }
 {
     file_lines(alloc, join_lines(alloc, texts)?)
-}
-
-/// New lines of the texts of a block, which share one copy of their bytes.
-pub fn copy_block<S: LineStore>(
-    alloc: Global,
-    from: usize,
-    to: usize,
-    store: &S,
-) -> Result<Vec<Line>, AllocError>
-    requires order { from ≤ to }
-    requires last { to ≤ length (S.lines store.now) }
-    ensures value { IfOk result (λ lines. lines.items ≡ map plain_line (texts (block from to (S.lines store.now)))) }
-{
-    let bytes = file_of(alloc, from, to, store)?;
-    // The law by which the lines are read back from these bytes. It does nothing when it runs.
-    written_lines_are_read_back();
-    file_lines(alloc, bytes)
 }
 
 /// The bytes of a file that has the lines of a block. They are copied once.
@@ -193,6 +176,40 @@ fn put_lines<S: LineStore>(lines: Vec<Line>, at: usize, store: &mut S)
             Err(_refused) => unreachable!(),
         }
     }
+}
+
+/// Puts copies of the lines of a block, which share their bytes, behind line `target`, which may be one of them. After an `Err`
+/// the store may have some of the copies.
+pub fn copy_block<S: LineStore>(
+    from: usize,
+    to: usize,
+    target: usize,
+    store: &mut S,
+) -> Result<(), AllocError>
+    requires order { from ≤ to }
+    requires last { to ≤ length (S.lines store.old) }
+    requires target { target ≤ length (S.lines store.old) }
+    ensures copied { OnOk result
+        (S.lines store.new ≡ inserted target (map plain_line (texts (block from to (S.lines store.old)))) (S.lines store.old)) }
+    ensures no_fewer { length (S.lines store.old) ≤ length (S.lines store.new) }
+{
+    store.reserve(to - from)?;
+    // Places behind the target are counted from the end: copies that came in have moved them.
+    let count = store.len();
+    let behind = count - target;
+    for i in from..to {
+        let place = if i < target {
+            i
+        } else {
+            store.len() - (count - i)
+        };
+        let copy = store.copy_of(place)?;
+        match store.put(store.len() - behind, copy) {
+            Ok(()) => {}
+            Err(_refused) => unreachable!(),
+        }
+    }
+    Ok(())
 }
 
 /// Carries the lines of a span behind line `target`, which is none of them, with their letters, and tells the line of the

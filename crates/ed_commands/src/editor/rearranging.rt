@@ -84,7 +84,19 @@ impl<S: LineStore> Editor<S> {
             (self.new.state ≡ left_by before self.old.state (effect.copy (span_value span) target self.old.state)) }
         ensures failed { self.new.failed ≡ self.old.failed }
     {
-        let copies = copy_block(self.alloc, span.first - 1, span.last, &self.store)?;
-        self.enter(target, copies, before)
+        self.past.reserve()?;
+        let marks = Marks::of(&self.store);
+        let from = span.first - 1;
+        let behind = self.store.len() - target;
+        copy_block(from, span.last, target, &mut self.store)?;
+        self.current = self.store.len() - behind;
+        self.changed = true;
+        let change = Change::Replaced {
+            from: target,
+            entered: span.last - from,
+            removed: Vec::new(self.alloc),
+        };
+        self.past.keep(before, marks, change);
+        Ok(())
     }
 }

@@ -1,23 +1,43 @@
--- The copies are new lines.
-use Rattle.std.proofs.Common.{◌≡◌, ◌-◌, ◌∙◌, ap, subst}
-use Rattle.std.specs.Prelude.{OnOk}
-use Rattle.ed_base.specs.Buffer.{texts}
-use Rattle.ed_syntax.specs.Effects.{entered}
-use Rattle.ed_base.specs.Parts.{block}
+-- The copies came in, and undo takes them out.
+use Rattle.std.proofs.Common.{◌≡◌, ◌≤◌, ◌+◌, ◌-◌, ◌∙◌, [], map, sym, ap, arith, length}
+use Rattle.std.proofs.lemmas.List.{length-map}
+use Rattle.ed_base.specs.Buffer.{plain_line, texts}
+use Rattle.ed_base.specs.Parts.{block, exchanged, inserted}
+use Rattle.ed_syntax.specs.Effects.{altered}
 use Rattle.ed_commands.specs.Editors.{left_by}
-use Rattle.ed_commands.proofs.Changes.{made-new, texts-made}
+use Rattle.ed_commands.specs.declared.editor.past.Change.TheVariants as change
+use Rattle.ed_commands.proofs.Blocks.{block-none, length-block, length-exchanged, put-back}
+use Rattle.ed_commands.proofs.Changes.{changing, copied-some, replaced-back}
+use Rattle.ed_commands.proofs.Held.{held}
 use Rattle.ed_commands.proofs.editor.Editor.copy.Goals as goal
-
-pub enter-requires-clause-new : goal.enter-requires-clause-new
-enter-requires-clause-new g c = made-new c.in_ok-copies.copies.items _ c.in_ok-copies.ensures.value
 
 pub returns-clause-exact : goal.returns-clause-exact
 returns-clause-exact g c =
-    let before = c.args.self.now.state in
-    let from = c.args.span.first - 1 in
+    let e = c.self.inside in
+    let lines = g.S.LineStore.lines e.store in
+    let s = held lines e.current e.pattern e.replacement e.name e.changed e.past in
+    let old = c.args.self.now.state in
+    let is : s ≡ old = ap (λ v. v.state) c.self.view_is in
+    let a = c.args.span.first in
+    let from = a - 1 in
     let to = c.args.span.last in
-    let lines = g.S.LineStore.lines c.self.inside.store in
-    let same : texts c.in_ok-copies.copies.items ≡ texts (block from to before.lines) =
-    texts-made c.in_ok-copies.copies.items (texts (block from to lines)) c.in_ok-copies.ensures.value
-    ∙ ap (λ v. texts (block from to v.state.lines)) c.self.view_is in
-    subst (λ t. OnOk c.enter.result (c.enter.new.self.state ≡ left_by c.args.before before (entered c.args.target t before))) same c.enter.ensures.exact
+    let target = c.args.target in
+    let entered = to - from in
+    let copies = map plain_line (texts (block from to lines)) in
+    let after = g.S.LineStore.lines c.copy_block.new.store in
+    let within : to ≤ length lines = omega (arith, c.requires.last, ap (λ t. length t.lines) is) in
+    let inside : target ≤ length lines = omega (arith, c.requires.target, ap (λ t. length t.lines) is) in
+    let many : length copies ≡ entered =
+    length-map (texts (block from to lines)) plain_line ∙ length-map (block from to lines) (λ line. line.bytes) ∙ length-block from to lines within in
+    let none : c.new.result.items ≡ [] = cc in
+    let back : exchanged target (target + entered) c.new.result.items after ≡ lines =
+    ap (λ t. exchanged target (target + entered) t after) none
+    ∙ rw c.in_ok-copy_block.ensures.copied
+    (ap (λ t. exchanged target (target + entered) t (inserted target copies lines)) (sym (block-none target lines))
+    ∙ put-back target target entered copies lines (omega arith) inside many) in
+    changing s c.reserve.new.self c.keep.new.self c.args.before (change.Replaced target entered c.new.result) _ (target + entered) after (inserted target copies lines) c.of-marks.result
+    (replaced-back target entered c.new.result.items after lines back) c.in_ok-copy_block.ensures.copied
+    (omega (arith, ap length c.in_ok-copy_block.ensures.copied, length-exchanged target target copies lines (omega arith) inside, many, c.len.ensures.value, c.len-2.ensures.value))
+    c.of-marks.ensures.own (sym (c.reserve.ensures.unchanged (texts lines))) (c.keep.ensures.kept (texts after))
+    ∙ ap (λ t. left_by c.args.before t (altered (inserted target (map plain_line (texts (block from to t.lines))) t.lines) (target + entered) t)) is
+    ∙ ap (left_by c.args.before old) (sym (copied-some a to target old c.requires.first c.requires.order c.requires.last))
