@@ -96,6 +96,15 @@ get_or-behind a i j new xs d h k e =
 pub block-none : {X : Type 0} (a : ℕ) (xs : List X) → block a a xs ≡ []
 block-none a xs = drop_all a (take a xs) (omega (arith, length-take a xs))
 
+-- elements that were put between others, taken out again
+pub taken-out : {X : Type 0} (a n : ℕ) (removed new after xs : List X) → removed ≡ [] → after ≡ inserted a new xs → a ≤ length xs → length new ≡ n →
+    exchanged a (a + n) removed after ≡ xs
+taken-out a n removed new after xs none put h k =
+    ap (λ t. exchanged a (a + n) t after) none
+    ∙ ap (exchanged a (a + n) []) put
+    ∙ ap (λ t. exchanged a (a + n) t (inserted a new xs)) (sym (block-none a xs))
+    ∙ put-back a a n new xs (omega arith) h k
+
 -- what comes out of a list of one is all that was in it
 pub only-one : {X : Type 0} (xs ys : List X) (out : Option X) (x : X) → xs ≡ ys ++ option_to_list out → out ≡ Some x → length xs ≡ 1 → xs ≡ x ∷ []
 only-one xs [] out x e f h = e ∙ ap option_to_list f

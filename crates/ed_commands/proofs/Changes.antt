@@ -1,7 +1,8 @@
 -- What a change of the buffer leaves, and that undo would bring back the buffer before it.
-use Rattle.std.proofs.Common.{◌≡◌, ◌≢◌, ℕ, ◌+◌, ◌-◌, ◌<◌, ◌≤◌, Bool, true, false, ◌&&◌, nat_le, List, [], ◌∷◌, length, map, get_or, refl, sym, ap, ◌∙◌, arith}
+use Rattle.std.proofs.Common.{◌≡◌, ◌≢◌, ℕ, ◌+◌, ◌-◌, ◌<◌, ◌≤◌, Bool, true, false, ◌&&◌, nat_eq, nat_le, List, [], ◌∷◌, length, map, get_or, refl, sym, ap, ◌∙◌, arith}
 use Rattle.std.specs.Prelude.{Option, Some, Result, Ok, Err, option_map, unwrap_or}
 use Rattle.std.proofs.lemmas.List.{length-map, get_or-map}
+use Rattle.ed_base.specs.Lines.{newline, lines_of, onto_first}
 use Rattle.ed_base.specs.Buffer.{Line, plain_line, texts, flagged_at, flagged_place}
 use Rattle.ed_base.specs.declared.fault.Fault.{Fault}
 use Rattle.ed_base.specs.declared.fault.Fault.TheVariants.{Destination}
@@ -79,16 +80,20 @@ new-one lines i line new h e =
     ∙ ap plain_line (get_or-map (λ l. l.bytes) lines i line line.bytes h ∙ ap (λ l. l.bytes) (sym e))
 
 -- some lines entered
-pub entered-some : (a : ℕ) (lines : List Line) (s : State) → lines ≢ [] → AreNew lines →
-    entered a (texts lines) s ≡ altered (exchanged a a lines s.lines) (a + length lines) s
-entered-some a [] s h new = absurd (h refl)
-entered-some a (line ∷ more) s h new =
-    ap (λ t. altered (inserted a t s.lines) (a + length (texts (line ∷ more))) s) new
-    ∙ ap (λ n. altered (inserted a (line ∷ more) s.lines) (a + n) s) (length-map (line ∷ more) (λ line. line.bytes))
-
 pub entered-text : (a : ℕ) (text : List (List ℕ)) (s : State) → text ≢ [] → entered a text s ≡ altered (inserted a (map plain_line text) s.lines) (a + length text) s
 entered-text a [] s h = absurd (h refl)
 entered-text a (line ∷ more) s h = refl
+
+-- some bytes have some lines
+first_line : (ends : Bool) (byte : ℕ) (lines : List (List ℕ)) →
+    ◌≡◌ {A = List (List ℕ)} (elim ends [ true ↦ [] ∷ lines | false ↦ onto_first byte lines ]) [] → ⊥
+first_line true byte lines none = cc
+first_line false byte [] none = cc
+first_line false byte (line ∷ lines) none = cc
+
+pub some-lines : (bytes : List ℕ) → bytes ≢ [] → lines_of bytes ≢ []
+some-lines [] h none = h refl
+some-lines (byte ∷ bytes) h none = first_line (nat_eq byte newline) byte (lines_of bytes) none
 
 -- some lines copied
 pub copied-some : (a b target : ℕ) (s : State) → 1 ≤ a → a ≤ b → b ≤ length s.lines →

@@ -10,10 +10,9 @@ ghost use Rattle.ed_commands.specs.Editors.{Fits, Leaves, left_by, span_value, s
 
 use crate::editor::Editor;
 use crate::editor::addressing::{Addressed, Span};
-use crate::editor::blocks::new_lines;
 use crate::editor::lines::write_lines;
 use crate::editor::past::Before;
-use ed_base::{Bytes, Fault, Letter, Text, push_number};
+use ed_base::{Bytes, Fault, Letter, Text, join_lines, push_number};
 use ed_syntax::{Answer, Form, Verb};
 use line_store::LineStore;
 use std::alloc::AllocError;
@@ -74,8 +73,8 @@ impl<S: LineStore> Editor<S> {
             (self.new.state ≡ left_by before self.old.state (effect.append text.now (span_value span) self.old.state)) }
         ensures failed { self.new.failed ≡ self.old.failed }
     {
-        let lines = new_lines(self.alloc, text)?;
-        self.enter(span.first, lines, before)
+        let bytes = join_lines(self.alloc, text)?;
+        self.enter(span.first, bytes, before)
     }
 
     /// `d`: the lines of the span go out, into what undo keeps.

@@ -1,6 +1,6 @@
 //! Lines that come into the buffer, and those in whose place they come: `c` and `i`, and what they share with other commands.
 ghost use Rattle.std.specs.Prelude.{◌≡◌, ◌+◌, ◌≤◌, length, OnOk};
-ghost use Rattle.ed_base.specs.Buffer.{texts};
+ghost use Rattle.ed_base.specs.Lines.{lines_of};
 ghost use Rattle.ed_base.specs.Parts.{exchanged};
 ghost use Rattle.ed_syntax.specs.States.{last};
 ghost use Rattle.ed_syntax.specs.Effects as effect;
@@ -10,8 +10,9 @@ ghost use Rattle.ed_commands.specs.Editors.{AreNew, left_by, span_value};
 use crate::editor::Editor;
 use crate::editor::addressing::Span;
 use crate::editor::blocks::{exchange, new_lines};
+use crate::editor::lines::put_file;
 use crate::editor::past::{Before, Change};
-use ed_base::Text;
+use ed_base::{Bytes, Text, join_lines};
 use line_store::{Line, LineStore, Marks};
 use std::alloc::AllocError;
 
@@ -48,24 +49,37 @@ impl<S: LineStore> Editor<S> {
         Ok(())
     }
 
-    /// Puts new lines behind line `place`, the last one current. Without any that line is current, and nothing has changed.
+    /// Puts the lines of a file's bytes, which they share, behind line `place`, the last one current. Without any that line is
+    /// current, and nothing has changed.
     pub(crate) fn enter(
         &mut self,
         place: usize,
-        lines: Vec<Line>,
+        bytes: Bytes,
         before: Before,
     ) -> Result<(), AllocError>
         requires place { place ≤ last self.old.state }
-        requires new { AreNew lines.items }
         ensures exact { OnOk result
-            (self.new.state ≡ left_by before self.old.state (entered place (texts lines.items) self.old.state)) }
+            (self.new.state ≡ left_by before self.old.state (entered place (lines_of bytes) self.old.state)) }
         ensures failed { self.new.failed ≡ self.old.failed }
     {
-        if lines.is_empty() {
+        if bytes.is_empty() {
             self.current = place;
             return Ok(());
         }
-        self.replace(place, place, lines, before)
+        self.past.reserve()?;
+        let marks = Marks::of(&self.store);
+        let count = self.store.len();
+        put_file(self.alloc, bytes, place, &mut self.store)?;
+        let now = self.store.len();
+        self.current = now - (count - place);
+        self.changed = true;
+        let change = Change::Replaced {
+            from: place,
+            entered: now - count,
+            removed: Vec::new(self.alloc),
+        };
+        self.past.keep(before, marks, change);
+        Ok(())
     }
 
     /// `i`: the text goes before the first line of the span; an empty buffer has none, and then it is all.
@@ -85,8 +99,8 @@ impl<S: LineStore> Editor<S> {
             self.current = span.first.min(self.store.len());
             return Ok(());
         }
-        let lines = new_lines(self.alloc, text)?;
-        self.enter(span.first - 1, lines, before)
+        let bytes = join_lines(self.alloc, text)?;
+        self.enter(span.first - 1, bytes, before)
     }
 
     /// `c`: the text comes in place of the lines of the span.

@@ -13,7 +13,7 @@ ghost use Rattle.ed_commands.specs.Editors.{Fits, Leaves, Tells, naming, span_va
 
 use crate::editor::Editor;
 use crate::editor::addressing::Span;
-use crate::editor::blocks::{file_lines, file_of};
+use crate::editor::blocks::file_of;
 use crate::editor::past::Before;
 use ed_base::{Bytes, Fault};
 use ed_syntax::{Answer, Command, Pattern, Request, Verb};
@@ -136,8 +136,7 @@ impl<S: LineStore> Editor<S> {
     {
         self.name_first(path)?;
         let bytes = bytes_read(answer)?;
-        let lines = file_lines(self.alloc, bytes)?;
-        self.enter(span.first, lines, before)?;
+        self.enter(span.first, bytes, before)?;
         Ok(())
     }
 

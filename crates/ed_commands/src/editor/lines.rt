@@ -2,6 +2,7 @@
 ghost use Rattle.std.specs.Prelude.{◌≡◌, ◌-◌, ◌^◌, ◌≤◌, ◌++◌, length, map, min, IfOk, OnOk};
 ghost use Rattle.ed_base.specs.Lines.{lines_of};
 ghost use Rattle.ed_base.specs.Buffer.{plain_line};
+ghost use Rattle.ed_base.specs.Parts.{inserted};
 ghost use Rattle.ed_syntax.specs.PublicTypes.{form_value};
 ghost use Rattle.ed_syntax.specs.Forms.{lines_written};
 
@@ -52,18 +53,26 @@ pub fn file_store<S: LineStore>(alloc: Global, bytes: Bytes) -> Result<S, AllocE
     ensures value { IfOk result (λ store. S.lines store ≡ map plain_line (lines_of bytes)) }
 {
     let mut store = S::empty(alloc)?;
-    put_file(alloc, bytes, &mut store)?;
+    put_file(alloc, bytes, 0, &mut store)?;
     Ok(store)
 }
 
-/// Puts the lines of a file's bytes, which they share, behind all others.
-pub fn put_file<S: LineStore>(alloc: Global, bytes: Bytes, store: &mut S) -> Result<(), AllocError>
-    ensures appended { OnOk result (S.lines store.new ≡ S.lines store.old ++ map plain_line (lines_of bytes)) }
+/// Puts the lines of a file's bytes, which they share, behind line `place`. After an `Err` the store may have some of them.
+pub fn put_file<S: LineStore>(
+    alloc: Global,
+    bytes: Bytes,
+    place: usize,
+    store: &mut S,
+) -> Result<(), AllocError>
+    requires place { place ≤ length (S.lines store.old) }
+    ensures put { OnOk result (S.lines store.new ≡ inserted place (map plain_line (lines_of bytes)) (S.lines store.old)) }
     ensures no_fewer { length (S.lines store.old) ≤ length (S.lines store.new) }
 {
+    // Places are counted from the end, where no sum can be too great.
+    let behind = store.len() - place;
     let mut file = FileLines::new(alloc, bytes)?;
     while let Some(line) = file.next_line()? {
-        match store.put(store.len(), line) {
+        match store.put(store.len() - behind, line) {
             Ok(()) => {}
             Err(_refused) => return Err(AllocError),
         }

@@ -1,12 +1,12 @@
 -- The copies came in, and undo takes them out.
-use Rattle.std.proofs.Common.{◌≡◌, ◌≤◌, ◌+◌, ◌-◌, ◌∙◌, [], map, sym, ap, arith, length}
+use Rattle.std.proofs.Common.{◌≡◌, ◌≤◌, ◌+◌, ◌-◌, ◌∙◌, map, sym, ap, arith, length}
 use Rattle.std.proofs.lemmas.List.{length-map}
 use Rattle.ed_base.specs.Buffer.{plain_line, texts}
 use Rattle.ed_base.specs.Parts.{block, exchanged, inserted}
 use Rattle.ed_syntax.specs.Effects.{altered}
 use Rattle.ed_commands.specs.Editors.{left_by}
 use Rattle.ed_commands.specs.declared.editor.past.Change.TheVariants as change
-use Rattle.ed_commands.proofs.Blocks.{block-none, length-block, length-exchanged, put-back}
+use Rattle.ed_commands.proofs.Blocks.{length-block, length-exchanged, taken-out}
 use Rattle.ed_commands.proofs.Changes.{changing, copied-some, replaced-back}
 use Rattle.ed_commands.proofs.Held.{held}
 use Rattle.ed_commands.proofs.editor.Editor.copy.Goals as goal
@@ -29,12 +29,8 @@ returns-clause-exact g c =
     let inside : target ≤ length lines = omega (arith, c.requires.target, ap (λ t. length t.lines) is) in
     let many : length copies ≡ entered =
     length-map (texts (block from to lines)) plain_line ∙ length-map (block from to lines) (λ line. line.bytes) ∙ length-block from to lines within in
-    let none : c.new.result.items ≡ [] = cc in
     let back : exchanged target (target + entered) c.new.result.items after ≡ lines =
-    ap (λ t. exchanged target (target + entered) t after) none
-    ∙ rw c.in_ok-copy_block.ensures.copied
-    (ap (λ t. exchanged target (target + entered) t (inserted target copies lines)) (sym (block-none target lines))
-    ∙ put-back target target entered copies lines (omega arith) inside many) in
+    taken-out target entered c.new.result.items copies after lines (cc) c.in_ok-copy_block.ensures.copied inside many in
     changing s c.reserve.new.self c.keep.new.self c.args.before (change.Replaced target entered c.new.result) _ (target + entered) after (inserted target copies lines) c.of-marks.result
     (replaced-back target entered c.new.result.items after lines back) c.in_ok-copy_block.ensures.copied
     (omega (arith, ap length c.in_ok-copy_block.ensures.copied, length-exchanged target target copies lines (omega arith) inside, many, c.len.ensures.value, c.len-2.ensures.value))

@@ -1,0 +1,39 @@
+-- The lines came in, and undo takes them out.
+use Rattle.std.proofs.Common.{◌≡◌, ◌≤◌, ◌+◌, ◌-◌, ◌∙◌, map, sym, ap, arith, length}
+use Rattle.std.proofs.lemmas.List.{length-map}
+use Rattle.ed_base.specs.Lines.{lines_of}
+use Rattle.ed_base.specs.Buffer.{plain_line, texts}
+use Rattle.ed_base.specs.Parts.{exchanged, inserted}
+use Rattle.ed_syntax.specs.Effects.{altered}
+use Rattle.ed_commands.specs.Editors.{left_by}
+use Rattle.ed_commands.specs.declared.editor.past.Change.TheVariants as change
+use Rattle.ed_commands.proofs.Blocks.{length-exchanged, taken-out}
+use Rattle.ed_commands.proofs.Changes.{changing, entered-text, replaced-back, some-lines}
+use Rattle.ed_commands.proofs.Held.{held}
+use Rattle.ed_commands.proofs.editor.Editor.enter.Goals as goal
+
+pub returns-clause-exact : goal.returns-clause-exact
+returns-clause-exact g c =
+    let e = c.self.inside in
+    let lines = g.S.LineStore.lines e.store in
+    let s = held lines e.current e.pattern e.replacement e.name e.changed e.past in
+    let old = c.args.self.now.state in
+    let is : s ≡ old = ap (λ v. v.state) c.self.view_is in
+    let place = c.args.place in
+    let text = lines_of c.args.bytes in
+    let new = map plain_line text in
+    let after = g.S.LineStore.lines c.put_file.new.store in
+    let entered = c.len-now.result - c.len-count.result in
+    let within : place ≤ length lines = omega (arith, c.requires.place, ap (λ t. length t.lines) is) in
+    let put = c.in_ok-put_file.ensures.put in
+    let longer = length-exchanged place place new lines (omega arith) within in
+    let many : length new ≡ entered = omega (arith, ap length put, longer, c.len-count.ensures.value, c.len-now.ensures.value) in
+    let back : exchanged place (place + entered) c.new.result.items after ≡ lines =
+    taken-out place entered c.new.result.items new after lines (cc) put within many in
+    changing s c.reserve.new.self c.keep.new.self c.args.before (change.Replaced place entered c.new.result) _ (place + length text) after (inserted place new lines) c.of-marks.result
+    (replaced-back place entered c.new.result.items after lines back) put
+    (omega (arith, ap length put, longer, length-map text plain_line, c.len-count.ensures.value, c.len-now.ensures.value))
+    c.of-marks.ensures.own (sym (c.reserve.ensures.unchanged (texts lines))) (c.keep.ensures.kept (texts after))
+    ∙ ap (λ t. left_by c.args.before t (altered (inserted place new t.lines) (place + length text) t)) is
+    ∙ ap (left_by c.args.before old)
+    (sym (entered-text place text old (some-lines c.args.bytes (λ none. cc (c.is_empty.ensures.value.1 none, c.if-is_empty.false)))))
