@@ -3,6 +3,8 @@ pub mod Rows
 pub mod Sorting
 pub mod Merging
 pub mod Tasks
+pub mod GroupRuns
+pub mod Narrowing
 pub mod Turning
 pub mod Starts
 pub mod PartKinds

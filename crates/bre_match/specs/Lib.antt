@@ -4,6 +4,7 @@ pub mod Answer
 pub mod Laws
 -- these only serve clauses inside the crate
 pub mod Runs
+pub mod Narrowing
 pub mod Order
 pub mod Turns
 pub mod Starts

@@ -2,7 +2,7 @@
 
 ghost use Rattle.std.specs.Prelude.{◌≡◌, ℕ, ◌-◌, ◌<◌, List, ◌++◌, map, OnOk};
 ghost use Rattle.bre_parse.specs.Ways.{Way};
-ghost use Rattle.bre_match.specs.Runs.{other_ways, at_item, tasks, AreOf};
+ghost use Rattle.bre_match.specs.Runs.{groups_at, other_ways, at_item, tasks, AreOf};
 
 use crate::run::{Ahead, Run, Way};
 use std::alloc::AllocError;
@@ -38,18 +38,20 @@ pub(crate) fn push_run_ahead(
 
 /// Puts the ways of what was taken up but the first before all else.
 #[tactic(auto, using(crate::proofs::Tasks::tasks_push, crate::proofs::Tasks::others_there))]
-pub(crate) fn push_others(left: &mut Vec<Ahead>, taken: Ahead) -> Result<(), AllocError>
-    ensures value { OnOk result (tasks left.new.items ≡ map (at_item taken.item) (other_ways taken.run.end taken.run.shorter taken.run.groups) ++ tasks left.old.items) }
+pub(crate) fn push_others(left: &mut Vec<Ahead>, taken: &Ahead) -> Result<(), AllocError>
+    ensures value { OnOk result (tasks left.new.items ≡ map (at_item taken.now.item) (other_ways taken.now.run.end taken.now.run.shorter (groups_at taken.now.run)) ++ tasks left.old.items) }
 {
     if taken.run.shorter > 0 {
         let item = taken.item;
         let groups = taken.run.groups;
+        let closes = taken.run.closes;
         let end = taken.run.end.saturating_sub(1);
         let shorter = taken.run.shorter - 1;
         let run = Run {
             end,
             shorter,
             groups,
+            closes,
         };
         left.push(Ahead { item, run })?;
     }

@@ -14,6 +14,7 @@ mod backwards;
 mod column;
 mod grouping;
 pub mod laws;
+mod narrow;
 mod needed;
 mod order;
 mod row;
