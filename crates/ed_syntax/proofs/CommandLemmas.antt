@@ -1,5 +1,5 @@
 -- Commands without a list: what is read is spelled so, and what is spelled so is read.
-use Rattle.std.proofs.Common.{◌≡◌, ℕ, ◌+◌, Bool, true, false, List, [], ◌∷◌, ◌++◌, length, Option, Some, None, refl, sym, ap, ◌∙◌, subst, arith, append_assoc, append-nil}
+use Rattle.std.proofs.Common.{◌≡◌, ℕ, ◌+◌, Bool, true, List, [], ◌∷◌, ◌++◌, length, Option, Some, None, refl, sym, ap, ◌∙◌, subst, arith, append_assoc, append-nil}
 use Rattle.std.proofs.lemmas.List.{length-append}
 use Rattle.ed_base.specs.Lines.{newline, IsLine, AreLines, lines_of, bytes_of}
 use Rattle.ed_base.proofs.LineLemmas.{lines_of-whole}
@@ -8,17 +8,17 @@ use Rattle.ed_syntax.specs.Commands as ed
 use Rattle.ed_syntax.specs.Characters.{equals_sign}
 use Rattle.ed_syntax.specs.Letters.{capital_e, capital_h, capital_p, capital_q, letter_a, letter_c, letter_d, letter_e, letter_f, letter_h, letter_i, letter_j, letter_m, letter_q, letter_r, letter_s, letter_t, letter_u, letter_w}
 use Rattle.ed_syntax.specs.Commands.{Addresses, Form, Verb, Command}
-use Rattle.ed_syntax.specs.Verbs.{Takes, takes, takes_any, may_have, may_stand}
+use Rattle.ed_syntax.specs.Verbs.{takes, may_have, may_stand}
 use Rattle.ed_syntax.specs.Parameters.{SpellsText, SpellsForm, SpellsPath}
 use Rattle.ed_syntax.specs.Spellings.{SpellsVerb, SpellsCommand}
 use Rattle.ed_syntax.specs.Addressing.{SpellsAddresses}
 use Rattle.ed_syntax.specs.Tokens.{Parsed, ◌>>=◌, addresses}
-use Rattle.ed_syntax.specs.ReadCommands.{Heading, Headed, text, entering, with_text, heading_behind, finished, Behind, command_behind, command_at}
+use Rattle.ed_syntax.specs.ReadCommands.{Heading, Headed, text, with_text, heading_behind, finished, Behind, command_behind, command_at}
 use Rattle.ed_syntax.specs.ReadGlobals.{sense_at}
 use Rattle.ed_syntax.proofs.StepLemmas.{Some-same, bind-some}
 use Rattle.ed_syntax.proofs.LineParts.{bytes_of-append, same_lines, taken-length}
 use Rattle.ed_syntax.proofs.AddressesLemmas.{addresses-sound, addresses-complete}
-use Rattle.ed_syntax.proofs.StandLemmas.{text-may}
+use Rattle.ed_syntax.proofs.LetterLemmas.{text-keeps}
 use Rattle.ed_syntax.proofs.VerbLemmas.{PlainVerb, FileVerb, SpellsLetter}
 use Rattle.ed_syntax.proofs.SubstitutionLemmas.{SpellsSubstitution, substitution-left}
 use Rattle.ed_syntax.proofs.HeadLemmas.{SpellsHead}
@@ -192,28 +192,16 @@ verb-complete (SpellsVerb.prompt_mode more rest) lines are same = plain_read cap
 verb-complete (SpellsVerb.quit more rest) lines are same = plain_read letter_q more ed.Quit lines rest are same PlainVerb.quit refl
 verb-complete (SpellsVerb.quit_anyway more rest) lines are same = plain_read capital_q more ed.QuitAnyway lines rest are same PlainVerb.quit_anyway refl
 
--- a text changes nothing of what its command takes
-takes-entering : (entered : List (List ℕ)) (verb : Verb) → takes (entering entered verb) ≡ takes verb
-takes-entering entered (ed.Append _) = refl
-takes-entering entered (ed.Change _) = refl
-takes-entering entered (ed.Insert _) = refl
-takes-entering entered _ = refl
-
-takes-text : (verb : Verb) (later : List (List ℕ)) → takes (with_text verb later).0 ≡ takes verb
-takes-text verb later =
-    elim (takes verb).text as (λ t. takes (let r : Verb × List (List ℕ) = elim t [ true ↦ (entering (text later).0 verb, (text later).1) | false ↦ (verb, later) ] in r.0) ≡ takes verb) [
-      | true ↦ takes-entering (text later).0 verb
-      | false ↦ refl
-    ]
-
+-- a text changes nothing of what its command takes and where it may stand
 may_have-text : (given : Addresses) (verb : Verb) (later : List (List ℕ)) → may_have given (with_text verb later).0 ≡ may_have given verb
 may_have-text ed.Without verb later = refl
-may_have-text (ed.One a) verb later = ap (λ (t : Takes). takes_any t.taking) (takes-text verb later)
-may_have-text (ed.Comma a b) verb later = ap (λ (t : Takes). takes_any t.taking) (takes-text verb later)
-may_have-text (ed.Semicolon a b) verb later = ap (λ (t : Takes). takes_any t.taking) (takes-text verb later)
+may_have-text given verb later = text-keeps (may_have given) (λ new old. (refl, refl, refl)) verb later
+
+may_stand-text : (listed : Bool) (verb : Verb) (later : List (List ℕ)) → may_stand listed (with_text verb later).0 ≡ may_stand listed verb
+may_stand-text listed = text-keeps (may_stand listed) (λ new old. (refl, refl, refl))
 
 suffix-text : (verb : Verb) (later : List (List ℕ)) → (takes (with_text verb later).0).suffix ≡ (takes verb).suffix
-suffix-text verb later = ap (λ (t : Takes). t.suffix) (takes-text verb later)
+suffix-text = text-keeps (λ verb. (takes verb).suffix) (λ new old. (refl, refl, refl))
 
 -- what was read from lines: its bytes, and as many lines as they are
 pub record ReadsFirst {A : Type 0} (Spells : List ℕ → List ℕ → A → Type 0) (lines : List (List ℕ)) (r : A × List (List ℕ)) : Type 0 where
@@ -239,7 +227,7 @@ finished-sound listed line own given later h is_line addressed is =
       split = ap (λ bytes. line ++ newline ∷ bytes) all ∙ sym (append_assoc line (newline ∷ (front ++ text.bytes)) (bytes_of rest));
       spells = SpellsCommand.command line own here.more (front ++ text.bytes) (bytes_of rest) h.0.addresses verb h.0.suffix is_line
           (subst (SpellsAddresses line own) (sym is.addresses) addressed) text.spells
-          (may_have-text h.0.addresses h.0.verb h.1 ∙ here.allowed) (text-may listed h.0.verb h.1 ∙ here.standing) (suffix-same here.end verb (suffix-text h.0.verb h.1));
+          (may_have-text h.0.addresses h.0.verb h.1 ∙ here.allowed) (may_stand-text listed h.0.verb h.1 ∙ here.standing) (suffix-same here.end verb (suffix-text h.0.verb h.1));
       counted = ap (λ lines. length lines + length rest) (lines_of-whole line (front ++ text.bytes) is_line)
           ∙ omega (arith, text.counted, taken-length is.taken text.bytes is.taken_are, ap length is.split, length-append is.taken h.1);
       are = text.are;
@@ -323,7 +311,7 @@ command_behind-complete listed (SpellsCommand.command line own more text rest gi
     let first = first_line line (text ++ rest) lines is_line are (sym (append_assoc line (newline ∷ text) rest) ∙ same) in
     let behind = verb-complete is first.later first.are first.behind in
     let fits : may_have given behind.entered ≡ true = sym (may_have-text given behind.entered behind.behind) ∙ ap (λ r. may_have given r.0) behind.read ∙ allowed in
-    let stands : may_stand listed behind.entered ≡ true = sym (text-may listed behind.entered behind.behind) ∙ ap (λ r. may_stand listed r.0) behind.read ∙ standing in
+    let stands : may_stand listed behind.entered ≡ true = sym (may_stand-text listed behind.entered behind.behind) ∙ ap (λ r. may_stand listed r.0) behind.read ∙ standing in
     let suffixed : (takes behind.entered).suffix ≡ (takes verb).suffix = sym (suffix-text behind.entered behind.behind) ∙ ap (λ r. (takes r.0).suffix) behind.read in
     let h : Heading = record { addresses = given; verb = behind.entered; suffix = suffix } in
     let spells : SpellsHeading listed own behind.before h =

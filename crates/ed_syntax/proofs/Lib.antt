@@ -30,6 +30,7 @@ pub mod AddressLemmas
 pub mod AddressesLemmas
 pub mod PathLemmas
 pub mod VerbLemmas
+pub mod LetterLemmas
 pub mod SuffixLemmas
 pub mod LineParts
 pub mod LaterLemmas

@@ -19,9 +19,10 @@ use Rattle.ed_syntax.proofs.StepLemmas.{Some-same, bind-some, chosen, either}
 use Rattle.ed_syntax.proofs.EndLemmas.{End, end-all, end-behind, end-of, end-keeps, addresses-end}
 use Rattle.ed_syntax.proofs.AddressesLemmas.{addresses-sound}
 use Rattle.ed_syntax.proofs.TextLemmas.{no_lines}
-use Rattle.ed_syntax.proofs.StandLemmas.{is_global, command_behind-stands}
+use Rattle.ed_syntax.proofs.LetterLemmas.{is_global, text-keeps}
+use Rattle.ed_syntax.proofs.StandLemmas.{command_behind-stands}
 use Rattle.ed_syntax.proofs.HeadingLemmas.{heading-sound}
-use Rattle.ed_syntax.proofs.SplitLemmas.{head-whole, text-whole}
+use Rattle.ed_syntax.proofs.SplitLemmas.{head-whole}
 use Rattle.ed_syntax.proofs.JoinedLemmas.{Even}
 use Rattle.ed_syntax.proofs.CommandLemmas.{command-sound, command-complete}
 use Rattle.ed_syntax.proofs.ScriptLemmas.{command_at-later}
@@ -51,7 +52,7 @@ listed-read line later r are even is =
     let parts = and_parts (not (is_global r.0.verb)) (is_sound r.0.verb) stands.sound in
     let whole : has_split r.0.verb ≡ false =
     ap (λ (r : Command × List (List ℕ)). has_split r.0.verb) (sym (Some-same (finished true h.0.0 h.0.1) r h.2))
-    ∙ text-whole h.0.0.verb h.0.1
+    ∙ text-keeps has_split (λ new old. (refl, refl, refl)) h.0.0.verb h.0.1
     ∙ head-whole line (addresses-end (addresses-sound line given.0 given.1)) read.spells.head even in
     let marked = and_from r.0.listed (is_sound r.0.verb) stands.marked parts.1 in
     let may = and_from (r.0.listed && is_sound r.0.verb) (may_be_listed r.0.verb) marked stands.may in

@@ -16,7 +16,8 @@ use Rattle.ed_syntax.specs.ReadGlobals.{sense_at}
 use Rattle.ed_syntax.specs.Reading.{step_by, step_behind}
 use Rattle.ed_syntax.specs.ReadParts.{command_before, step_before, global_before, listed_before}
 use Rattle.ed_syntax.specs.PublicTypes.{row_value, command_of, command_value, verb_value, list_value}
-use Rattle.ed_syntax.proofs.StandLemmas.{is_global, command_behind-stands}
+use Rattle.ed_syntax.proofs.LetterLemmas.{is_global}
+use Rattle.ed_syntax.proofs.StandLemmas.{command_behind-stands}
 
 pub row_value-items : (n : _) (row : Row_of-Command n) → row_value row ≡ map command_value (items-the_row-Command n row)
 row_value-items _ end_of-Command = refl

@@ -24,7 +24,8 @@ use Rattle.ed_syntax.proofs.QuotingLemmas.{pattern_at-sound, pattern_at-complete
 use Rattle.ed_syntax.proofs.SubstitutionLemmas.{no_backslash}
 use Rattle.ed_syntax.proofs.TextLemmas.{first_line}
 use Rattle.ed_syntax.proofs.EndLemmas.{end-of, end-keeps, end-behind, addresses-end, pattern-end, closing-end}
-use Rattle.ed_syntax.proofs.StandLemmas.{is_global, command_behind-stands}
+use Rattle.ed_syntax.proofs.LetterLemmas.{is_global}
+use Rattle.ed_syntax.proofs.StandLemmas.{command_behind-stands}
 use Rattle.ed_syntax.proofs.JoinedLemmas.{joined-sound, joined-complete, joined-whole, joined-even}
 use Rattle.ed_syntax.proofs.ListSteps.{list-sound, list-complete}
 use Rattle.ed_syntax.proofs.CommandLemmas.{ReadsFirst, FirstRead, command_behind-sound, command_behind-complete}

@@ -8,12 +8,10 @@ use Rattle.ed_syntax.specs.Characters.{backslash, goes_on}
 use Rattle.ed_syntax.specs.Letters.{letter_s}
 use Rattle.ed_syntax.specs.Commands as ed
 use Rattle.ed_syntax.specs.Commands.{Verb}
-use Rattle.ed_syntax.specs.Verbs.{takes, is_split, has_split}
+use Rattle.ed_syntax.specs.Verbs.{is_split, has_split}
 use Rattle.ed_syntax.specs.Parameters.{SpellsEscape, SpellsParts, SpellsReplacement}
-use Rattle.ed_syntax.specs.ReadCommands.{text, entering, with_text}
-use Rattle.ed_syntax.proofs.StepLemmas.{either}
 use Rattle.ed_syntax.proofs.EndLemmas.{End, end-of, end-behind, pattern-end}
-use Rattle.ed_syntax.proofs.VerbLemmas.{PlainVerb, FileVerb, SpellsLetter}
+use Rattle.ed_syntax.proofs.LetterLemmas.{letter-simple}
 use Rattle.ed_syntax.proofs.SubstitutionLemmas.{SpellsSubstitution, no_backslash}
 use Rattle.ed_syntax.proofs.HeadLemmas.{SpellsHead}
 
@@ -59,36 +57,6 @@ replacement-whole : (delimiter : ℕ) {own more text : List ℕ} {replacement : 
 replacement-whole delimiter pattern (SpellsReplacement.remembered more other ends) even which form = refl
 replacement-whole delimiter pattern (SpellsReplacement.given own more text parts other is) even which form = parts-whole delimiter is even
 
-plain-whole : {b : ℕ} {verb : Verb} → PlainVerb b verb → has_split verb ≡ false
-plain-whole PlainVerb.append = refl
-plain-whole PlainVerb.change = refl
-plain-whole PlainVerb.insert = refl
-plain-whole PlainVerb.delete = refl
-plain-whole PlainVerb.join = refl
-plain-whole PlainVerb.line_number = refl
-plain-whole (PlainVerb.write b form is) = refl
-plain-whole PlainVerb.undo = refl
-plain-whole PlainVerb.help = refl
-plain-whole PlainVerb.help_mode = refl
-plain-whole PlainVerb.prompt_mode = refl
-plain-whole PlainVerb.quit = refl
-plain-whole PlainVerb.quit_anyway = refl
-
-file-whole : {path : Option (List ℕ)} {b : ℕ} {verb : Verb} → FileVerb path b verb → has_split verb ≡ false
-file-whole FileVerb.read_file = refl
-file-whole FileVerb.write_file = refl
-file-whole FileVerb.edit = refl
-file-whole FileVerb.edit_anyway = refl
-file-whole FileVerb.file_name = refl
-
-letter-whole : {own more : List ℕ} {verb : Verb} → SpellsLetter own more verb → has_split verb ≡ false
-letter-whole SpellsLetter.null = refl
-letter-whole (SpellsLetter.plain b more verb is) = plain-whole is
-letter-whole (SpellsLetter.mark letter more small) = refl
-letter-whole (SpellsLetter.move own more target is) = refl
-letter-whole (SpellsLetter.copy own more target is) = refl
-letter-whole (SpellsLetter.file b own path verb is spells) = file-whole is
-
 -- a line before what stands behind its delimiter
 line-even : (line : List ℕ) (delimiter : ℕ) (rest : List ℕ) → delimiter ≢ backslash → End line (delimiter ∷ rest) → goes_on line ≡ false → goes_on rest ≡ false
 line-even line delimiter rest other end even = sym (ap goes_on end.1 ∙ goes_on-behind end.0 delimiter rest other) ∙ even
@@ -100,16 +68,5 @@ substitution-whole line end (SpellsSubstitution.parameters delimiter own after_p
 
 -- a command on such a line
 pub head-whole : (line : List ℕ) {own more before : List ℕ} {verb : Verb} → End line own → SpellsHead own more before verb → goes_on line ≡ false → has_split verb ≡ false
-head-whole line end (SpellsHead.plain own more verb is) even = letter-whole is
+head-whole line end (SpellsHead.plain own more verb is) even = (letter-simple is).whole
 head-whole line end (SpellsHead.substitution own more before verb is) even = substitution-whole line (end-of end (letter_s ∷ [], refl)) is even
-
-entering-whole : (entered : List (List ℕ)) (verb : Verb) → has_split (entering entered verb) ≡ has_split verb
-entering-whole entered (ed.Append _) = refl
-entering-whole entered (ed.Change _) = refl
-entering-whole entered (ed.Insert _) = refl
-entering-whole entered _ = refl
-
-pub text-whole : (verb : Verb) (later : List (List ℕ)) → has_split (with_text verb later).0 ≡ has_split verb
-text-whole verb later =
-    either (λ (r : Verb × List (List ℕ)). has_split r.0 ≡ has_split verb) (takes verb).text (entering (text later).0 verb, (text later).1) (verb, later)
-    (λ yes. entering-whole (text later).0 verb) (λ no. refl)

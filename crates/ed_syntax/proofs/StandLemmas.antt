@@ -1,7 +1,6 @@
 -- What is read as a command by itself has no list, letters for its marks, and counts from 1.
-use Rattle.std.proofs.Common.{◌≡◌, ℕ, nat_eq, Bool, true, false, not, ◌&&◌, List, [], ◌∷◌, Option, Some, None, refl, sym, ap, ◌∙◌, subst, arith}
-use Rattle.std.specs.Prelude.{nat_lt}
-use Rattle.std.proofs.lemmas.Bool.{lt-ltb, le-leb, and_from, and_parts}
+use Rattle.std.proofs.Common.{◌≡◌, ℕ, nat_eq, Bool, true, ◌&&◌, List, [], ◌∷◌, Option, Some, None, refl, sym, ap, ◌∙◌, subst, arith}
+use Rattle.std.proofs.lemmas.Bool.{le-leb, and_parts}
 use Rattle.ed_syntax.specs.declared.replacement.Part.{Part}
 use Rattle.ed_syntax.specs.declared.replacement.Which.{Which}
 use Rattle.ed_syntax.specs.declared.replacement.Which.TheVariants as which
@@ -9,54 +8,16 @@ use Rattle.ed_syntax.specs.Characters.{is_delimiter}
 use Rattle.ed_syntax.specs.Letters.{letter_s}
 use Rattle.ed_syntax.specs.Commands as ed
 use Rattle.ed_syntax.specs.Commands.{Addresses, Form, Verb, Command}
-use Rattle.ed_syntax.specs.Verbs.{takes, may_have, may_stand, is_sound}
+use Rattle.ed_syntax.specs.Verbs.{may_have, may_stand}
 use Rattle.ed_syntax.specs.Parameters.{SpellsWhich, SpellsFlags}
 use Rattle.ed_syntax.specs.Tokens.{◌>>=◌, pattern_at}
 use Rattle.ed_syntax.specs.ReadParameters.{Place, ParsedAt, place, replacement, end_at, substitution_with, substitution}
 use Rattle.ed_syntax.specs.ReadVerbs.{verb_at}
-use Rattle.ed_syntax.specs.ReadCommands.{Heading, Headed, verb_from, suffix_at, suffix_with, text, entering, with_text, heading_with, headed, heading_behind, finished, command_behind}
+use Rattle.ed_syntax.specs.ReadCommands.{Heading, Headed, verb_from, suffix_at, suffix_with, text, heading_with, headed, heading_behind, finished, command_behind}
 use Rattle.ed_syntax.proofs.StepLemmas.{Some-same, none_some, bind-some, either}
-use Rattle.ed_syntax.proofs.VerbLemmas.{PlainVerb, FileVerb, SpellsLetter, verb_at-sound}
+use Rattle.ed_syntax.proofs.VerbLemmas.{verb_at-sound}
+use Rattle.ed_syntax.proofs.LetterLemmas.{stands, letter-simple, text-keeps}
 use Rattle.ed_syntax.proofs.FlagsLemmas.{flags-sound}
-
--- a command that has a list
-abbrev pub is_global : Verb → Bool
-is_global (ed.Global sense pattern) = true
-is_global _ = false
-
--- it has no list, and its letter and its count are such
-abbrev pub stands : Verb → Bool
-stands verb = not (is_global verb) && is_sound verb
-
-plain-stands : {b : ℕ} {verb : Verb} → PlainVerb b verb → stands verb ≡ true
-plain-stands PlainVerb.append = refl
-plain-stands PlainVerb.change = refl
-plain-stands PlainVerb.insert = refl
-plain-stands PlainVerb.delete = refl
-plain-stands PlainVerb.join = refl
-plain-stands PlainVerb.line_number = refl
-plain-stands (PlainVerb.write b form is) = refl
-plain-stands PlainVerb.undo = refl
-plain-stands PlainVerb.help = refl
-plain-stands PlainVerb.help_mode = refl
-plain-stands PlainVerb.prompt_mode = refl
-plain-stands PlainVerb.quit = refl
-plain-stands PlainVerb.quit_anyway = refl
-
-file-stands : {path : Option (List ℕ)} {b : ℕ} {verb : Verb} → FileVerb path b verb → stands verb ≡ true
-file-stands FileVerb.read_file = refl
-file-stands FileVerb.write_file = refl
-file-stands FileVerb.edit = refl
-file-stands FileVerb.edit_anyway = refl
-file-stands FileVerb.file_name = refl
-
-letter-stands : {own more : List ℕ} {verb : Verb} → SpellsLetter own more verb → stands verb ≡ true
-letter-stands SpellsLetter.null = refl
-letter-stands (SpellsLetter.plain b more verb is) = plain-stands is
-letter-stands (SpellsLetter.mark letter more small) = and_from (nat_lt letter 26) true (lt-ltb letter 26 small) refl
-letter-stands (SpellsLetter.move own more target is) = refl
-letter-stands (SpellsLetter.copy own more target is) = refl
-letter-stands (SpellsLetter.file b own path verb is spells) = file-stands is
 
 module _ (pattern : Option (List ℕ)) (replaced : Option (List Part)) where
   which-stands : {text rest : List ℕ} {w : Which} (form : Option Form) → SpellsWhich text rest w → stands (ed.Substitute pattern replaced w form) ≡ true
@@ -101,7 +62,7 @@ verb-stands (b ∷ bs) lines =
     either Stands (nat_eq b letter_s) _ _ (λ yes. substitution-stands bs lines)
     (λ no r is.
     let found = bind-some (verb_at (b ∷ bs)) (λ r. Some (r.0, place r.1 lines)) r is in
-    subst (λ (r : Verb × Place). stands r.0 ≡ true) (Some-same (found.0.0, place found.0.1 lines) r found.2) (letter-stands (verb_at-sound (b ∷ bs) found.0 found.1)))
+    subst (λ (r : Verb × Place). stands r.0 ≡ true) (Some-same (found.0.0, place found.0.1 lines) r found.2) (letter-simple (verb_at-sound (b ∷ bs) found.0 found.1)).stands)
 
 -- the verb of a heading, and that it may stand there
 suffix_with-may : (listed : Bool) (given : Addresses) (verb : Verb) (more : List ℕ) (suffix : Option Form) → suffix_with listed given verb more ≡ Some suffix → may_stand listed verb ≡ true
@@ -128,29 +89,6 @@ heading-stands listed given own lines h is =
       ap (λ (h : Headed). may_stand listed h.0.verb) (sym same) ∙ ap (may_stand listed) here.0 ∙ here.1,
     )
 
--- a text changes nothing of that
-entering-stands : (entered : List (List ℕ)) (verb : Verb) → stands (entering entered verb) ≡ stands verb
-entering-stands entered (ed.Append _) = refl
-entering-stands entered (ed.Change _) = refl
-entering-stands entered (ed.Insert _) = refl
-entering-stands entered _ = refl
-
-text-stands : (verb : Verb) (later : List (List ℕ)) → stands (with_text verb later).0 ≡ stands verb
-text-stands verb later =
-    either (λ (r : Verb × List (List ℕ)). stands r.0 ≡ stands verb) (takes verb).text (entering (text later).0 verb, (text later).1) (verb, later)
-    (λ yes. entering-stands (text later).0 verb) (λ no. refl)
-
-entering-may : (listed : Bool) (entered : List (List ℕ)) (verb : Verb) → may_stand listed (entering entered verb) ≡ may_stand listed verb
-entering-may listed entered (ed.Append _) = refl
-entering-may listed entered (ed.Change _) = refl
-entering-may listed entered (ed.Insert _) = refl
-entering-may listed entered _ = refl
-
-pub text-may : (listed : Bool) (verb : Verb) (later : List (List ℕ)) → may_stand listed (with_text verb later).0 ≡ may_stand listed verb
-text-may listed verb later =
-    either (λ (r : Verb × List (List ℕ)). may_stand listed r.0 ≡ may_stand listed verb) (takes verb).text (entering (text later).0 verb, (text later).1) (verb, later)
-    (λ yes. entering-may listed (text later).0 verb) (λ no. refl)
-
 -- a command that is read stands, may stand there, and is listed as it should be
 pub record CommandStands (listed : Bool) (c : Command) : Type 0 where
   pub marked : c.listed ≡ listed
@@ -164,6 +102,6 @@ command_behind-stands listed given own later r is =
     let here = heading-stands listed given own later h.0 h.1 in
     subst (λ (r : Command × List (List ℕ)). CommandStands listed r.0) (Some-same (finished listed h.0.0 h.0.1) r h.2) (record {
       marked = refl;
-      sound = text-stands h.0.0.verb h.0.1 ∙ here.0;
-      may = text-may listed h.0.0.verb h.0.1 ∙ here.1;
+      sound = text-keeps stands (λ new old. (refl, refl, refl)) h.0.0.verb h.0.1 ∙ here.0;
+      may = text-keeps (may_stand listed) (λ new old. (refl, refl, refl)) h.0.0.verb h.0.1 ∙ here.1;
     })

@@ -166,39 +166,21 @@ verb_at-copy bs = refl
 -- a letter of a form is read
 verb_at-write : {b : ℕ} {form : Form} → SpellsForm b form → (more : List ℕ) → verb_at (b ∷ more) ≡ Some (ed.Write form, more)
 verb_at-write SpellsForm.plain more = refl
-verb_at-write SpellsForm.numbered more = refl
-verb_at-write SpellsForm.unambiguous more = refl
+verb_at-write _ more = refl
 
 -- a letter without parameters is read
 verb_at-plain : {b : ℕ} {verb : Verb} → PlainVerb b verb → (more : List ℕ) → verb_at (b ∷ more) ≡ Some (verb, more)
-verb_at-plain append more = refl
-verb_at-plain change more = refl
-verb_at-plain insert more = refl
-verb_at-plain delete more = refl
-verb_at-plain join more = refl
-verb_at-plain line_number more = refl
 verb_at-plain (write b form is) more = verb_at-write is more
-verb_at-plain undo more = refl
-verb_at-plain help more = refl
-verb_at-plain help_mode more = refl
-verb_at-plain prompt_mode more = refl
-verb_at-plain quit more = refl
-verb_at-plain quit_anyway more = refl
+verb_at-plain _ more = refl
 
 -- a letter with a path is read
 verb_at-file : {path : Option (List ℕ)} {b : ℕ} {verb : Verb} → FileVerb path b verb → (own : List ℕ) → verb_at (b ∷ own) ≡ file_verb b own
 verb_at-file read_file own = refl
-verb_at-file write_file own = refl
-verb_at-file edit own = refl
-verb_at-file edit_anyway own = refl
-verb_at-file file_name own = refl
+verb_at-file _ own = refl
 
 beside-file : {path : Option (List ℕ)} {b : ℕ} {verb : Verb} → FileVerb path b verb → beside_letter b (file_verbs path) ≡ Some verb
 beside-file read_file = refl
-beside-file write_file = refl
-beside-file edit = refl
-beside-file edit_anyway = refl
-beside-file file_name = refl
+beside-file _ = refl
 
 file_verb-complete : {path : Option (List ℕ)} {b : ℕ} {verb : Verb} → FileVerb path b verb → (own : List ℕ) → SpellsPath own path → file_verb b own ≡ Some (verb, [])
 file_verb-complete {path} {b} {verb} is own spells =
