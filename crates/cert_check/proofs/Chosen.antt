@@ -1,12 +1,13 @@
 -- Letters, texts and paths, and what is possible: what is written of them says what they are.
-use Rattle.std.proofs.Common.{◌≡◌, ◌<◌, ◌≤◌, ◌+◌, ◌/◌, ◌%◌, ◌==◌, ◌++◌, ◌∷◌, [], ℕ, suc, Bool, true, false, not, ◌&&◌, List, length, map, None, Some, inl, inr, arith, refl, ◌∙◌, sym, ap, subst}
-use Rattle.std.specs.Prelude.{codes, nat_eq, nat_lt}
+use Rattle.std.proofs.Common.{◌≡◌, ◌<◌, ◌≤◌, ◌+◌, ◌/◌, ◌%◌, ◌==◌, ◌++◌, ◌∷◌, [], ℕ, suc, Bool, true, false, not, ◌&&◌, List, length, map, None, Some, inl, inr, arith, refl, ◌∙◌, sym, ap, subst, append_assoc}
+use Rattle.std.specs.Prelude.{nat_eq, nat_lt}
 use Rattle.std.specs.List.{flat_map, list_any}
 use Rattle.std.specs.Cmp.Lexicographic.{pointwise}
-use Rattle.std.proofs.lemmas.Bool.{ltb-true, ltb-false}
+use Rattle.std.proofs.lemmas.Bool.{ltb-true, ltb-false, false≢true}
+use Rattle.std.proofs.lemmas.Cmp.{nat_list_eq_equiv}
 use Rattle.ed_rules.specs.Choices.{Choice}
 use Rattle.cert_check.specs.Text.{Word, sure_letters, letters_words, hexadecimal, is_itself, byte_text, choice_word, possible}
-use Rattle.cert_check.proofs.Separated.{Above, Above-append, AreWords, and-both, head-same, tail-same}
+use Rattle.cert_check.proofs.Separated.{Above, all_above, Above-from_test, Above-append, AreWords, AreWords-append, and-both, head-same, tail-same}
 use Rattle.cert_check.proofs.Worded.{test, cond-true, cond-false}
 
 letters-above : (p : ℕ) (marks : List Bool) → 32 < p → Above 32 (sure_letters p marks)
@@ -137,128 +138,84 @@ choice-same None (Some b) e = absurd (dash-differs (flat_map byte_text b) e)
 choice-same (Some a) None e = absurd (dash-differs (flat_map byte_text a) (sym e))
 choice-same (Some a) (Some b) e = ap (λ (t : List ℕ). Some t) (bytes-same a b (tail-same e))
 
-pub choices-are-words : (set : List Choice) → AreWords (map choice_word set)
-choices-are-words [] = tt
-choices-are-words (c ∷ set) = (choice-above c, choices-are-words set)
+-- words that are made of the elements of a list
+pub words-are-words : {A : Type 0} (f : A → Word) → ((x : A) → Above 32 (f x)) → (xs : List A) → AreWords (map f xs)
+words-are-words f above [] = tt
+words-are-words f above (x ∷ xs) = (above x, words-are-words f above xs)
+
+all-same : {A : Type 0} (f : A → Word) → ((x y : A) → f x ≡ f y → x ≡ y) → (a b : List A) → map f a ≡ map f b → a ≡ b
+all-same f same [] [] e = refl
+all-same f same [] (y ∷ b) e = absurd cc
+all-same f same (x ∷ a) [] e = absurd cc
+all-same f same (x ∷ a) (y ∷ b) e =
+    let word : f x ≡ f y = cc in
+    let words : map f a ≡ map f b = cc in
+    let first : x ≡ y = same x y word in
+    let rest : a ≡ b = all-same f same a b words in cc
 
 pub choices-same : (a b : List Choice) → map choice_word a ≡ map choice_word b → a ≡ b
-choices-same [] [] e = refl
-choices-same [] (y ∷ b) e = absurd cc
-choices-same (x ∷ a) [] e = absurd cc
-choices-same (x ∷ a) (y ∷ b) e =
-    let word : choice_word x ≡ choice_word y = cc in
-    let words : map choice_word a ≡ map choice_word b = cc in
-    let first : x ≡ y = choice-same x y word in
-    let rest : a ≡ b = choices-same a b words in cc
-
-pub paths-are-words : (paths : List (List ℕ)) → AreWords (map (λ path. choice_word (Some path)) paths)
-paths-are-words [] = tt
-paths-are-words (p ∷ paths) = (choice-above (Some p), paths-are-words paths)
+choices-same = all-same choice_word choice-same
 
 pub paths-same : (a b : List (List ℕ)) → map (λ path. choice_word (Some path)) a ≡ map (λ path. choice_word (Some path)) b → a ≡ b
-paths-same [] [] e = refl
-paths-same [] (y ∷ b) e = absurd cc
-paths-same (x ∷ a) [] e = absurd cc
-paths-same (x ∷ a) (y ∷ b) e =
-    let bytes : flat_map byte_text x ≡ flat_map byte_text y = cc in
-    let words : map (λ path. choice_word (Some path)) a ≡ map (λ path. choice_word (Some path)) b = cc in
-    let first : x ≡ y = bytes-same x y bytes in
-    let rest : a ≡ b = paths-same a b words in cc
+paths-same = all-same (λ path. choice_word (Some path)) (λ a b e. bytes-same a b (tail-same e))
 
 -- what is possible, by the words
-abbrev has_word : Word → List Word → Bool
-has_word w words = list_any (pointwise nat_eq w) words
-
-pub possible-words : (b : Bool) (w : Word) → Above 32 w → AreWords (possible b w)
+possible-words : (b : Bool) (w : Word) → Above 32 w → AreWords (possible b w)
 possible-words true w h = (h, tt)
 possible-words false w h = tt
 
-none-there : (a b c : Bool) → has_word (codes "none") (possible a (codes "none") ++ possible b (codes "plain") ++ possible c (codes "split")) ≡ a
-none-there true b c = refl
-none-there false true true = refl
-none-there false true false = refl
-none-there false false true = refl
-none-there false false false = refl
+pub two-words : (u v : Word) → all_above 32 u ≡ true → all_above 32 v ≡ true → (a b : Bool) → AreWords (possible a u ++ possible b v)
+two-words u v hu hv a b = AreWords-append (possible a u) (possible b v) (possible-words a u (Above-from_test 32 u hu)) (possible-words b v (Above-from_test 32 v hv))
 
-plain-there : (a b c : Bool) → has_word (codes "plain") (possible a (codes "none") ++ possible b (codes "plain") ++ possible c (codes "split")) ≡ b
-plain-there true true c = refl
-plain-there true false true = refl
-plain-there true false false = refl
-plain-there false true c = refl
-plain-there false false true = refl
-plain-there false false false = refl
+pub three-words : (u v w : Word) → all_above 32 u ≡ true → all_above 32 v ≡ true → all_above 32 w ≡ true → (a b c : Bool) → AreWords (possible a u ++ possible b v ++ possible c w)
+three-words u v w hu hv hw a b c =
+    AreWords-append (possible a u ++ possible b v) (possible c w) (two-words u v hu hv a b) (possible-words c w (Above-from_test 32 w hw))
 
-split-there : (a b c : Bool) → has_word (codes "split") (possible a (codes "none") ++ possible b (codes "plain") ++ possible c (codes "split")) ≡ c
-split-there true true true = refl
-split-there true true false = refl
-split-there true false true = refl
-split-there true false false = refl
-split-there false true true = refl
-split-there false true false = refl
-split-there false false true = refl
-split-there false false false = refl
+-- no word of a list is this one
+abbrev Lacks : Word → List Word → Type 0
+Lacks w words = list_any (pointwise nat_eq w) words ≡ false
+
+lacks-other : (w v : Word) (b : Bool) (rest : List Word) → pointwise nat_eq w v ≡ false → Lacks w rest → Lacks w (possible b v ++ rest)
+lacks-other w v true rest other h = rw other h
+lacks-other w v false rest other h = h
+
+lacks-one : (w v : Word) (b : Bool) → pointwise nat_eq w v ≡ false → Lacks w (possible b v)
+lacks-one w v true other = rw other refl
+lacks-one w v false other = refl
+
+has-first : (w : Word) (r s : List Word) → Lacks w s → w ∷ r ≡ s → ⊥
+has-first w r s h e =
+    let has : list_any (pointwise nat_eq w) (w ∷ r) ≡ true = rw (nat_list_eq_equiv.refl w) refl in
+    absurd (false≢true (sym h ∙ ap (list_any (pointwise nat_eq w)) (sym e) ∙ has))
+
+first-same : (w : Word) (a p : Bool) (r s : List Word) → Lacks w r → Lacks w s → possible a w ++ r ≡ possible p w ++ s → (a ≡ p) × (r ≡ s)
+first-same w true true r s h k e = (refl, cc)
+first-same w true false r s h k e = absurd (has-first w r s k e)
+first-same w false true r s h k e = absurd (has-first w s r h (sym e))
+first-same w false false r s h k e = (refl, e)
+
+last-same : (w : Word) (a p : Bool) → possible a w ≡ possible p w → a ≡ p
+last-same w true true e = refl
+last-same w true false e = absurd cc
+last-same w false true e = absurd cc
+last-same w false false e = refl
+
+-- where the words differ, each was possible in both or in neither
+pub two-same : (u v : Word) → pointwise nat_eq u v ≡ false → (a b p q : Bool) → possible a u ++ possible b v ≡ possible p u ++ possible q v → (a ≡ p) × (b ≡ q)
+two-same u v other a b p q e =
+    let first = first-same u a p (possible b v) (possible q v) (lacks-one u v b other) (lacks-one u v q other) e in
+    (first.0, last-same v b q first.1)
 
 pub record Same (a b c p q r : Bool) : Type 0 where
   pub first : a ≡ p
   pub second : b ≡ q
   pub third : c ≡ r
 
-pub replacements-same : (a b c p q r : Bool) →
-    possible a (codes "none") ++ possible b (codes "plain") ++ possible c (codes "split") ≡ possible p (codes "none") ++ possible q (codes "plain") ++ possible r (codes "split") →
-    Same a b c p q r
-replacements-same a b c p q r e = record {
-  first = sym (none-there a b c) ∙ ap (λ (ws : List Word). has_word (codes "none") ws) e ∙ none-there p q r;
-  second = sym (plain-there a b c) ∙ ap (λ (ws : List Word). has_word (codes "plain") ws) e ∙ plain-there p q r;
-  third = sym (split-there a b c) ∙ ap (λ (ws : List Word). has_word (codes "split") ws) e ∙ split-there p q r;
-}
-
-no-there : (a b : Bool) → has_word (codes "no") (possible a (codes "no") ++ possible b (codes "yes")) ≡ a
-no-there true b = refl
-no-there false true = refl
-no-there false false = refl
-
-yes-there : (a b : Bool) → has_word (codes "yes") (possible a (codes "no") ++ possible b (codes "yes")) ≡ b
-yes-there true true = refl
-yes-there true false = refl
-yes-there false true = refl
-yes-there false false = refl
-
-pub changed-same : (a b p q : Bool) → possible a (codes "no") ++ possible b (codes "yes") ≡ possible p (codes "no") ++ possible q (codes "yes") → (a ≡ p) × (b ≡ q)
-changed-same a b p q e = (
-  sym (no-there a b) ∙ ap (λ (ws : List Word). has_word (codes "no") ws) e ∙ no-there p q,
-  sym (yes-there a b) ∙ ap (λ (ws : List Word). has_word (codes "yes") ws) e ∙ yes-there p q,
-)
-
-nothing-there : (a b c : Bool) → has_word (codes "nothing") (possible a (codes "nothing") ++ possible b (codes "same") ++ possible c (codes "was")) ≡ a
-nothing-there true b c = refl
-nothing-there false true true = refl
-nothing-there false true false = refl
-nothing-there false false true = refl
-nothing-there false false false = refl
-
-same-there : (a b c : Bool) → has_word (codes "same") (possible a (codes "nothing") ++ possible b (codes "same") ++ possible c (codes "was")) ≡ b
-same-there true true c = refl
-same-there true false true = refl
-same-there true false false = refl
-same-there false true c = refl
-same-there false false true = refl
-same-there false false false = refl
-
-was-there : (a b c : Bool) → has_word (codes "was") (possible a (codes "nothing") ++ possible b (codes "same") ++ possible c (codes "was")) ≡ c
-was-there true true true = refl
-was-there true true false = refl
-was-there true false true = refl
-was-there true false false = refl
-was-there false true true = refl
-was-there false true false = refl
-was-there false false true = refl
-was-there false false false = refl
-
-pub undo-same : (a b c p q r : Bool) →
-    possible a (codes "nothing") ++ possible b (codes "same") ++ possible c (codes "was") ≡ possible p (codes "nothing") ++ possible q (codes "same") ++ possible r (codes "was") →
-    Same a b c p q r
-undo-same a b c p q r e = record {
-  first = sym (nothing-there a b c) ∙ ap (λ (ws : List Word). has_word (codes "nothing") ws) e ∙ nothing-there p q r;
-  second = sym (same-there a b c) ∙ ap (λ (ws : List Word). has_word (codes "same") ws) e ∙ same-there p q r;
-  third = sym (was-there a b c) ∙ ap (λ (ws : List Word). has_word (codes "was") ws) e ∙ was-there p q r;
-}
+pub three-same : (u v w : Word) → pointwise nat_eq u v ≡ false → pointwise nat_eq u w ≡ false → pointwise nat_eq v w ≡ false → (a b c p q r : Bool) →
+    possible a u ++ possible b v ++ possible c w ≡ possible p u ++ possible q v ++ possible r w → Same a b c p q r
+three-same u v w uv uw vw a b c p q r e =
+    let behind : Bool → Bool → List Word = λ y z. possible y v ++ possible z w in
+    let lacks : (y z : Bool) → Lacks u (behind y z) = λ y z. lacks-other u v y (possible z w) uv (lacks-one u w z uw) in
+    let first = first-same u a p (behind b c) (behind q r) (lacks b c) (lacks q r) (sym (append_assoc (possible a u) _ _) ∙ e ∙ append_assoc (possible p u) _ _) in
+    let later = two-same v w vw b c q r first.1 in
+    record { first = first.0; second = later.0; third = later.1 }

@@ -8,13 +8,13 @@ use Rattle.std.proofs.lemmas.Fmt.{decimal_injective, decimal_by_steps}
 use Rattle.ed_rules.specs.declared.state.Old.{Old}
 use Rattle.ed_rules.specs.declared.state.State.{State}
 use Rattle.cert_check.specs.Certificates.{Looped, Note, Certificate}
-use Rattle.cert_check.specs.Text.{Word, Line, possible, limit_word, old_lines, state_lines, headed_lines, looped_lines, note_lines, bounds_line, writes_line, opening_lines, closing_lines, text_of}
+use Rattle.cert_check.specs.Text.{Word, Line, choice_word, limit_word, old_lines, state_lines, headed_lines, looped_lines, note_lines, bounds_line, writes_line, opening_lines, closing_lines, text_of}
 use Rattle.ed_rules.specs.Formed.{OldIsFormed, StateIsFormed}
 use Rattle.cert_check.specs.HasText.{is_few, is_limit, is_within, LoopedHasText, NoteHasText, HasText, IsText}
-use Rattle.cert_check.proofs.Separated.{Above, Above-from_test, AreWords-append, AreLinesOfWords, AreLinesOfWords-append, and-both, lines-same}
+use Rattle.cert_check.proofs.Separated.{Above, Above-from_test, AreLinesOfWords, AreLinesOfWords-append, and-both, lines-same}
 use Rattle.cert_check.proofs.Worded.{decimal-above}
 use Rattle.cert_check.proofs.Zoned.{zone-said, bounds-are-words}
-use Rattle.cert_check.proofs.Chosen.{marks-are-words, choice-above, choice-same, choices-are-words, paths-are-words, paths-same, possible-words}
+use Rattle.cert_check.proofs.Chosen.{marks-are-words, choice-above, choice-same, words-are-words, paths-same, two-words, three-words}
 use Rattle.cert_check.proofs.Unambiguous.{first-line, later-lines, first-word, later-words, state-same, notes-same}
 
 pub few : (n : ℕ) → is_few n ≡ true → n < 2 ^ 64
@@ -59,32 +59,23 @@ state-words s h = (
   (
     (Above-from_test 32 (codes "marks") refl, marks-are-words s.marks),
     (
-      (Above-from_test 32 (codes "patterns") refl, choices-are-words s.patterns),
+      (Above-from_test 32 (codes "patterns") refl, words-are-words choice_word choice-above s.patterns),
       (
         (
           Above-from_test 32 (codes "replacements") refl,
-          AreWords-append (possible s.replacements.none (codes "none") ++ possible s.replacements.plain (codes "plain")) (possible s.replacements.split (codes "split"))
-              (AreWords-append (possible s.replacements.none (codes "none")) (possible s.replacements.plain (codes "plain"))
-              (possible-words s.replacements.none (codes "none") (Above-from_test 32 (codes "none") refl))
-              (possible-words s.replacements.plain (codes "plain") (Above-from_test 32 (codes "plain") refl)))
-              (possible-words s.replacements.split (codes "split") (Above-from_test 32 (codes "split") refl)),
+          three-words (codes "none") (codes "plain") (codes "split") refl refl refl s.replacements.none s.replacements.plain s.replacements.split,
         ),
         (
-          (Above-from_test 32 (codes "names") refl, choices-are-words s.names),
+          (Above-from_test 32 (codes "names") refl, words-are-words choice_word choice-above s.names),
           (
             (
               Above-from_test 32 (codes "changed") refl,
-              AreWords-append (possible s.changed.no (codes "no")) (possible s.changed.yes (codes "yes"))
-                  (possible-words s.changed.no (codes "no") (Above-from_test 32 (codes "no") refl)) (possible-words s.changed.yes (codes "yes") (Above-from_test 32 (codes "yes") refl)),
+              two-words (codes "no") (codes "yes") refl refl s.changed.no s.changed.yes,
             ),
             (
               (
                 Above-from_test 32 (codes "undo") refl,
-                AreWords-append (possible s.undo.nothing (codes "nothing") ++ possible s.undo.same (codes "same")) (possible (is_some s.undo.was) (codes "was"))
-                    (AreWords-append (possible s.undo.nothing (codes "nothing")) (possible s.undo.same (codes "same"))
-                    (possible-words s.undo.nothing (codes "nothing") (Above-from_test 32 (codes "nothing") refl))
-                    (possible-words s.undo.same (codes "same") (Above-from_test 32 (codes "same") refl)))
-                    (possible-words (is_some s.undo.was) (codes "was") (Above-from_test 32 (codes "was") refl)),
+                three-words (codes "nothing") (codes "same") (codes "was") refl refl refl s.undo.nothing s.undo.same (is_some s.undo.was),
               ),
               old-words s.undo.was h.old,
             ),
@@ -144,7 +135,7 @@ certificate-words c h =
     (AreLinesOfWords-append (headed_lines (codes "end") c.last) (bounds_line (codes "final") c.low c.high ∷ writes_line c.writes ∷ [])
     (headed-words (codes "end") c.last (Above-from_test 32 (codes "end") refl) h.last) (
       (Above-from_test 32 (codes "final") refl, (decimal-above c.low (few c.low final.0), (limit-above c.high final.1, tt))),
-      ((Above-from_test 32 (codes "writes") refl, paths-are-words c.writes), tt),
+      ((Above-from_test 32 (codes "writes") refl, words-are-words (λ path. choice_word (Some path)) (λ path. choice-above (Some path)) c.writes), tt),
     ))
 
 abbrev pub certificate_made : Option (List ℕ) → ℕ → Option ℕ → List Note → State → ℕ → Option ℕ → List (List ℕ) → Certificate

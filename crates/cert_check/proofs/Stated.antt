@@ -16,9 +16,9 @@ use Rattle.cert_check.specs.declared.lines.Found.{Found}
 use Rattle.cert_check.specs.Text.{Word, spaced, bounds_words, line_text, possible, zone_line, marks_line, choices_line, replacements_line, changed_line, undo_line, old_lines, state_lines}
 use Rattle.cert_check.specs.Pieces.{found_line, texts, IsOf, alone, marked_lines, MarkedIsFormed, undo_lines, UndoIsFormed, IsSomeReplacement, IsSomeChange, IsFound}
 use Rattle.cert_check.specs.Reading.{all_marks}
-use Rattle.cert_check.proofs.Separated.{Above-from_test, AreWords, AreWords-append, IsLineOfWords, and-both, tail-same, words-same, line-same}
+use Rattle.cert_check.proofs.Separated.{Above-from_test, AreWords, IsLineOfWords, and-both, tail-same, words-same, line-same}
 use Rattle.cert_check.proofs.Zoned.{zone-said, bounds-are-words}
-use Rattle.cert_check.proofs.Chosen.{possible-words, undo-same}
+use Rattle.cert_check.proofs.Chosen.{three-words, three-same}
 use Rattle.cert_check.proofs.Unambiguous.{state-same, zone-same, later-words}
 use Rattle.cert_check.proofs.OneText.{state-words}
 use Rattle.cert_check.proofs.Pieces.{first-of, Continued, GoesOn, Expects, Determined}
@@ -326,11 +326,7 @@ undo-found = record {
 found-words : (f : Found) → IsLineOfWords (found_line f)
 found-words f = (
   Above-from_test 32 (codes "undo") refl,
-  AreWords-append (possible f.nothing (codes "nothing") ++ possible f.same (codes "same")) (possible f.was (codes "was"))
-      (AreWords-append (possible f.nothing (codes "nothing")) (possible f.same (codes "same"))
-      (possible-words f.nothing (codes "nothing") (Above-from_test 32 (codes "nothing") refl))
-      (possible-words f.same (codes "same") (Above-from_test 32 (codes "same") refl)))
-      (possible-words f.was (codes "was") (Above-from_test 32 (codes "was") refl)),
+  three-words (codes "nothing") (codes "same") (codes "was") refl refl refl f.nothing f.same f.was,
 )
 
 abbrev found_of : Undo → Found
@@ -366,6 +362,6 @@ undo-old f h was = record {
   goes_on = λ whole back after k same.
       let lines = ap (λ (l : List (List ℕ)). l ++ back) k.is ∙ same in
       let words = line-same (found_line (found_of k.value)) (found_line f) (found-words (found_of k.value)) (found-words f) (first-of lines) in
-      let found = undo-same k.value.nothing k.value.same (is_some k.value.was) f.nothing f.same f.was (later-words words) in
+      let found = three-same (codes "nothing") (codes "same") (codes "was") refl refl refl k.value.nothing k.value.same (is_some k.value.was) f.nothing f.same f.was (later-words words) in
       was-follows k.value.was back after (found.third ∙ was) k.has.1 (below lines);
 }

@@ -16,7 +16,7 @@ use Rattle.ed_rules.specs.Formed.{ZoneIsFormed, OldIsFormed, StateIsFormed}
 use Rattle.cert_check.specs.HasText.{LoopedHasText, NoteHasText}
 use Rattle.cert_check.proofs.Separated.{head-same}
 use Rattle.cert_check.proofs.Zoned.{zone-said, bounds-same}
-use Rattle.cert_check.proofs.Chosen.{marks-same, choices-same, Same, replacements-same, changed-same, undo-same}
+use Rattle.cert_check.proofs.Chosen.{marks-same, choices-same, Same, two-same, three-same}
 
 pub first-line : {a b : Line} {r s : List Line} → a ∷ r ≡ b ∷ s → a ≡ b
 first-line e = cc
@@ -97,9 +97,9 @@ state-same a b r s h k zone =
     let changed = later-lines names in
     let undo = later-lines changed in
     let old = later-lines undo in
-    let kinds = replacements-same a.replacements.none a.replacements.plain a.replacements.split b.replacements.none b.replacements.plain b.replacements.split (later-words (first-line replacements)) in
-    let sides = changed-same a.changed.no a.changed.yes b.changed.no b.changed.yes (later-words (first-line changed)) in
-    let undone = undo-same a.undo.nothing a.undo.same (is_some a.undo.was) b.undo.nothing b.undo.same (is_some b.undo.was) (later-words (first-line undo)) in
+    let kinds = three-same (codes "none") (codes "plain") (codes "split") refl refl refl a.replacements.none a.replacements.plain a.replacements.split b.replacements.none b.replacements.plain b.replacements.split (later-words (first-line replacements)) in
+    let sides = two-same (codes "no") (codes "yes") refl a.changed.no a.changed.yes b.changed.no b.changed.yes (later-words (first-line changed)) in
+    let undone = three-same (codes "nothing") (codes "same") (codes "was") refl refl refl a.undo.nothing a.undo.same (is_some a.undo.was) b.undo.nothing b.undo.same (is_some b.undo.was) (later-words (first-line undo)) in
     let was = old-same a.undo.was b.undo.was r s undone.third h.old k.old old in (
       state-by a b
           (zone-same a.marks b.marks a.zone b.zone h.zone k.zone (later-words (first-line zone)))
