@@ -1,5 +1,6 @@
 -- Pieces of a text: a piece that can't be read is a fault of the text in which it stands.
-use Rattle.std.proofs.Common.{◌≡◌, ◌++◌, ◌∷◌, [], ℕ, List, Option, Result, Err, None, Some, arith, refl, ◌∙◌, sym, ap, subst, append_assoc, append-nil, length-append}
+use Rattle.std.proofs.Common.{◌≡◌, ◌++◌, ◌∷◌, [], ℕ, List, Option, Result, Ok, Err, None, Some, arith, refl, ◌∙◌, sym, ap, subst, append_assoc, append-nil, length-append}
+use Rattle.std.specs.Prelude.{IsErrAnd}
 use Rattle.ed_base.specs.Lines.{newline, IsLine, bytes_of}
 use Rattle.cert_check.specs.declared.fault.CertFault.{CertFault}
 use Rattle.cert_check.specs.declared.fault.CertFault.TheVariants.{Version, Line, Size, Memory}
@@ -55,6 +56,15 @@ pub record Expects (kind : List (List ℕ) → Type 0) (front : List (List ℕ))
   pub continued : (lines : List (List ℕ)) → next lines → Continued kind (front ++ lines)
   pub goes_on : (whole back after : List (List ℕ)) → kind whole → whole ++ back ≡ front ++ after → GoesOn next after
 
+parted-after : (front above : List (List ℕ)) (old mid rest : List ℕ) → old ≡ bytes_of front ++ mid → mid ≡ bytes_of above ++ rest → old ≡ bytes_of (front ++ above) ++ rest
+parted-after front above old mid rest p q =
+    p ∙ ap (λ (bs : List ℕ). bytes_of front ++ bs) q ∙ sym (append_assoc (bytes_of front) (bytes_of above) rest) ∙ ap (λ (bs : List ℕ). bs ++ rest) (sym (bytes_of-append front above))
+
+begun-after : (kind : List (List ℕ) → Type 0) (front above more after : List (List ℕ)) → kind (front ++ (above ++ more) ++ after) → kind (front ++ above ++ (more ++ after))
+begun-after kind front above more after =
+    subst kind
+    (append_assoc front (above ++ more) after ∙ ap (λ (ls : List (List ℕ)). front ++ ls) (append_assoc above more after) ∙ sym (append_assoc front above (more ++ after)))
+
 strange-after : (kind next : List (List ℕ) → Type 0) (front : List (List ℕ)) (old mid : Left) (number : ℕ) → Expects kind front next → Took front old mid →
     IsStrange next mid number → IsStrange kind old number
 strange-after kind next front old mid number e t f =
@@ -65,17 +75,11 @@ strange-after kind next front old mid number e t f =
       above = front ++ f.above;
       line = f.line;
       after = f.after;
-      parted =
-          t.parted ∙ ap (λ (bs : List ℕ). bytes_of front ++ bs) f.parted ∙ sym (append_assoc (bytes_of front) (bytes_of f.above) (f.line ++ newline ∷ f.after))
-          ∙ ap (λ (bs : List ℕ). bs ++ (f.line ++ newline ∷ f.after)) (sym (bytes_of-append front f.above));
+      parted = parted-after front f.above _ _ (f.line ++ newline ∷ f.after) t.parted f.parted;
       is_line = f.is_line;
       number_is = omega (arith, length-append front f.above);
       more = f.more ++ go.more;
-      begun =
-          subst kind
-          (append_assoc front (f.above ++ f.more) go.more ∙ ap (λ (ls : List (List ℕ)). front ++ ls) (append_assoc f.above f.more go.more)
-          ∙ sym (append_assoc front f.above (f.more ++ go.more)))
-          go.is;
+      begun = begun-after kind front f.above f.more go.more go.is;
       stuck = λ whole back after k same.
           let on = e.goes_on whole back (f.above ++ f.line ∷ after) k (same ∙ append_assoc front f.above (f.line ∷ after)) in
           f.stuck on.here on.rest after on.is (sym on.parted);
@@ -88,16 +92,10 @@ short-after kind next front old mid e t f =
     record {
       above = front ++ f.above;
       last = f.last;
-      parted =
-          t.parted ∙ ap (λ (bs : List ℕ). bytes_of front ++ bs) f.parted ∙ sym (append_assoc (bytes_of front) (bytes_of f.above) f.last)
-          ∙ ap (λ (bs : List ℕ). bs ++ f.last) (sym (bytes_of-append front f.above));
+      parted = parted-after front f.above _ _ f.last t.parted f.parted;
       is_line = f.is_line;
       more = f.more ++ go.more;
-      begun =
-          subst kind
-          (append_assoc front (f.above ++ f.more) go.more ∙ ap (λ (ls : List (List ℕ)). front ++ ls) (append_assoc f.above f.more go.more)
-          ∙ sym (append_assoc front f.above (f.more ++ go.more)))
-          go.is;
+      begun = begun-after kind front f.above f.more go.more go.is;
       stuck = λ whole back k same.
           let on = e.goes_on whole back f.above k same in
           f.stuck on.here on.rest on.is (sym on.parted);
@@ -113,11 +111,11 @@ fault-after kind next front old mid Memory e t f = tt
 
 -- the exit by a piece that can't be read
 pub exits : {A B : Type 0} {spell : B → List text.Line} {Has : B → Type 0} {next : List (List ℕ) → Type 0} {front : List (List ℕ)} {old mid : Left}
-    (value : A → B) (new : Left) (r : Result A CertFault) (given fault : CertFault) → r ≡ Err given → given ≡ fault →
+    (value : A → B) (new : Left) (r : Result A CertFault) (fault : CertFault) → IsErrAnd r (λ given. given ≡ fault) →
     Expects (IsOf spell Has) front next → Took front old mid → IsFault next mid fault → Reads value spell Has old new r
-exits {A} {B} {spell} {Has} {next} {front} {old} {mid} value new r given fault is same e t h =
-    subst (λ (q : Result A CertFault). Reads value spell Has old new q) (sym (is ∙ ap (λ (x : CertFault). Err x) same))
-    (fault-after (IsOf spell Has) next front old mid fault e t h)
+exits value new (Ok x) fault same e t h = absurd same
+exits {A} {B} {spell} {Has} {next} {front} {old} {mid} value new (Err given) fault same e t h =
+    subst (λ (x : CertFault). Reads value spell Has old new (Err x)) (sym same) (fault-after (IsOf spell Has) next front old mid fault e t h)
 
 -- a piece of one line
 pub line-short : {A : Type 0} (spell : A → text.Line) (Has : A → Type 0) (v : A) (old : Left) → Has v → IsLine old.bytes → IsShort (IsOf (alone spell) Has) old

@@ -1,4 +1,3 @@
-use Rattle.std.proofs.lemmas.Result.{err_from_is_err_and}
 use Rattle.std.proofs.Common.{sym}
 use Rattle.cert_check.specs.Certificates.{looped_value}
 use Rattle.cert_check.specs.Text.{state_lines}
@@ -8,22 +7,18 @@ use Rattle.cert_check.proofs.Noted.{list-state, list-inner, took-is}
 use Rattle.cert_check.proofs.notes.read_list.Goals as goal
 
 pub returns-in_err-invariant : goal.returns-in_err-invariant
-returns-in_err-invariant c =
-    let p = err_from_is_err_and c.from_residual.result c.from_residual.ensures.1 in
-    record {
-      exact =
-          exits looped_value c.read_state.new.cursor c.from_residual.result p.0 c.in_err-invariant.field-0.0 p.1 p.2 list-state
-          (took-none c.args.cursor.now) c.in_err-invariant.ensures.exact;
-    }
+returns-in_err-invariant c = record {
+  exact =
+      exits looped_value c.read_state.new.cursor c.from_residual.result c.in_err-invariant.field-0.0 c.from_residual.ensures.1
+      list-state (took-none c.args.cursor.now) c.in_err-invariant.ensures.exact;
+}
 
 pub returns-in_err-inner : goal.returns-in_err-inner
-returns-in_err-inner c =
-    let p = err_from_is_err_and c.from_residual-in_err-inner.result c.from_residual-in_err-inner.ensures.1 in
-    record {
-      exact =
-          exits looped_value c.read_inner.new.cursor c.from_residual-in_err-inner.result p.0 c.in_err-inner.field-0.0 p.1 p.2 (list-inner c.in_ok-invariant.invariant c.in_ok-invariant.ensures.exact.0)
-          c.in_ok-invariant.ensures.exact.1 c.in_err-inner.ensures.exact;
-    }
+returns-in_err-inner c = record {
+  exact =
+      exits looped_value c.read_inner.new.cursor c.from_residual-in_err-inner.result c.in_err-inner.field-0.0 c.from_residual-in_err-inner.ensures.1
+      (list-inner c.in_ok-invariant.invariant c.in_ok-invariant.ensures.exact.0) c.in_ok-invariant.ensures.exact.1 c.in_err-inner.ensures.exact;
+}
 
 pub returns : goal.returns
 returns c = record {

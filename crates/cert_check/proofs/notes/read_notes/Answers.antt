@@ -1,6 +1,5 @@
 use Rattle.std.proofs.Common.{◌∷◌, [], ◌∙◌, ap, map, true, List}
 use Rattle.std.proofs.lemmas.List.{map-append}
-use Rattle.std.proofs.lemmas.Result.{err_from_is_err_and}
 use Rattle.cert_check.specs.declared.certificate.Note as public
 use Rattle.cert_check.specs.Certificates.{note_value}
 use Rattle.cert_check.proofs.Pieces.{took-none, exits}
@@ -8,23 +7,18 @@ use Rattle.cert_check.proofs.Noted.{notes-turn, notes-note, notes-step, took-not
 use Rattle.cert_check.proofs.notes.read_notes.Goals as goal
 
 pub returns-in_err-another : goal.returns-in_err-another
-returns-in_err-another c =
-    let p = err_from_is_err_and c.from_residual.result c.from_residual.ensures.1 in
-    record {
-      exact =
-          exits (λ notes. map note_value notes.items) c.read_either.new.cursor c.from_residual.result p.0 c.in_err-another.field-0.0 p.1 p.2 notes-turn (took-none c.args.cursor.now)
-          c.in_err-another.ensures.exact;
-    }
+returns-in_err-another c = record {
+  exact =
+      exits (λ notes. map note_value notes.items) c.read_either.new.cursor c.from_residual.result c.in_err-another.field-0.0 c.from_residual.ensures.1
+      notes-turn (took-none c.args.cursor.now) c.in_err-another.ensures.exact;
+}
 
 pub returns-in_err-note : goal.returns-in_err-note
-returns-in_err-note c =
-    let p = err_from_is_err_and c.from_residual-in_err-note.result c.from_residual-in_err-note.ensures.1 in
-    record {
-      exact =
-          exits (λ notes. map note_value notes.items) c.read_note.new.cursor c.from_residual-in_err-note.result p.0 c.in_err-note.field-0.0 p.1 p.2
-          (notes-note (map note_value c.notes.notes.items) c.notes.invariant.0)
-          (took-notes (map note_value c.notes.notes.items) c.notes.another true c.notes-test.true c.notes.invariant.1) c.in_err-note.ensures.exact;
-    }
+returns-in_err-note c = record {
+  exact =
+      exits (λ notes. map note_value notes.items) c.read_note.new.cursor c.from_residual-in_err-note.result c.in_err-note.field-0.0 c.from_residual-in_err-note.ensures.1
+      (notes-note (map note_value c.notes.notes.items) c.notes.invariant.0) (took-notes (map note_value c.notes.notes.items) c.notes.another true c.notes-test.true c.notes.invariant.1) c.in_err-note.ensures.exact;
+}
 
 pub notes-preserved : goal.notes-preserved
 notes-preserved c =

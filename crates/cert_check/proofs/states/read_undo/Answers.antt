@@ -1,23 +1,18 @@
-use Rattle.std.proofs.lemmas.Result.{err_from_is_err_and}
 use Rattle.cert_check.specs.Pieces.{same}
 use Rattle.cert_check.proofs.Pieces.{took-none, exits}
 use Rattle.cert_check.proofs.Stated.{was-true, undo-found, undo-old}
 use Rattle.cert_check.proofs.states.read_undo.Goals as goal
 
 pub returns-in_err-found : goal.returns-in_err-found
-returns-in_err-found c =
-    let p = err_from_is_err_and c.from_residual.result c.from_residual.ensures.1 in
-    record {
-      exact =
-          exits same c.read_found.new.cursor c.from_residual.result p.0 c.in_err-found.field-0.0 p.1 p.2 undo-found (took-none c.args.cursor.now)
-          c.in_err-found.ensures.exact;
-    }
+returns-in_err-found c = record {
+  exact =
+      exits same c.read_found.new.cursor c.from_residual.result c.in_err-found.field-0.0 c.from_residual.ensures.1
+      undo-found (took-none c.args.cursor.now) c.in_err-found.ensures.exact;
+}
 
 pub returns-in_err-old : goal.returns-in_err-old
-returns-in_err-old c =
-    let p = err_from_is_err_and c.from_residual-in_err-old.result c.from_residual-in_err-old.ensures.1 in
-    record {
-      exact =
-          exits same c.read_marked.new.cursor c.from_residual-in_err-old.result p.0 c.in_err-old.field-0.0 p.1 p.2
-          (undo-old c.in_ok-found.found c.in_ok-found.ensures.exact.0 (was-true c.in_ok-found.found.was c.if-not-found.false)) c.in_ok-found.ensures.exact.1 c.in_err-old.ensures.exact;
-    }
+returns-in_err-old c = record {
+  exact =
+      exits same c.read_marked.new.cursor c.from_residual-in_err-old.result c.in_err-old.field-0.0 c.from_residual-in_err-old.ensures.1
+      (undo-old c.in_ok-found.found c.in_ok-found.ensures.exact.0 (was-true c.in_ok-found.found.was c.if-not-found.false)) c.in_ok-found.ensures.exact.1 c.in_err-old.ensures.exact;
+}
