@@ -1,6 +1,6 @@
 -- How the next command leads a session on: one that is done, one that asks and is answered, and one that fails.
 use Rattle.std.proofs.Common.{◌≡◌, ℕ, List, [], ◌∷◌, ◌++◌, Bool, true, false, Option, Some, None, Result, Ok, Err, refl, sym, ap, ◌∙◌, subst, ◌⊎◌, inl, inr, append-nil, drop}
-use Rattle.std.specs.Prelude.{◌≢◌, IsOkAnd, IfSome}
+use Rattle.std.specs.Prelude.{◌≢◌, IsOkAnd, IfSome, is_some}
 use Rattle.ed_base.specs.declared.fault.Fault.{Fault}
 use Rattle.ed_base.specs.declared.fault.Fault.TheVariants as fault
 use Rattle.ed_syntax.specs.declared.request.Answer.{Answer}
@@ -245,16 +245,16 @@ module _ (v : SessionValue) (c : Command) (goes : goes_unprompted v.phase v.turn
   passes_asking new r asks now turns left fault present none = goes_asking v c go at pending running new r asks now (comes_still v new goes now turns left fault present) none present
 
   module _ (r : Request) (asks : command v.present.state c None ≡ Ok (Asks r)) where
-    pub passes_awaited : awaited v ≡ Some r
+    passes_awaited : awaited v ≡ Some r
     passes_awaited = awaits_it v c go at pending running r asks
 
-    pub passes_answered : (a : Answer) (new : SessionValue) (o : Outcome) (output : List ℕ) (writes : Option ℕ) → writes ≡ bytes_of_write r → command v.present.state c (Some a) ≡ Ok (Makes o) → output ≡ o.output
+    passes_answered : (a : Answer) (new : SessionValue) (o : Outcome) (output : List ℕ) (writes : Option ℕ) → writes ≡ bytes_of_write r → command v.present.state c (Some a) ≡ Ok (Makes o) → output ≡ o.output
         → new.phase ≡ phases.Between → new.turns ≡ turns_after v.turns → new.steps ≡ steps_after v.turns v.steps → new.fault ≡ v.fault → new.present ≡ turned c.verb (with_state o.state v.present)
         → new.pending ≡ output ++ counted v.present.silent (length_counted writes a) → Answers v r a new
     passes_answered a new o output writes counts done is now turns left fault present none =
         answers_done v c go at pending running r asks a new o output writes counts done is (comes_later v new (turned c.verb (with_state o.state v.present)) now turns left fault present) none
 
-    pub passes_refused : (a : Answer) (new : SessionValue) (f reported : Fault) (w : List ℕ) → Reported v.present.help f reported w
+    passes_refused : (a : Answer) (new : SessionValue) (f reported : Fault) (w : List ℕ) → Reported v.present.help f reported w
         → (f ≢ fault.Memory → (command v.present.state c (Some a) ≡ Err f) ⊎ ((f ≡ fault.File) × ((q : Request) × (command v.present.state c (Some a) ≡ Ok (Asks q)))))
         → new.phase ≡ phases.Over (Err reported) → new.present.help ≡ v.present.help → new.pending ≡ w → Answers v r a new
     passes_refused a new f reported w rep is over help none = answers_fail v c go at pending running r asks a new f reported w rep is over help none
@@ -265,7 +265,7 @@ gives_request old new (request.Read path) w = w
 gives_request old new (request.Write path bytes) w = w
 
 -- what the next command asks for
-pub asks_it : (writes : Option ℕ) (s : State) (t : Option Turns) (xs : List Step) (d : Command) → ((c : Command) × AsksFor writes s t xs c) → next_command t xs ≡ Some d → AsksFor writes s t xs d
+asks_it : (writes : Option ℕ) (s : State) (t : Option Turns) (xs : List Step) (d : Command) → ((c : Command) × AsksFor writes s t xs c) → next_command t xs ≡ Some d → AsksFor writes s t xs d
 asks_it writes s t xs d asks next = let is = asks.1.next.comes in let same : asks.0 ≡ d = cc in subst (AsksFor writes s t xs) same asks.1
 
 -- a session that waits has a command that asks
@@ -273,6 +273,43 @@ pub waiting_keeps : (p : Phase) (writes : Option ℕ) (s : State) (t : Option Tu
     ((c : Command) × AsksFor writes s t xs c) × (pending ≡ [])
 waiting_keeps p writes s t xs pending e keeps = subst (λ q. KeepsPhase q writes s t xs pending) e keeps
 
--- the answer to what is awaited
-pub if_awaited : (old v : SessionValue) (r : Request) (a : Answer) (new : SessionValue) → v ≡ old → awaited v ≡ Some r → Answers v r a new → IfSome (awaited old) (λ q. Answers old q a new)
-if_awaited old v r a new same is x = subst (λ u. IfSome (awaited u) (λ q. Answers u q a new)) same (rw is x)
+-- a session that waits, by what it holds: its next command asks, and nothing is to be handed out
+pub record Awaiting (old v : SessionValue) (writes : Option ℕ) (x : Command) : Type 0 where
+  pub same : v ≡ old
+  pub at : v.phase ≡ phases.Waiting
+  pub asks : AsksFor writes v.present.state v.turns v.steps x
+  pub none : v.pending ≡ []
+
+pub awaiting : (old v : SessionValue) (writes : Option ℕ) (x : Command) → v ≡ old → old.phase ≡ phases.Waiting →
+    KeepsPhase v.phase writes v.present.state v.turns v.steps v.pending → next_command v.turns v.steps ≡ Some x → Awaiting old v writes x
+awaiting old v writes x same waiting held next =
+    let at : v.phase ≡ phases.Waiting = ap (λ u. u.phase) same ∙ waiting in
+    let keeps = waiting_keeps v.phase writes v.present.state v.turns v.steps v.pending at held in
+    record { same = same; at = at; asks = asks_it writes v.present.state v.turns v.steps x keeps.0 next; none = keeps.1 }
+
+module _ {old v : SessionValue} {writes : Option ℕ} {x : Command} (w : Awaiting old v writes x) where
+  goes_then : goes_unprompted v.phase v.turns ≡ true
+  goes_then = ap (λ p. goes_unprompted p v.turns) w.at
+
+  pub awaits_asked : (r : Request) → command v.present.state x None ≡ Ok (Asks r) → awaited old ≡ Some r
+  awaits_asked r asks = subst (λ u. awaited u ≡ Some r) w.same (passes_awaited v x goes_then w.asks.next w.none r asks)
+
+  pub awaits_something : is_some (awaited old) ≡ true
+  awaits_something = ap is_some (awaits_asked w.asks.request w.asks.asks)
+
+  -- the answer to what is awaited
+  if_awaited : (a : Answer) (new : SessionValue) → Answers v w.asks.request a new → IfSome (awaited old) (λ q. Answers old q a new)
+  if_awaited a new answers =
+      subst (λ u. IfSome (awaited u) (λ q. Answers u q a new)) w.same (rw (passes_awaited v x goes_then w.asks.next w.none w.asks.request w.asks.asks) answers)
+
+  pub takes_answer : (a : Answer) (new : SessionValue) (o : Outcome) (output : List ℕ) → command v.present.state x (Some a) ≡ Ok (Makes o) → output ≡ o.output
+      → new.phase ≡ phases.Between → new.turns ≡ turns_after v.turns → new.steps ≡ steps_after v.turns v.steps → new.fault ≡ v.fault → new.present ≡ turned x.verb (with_state o.state v.present)
+      → new.pending ≡ output ++ counted v.present.silent (length_counted writes a) → IfSome (awaited old) (λ q. Answers old q a new)
+  takes_answer a new o output done is now turns left fault present pending =
+      if_awaited a new (passes_answered v x goes_then w.asks.next w.none w.asks.request w.asks.asks a new o output writes w.asks.writes_it done is now turns left fault present pending)
+
+  pub fails_answer : (a : Answer) (new : SessionValue) (f reported : Fault) (told : List ℕ) → Reported v.present.help f reported told
+      → (f ≢ fault.Memory → (command v.present.state x (Some a) ≡ Err f) ⊎ ((f ≡ fault.File) × ((q : Request) × (command v.present.state x (Some a) ≡ Ok (Asks q)))))
+      → new.phase ≡ phases.Over (Err reported) → new.present.help ≡ v.present.help → new.pending ≡ told → IfSome (awaited old) (λ q. Answers old q a new)
+  fails_answer a new f reported told rep is over help pending =
+      if_awaited a new (passes_refused v x goes_then w.asks.next w.none w.asks.request w.asks.asks a new f reported told rep is over help pending)

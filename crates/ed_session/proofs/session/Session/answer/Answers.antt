@@ -1,125 +1,59 @@
-use Rattle.std.proofs.Common.{◌≡◌, ◌≢◌, ◌≤◌, ◌+◌, ◌∙◌, ◌++◌, ap, sym, refl, subst, inl, inr, Some, Err}
-use Rattle.std.specs.Prelude.{is_some}
+use Rattle.std.proofs.Common.{◌≡◌, ◌≢◌, ◌≤◌, ◌+◌, ◌∙◌, ◌++◌, ap, refl, subst, inl, inr, Some, Err}
 use Rattle.ed_base.specs.declared.fault.Fault.TheVariants.{File, Memory}
 use Rattle.ed_syntax.specs.Applied.{command}
 use Rattle.ed_syntax.specs.PublicTypes.{command_value}
-use Rattle.ed_session.specs.Insides.{counted, goes_unprompted}
-use Rattle.ed_session.specs.Sessions.{awaited, is_over}
-use Rattle.ed_session.proofs.Commanding.{waiting_keeps, asks_it, passes_awaited, passes_answered, passes_refused, if_awaited, done_is, turned_present, wants_is}
+use Rattle.ed_session.specs.Insides.{counted}
+use Rattle.ed_session.specs.Sessions.{is_over}
+use Rattle.ed_session.proofs.Commanding.{awaiting, awaits_something, takes_answer, fails_answer, done_is, turned_present, wants_is}
 use Rattle.ed_session.proofs.Working.{both_work, passed_less, works_or_writes}
 use Rattle.ed_session.proofs.session.Session.answer.Goals as goal
 
 pub returns-in-Ok-Wants-clause-given : goal.returns-in-Ok-Wants-clause-given
 returns-in-Ok-Wants-clause-given g c =
-    let i = c.self.inside in
-    let v = c.self.view_is in
-    let at = ap (λ u. u.phase) v ∙ c.requires.waiting in
-    let running = ap is_over at in
-    let keeps = waiting_keeps i.phase _ _ _ _ _ at c.self.invariant.keeps in
-    let x = command_value c.next-command.result.now in
-    let asks = asks_it _ i.editor.state _ _ x keeps.0 c.next-command.ensures.value in
-    let goes = ap (λ p. goes_unprompted p i.agenda.turns) at in
+    let w = awaiting _ _ _ _ c.self.view_is c.requires.waiting c.self.invariant.keeps c.next-command.ensures.value in
     let exact = rw c.in-Ok-Wants.field-0-is at c.in-Ok-Wants.ensures.exact in
-    let again = wants_is _ _ _ c.in-Ok-Wants.field-0-0 (exact (c.self.invariant.works running)) in
-    if_awaited _ _ asks.request c.args.answer _ v (passes_awaited _ x goes asks.next keeps.1 asks.request asks.asks)
-    (passes_refused _ x goes asks.next keeps.1 asks.request asks.asks c.args.answer _ File _ _ c.ending-fault.ensures.value
-    (λ h. inr (refl, (c.in-Ok-Wants.field-0-0, again.0))) refl refl refl)
+    let again = wants_is _ _ _ c.in-Ok-Wants.field-0-0 (exact (c.self.invariant.works (ap is_over w.at))) in
+    fails_answer w c.args.answer _ File _ _ c.ending-fault.ensures.value (λ h. inr (refl, (c.in-Ok-Wants.field-0-0, again.0))) refl refl refl
 
 -- it was taken
 pub returns-in-Ok-clause-given : goal.returns-in-Ok-clause-given
 returns-in-Ok-clause-given g c =
     let i = c.self.inside in
-    let v = c.self.view_is in
-    let at = ap (λ u. u.phase) v ∙ c.requires.waiting in
-    let running = ap is_over at in
-    let keeps = waiting_keeps i.phase _ _ _ _ _ at c.self.invariant.keeps in
     let x = command_value c.next-command.result.now in
-    let asks = asks_it _ i.editor.state _ _ x keeps.0 c.next-command.ensures.value in
-    let goes = ap (λ p. goes_unprompted p i.agenda.turns) at in
+    let w = awaiting _ _ _ _ c.self.view_is c.requires.waiting c.self.invariant.keeps c.next-command.ensures.value in
     let exact = rw c.in-Ok-Done.field-0-is at c.in-Ok-Done.ensures.exact in
-    let done = done_is _ i.editor.state _ c.in-Ok-Done.output (exact (c.self.invariant.works running)) in
+    let done = done_is _ i.editor.state _ c.in-Ok-Done.output (exact (c.self.invariant.works (ap is_over w.at))) in
     let turned = c.after-self-inside.ensures in
     let passed = c.pass.ensures.value in
-    if_awaited _ _ asks.request c.args.answer _ v (passes_awaited _ x goes asks.next keeps.1 asks.request asks.asks)
-    (passes_answered _ x goes asks.next keeps.1 asks.request asks.asks c.args.answer _ done.0 c.in-Ok-Done.output i.writes asks.writes_it done.1 done.3
-    refl (ap (λ a. a.turns) passed) (ap (λ a. a.steps) passed) refl
+    takes_answer w c.args.answer _ done.0 c.in-Ok-Done.output done.1 done.3 refl (ap (λ a. a.turns) passed) (ap (λ a. a.steps) passed) refl
     (turned_present x.verb i.silent i.editor.state done.0.state c.apply.new.self.state i.modes c.after-self-inside.result i.prompt done.2 turned.prompting turned.help)
-    (c.in-Ok.ensures.value ∙ ap (λ n. c.in-Ok-Done.output ++ counted i.silent n) c.length_counted-length.ensures.value))
+    (c.in-Ok.ensures.value ∙ ap (λ n. c.in-Ok-Done.output ++ counted i.silent n) c.length_counted-length.ensures.value)
 
 -- no memory was left for its count
 pub returns-in-Ok-Done-clause-given : goal.returns-in-Ok-Done-clause-given
 returns-in-Ok-Done-clause-given g c =
-    let i = c.self.inside in
-    let v = c.self.view_is in
-    let at = ap (λ u. u.phase) v ∙ c.requires.waiting in
-    let running = ap is_over at in
-    let keeps = waiting_keeps i.phase _ _ _ _ _ at c.self.invariant.keeps in
-    let x = command_value c.next-command.result.now in
-    let asks = asks_it _ i.editor.state _ _ x keeps.0 c.next-command.ensures.value in
-    let goes = ap (λ p. goes_unprompted p i.agenda.turns) at in
-    if_awaited _ _ asks.request c.args.answer _ v (passes_awaited _ x goes asks.next keeps.1 asks.request asks.asks)
-    (passes_refused _ x goes asks.next keeps.1 asks.request asks.asks c.args.answer _ Memory Memory _ (record { which = inr refl; wrote = c.of_memory.ensures.value })
-    (λ h. absurd (h refl)) refl refl refl)
+    let w = awaiting _ _ _ _ c.self.view_is c.requires.waiting c.self.invariant.keeps c.next-command.ensures.value in
+    fails_answer w c.args.answer _ Memory Memory _ (record { which = inr refl; wrote = c.of_memory.ensures.value }) (λ h. absurd (h refl)) refl refl refl
 
 -- it was a fault
 pub returns-clause-given : goal.returns-clause-given
 returns-clause-given g c =
-    let i = c.self.inside in
-    let v = c.self.view_is in
-    let at = ap (λ u. u.phase) v ∙ c.requires.waiting in
-    let running = ap is_over at in
-    let keeps = waiting_keeps i.phase _ _ _ _ _ at c.self.invariant.keeps in
-    let x = command_value c.next-command.result.now in
-    let asks = asks_it _ i.editor.state _ _ x keeps.0 c.next-command.ensures.value in
-    let goes = ap (λ p. goes_unprompted p i.agenda.turns) at in
-    let is : c.in-Err.fault ≢ Memory → command i.editor.state x (Some c.args.answer) ≡ Err c.in-Err.fault = c.in-Err.ensures.exact (c.self.invariant.works running) in
-    if_awaited _ _ asks.request c.args.answer _ v (passes_awaited _ x goes asks.next keeps.1 asks.request asks.asks)
-    (passes_refused _ x goes asks.next keeps.1 asks.request asks.asks c.args.answer _ c.in-Err.fault _ _ c.ending-fault-in-Err.ensures.value
-    (λ h. inl (is h)) refl refl refl)
+    let w = awaiting _ _ _ _ c.self.view_is c.requires.waiting c.self.invariant.keeps c.next-command.ensures.value in
+    let is : c.in-Err.fault ≢ Memory → command c.self.inside.editor.state (command_value c.next-command.result.now) (Some c.args.answer) ≡ Err c.in-Err.fault
+    = c.in-Err.ensures.exact (c.self.invariant.works (ap is_over w.at)) in
+    fails_answer w c.args.answer _ c.in-Err.fault _ _ c.ending-fault-in-Err.ensures.value (λ h. inl (is h)) refl refl refl
 
 pub returns-in-Ok-clause-awaited : goal.returns-in-Ok-clause-awaited
-returns-in-Ok-clause-awaited g c =
-    let i = c.self.inside in
-    let v = c.self.view_is in
-    let at = ap (λ u. u.phase) v ∙ c.requires.waiting in
-    let keeps = waiting_keeps i.phase _ _ _ _ _ at c.self.invariant.keeps in
-    let x = command_value c.next-command.result.now in
-    let asks = asks_it _ i.editor.state _ _ x keeps.0 c.next-command.ensures.value in
-    let goes = ap (λ p. goes_unprompted p i.agenda.turns) at in
-    ap (λ u. is_some (awaited u)) (sym v) ∙ ap is_some (passes_awaited _ x goes asks.next keeps.1 asks.request asks.asks)
+returns-in-Ok-clause-awaited g c = awaits_something (awaiting _ _ _ _ c.self.view_is c.requires.waiting c.self.invariant.keeps c.next-command.ensures.value)
 
 pub returns-in-Ok-Done-clause-awaited : goal.returns-in-Ok-Done-clause-awaited
-returns-in-Ok-Done-clause-awaited g c =
-    let i = c.self.inside in
-    let v = c.self.view_is in
-    let at = ap (λ u. u.phase) v ∙ c.requires.waiting in
-    let keeps = waiting_keeps i.phase _ _ _ _ _ at c.self.invariant.keeps in
-    let x = command_value c.next-command.result.now in
-    let asks = asks_it _ i.editor.state _ _ x keeps.0 c.next-command.ensures.value in
-    let goes = ap (λ p. goes_unprompted p i.agenda.turns) at in
-    ap (λ u. is_some (awaited u)) (sym v) ∙ ap is_some (passes_awaited _ x goes asks.next keeps.1 asks.request asks.asks)
+returns-in-Ok-Done-clause-awaited g c = awaits_something (awaiting _ _ _ _ c.self.view_is c.requires.waiting c.self.invariant.keeps c.next-command.ensures.value)
 
 pub returns-in-Ok-Wants-clause-awaited : goal.returns-in-Ok-Wants-clause-awaited
-returns-in-Ok-Wants-clause-awaited g c =
-    let i = c.self.inside in
-    let v = c.self.view_is in
-    let at = ap (λ u. u.phase) v ∙ c.requires.waiting in
-    let keeps = waiting_keeps i.phase _ _ _ _ _ at c.self.invariant.keeps in
-    let x = command_value c.next-command.result.now in
-    let asks = asks_it _ i.editor.state _ _ x keeps.0 c.next-command.ensures.value in
-    let goes = ap (λ p. goes_unprompted p i.agenda.turns) at in
-    ap (λ u. is_some (awaited u)) (sym v) ∙ ap is_some (passes_awaited _ x goes asks.next keeps.1 asks.request asks.asks)
+returns-in-Ok-Wants-clause-awaited g c = awaits_something (awaiting _ _ _ _ c.self.view_is c.requires.waiting c.self.invariant.keeps c.next-command.ensures.value)
 
 pub returns-clause-awaited : goal.returns-clause-awaited
-returns-clause-awaited g c =
-    let i = c.self.inside in
-    let v = c.self.view_is in
-    let at = ap (λ u. u.phase) v ∙ c.requires.waiting in
-    let keeps = waiting_keeps i.phase _ _ _ _ _ at c.self.invariant.keeps in
-    let x = command_value c.next-command.result.now in
-    let asks = asks_it _ i.editor.state _ _ x keeps.0 c.next-command.ensures.value in
-    let goes = ap (λ p. goes_unprompted p i.agenda.turns) at in
-    ap (λ u. is_some (awaited u)) (sym v) ∙ ap is_some (passes_awaited _ x goes asks.next keeps.1 asks.request asks.asks)
+returns-clause-awaited g c = awaits_something (awaiting _ _ _ _ c.self.view_is c.requires.waiting c.self.invariant.keeps c.next-command.ensures.value)
 
 pub returns-in-Ok-clause-work : goal.returns-in-Ok-clause-work
 returns-in-Ok-clause-work g c =

@@ -1,9 +1,7 @@
-use Rattle.std.proofs.Common.{◌≡◌, ◌∙◌, [], ap, refl, subst, Some}
-use Rattle.ed_syntax.specs.PublicTypes.{command_value}
-use Rattle.ed_session.specs.Insides.{goes_unprompted}
-use Rattle.ed_session.specs.Sessions.{is_over, awaited}
+use Rattle.std.proofs.Common.{◌∙◌, [], ap, refl}
+use Rattle.ed_session.specs.Sessions.{is_over}
 use Rattle.ed_session.proofs.Advancing.{as_breaks, breaks_here}
-use Rattle.ed_session.proofs.Commanding.{waiting_keeps, asks_it, passes_awaited, wants_is}
+use Rattle.ed_session.proofs.Commanding.{waiting_keeps, awaiting, awaits_asked, wants_is}
 use Rattle.ed_session.proofs.session.Session.requested.Goals as goal
 
 pub invariant_of-self : goal.invariant_of-self
@@ -23,17 +21,10 @@ invariant_of-self g c =
 
 pub returns-in-Ok-Wants-clause-value : goal.returns-in-Ok-Wants-clause-value
 returns-in-Ok-Wants-clause-value g c =
-    let i = c.self.inside in
-    let v = c.self.view_is in
-    let at = ap (λ u. u.phase) v ∙ c.requires.waiting in
-    let running = ap is_over at in
-    let keeps = waiting_keeps i.phase _ _ _ _ _ at c.self.invariant.keeps in
-    let x = command_value c.next.result.now in
-    let asks = asks_it _ i.editor.state _ _ x keeps.0 c.next.ensures.value in
-    let goes = ap (λ p. goes_unprompted p i.agenda.turns) at in
+    let w = awaiting _ _ _ _ c.self.view_is c.requires.waiting c.self.invariant.keeps c.next.ensures.value in
     let exact = rw c.in-Ok-Wants.field-0-is at c.in-Ok-Wants.ensures.exact in
-    let wants = wants_is _ _ _ c.in-Ok-Wants.request (exact (c.self.invariant.works running)) in
-    (subst (λ u. awaited u ≡ Some c.in-Ok-Wants.request) v (passes_awaited _ x goes asks.next keeps.1 c.in-Ok-Wants.request wants.0), rw wants.1 v)
+    let wants = wants_is _ _ _ c.in-Ok-Wants.request (exact (c.self.invariant.works (ap is_over w.at))) in
+    (awaits_asked w c.in-Ok-Wants.request wants.0, rw wants.1 c.self.view_is)
 
 pub returns-in-Err-clause-broke : goal.returns-in-Err-clause-broke
 returns-in-Err-clause-broke g c =
