@@ -8,11 +8,17 @@ use Rattle.ed_syntax.specs.declared.command.Command as rust
 use Rattle.ed_syntax.specs.Commands.{Command, Step}
 use Rattle.ed_syntax.specs.PublicTypes.{command_value, step_value, steps_value}
 use Rattle.ed_session.specs.Sessions.{Turns}
-use Rattle.ed_session.specs.Agendas.{AgendaValue, first_listed, first_command, list_at, last_of, passed, opened_for}
+use Rattle.ed_session.specs.declared.agenda.Turns as counted
+use Rattle.ed_session.specs.Agendas.{AgendaValue, IsWithin, turns_of, next_command, first_listed, first_command, list_at, last_of, passed, opened_for}
 
 -- what is left of a global command and of a script
 abbrev pub agenda_of : Option Turns → List Step → AgendaValue
 agenda_of t xs = record { turns = t; steps = xs }
+
+-- what is left where a global command is open
+pub in_list : (commands : List rust.Command) (o : Option counted.Turns) (t : counted.Turns) (xs : List Step) (a : AgendaValue) → o ≡ Some t → IsWithin commands o → agenda_of (turns_of commands o) xs ≡ a →
+    IsWithin commands (Some t) × (agenda_of (turns_of commands (Some t)) xs ≡ a)
+in_list commands o t xs a is within same = (subst (IsWithin commands) is within, subst (λ o. agenda_of (turns_of commands o) xs ≡ a) is same)
 
 -- there is a first one where some are left
 listed_there : (left : List Command) → is_some (first_listed left) ≡ nat_lt 0 (length left)
@@ -79,6 +85,10 @@ pub is_passed : (xs : List rust.Command) (n : ℕ) → agenda_of None (steps_val
 is_passed xs n = ap (agenda_of None) (script_passed xs n)
 
 -- some are left where there is a next one
-pub some_left : (list : List Command) (n : ℕ) → n ≤ length list → IsSome (first_listed (last_of n list)) → 0 < n
+some_left : (list : List Command) (n : ℕ) → n ≤ length list → IsSome (first_listed (last_of n list)) → 0 < n
 some_left list zero h there = let none : IsSome (first_listed []) = subst IsSome (ap first_listed (list_done list)) there in cc
 some_left list (suc n) h there = omega arith
+
+pub some_in_list : (commands : List rust.Command) (t : counted.Turns) (xs : List Step) (a : AgendaValue) →
+    IsWithin commands (Some t) × (agenda_of (turns_of commands (Some t)) xs ≡ a) → IsSome (next_command a.turns a.steps) → 0 < t.left
+some_in_list commands t xs a inside there = some_left (list_at commands t.global) t.left inside.0.1 (subst (λ u. IsSome (next_command u.turns u.steps)) (sym inside.1) there)

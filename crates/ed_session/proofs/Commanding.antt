@@ -92,7 +92,7 @@ goes_running phases.Waiting t goes = refl
 goes_running (phases.Over result) t goes = cc
 
 -- there is one next command
-pub is_next : (t : Option Turns) (xs : List Step) (c d : Command) → IsNext t xs c → next_command t xs ≡ Some d → IsNext t xs d
+is_next : (t : Option Turns) (xs : List Step) (c d : Command) → IsNext t xs c → next_command t xs ≡ Some d → IsNext t xs d
 is_next t xs c d next e = let is = next.comes in let same : c ≡ d = cc in subst (IsNext t xs) same next
 
 -- the next command was done
@@ -258,6 +258,22 @@ module _ (v : SessionValue) (c : Command) (goes : goes_unprompted v.phase v.turn
         → (f ≢ fault.Memory → (command v.present.state c (Some a) ≡ Err f) ⊎ ((f ≡ fault.File) × ((q : Request) × (command v.present.state c (Some a) ≡ Ok (Asks q)))))
         → new.phase ≡ phases.Over (Err reported) → new.present.help ≡ v.present.help → new.pending ≡ w → Answers v r a new
     passes_refused a new f reported w rep is over help none = answers_fail v c go at pending running r asks a new f reported w rep is over help none
+
+-- a session whose next command comes before any prompt, by what it holds
+pub record Coming (old v : SessionValue) (x : Command) : Type 0 where
+  pub same : v ≡ old
+  pub goes : goes_unprompted v.phase v.turns ≡ true
+  pub next : IsNext v.turns v.steps x
+  pub none : v.pending ≡ []
+
+pub coming : (old v : SessionValue) (x : Command) → v ≡ old → goes_unprompted old.phase old.turns ≡ true → old.pending ≡ [] → ((d : Command) × IsNext old.turns old.steps d) →
+    next_command v.turns v.steps ≡ Some x → Coming old v x
+coming old v x same goes none next is = record {
+  same = same;
+  goes = ap (λ u. goes_unprompted u.phase u.turns) same ∙ goes;
+  next = is_next v.turns v.steps next.0 x (subst (λ u. IsNext u.turns u.steps next.0) (sym same) next.1) is;
+  none = ap (λ u. u.pending) same ∙ none;
+}
 
 -- a request as a step gives it
 pub gives_request : (old new : SessionValue) (r : Request) → Awaits old r new → Gives old (ask_of_request r) new

@@ -1,5 +1,5 @@
 -- How a session goes on where a global command begins, where one of its lines is taken, and where it is over.
-use Rattle.std.proofs.Common.{◌≡◌, ℕ, zero, suc, ◌<◌, ◌-◌, List, [], ◌∷◌, ◌++◌, append-nil, arith, true, false, drop, Option, Some, None, Result, Ok, Err, refl, sym, ap, ◌∙◌, ◌⊎◌, inl, inr}
+use Rattle.std.proofs.Common.{◌≡◌, ℕ, zero, suc, ◌<◌, ◌-◌, List, [], ◌∷◌, ◌++◌, append-nil, arith, true, false, drop, Option, Some, None, Result, Ok, Err, refl, sym, ap, ◌∙◌, subst, ◌⊎◌, inl, inr}
 use Rattle.std.specs.Prelude.{IsOkAnd, IfSome, IsSome, is_some, option_map, unwrap_or}
 use Rattle.ed_base.specs.declared.fault.Fault.{Fault}
 use Rattle.ed_syntax.specs.declared.request.Answer.{Answer}
@@ -30,8 +30,30 @@ begun_is (Ok (Makes o)) s t begun h = (o, refl, h.0, h.1, h.2)
 begun_is (Ok (Asks r)) s t begun h = absurd h
 begun_is (Err f) s t begun h = absurd h
 
-pub global_is : (t : Option Turns) (xs : List Step) (c : Command) → IfSome (next_command t xs) (λ d. is_global d.verb ≡ true) → next_command t xs ≡ Some c → is_global c.verb ≡ true
+global_is : (t : Option Turns) (xs : List Step) (c : Command) → IfSome (next_command t xs) (λ d. is_global d.verb ≡ true) → next_command t xs ≡ Some c → is_global c.verb ≡ true
 global_is t xs c h e = rw e at h
+
+-- a session whose next command is a global one that comes first after a prompt, by what it holds
+pub record Beginning (old v : SessionValue) (x : Command) : Type 0 where
+  pub same : v ≡ old
+  pub at : v.phase ≡ phases.Prompted
+  pub outside : v.turns ≡ None
+  pub first : first_command v.steps ≡ Some x
+  pub is : is_global x.verb ≡ true
+  pub none : v.pending ≡ []
+
+pub beginning : (old v : SessionValue) (x : Command) → v ≡ old → old.phase ≡ phases.Prompted → old.turns ≡ None → old.pending ≡ [] →
+    IfSome (next_command old.turns old.steps) (λ d. is_global d.verb ≡ true) → next_command v.turns v.steps ≡ Some x → Beginning old v x
+beginning old v x same at outside none global next =
+    let out = ap (λ u. u.turns) same ∙ outside in
+    record {
+      same = same;
+      at = ap (λ u. u.phase) same ∙ at;
+      outside = out;
+      first = subst (λ t. next_command t v.steps ≡ Some x) out next;
+      is = global_is v.turns v.steps x (subst (λ u. IfSome (next_command u.turns u.steps) (λ d. is_global d.verb ≡ true)) (sym same) global) next;
+      none = ap (λ u. u.pending) same ∙ none;
+    }
 
 turned_global : (verb : Verb) (m : Present) → is_global verb ≡ true → turned verb m ≡ m
 turned_global (ed.Global sense pattern) m is = refl
@@ -141,9 +163,32 @@ module _ (v : SessionValue) (t : Turns) (open_now : v.turns ≡ Some t) (running
   lines_done h answers = at_turns answers ∙ turns_end t.lines t.list v.present (steps v.steps v.fault) answers h
 
 -- a global command for which lines are left is open
-pub open_turns : (o : Option Turns) → 0 < lines_of o → (t : Turns) × (o ≡ Some t) × (0 < t.lines)
+open_turns : (o : Option Turns) → 0 < lines_of o → (t : Turns) × (o ≡ Some t) × (0 < t.lines)
 open_turns None h = absurd (omega arith)
 open_turns (Some t) h = (t, refl, h)
+
+-- a session that is in a global command of whose list nothing is left, by what it holds
+pub record Listing (old v : SessionValue) : Type 0 where
+  pub same : v ≡ old
+  pub turns : Turns
+  pub inside : v.turns ≡ Some turns
+  pub more : 0 < turns.lines
+  pub running : is_over v.phase ≡ false
+  pub started : is_started v.phase ≡ true
+  pub none : next_command (Some turns) v.steps ≡ None
+
+pub listing : (old v : SessionValue) → v ≡ old → 0 < lines_of old.turns → next_command old.turns old.steps ≡ None → is_over old.phase ≡ false → is_started old.phase ≡ true → Listing old v
+listing old v same more none running started =
+    let t = open_turns v.turns (subst (λ u. 0 < lines_of u.turns) (sym same) more) in
+    record {
+      same = same;
+      turns = t.0;
+      inside = t.1;
+      more = t.2;
+      running = ap (λ u. is_over u.phase) same ∙ running;
+      started = ap (λ u. is_started u.phase) same ∙ started;
+      none = ap (λ o. next_command o v.steps) (sym t.1) ∙ ap (λ u. next_command u.turns u.steps) same ∙ none;
+    }
 
 -- what comes of taking a line
 pub taken_is : (o : Option State) (s t : State) → is_some o ≡ true → t ≡ unwrap_or o s → o ≡ Some t

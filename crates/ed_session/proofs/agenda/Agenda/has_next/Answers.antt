@@ -1,8 +1,8 @@
-use Rattle.std.proofs.Common.{◌≡◌, ap, ◌∙◌, drop, length, rules, nat_lt, subst, Some, None}
+use Rattle.std.proofs.Common.{◌≡◌, ap, ◌∙◌, drop, length, rules, nat_lt, subst, None}
 use Rattle.std.specs.Prelude.{is_some}
 use Rattle.ed_syntax.specs.PublicTypes.{steps_value}
-use Rattle.ed_session.specs.Agendas.{IsWithin, list_at, next_command, turns_of}
-use Rattle.ed_session.proofs.AgendaLemmas.{agenda_of, list_has, script_has}
+use Rattle.ed_session.specs.Agendas.{list_at, next_command, turns_of}
+use Rattle.ed_session.proofs.AgendaLemmas.{agenda_of, in_list, list_has, script_has}
 use Rattle.ed_session.proofs.agenda.Agenda.has_next.Goals as goal
 
 pub returns-in-Some : goal.returns-in-Some
@@ -10,9 +10,8 @@ returns-in-Some c =
     let i = c.self.inside in
     let t = c.in-Some.turns in
     let steps = steps_value (drop i.next i.commands.items) in
-    let within = subst (IsWithin i.commands.items) c.in-Some.is c.self.invariant.1 in
-    let is : agenda_of (turns_of i.commands.items (Some t)) steps ≡ c.args.self.now = subst (λ o. agenda_of (turns_of i.commands.items o) steps ≡ c.args.self.now) c.in-Some.is c.self.view_is in
-    record { value = list_has (list_at i.commands.items t.global) t.left within.1 ∙ ap (λ u. is_some (next_command u.turns u.steps)) is }
+    let l = in_list i.commands.items _ t steps _ c.in-Some.is c.self.invariant.1 c.self.view_is in
+    record { value = list_has (list_at i.commands.items t.global) t.left l.0.1 ∙ ap (λ u. is_some (next_command u.turns u.steps)) l.1 }
 
 pub returns-in-None : goal.returns-in-None
 returns-in-None c =
