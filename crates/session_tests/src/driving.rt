@@ -34,6 +34,8 @@ pub(crate) const UNREFUSED: Case<'static> = Case {
 
 pub(crate) const ABC: Option<&[u8]> = Some(b"a\nb\nc\n");
 
+pub(crate) const ABA: Option<&[u8]> = Some(b"a\nb\na\n");
+
 pub(crate) const ARROW: Option<&[u8]> = Some(b"> ");
 
 pub(crate) fn session_of<S: LineStore>(
@@ -104,4 +106,43 @@ pub(crate) fn check(
     check_over::<PlainStore>(rt, alloc, case, output, expected)?;
     check_over::<GapStore>(rt, alloc, case, output, expected)?;
     check_over::<ChunkStore>(rt, alloc, case, output, expected)
+}
+
+/// A silent run on the file `F` without a prompt: its script, the file's bytes, what it writes and how it ends.
+pub(crate) struct Row {
+    pub script: &'static [u8],
+    pub file: Option<&'static [u8]>,
+    pub output: &'static [u8],
+    pub ends: Result<usize, Fault>,
+}
+
+impl Row {
+    pub(crate) fn case(&self) -> Case<'static> {
+        Case {
+            script: self.script,
+            file: self.file,
+            ..UNREFUSED
+        }
+    }
+}
+
+/// Each row's run writes and ends as the row says.
+pub(crate) fn check_each(rt: &impl Abort, alloc: Global, rows: &[Row]) -> Result<(), Fail> {
+    for row in rows {
+        check(rt, alloc, row.case(), row.output, row.ends)?;
+    }
+    Ok(())
+}
+
+/// Each row's run ends as the row says or by being out of memory.
+pub(crate) fn check_memory(rt: &impl Abort, alloc: Global, rows: &[&Row]) {
+    for row in rows {
+        if let Ok((ends, sink)) = run::<GapStore>(alloc, row.case()) {
+            assert!(*rt;
+                ends == Err(Fault::Memory) || (ends == row.ends && sink.taken() == row.output),
+                "{:?}",
+                row.script
+            );
+        }
+    }
 }

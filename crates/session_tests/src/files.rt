@@ -1,5 +1,5 @@
 //! Runs of the commands on files: what they read and write, what the files hold after them, and how they end.
-use crate::driving::{lines, session_of};
+use crate::driving::{ABC, lines, session_of};
 use ed_base::{Bytes, Fault};
 use ed_session::{MemFiles, MemSink, drive};
 use ed_syntax::Options;
@@ -30,8 +30,6 @@ const G: &[u8] = b"G";
 const H: &[u8] = b"H";
 
 const G_AND_A_BLANK: &[u8] = b"G ";
-
-const ABC: Option<&[u8]> = Some(b"a\nb\nc\n");
 
 const AB: Option<&[u8]> = Some(b"a\nb\n");
 

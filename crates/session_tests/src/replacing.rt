@@ -1,40 +1,30 @@
 //! Runs of `s`: what they write and how they end, as the standard says, and that a run that is out of memory says so.
-use crate::driving::{Case, UNREFUSED, check, run};
+use crate::driving::{Row, check_each, check_memory};
 use ed_base::Fault;
-use line_store::GapStore;
-use std::alloc::Global;
-use std::process::Abort;
 use std::test::Fail;
 
-struct Row {
-    script: &'static [u8],
-    file: &'static [u8],
-    output: &'static [u8],
-    ends: Result<usize, Fault>,
-}
-
-const CROSSES: &[u8] = b"aXbXc\n";
+const CROSSES: Option<&[u8]> = Some(b"aXbXc\n");
 
 // XCU ed, "Substitute Command": which matches are replaced, and by what.
 #[rattlefmt::skip]
 static MATCHES: [Row; 17] = [
-    Row { script: b"s/\\(ab*\\)\\1/<&>/p\nQ\n", file: b"abbabbb\n", output: b"<abbabb>b\n", ends: Ok(1) },
-    Row { script: b"s/\\(a*\\)*/[\\1]/p\nQ\n", file: b"bc\n", output: b"[]bc\n", ends: Ok(1) },
-    Row { script: b"s/a*/x/gp\nQ\n", file: b"baaac\n", output: b"xbxcx\n", ends: Ok(1) },
-    Row { script: b"s/\\(b\\)\\(x\\)*/[\\2]/p\nQ\n", file: b"ab\n", output: b"a[]\n", ends: Ok(1) },
-    Row { script: b"s/x*/-/g\np\nQ\n", file: b"abc\n", output: b"-a-b-c-\n", ends: Ok(1) },
-    Row { script: b"s/x*/-/g\np\nQ\n", file: b"baxc\n", output: b"-b-a-c-\n", ends: Ok(1) },
-    Row { script: b"s/b*/X/2\np\nQ\n", file: b"abb\n", output: b"aX\n", ends: Ok(1) },
-    Row { script: b"s/\\(a*\\)*/x\\1/g\np\nQ\n", file: b"baac\n", output: b"xbxaacx\n", ends: Ok(1) },
+    Row { script: b"s/\\(ab*\\)\\1/<&>/p\nQ\n", file: Some(b"abbabbb\n"), output: b"<abbabb>b\n", ends: Ok(1) },
+    Row { script: b"s/\\(a*\\)*/[\\1]/p\nQ\n", file: Some(b"bc\n"), output: b"[]bc\n", ends: Ok(1) },
+    Row { script: b"s/a*/x/gp\nQ\n", file: Some(b"baaac\n"), output: b"xbxcx\n", ends: Ok(1) },
+    Row { script: b"s/\\(b\\)\\(x\\)*/[\\2]/p\nQ\n", file: Some(b"ab\n"), output: b"a[]\n", ends: Ok(1) },
+    Row { script: b"s/x*/-/g\np\nQ\n", file: Some(b"abc\n"), output: b"-a-b-c-\n", ends: Ok(1) },
+    Row { script: b"s/x*/-/g\np\nQ\n", file: Some(b"baxc\n"), output: b"-b-a-c-\n", ends: Ok(1) },
+    Row { script: b"s/b*/X/2\np\nQ\n", file: Some(b"abb\n"), output: b"aX\n", ends: Ok(1) },
+    Row { script: b"s/\\(a*\\)*/x\\1/g\np\nQ\n", file: Some(b"baac\n"), output: b"xbxaacx\n", ends: Ok(1) },
     Row { script: b"s/X/-/3p\n", file: CROSSES, output: b"?\n", ends: Err(Fault::NoMatch) },
-    Row { script: b"s/a/aa/gp\nQ\n", file: b"aba\n", output: b"aabaa\n", ends: Ok(1) },
-    Row { script: b"s/^a/-/gp\nQ\n", file: b"aaa\n", output: b"-aa\n", ends: Ok(1) },
-    Row { script: b"s/$/x/p\nQ\n", file: b"\n", output: b"x\n", ends: Ok(1) },
-    Row { script: b"s,a\\,b,c,p\nQ\n", file: b"a,b\n", output: b"c\n", ends: Ok(1) },
+    Row { script: b"s/a/aa/gp\nQ\n", file: Some(b"aba\n"), output: b"aabaa\n", ends: Ok(1) },
+    Row { script: b"s/^a/-/gp\nQ\n", file: Some(b"aaa\n"), output: b"-aa\n", ends: Ok(1) },
+    Row { script: b"s/$/x/p\nQ\n", file: Some(b"\n"), output: b"x\n", ends: Ok(1) },
+    Row { script: b"s,a\\,b,c,p\nQ\n", file: Some(b"a,b\n"), output: b"c\n", ends: Ok(1) },
     Row { script: b"s/X/\\&&\\\\/p\nQ\n", file: CROSSES, output: b"a&X\\bXc\n", ends: Ok(1) },
-    Row { script: b"s/a/b/g2\n", file: b"a\n", output: b"?\n", ends: Err(Fault::Syntax) },
+    Row { script: b"s/a/b/g2\n", file: Some(b"a\n"), output: b"?\n", ends: Err(Fault::Syntax) },
     Row { script: b"s/X/-\nQ\n", file: CROSSES, output: b"a-bXc\n", ends: Ok(1) },
-    Row { script: b"3c\n..\n.\ns/.//\n1d\n,p\nQ\n", file: b"a\nb\nc\n", output: b"b\n.\n", ends: Ok(2) },
+    Row { script: b"3c\n..\n.\ns/.//\n1d\n,p\nQ\n", file: Some(b"a\nb\nc\n"), output: b"b\n.\n", ends: Ok(2) },
 ];
 
 // What is remembered, and the order of faults.
@@ -55,33 +45,20 @@ static REMEMBERED: [Row; 10] = [
 // The lines of a range, splits, marks and the current line.
 #[rattlefmt::skip]
 static LINES: [Row; 13] = [
-    Row { script: b"s/,/\\\n/p\n,n\nQ\n", file: b"a,b\n", output: b"b\n1\ta\n2\tb\n", ends: Ok(2) },
-    Row { script: b"s/,/\\\n\\\n/g\n,n\n.=\nQ\n", file: b",a,\n", output: b"1\t\n2\t\n3\ta\n4\t\n5\t\n5\n", ends: Ok(5) },
-    Row { script: b"1ka\n2kb\n1s/,/\\\n/gp\n.=\n'bp\n,p\n'a\n", file: b"a,b,c\nd\n", output: b"c\n3\nd\na\nb\nc\nd\n?\n", ends: Err(Fault::Mark) },
-    Row { script: b"1ka\n1s/b/x/\n'a\n", file: b"b\nd\n", output: b"?\n", ends: Err(Fault::Mark) },
-    Row { script: b",s/a/x/n\n.=\n,p\nQ\n", file: b"aa\nb\nab\nc\n", output: b"3\txb\n3\nxa\nb\nxb\nc\n", ends: Ok(4) },
-    Row { script: b"2ka\n1,2s/,/\\\n/\n.=\n'ap\nQ\n", file: b"a,b\nc\n", output: b"2\nc\n", ends: Ok(3) },
-    Row { script: b"1s/,/\\\n/\n$s//%/\n,p\nQ\n", file: b"a,b\nc,d\n", output: b"a\nb\nc\nd\n", ends: Ok(4) },
-    Row { script: b",s/,/\\\n/g\n.=\n,n\nQ\n", file: b"a\nb,c\nd\n,\ne\n", output: b"6\n1\ta\n2\tb\n3\tc\n4\td\n5\t\n6\t\n7\te\n", ends: Ok(7) },
-    Row { script: b"1,2s/b/x/\n.=\nQ\n", file: b"a\nb\nc\n", output: b"2\n", ends: Ok(3) },
-    Row { script: b"2,3s/a/x/\n", file: b"a\nb\nc\n", output: b"?\n", ends: Err(Fault::NoMatch) },
-    Row { script: b"s/a/x/\n", file: b"", output: b"?\n", ends: Err(Fault::Address) },
-    Row { script: b"1s/b/x/l\nQ\n", file: b"b\t\n", output: b"x\\t$\n", ends: Ok(1) },
-    Row { script: b"1s/a/x/\n", file: b"a\n", output: b"?\n", ends: Err(Fault::Unsaved) },
+    Row { script: b"s/,/\\\n/p\n,n\nQ\n", file: Some(b"a,b\n"), output: b"b\n1\ta\n2\tb\n", ends: Ok(2) },
+    Row { script: b"s/,/\\\n\\\n/g\n,n\n.=\nQ\n", file: Some(b",a,\n"), output: b"1\t\n2\t\n3\ta\n4\t\n5\t\n5\n", ends: Ok(5) },
+    Row { script: b"1ka\n2kb\n1s/,/\\\n/gp\n.=\n'bp\n,p\n'a\n", file: Some(b"a,b,c\nd\n"), output: b"c\n3\nd\na\nb\nc\nd\n?\n", ends: Err(Fault::Mark) },
+    Row { script: b"1ka\n1s/b/x/\n'a\n", file: Some(b"b\nd\n"), output: b"?\n", ends: Err(Fault::Mark) },
+    Row { script: b",s/a/x/n\n.=\n,p\nQ\n", file: Some(b"aa\nb\nab\nc\n"), output: b"3\txb\n3\nxa\nb\nxb\nc\n", ends: Ok(4) },
+    Row { script: b"2ka\n1,2s/,/\\\n/\n.=\n'ap\nQ\n", file: Some(b"a,b\nc\n"), output: b"2\nc\n", ends: Ok(3) },
+    Row { script: b"1s/,/\\\n/\n$s//%/\n,p\nQ\n", file: Some(b"a,b\nc,d\n"), output: b"a\nb\nc\nd\n", ends: Ok(4) },
+    Row { script: b",s/,/\\\n/g\n.=\n,n\nQ\n", file: Some(b"a\nb,c\nd\n,\ne\n"), output: b"6\n1\ta\n2\tb\n3\tc\n4\td\n5\t\n6\t\n7\te\n", ends: Ok(7) },
+    Row { script: b"1,2s/b/x/\n.=\nQ\n", file: Some(b"a\nb\nc\n"), output: b"2\n", ends: Ok(3) },
+    Row { script: b"2,3s/a/x/\n", file: Some(b"a\nb\nc\n"), output: b"?\n", ends: Err(Fault::NoMatch) },
+    Row { script: b"s/a/x/\n", file: Some(b""), output: b"?\n", ends: Err(Fault::Address) },
+    Row { script: b"1s/b/x/l\nQ\n", file: Some(b"b\t\n"), output: b"x\\t$\n", ends: Ok(1) },
+    Row { script: b"1s/a/x/\n", file: Some(b"a\n"), output: b"?\n", ends: Err(Fault::Unsaved) },
 ];
-
-// A run of a row writes and ends as the row says.
-fn check_each(rt: &impl Abort, alloc: Global, rows: &[Row]) -> Result<(), Fail> {
-    for row in rows {
-        let case = Case {
-            script: row.script,
-            file: Some(row.file),
-            ..UNREFUSED
-        };
-        check(rt, alloc, case, row.output, row.ends)?;
-    }
-    Ok(())
-}
 
 #[test]
 fn matches_are_replaced_as_the_standard_says(rt: HostRuntime) -> Result<(), Fail> {
@@ -101,18 +78,5 @@ fn the_lines_of_a_range_are_rewritten_one_by_one(rt: HostRuntime) -> Result<(), 
 // With each allocation refused in turn, the run ends as it should or by being out of memory.
 #[test]
 fn a_run_that_is_out_of_memory_ends_by_no_other_fault(rt: HostRuntime) {
-    for row in [&MATCHES[2], &REMEMBERED[0], &LINES[2]] {
-        let case = Case {
-            script: row.script,
-            file: Some(row.file),
-            ..UNREFUSED
-        };
-        if let Ok((ends, sink)) = run::<GapStore>(rt.alloc(), case) {
-            assert!(rt;
-                ends == Err(Fault::Memory) || (ends == row.ends && sink.taken() == row.output),
-                "{:?}",
-                row.script
-            );
-        }
-    }
+    check_memory(&rt, rt.alloc(), &[&MATCHES[2], &REMEMBERED[0], &LINES[2]]);
 }

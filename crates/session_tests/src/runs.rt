@@ -1,18 +1,7 @@
 //! Runs of scripts: what they write and how they end, as the standard says (XCU ed).
-use crate::driving::{ABC, ARROW, Case, UNREFUSED, check};
+use crate::driving::{ABA, ABC, ARROW, Case, Row, UNREFUSED, check, check_each};
 use ed_base::Fault;
-use std::alloc::Global;
-use std::process::Abort;
 use std::test::Fail;
-
-struct Row {
-    script: &'static [u8],
-    file: Option<&'static [u8]>,
-    output: &'static [u8],
-    ends: Result<usize, Fault>,
-}
-
-const ABA: Option<&[u8]> = Some(b"a\nb\na\n");
 
 const FIVE: &[u8] = b"1\n2\n3\n4\n5\n";
 
@@ -140,18 +129,6 @@ static LINE_COMMANDS: [Row; 37] = [
     Row { script: b"1c\nx\n.\n,p\nQ\n", file: ABC, output: b"x\nb\nc\n", ends: Ok(3) },
 ];
 
-fn check_each(rt: &impl Abort, alloc: Global, rows: &[Row]) -> Result<(), Fail> {
-    for row in rows {
-        let case = Case {
-            script: row.script,
-            file: row.file,
-            ..UNREFUSED
-        };
-        check(rt, alloc, case, row.output, row.ends)?;
-    }
-    Ok(())
-}
-
 #[test]
 fn runs_write_and_end_as_the_standard_says(rt: HostRuntime) -> Result<(), Fail> {
     check_each(&rt, rt.alloc(), &COMMANDS)
@@ -208,10 +185,8 @@ static COUNTS: [Row; 3] = [
 fn the_bytes_of_the_start_file_are_counted(rt: HostRuntime) -> Result<(), Fail> {
     for row in &COUNTS {
         let case = Case {
-            script: row.script,
-            file: row.file,
             silent: false,
-            ..UNREFUSED
+            ..row.case()
         };
         check(&rt, rt.alloc(), case, row.output, row.ends)?;
     }
