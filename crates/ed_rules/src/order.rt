@@ -3,10 +3,11 @@
 ghost use Rattle.std.specs.Prelude.{◌≡◌, IfOk, IsTrue, ◌↔◌};
 ghost use Rattle.ed_syntax.specs.States as editor;
 ghost use Rattle.ed_rules.specs.StandsFor.{StandsFor};
-ghost use Rattle.ed_rules.specs.Order.{old_of_both, changed_of_both, replacements_of_both, undo_of_both, join, widen, Allows, CoversOld, Covers};
+ghost use Rattle.ed_rules.specs.Order.{old_of_both, changed_of_both, replacements_of_both, undo_of_both, united, join, widen, Allows, CoversOld, Covers};
 
 use crate::state::{Changed, Old, Replacements, State, Undo};
 use std::alloc::AllocError;
+use zones::Zone;
 
 impl State {
     /// What both states say.
@@ -22,15 +23,7 @@ impl State {
     {
         let mut zone = self.zone;
         zone.join(&other.zone);
-        Ok(State {
-            zone,
-            marks: self.marks.both(&other.marks),
-            patterns: self.patterns.union(&other.patterns)?,
-            replacements: replacements_of_both(&self.replacements, &other.replacements),
-            names: self.names.union(&other.names)?,
-            changed: changed_of_both(&self.changed, &other.changed),
-            undo: undo_of_both(&self.undo, &other.undo),
-        })
+        self.united(other, zone)
     }
 
     /// What both states say, but each bound of this one that rose in the newer is given up.
@@ -46,14 +39,21 @@ impl State {
     {
         let mut zone = self.zone;
         zone.widen(&new.zone);
+        self.united(new, zone)
+    }
+
+    /// What both states allow, over a zone.
+    fn united(&self, other: &State, zone: Zone) -> Result<State, AllocError>
+        ensures value { IfOk result (λ both. both ≡ united self.now other.now zone) }
+    {
         Ok(State {
             zone,
-            marks: self.marks.both(&new.marks),
-            patterns: self.patterns.union(&new.patterns)?,
-            replacements: replacements_of_both(&self.replacements, &new.replacements),
-            names: self.names.union(&new.names)?,
-            changed: changed_of_both(&self.changed, &new.changed),
-            undo: undo_of_both(&self.undo, &new.undo),
+            marks: self.marks.both(&other.marks),
+            patterns: self.patterns.union(&other.patterns)?,
+            replacements: replacements_of_both(&self.replacements, &other.replacements),
+            names: self.names.union(&other.names)?,
+            changed: changed_of_both(&self.changed, &other.changed),
+            undo: undo_of_both(&self.undo, &other.undo),
         })
     }
 
