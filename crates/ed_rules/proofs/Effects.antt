@@ -32,7 +32,7 @@ use Rattle.zones.specs.Steps.{after_set, after_guard, after_shift}
 use Rattle.ed_rules.proofs.Lifting.{Holds-current_inserted}
 use Rattle.ed_rules.specs.StandsFor.{Reads, HoldsBy, StandsBy, Remembers, AllowsPast}
 use Rattle.ed_rules.proofs.Standing.{Stands, StandsBy-current, StandsBy-guarded, Reads-current}
-use Rattle.ed_rules.proofs.Spans.{Spans, Ranges}
+use Rattle.ed_rules.proofs.Spans.{Spans, Ranges, Ranges-by}
 use Rattle.ed_rules.proofs.Finishing.{Follows}
 use Rattle.ed_rules.proofs.Flags.{kept-allowed}
 use Rattle.ed_rules.proofs.LettersInLines.{line_with-plain, length-inserted, length-replaced, line_with-marked, line_with-marked_other, length-marked}
@@ -193,18 +193,7 @@ join-one listed start t e x r h =
     subst (λ (o : effects.Outcome). Follows listed start t (Makes o)) (sym (join-stays x e h)) (r.spans.numbers, r.spans.stands)
 
 Ranges-guarded : (t : State) (e : editor.State) (x : Span) (a b : ℕ) (c : ℤ) (r : Ranges t e x) → a < 32 → b < 32 → (r.spans.numbers a -ℤ r.spans.numbers b) ≤ℤ c → Ranges (with_zone (after_guard t.zone a b c) t) e x
-Ranges-guarded t e x a b c r ha hb h = record {
-  spans = record {
-    numbers = r.spans.numbers;
-    stands = StandsBy-guarded t e r.spans.numbers a b c ha hb h r.spans.stands;
-    first_is = r.spans.first_is;
-    last_is = r.spans.last_is;
-    first_in = r.spans.first_in;
-    last_in = r.spans.last_in;
-  };
-  from = r.from;
-  order = r.order;
-}
+Ranges-guarded t e x a b c r ha hb h = Ranges-by r refl (StandsBy-guarded t e r.spans.numbers a b c ha hb h r.spans.stands)
 
 pub join-follows : (listed : Bool) (s : State) (start : editor.State) → Stands s start → (t : State) (e : editor.State) (x : Span) → Ranges t e x →
     Follows listed start (joined listed s t) (Makes (effects.join x e))

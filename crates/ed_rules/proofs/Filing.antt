@@ -33,7 +33,7 @@ use Rattle.ed_rules.specs.Files.{named, named_first, named_anew, undo_if_modifie
 use Rattle.ed_rules.proofs.Basics.{Agrees, Agrees-weaker, Agrees-ok, and-both, bind-twice}
 use Rattle.ed_rules.proofs.Choosing.{or-cases, or-right, has_choice-only, has-filled}
 use Rattle.ed_rules.proofs.Standing.{Stands}
-use Rattle.ed_rules.proofs.Spans.{Spans, Ranges}
+use Rattle.ed_rules.proofs.Spans.{Spans, Ranges, Spans-by}
 use Rattle.ed_rules.proofs.Joining.{past-both, past-both_other, change-both}
 use Rattle.ed_rules.proofs.SubstitutionEffects.{not-true}
 use Rattle.ed_rules.proofs.Reading.{inserted-none, read-buffer, loaded-buffer}
@@ -95,32 +95,18 @@ lines-does S (Some answer.Refused) path x e t h = refl
 -- `r`
 
 spans-named : (path : Option (List ℕ)) (t : State) (e : editor.State) (x : Span) (used : List ℕ) → Uses path t e used → Spans t e x → Spans (named_first path t) (file.named_first used e) x
-spans-named None t e x used u r = record {
-  numbers = r.numbers;
-  stands = record {
-    buffer = r.stands.buffer;
-    remembered = (r.stands.remembered.0, r.stands.remembered.1, u.first);
-    changed = r.stands.changed;
-    past = r.stands.past;
-  };
-  first_is = r.first_is;
-  last_is = r.last_is;
-  first_in = r.first_in;
-  last_in = r.last_in;
-}
-spans-named (Some path) t e x used u r = record {
-  numbers = r.numbers;
-  stands = record {
-    buffer = record { holds = r.stands.buffer.holds; reads = r.stands.buffer.reads; inside = r.stands.buffer.inside };
-    remembered = (r.stands.remembered.0, r.stands.remembered.1, u.first);
-    changed = r.stands.changed;
-    past = r.stands.past;
-  };
-  first_is = r.first_is;
-  last_is = r.last_is;
-  first_in = r.first_in;
-  last_in = r.last_in;
-}
+spans-named None t e x used u r = Spans-by r refl (record {
+  buffer = r.stands.buffer;
+  remembered = (r.stands.remembered.0, r.stands.remembered.1, u.first);
+  changed = r.stands.changed;
+  past = r.stands.past;
+})
+spans-named (Some path) t e x used u r = Spans-by r refl (record {
+  buffer = record { holds = r.stands.buffer.holds; reads = r.stands.buffer.reads; inside = r.stands.buffer.inside };
+  remembered = (r.stands.remembered.0, r.stands.remembered.1, u.first);
+  changed = r.stands.changed;
+  past = r.stands.past;
+})
 
 past-unmodified : (listed : Bool) (s u : State) (past : Past) → AllowsPast u.undo past → AllowsPast (undo_if_modified listed s u.undo) past
 past-unmodified true s u past h = h

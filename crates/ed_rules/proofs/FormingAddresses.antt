@@ -95,56 +95,13 @@ given-bytes (Comma a b) d h k = h
 given-bytes (Semicolon a b) d h k = h
 
 pub own-bytes : (verb : Verb) → AddressesAreBytes (standing (takes verb).default)
-own-bytes (ed.Append text) = tt
-own-bytes (ed.Change text) = tt
-own-bytes ed.Delete = tt
-own-bytes (ed.Insert text) = tt
 own-bytes ed.Join = (tt, tt)
-own-bytes (ed.Mark letter) = tt
-own-bytes (ed.Move to) = tt
-own-bytes (ed.Copy to) = tt
-own-bytes (ed.Substitute pattern replacement choice form) = tt
-own-bytes ed.LineNumber = tt
-own-bytes ed.Null = tt
-own-bytes (ed.Write form) = tt
-own-bytes (ed.ReadFile path) = tt
-own-bytes (ed.WriteFile path) = tt
-own-bytes (ed.Edit path) = tt
-own-bytes (ed.EditAnyway path) = tt
-own-bytes (ed.FileName path) = tt
-own-bytes (ed.Global sense pattern) = tt
-own-bytes ed.Undo = tt
-own-bytes ed.Help = tt
-own-bytes ed.HelpMode = tt
-own-bytes ed.PromptMode = tt
-own-bytes ed.Quit = tt
-own-bytes ed.QuitAnyway = tt
+own-bytes _ = tt
 
 pub target-bytes : (verb : Verb) → VerbIsBytes verb → TargetIsBytes (takes verb).target
-target-bytes (ed.Append text) b = tt
-target-bytes (ed.Change text) b = tt
-target-bytes ed.Delete b = tt
-target-bytes (ed.Insert text) b = tt
-target-bytes ed.Join b = tt
-target-bytes (ed.Mark letter) b = tt
 target-bytes (ed.Move to) b = b
 target-bytes (ed.Copy to) b = b
-target-bytes (ed.Substitute pattern replacement choice form) b = tt
-target-bytes ed.LineNumber b = tt
-target-bytes ed.Null b = tt
-target-bytes (ed.Write form) b = tt
-target-bytes (ed.ReadFile path) b = tt
-target-bytes (ed.WriteFile path) b = tt
-target-bytes (ed.Edit path) b = tt
-target-bytes (ed.EditAnyway path) b = tt
-target-bytes (ed.FileName path) b = tt
-target-bytes (ed.Global sense pattern) b = tt
-target-bytes ed.Undo b = tt
-target-bytes ed.Help b = tt
-target-bytes ed.HelpMode b = tt
-target-bytes ed.PromptMode b = tt
-target-bytes ed.Quit b = tt
-target-bytes ed.QuitAnyway b = tt
+target-bytes _ b = tt
 
 -- the lines that a command takes
 

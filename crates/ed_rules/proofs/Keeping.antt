@@ -79,17 +79,6 @@ marks_of-parts x (l ∷ ls) zero (suc b) h = let q = marks_of-parts x ls 0 b (om
 marks_of-parts x (l ∷ ls) (suc a) zero h = absurd (omega arith)
 marks_of-parts x (l ∷ ls) (suc a) (suc b) h = let q = marks_of-parts x ls a b (omega arith) in omega arith
 
--- others without letters in place of a range
-pub once-replaced : (ls new : List Line) (a b : ℕ) → a ≤ b → ((x : ℕ) → marks_of x new ≡ 0) → AtMostOnce ls → AtMostOnce (parts.exchanged a b new ls)
-once-replaced ls new a b h plain once =
-    once-by_count (parts.exchanged a b new ls) (λ x.
-    let c = count-by_once ls once x in
-    let n = plain x in
-    let p = marks_of-parts x ls a b h in
-    let q = marks_of-append x (take a ls) (new ++ drop b ls) in
-    let r = marks_of-append x new (drop b ls) in
-    omega arith)
-
 -- others, on which no letter is more often, in place of a range
 pub once-exchanged : (ls new : List Line) (a b : ℕ) → a ≤ b → ((x : ℕ) → marks_of x new ≤ marks_of x (parts.block a b ls)) → AtMostOnce ls → AtMostOnce (parts.exchanged a b new ls)
 once-exchanged ls new a b h few once =
@@ -100,6 +89,10 @@ once-exchanged ls new a b h few once =
     let q = marks_of-append x (take a ls) (new ++ drop b ls) in
     let r = marks_of-append x new (drop b ls) in
     omega arith)
+
+-- others without letters in place of a range
+pub once-replaced : (ls new : List Line) (a b : ℕ) → a ≤ b → ((x : ℕ) → marks_of x new ≡ 0) → AtMostOnce ls → AtMostOnce (parts.exchanged a b new ls)
+once-replaced ls new a b h plain = once-exchanged ls new a b h (λ x. let n = plain x in omega arith)
 
 -- lines that are moved
 pub once-moved : (ls : List Line) (a b place : ℕ) → a ≤ b → AtMostOnce ls → AtMostOnce (parts.carried a b place ls)

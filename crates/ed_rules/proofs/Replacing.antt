@@ -32,25 +32,35 @@ pub record Passed (s : State) (new_lines : List Line) (v : Numbers) (k : ℕ) (t
   pub same_letters : (y : ℕ) → k ≤ y → get_or t.marks y false ≡ get_or s.marks y false
   pub aside : t ≡ record s { zone = t.zone; marks = t.marks }
 
+-- one letter more
+pub Passed-more : {s : State} {lines : List Line} {v : Numbers} (k : ℕ) (t u : State) (m : Passed s lines v k t) (w : Numbers) → Holds u.zone w →
+    ((p : ℕ) → p ≢ 6 + k → w p ≡ m.numbers p) → ((y : ℕ) → y ≢ k → get_or u.marks y false ≡ get_or t.marks y false) → u ≡ record s { zone = u.zone; marks = u.marks } →
+    (get_or u.marks k false ≡ true → OnLine k lines w) → Passed s lines v (suc k) u
+Passed-more {s} {lines} {v} k t u m w holds others letters aside there = record {
+  numbers = w;
+  holds = holds;
+  low = λ p h. others p (omega arith) ∙ m.low p h;
+  on_line = λ x h e.
+      elim (cases_eq x k) [
+        | inl q ↦ (let P : ℕ → Type 0 = λ (y : ℕ). get_or u.marks y false ≡ true → OnLine y lines w in subst P (sym q) there) e
+        | inr n ↦ let o = m.on_line x (omega arith) (sym (letters x n) ∙ e) in (o.0, o.1, others (6 + x) (omega arith) ∙ o.2)
+      ];
+  rest = λ p h. others p (omega arith) ∙ m.rest p (omega arith);
+  same_letters = λ y h. letters y (omega arith) ∙ m.same_letters y (omega arith);
+  aside = aside;
+}
+
+-- a letter that may be on another line now is given up
+pub Passed-lost : {s : State} {lines : List Line} {v : Numbers} (k : ℕ) (t : State) → k < 26 → Passed s lines v k t → Passed s lines v (suc k) (mark_lost k t)
+unfolding mark_lost
+Passed-lost k t h m =
+    let off : get_or (set t.marks k false) k false ≡ false = set-off t.marks k in
+    Passed-more k t (mark_lost k t) m m.numbers (Holds-after_forget t.zone (6 + k) m.numbers m.numbers m.holds (λ p g. refl)) (λ p g. refl)
+    (λ y g. get_or-set_other t.marks k y false false g) (ap (λ (q : State). record q { zone = (mark_lost k t).zone; marks = (mark_lost k t).marks }) m.aside)
+    (λ g. let f : false ≡ true = sym off ∙ g in absurd cc)
+
 module _ (a b : ℕ) (ls new : List Line) (s : State) (v : Numbers) (ha : 1 ≤ a) (hab : a ≤ b) (va : v 3 ≡ pos a) (vb : v 4 ≡ pos b)
     (on : (x : ℕ) → x < 26 → get_or s.marks x false ≡ true → OnLine x ls v) (none : (x : ℕ) → line_with x new ≡ None) where
-  Passed-more : (k : ℕ) (t u : State) (m : Passed s (parts.replaced a b new ls) v k t) (w : Numbers) → Holds u.zone w →
-      ((p : ℕ) → p ≢ 6 + k → w p ≡ m.numbers p) → ((y : ℕ) → y ≢ k → get_or u.marks y false ≡ get_or t.marks y false) → u ≡ record s { zone = u.zone; marks = u.marks } →
-      (get_or u.marks k false ≡ true → OnLine k (parts.replaced a b new ls) w) → Passed s (parts.replaced a b new ls) v (suc k) u
-  Passed-more k t u m w holds others letters aside there = record {
-    numbers = w;
-    holds = holds;
-    low = λ p h. others p (omega arith) ∙ m.low p h;
-    on_line = λ x h e.
-        elim (cases_eq x k) [
-          | inl q ↦ (let P : ℕ → Type 0 = λ (y : ℕ). get_or u.marks y false ≡ true → OnLine y (parts.replaced a b new ls) w in subst P (sym q) there) e
-          | inr n ↦ let o = m.on_line x (omega arith) (sym (letters x n) ∙ e) in (o.0, o.1, others (6 + x) (omega arith) ∙ o.2)
-        ];
-    rest = λ p h. others p (omega arith) ∙ m.rest p (omega arith);
-    same_letters = λ y h. letters y (omega arith) ∙ m.same_letters y (omega arith);
-    aside = aside;
-  }
-
   Passed-moved : (k : ℕ) (t : State) → k < 26 → (m : Passed s (parts.replaced a b new ls) v k t) → (o : OnLine k ls v) → known t.zone 4 (mark_name k) (negsuc 0) ≡ true →
       Passed s (parts.replaced a b new ls) v (suc k) (mark_moved (length new) k t)
   unfolding mark_moved
@@ -91,11 +101,7 @@ module _ (a b : ℕ) (ls new : List Line) (s : State) (v : Numbers) (ha : 1 ≤ 
         | false ↦ λ _.
             (elim (known t.zone 4 (mark_name k) (negsuc 0)) as (λ r. known t.zone 4 (mark_name k) (negsuc 0) ≡ r → G (cond r (mark_moved (length new) k t) (mark_lost k t))) [
               | true ↦ λ q. Passed-moved k t h m o q
-              | false ↦ λ _.
-                  let off : get_or (set t.marks k false) k false ≡ false = set-off t.marks k in
-                  Passed-more k t (mark_lost k t) m w (Holds-after_forget t.zone (6 + k) w w m.holds (λ p g. refl)) (λ p g. refl)
-                  (λ y g. get_or-set_other t.marks k y false false g) (ap (λ (q : State). record q { zone = (mark_lost k t).zone; marks = (mark_lost k t).marks }) m.aside)
-                  (λ g. let f : false ≡ true = sym off ∙ g in absurd cc)
+              | false ↦ λ _. Passed-lost k t h m
             ]) refl
       ]) refl
 

@@ -1,5 +1,5 @@
 -- The rule of a substitution: the marks and the current line that it leaves.
-use Rattle.std.proofs.Common.{◌≡◌, ◌≢◌, ◌<◌, ◌≤◌, inl, inr, ℕ, suc, ◌+◌, ◌-◌, ℤ, pos, negsuc, ◌-ℤ◌, Bool, true, false, cond, List, length, set, get_or, get_or-set_other, None, Some, arith, ◌∙◌, ap, refl, sym, subst}
+use Rattle.std.proofs.Common.{◌≡◌, ◌<◌, ◌≤◌, inl, inr, ℕ, suc, ◌+◌, ◌-◌, ℤ, pos, negsuc, ◌-ℤ◌, Bool, true, false, cond, List, length, get_or, None, Some, arith, ◌∙◌, ap, refl, sym, subst}
 use Rattle.std.proofs.lemmas.Int.{ints}
 use Rattle.std.proofs.lemmas.Bool.{cases_eq}
 use Rattle.ed_base.specs.Buffer.{Line}
@@ -16,11 +16,11 @@ use Rattle.ed_rules.specs.declared.state.State.{State}
 use Rattle.ed_rules.specs.Marks.{mark_name}
 use Rattle.ed_rules.specs.Pieces.{with_zone, mark_lost}
 use Rattle.ed_rules.specs.Substituting.{mark_substituted, marks_substituted, current_split}
-use Rattle.ed_rules.proofs.LettersInLines.{set-off, line_with, line_with-replaced_before, line_with-replaced_after, length-replaced}
+use Rattle.ed_rules.proofs.LettersInLines.{line_with, line_with-replaced_before, line_with-replaced_after, length-replaced}
 use Rattle.ed_rules.proofs.Finishing.{for_each_sure-by}
 use Rattle.ed_rules.proofs.Lifting.{Holds-same}
 use Rattle.ed_rules.proofs.Inserting.{OnLine, OnLine-reads, reads-OnLine}
-use Rattle.ed_rules.proofs.Replacing.{Passed, Replaced, Holds-guarded_by}
+use Rattle.ed_rules.proofs.Replacing.{Passed, Passed-more, Passed-lost, Replaced, Holds-guarded_by}
 use Rattle.ed_rules.proofs.Spans.{Ranges}
 
 -- lines come in place of those from a to b: no fewer, and just as many where none is split; no mark of a later line is on them
@@ -33,23 +33,6 @@ pub record Exchanges (splits : Bool) (a b : ℕ) (ls new : List Line) : Type 0 w
 
 module _ (splits : Bool) (a b : ℕ) (ls new : List Line) (s : State) (v : Numbers) (ha : 1 ≤ a) (hab : a ≤ b) (va : v 3 ≡ pos a) (vb : v 4 ≡ pos b)
     (on : (x : ℕ) → x < 26 → get_or s.marks x false ≡ true → OnLine x ls v) (by : Exchanges splits a b ls new) where
-  done-more : (k : ℕ) (t u : State) (m : Passed s (parts.replaced a b new ls) v k t) (w : Numbers) → Holds u.zone w →
-      ((p : ℕ) → p ≢ 6 + k → w p ≡ m.numbers p) → ((y : ℕ) → y ≢ k → get_or u.marks y false ≡ get_or t.marks y false) → u ≡ record s { zone = u.zone; marks = u.marks } →
-      (get_or u.marks k false ≡ true → OnLine k (parts.replaced a b new ls) w) → Passed s (parts.replaced a b new ls) v (suc k) u
-  done-more k t u m w holds others letters aside there = record {
-    numbers = w;
-    holds = holds;
-    low = λ p h. others p (omega arith) ∙ m.low p h;
-    on_line = λ x h e.
-        elim (cases_eq x k) [
-          | inl q ↦ (let P : ℕ → Type 0 = λ (y : ℕ). get_or u.marks y false ≡ true → OnLine y (parts.replaced a b new ls) w in subst P (sym q) there) e
-          | inr n ↦ let o = m.on_line x (omega arith) (sym (letters x n) ∙ e) in (o.0, o.1, others (6 + x) (omega arith) ∙ o.2)
-        ];
-    rest = λ p h. others p (omega arith) ∙ m.rest p (omega arith);
-    same_letters = λ y h. letters y (omega arith) ∙ m.same_letters y (omega arith);
-    aside = aside;
-  }
-
   -- a mark after the lines, where there may be more of them
   done-down : (k : ℕ) (t : State) → k < 26 → (m : Passed s (parts.replaced a b new ls) v k t) → (o : OnLine k ls v) → b < o.0 →
       Passed s (parts.replaced a b new ls) v (suc k) (with_zone (after_shift t.zone (mark_name k) (Some (pos 0)) None) t)
@@ -61,7 +44,7 @@ module _ (splits : Bool) (a b : ℕ) (ls new : List Line) (s : State) (v : Numbe
       let w' : Numbers = updated w (6 + k) (pos to) in
       let q : w' (6 + k) ≡ pos to = updated-same w (6 + k) (pos to) in
       let u : State = with_zone (after_shift t.zone (mark_name k) (Some (pos 0)) None) t in
-      done-more k t u m w'
+      Passed-more k t u m w'
       (Holds-after_shift t.zone (6 + k) (Some (pos 0)) None w w' (omega arith) m.holds (updated-other w (6 + k) (pos to)) tt (omega (arith, ints)))
       (updated-other w (6 + k) (pos to)) (λ y g. refl) (ap (λ (q : State). record q { zone = u.zone }) m.aside)
       (λ _. (to, line_with-replaced_after k ls new a b o.0 o.1 (by.none k o.0 o.1 after) ha hab after, q))
@@ -73,7 +56,7 @@ module _ (splits : Bool) (a b : ℕ) (ls new : List Line) (s : State) (v : Numbe
       let w : Numbers = m.numbers in
       let mk : w (6 + k) ≡ pos o.0 = m.rest (6 + k) (omega arith) ∙ o.2 in
       let size = by.same whole in
-      done-more k t t m w m.holds (λ p g. refl) (λ y g. refl) m.aside
+      Passed-more k t t m w m.holds (λ p g. refl) (λ y g. refl) m.aside
       (λ _. (o.0, line_with-replaced_after k ls new a b o.0 o.1 (by.none k o.0 o.1 after) ha hab after ∙ ap Some (omega arith), mk))
 
   done-step : (k : ℕ) (t : State) → k < 26 → get_or s.marks k false ≡ true → Passed s (parts.replaced a b new ls) v k t →
@@ -100,12 +83,8 @@ module _ (splits : Bool) (a b : ℕ) (ls new : List Line) (s : State) (v : Numbe
               | true ↦ λ q.
                   let d = known-true t.zone w (6 + k) 3 (negsuc 0) q (omega arith) (omega arith) m.holds in
                   let before : o.0 < a = omega (arith, ints) in
-                  done-more k t t m w m.holds (λ p g. refl) (λ y g. refl) m.aside (λ _. (o.0, line_with-replaced_before k ls new a b o.0 o.1 before, mk))
-              | false ↦ λ _.
-                  let off : get_or (set t.marks k false) k false ≡ false = set-off t.marks k in
-                  done-more k t (mark_lost k t) m w (Holds-after_forget t.zone (6 + k) w w m.holds (λ p g. refl)) (λ p g. refl)
-                  (λ y g. get_or-set_other t.marks k y false false g) (ap (λ (q : State). record q { zone = (mark_lost k t).zone; marks = (mark_lost k t).marks }) m.aside)
-                  (λ g. let f : false ≡ true = sym off ∙ g in absurd cc)
+                  Passed-more k t t m w m.holds (λ p g. refl) (λ y g. refl) m.aside (λ _. (o.0, line_with-replaced_before k ls new a b o.0 o.1 before, mk))
+              | false ↦ λ _. Passed-lost k t h m
             ]) refl
       ]) refl
 
@@ -114,7 +93,7 @@ module _ (splits : Bool) (a b : ℕ) (ls new : List Line) (s : State) (v : Numbe
       for_each_sure-by (Passed s (parts.replaced a b new ls) v) (mark_substituted splits) s.marks s
       (record { numbers = v; holds = holds; low = λ p h. refl; on_line = λ x h e. absurd (omega arith); rest = λ p h. refl; same_letters = λ y h. refl; aside = refl })
       (λ k t h e m. done-step k t h e m)
-      (λ k t h e m. done-more k t t m m.numbers m.holds (λ p g. refl) (λ y g. refl) m.aside
+      (λ k t h e m. Passed-more k t t m m.numbers m.holds (λ p g. refl) (λ y g. refl) m.aside
       (λ g. let f : false ≡ true = sym e ∙ sym (m.same_letters k (omega arith)) ∙ g in absurd cc))
       26 (omega arith)
 

@@ -34,7 +34,7 @@ use Rattle.ed_rules.proofs.Basics.{and-both, Agrees-bind, Agrees-needing, Agrees
 use Rattle.ed_rules.proofs.Choosing.{has_choice-only, has_choice-all, or-right}
 use Rattle.ed_rules.proofs.LettersInLines.{line_with, line_with-take_before, one_more, one_more-none}
 use Rattle.ed_rules.proofs.Standing.{Stands, StandsBy-patterns}
-use Rattle.ed_rules.proofs.Spans.{Ranges}
+use Rattle.ed_rules.proofs.Spans.{Ranges, Ranges-by}
 use Rattle.ed_rules.proofs.Joining.{Stands-join, Stands-join_other}
 use Rattle.ed_rules.proofs.Finishing.{Follows}
 use Rattle.ed_rules.proofs.Effects.{altered-aside}
@@ -247,38 +247,16 @@ Uses listed e x t parts = Ranges t (record e { replacement = Some parts }) x × 
 
 Ranges-replacement : (s : State) (e : editor.State) (x : Span) (kinds : Replacements) (parts : List Part) → Ranges s e x → allows_replacement kinds (Some parts) ≡ true →
     Ranges (record s { replacements = kinds }) (record e { replacement = Some parts }) x
-Ranges-replacement s e x kinds parts r k = record {
-  spans = record {
-    numbers = r.spans.numbers;
-    stands = record {
-      buffer = record { holds = r.spans.stands.buffer.holds; reads = r.spans.stands.buffer.reads; inside = r.spans.stands.buffer.inside };
-      remembered = (r.spans.stands.remembered.0, k, r.spans.stands.remembered.2);
-      changed = r.spans.stands.changed;
-      past = r.spans.stands.past;
-    };
-    first_is = r.spans.first_is;
-    last_is = r.spans.last_is;
-    first_in = r.spans.first_in;
-    last_in = r.spans.last_in;
-  };
-  from = r.from;
-  order = r.order;
-}
+Ranges-replacement s e x kinds parts r k = Ranges-by r refl (record {
+  buffer = record { holds = r.spans.stands.buffer.holds; reads = r.spans.stands.buffer.reads; inside = r.spans.stands.buffer.inside };
+  remembered = (r.spans.stands.remembered.0, k, r.spans.stands.remembered.2);
+  changed = r.spans.stands.changed;
+  past = r.spans.stands.past;
+})
 
 Ranges-pattern : (s : State) (e : editor.State) (x : Span) (patterns : List Choice) (text : List ℕ) → Ranges s e x → has_choice patterns (Some text) ≡ true →
     Ranges (record s { patterns = patterns }) (record e { pattern = Some text }) x
-Ranges-pattern s e x patterns text r k = record {
-  spans = record {
-    numbers = r.spans.numbers;
-    stands = StandsBy-patterns s e r.spans.numbers patterns (Some text) k r.spans.stands;
-    first_is = r.spans.first_is;
-    last_is = r.spans.last_is;
-    first_in = r.spans.first_in;
-    last_in = r.spans.last_in;
-  };
-  from = r.from;
-  order = r.order;
-}
+Ranges-pattern s e x patterns text r k = Ranges-by r refl (StandsBy-patterns s e r.spans.numbers patterns (Some text) k r.spans.stands)
 
 Agrees-as : {A B C : Type 0} (R : A → B → Type 0) (S : C → B → Type 0) (a : A) (c : C) (y : Result B Fault) → Agrees R (Ok a) y → ((b : B) → R a b → S c b) → Agrees S (Ok c) y
 Agrees-as R S a c (Ok b) h k = k b h
