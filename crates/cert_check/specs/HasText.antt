@@ -11,7 +11,7 @@ LoopedHasText (Some l) = StateIsFormed l.invariant × All StateIsFormed l.inner
 abbrev pub NoteHasText : Note → Type 0
 NoteHasText n = StateIsFormed n.state × LoopedHasText n.looped
 
--- a number of lines that a text may have is at most 10^12
+-- a number of lines that a text speaks of is at most 10^12
 abbrev pub is_few : ℕ → Bool
 is_few n = nat_le n 1000000000000
 

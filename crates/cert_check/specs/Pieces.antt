@@ -88,7 +88,7 @@ same a = a
 abbrev pub alone : {A : Type 0} → (spell : A → text.Line) → A → List text.Line
 alone spell a = spell a ∷ []
 
--- at most how many lines, and at least
+-- at least how many lines, and at most
 abbrev pub limits_line : (key : Word) → ℕ × Option ℕ → text.Line
 limits_line key limits = bounds_line key limits.0 limits.1
 

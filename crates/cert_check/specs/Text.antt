@@ -15,7 +15,7 @@ use Rattle.ed_rules.specs.Choices.{Choice}
 use Rattle.ed_rules.specs.Formed.{says_nothing}
 use Rattle.cert_check.specs.Certificates.{Looped, Note, Certificate}
 
--- bytes without a space or a newline, and a line as its words
+-- A word is some bytes, and a line its words. Those of a certificate have no space or newline in them.
 abbrev pub Word : Type 0
 Word = List ℕ
 
@@ -44,7 +44,8 @@ line_text (first ∷ later) = first ++ spaced later
 abbrev pub lines_text : List Line → List ℕ
 lines_text lines = bytes_of (map line_text lines)
 
--- A name: `0`, `.`, `$`, or the letter of the line that it marks. The addresses of one command have none.
+-- A name: `0`, `.`, `$`, or the letter of the line that it marks. The addresses of one command, the names 3 to 5, have none: of them a
+-- zone that is written down says nothing.
 abbrev pub name_word : (place : ℕ) → Word
 name_word place =
     if place == name.zero then codes "0" else if place == current_line then codes "." else if place == last_line then codes "$"

@@ -26,13 +26,13 @@ pub record PastValue : Type 0 where
 abbrev pub HeldWithin : (count : ℕ) → Held → Type 0
 HeldWithin count h = h.since ≤ count
 
--- so it is of the buffer that undo would bring back
+-- no more came before the buffer that undo would bring back
 abbrev pub UndoneWithin : (count : ℕ) → Undone → Type 0
 UndoneWithin count undone.Nothing = Unit {0}
 UndoneWithin count undone.Same = Unit {0}
 UndoneWithin count (undone.Was h) = HeldWithin count h
 
--- and of the one before a global command that is open
+-- nor before the one from before a global command that is open
 abbrev pub GlobalWithin : (count : ℕ) → Option OpenGlobal → Type 0
 GlobalWithin count global = IfSome global (λ o. HeldWithin count o.held)
 

@@ -1,5 +1,5 @@
--- A state as the rules leave it: its zones speak of the lines and of the letters beside them alone, and each set has a member and
--- rises. Only such a state can be written down.
+-- A state that can be written down: its zones speak of the lines and of the letters beside them alone, and each set has a member and
+-- rises.
 use Rattle.std.specs.Prelude.{◌≡◌, ℕ, ◌-◌, ◌<◌, ◌/◌, ◌%◌, ◌==◌, zero, ℤ, pos, Bool, true, false, not, ◌&&◌, ◌||◌, List, [], ◌∷◌, length, get_or, Option, Some, None, is_some, nat_le, nat_lt, All}
 use Rattle.std.specs.Ordering.{is_lt}
 use Rattle.zones.specs.Zone.{Bounds}
@@ -102,6 +102,6 @@ VerbIsBytes (ed.FileName path) = ChoiceIsBytes path
 VerbIsBytes (ed.Global sense pattern) = ChoiceIsBytes pattern
 VerbIsBytes _ = Unit {0}
 
--- all that a command may make an editor remember is bytes
+-- the patterns and paths that a command may make an editor remember are bytes
 abbrev pub TextsAreBytes : Command → Type 0
 TextsAreBytes c = AddressesAreBytes c.addresses × VerbIsBytes c.verb

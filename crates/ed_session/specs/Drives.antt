@@ -55,7 +55,7 @@ pub record RanOut (from : SessionValue) (log : Log) (old new : Option (List ℕ)
   pub cut : RunsOut (rest from (answers log)) output (requests log)
   pub wrote : Appends old new (from.pending ++ output)
 
--- what a run writes in its first steps, in which just these requests are answered, and then has answered no more
+-- what a run writes in its first steps, where in all its steps it asks just these requests
 pub record Begun (run : Progress) (asked : List Request) (output : List ℕ) : Type 0 where
   pub events : List Event
   pub left : Progress

@@ -38,7 +38,7 @@ pub record Heading : Type 0 where
   pub verb : Verb
   pub suffix : Option Form
 
--- the suffix of a command that may stand here, and these addresses before it
+-- the suffix after a verb, if the verb may stand here, with these addresses before it; none also where what follows is no suffix
 abbrev pub suffix_with : (listed : Bool) → Addresses → Verb → List ℕ → Option (Option Form)
 suffix_with listed given verb bs = elim (may_have given verb && may_stand listed verb) [ true ↦ suffix_at verb bs | false ↦ None ]
 
