@@ -9,6 +9,7 @@ ghost use Rattle.ed_main.specs.declared.job.Job.TheVariants as job;
 use crate::checking::check_text;
 use crate::job::Job;
 use crate::reading::{In, ReadFault, read_all};
+use crate::refusals::{Watched, Wrong, show_file, show_input, show_output};
 use crate::running::{edit, run};
 use crate::vouching::vouch_text;
 use crate::words::{USAGE, WordsFault, read_words};
@@ -37,7 +38,7 @@ where
     match job_of_run(rt) {
         Ok(job) => match read_all(rt.alloc(), &mut In::new(rt.reader()), LIMIT) {
             Ok(script) => do_job(rt, script, job),
-            Err(fault) => status_of_read(fault),
+            Err(fault) => refuse_script(rt, fault),
         },
         Err(fault) => refuse(rt, &fault),
     }
@@ -76,6 +77,17 @@ fn job_of_run<R: Env + AllocGlobal>(rt: &R) -> Result<Job, WordsFault>
     read_words(rt.alloc(), texts.as_slice())
 }
 
+// Shows that standard input wasn't read.
+fn refuse_script(rt: &impl Eprint, fault: ReadFault) -> u8
+    ensures status { result ≤ 4 }
+    ensures value { result ≡ status_of_unread fault }
+{
+    if fault == ReadFault::Refused {
+        show_input(rt);
+    }
+    status_of_read(fault)
+}
+
 // The status of input that wasn't read.
 fn status_of_read(fault: ReadFault) -> u8
     ensures status { result ≤ 4 }
@@ -112,31 +124,54 @@ where
     }
 }
 
-// The bytes of the file at this path.
+// The bytes of the certificate at this path. What is wrong with its file is shown.
 fn certificate_at<R>(rt: &R, path: &Bytes) -> Result<Bytes, ReadFault>
 where
-    R: Files<File = File> + AllocGlobal,
+    R: Files<File = File> + Eprint + AllocGlobal,
 {
-    let Ok(path) = str::from_utf8(path.as_slice()) else {
-        return Err(ReadFault::Refused);
+    let path = path.as_slice();
+    let wrong = match file_at(rt, path) {
+        Ok(file) => match read_all(rt.alloc(), &mut In::new(file), LIMIT) {
+            Err(ReadFault::Refused) => Wrong::Unread,
+            read => return read,
+        },
+        Err(io::ErrorKind::OutOfMemory) => return Err(ReadFault::Memory),
+        Err(io::ErrorKind::NotFound) => Wrong::Missing,
+        Err(_) => Wrong::Unread,
     };
-    match File::open(rt, path) {
-        Ok(file) => read_all(rt.alloc(), &mut In::new(file), LIMIT),
-        Err(error) if error.kind() == io::ErrorKind::OutOfMemory => Err(ReadFault::Memory),
-        Err(_) => Err(ReadFault::Refused),
+    show_file(rt, path, wrong);
+    Err(ReadFault::Refused)
+}
+
+// The file at this path, or why there is none.
+fn file_at<R: Files<File = File>>(rt: &R, path: &[u8]) -> Result<File, io::ErrorKind> {
+    match str::from_utf8(path) {
+        Ok(path) => File::open(rt, path).map_err(|error| error.kind()),
+        Err(_) => Err(io::ErrorKind::InvalidInput),
     }
 }
 
 // Runs the script's bytes over the system's files and the standard output.
 fn edit_file<R>(rt: &R, script: Bytes, options: Options) -> u8
 where
-    R: Files<File = File> + Print + AllocGlobal,
+    R: Files<File = File> + Print + Eprint + AllocGlobal,
     ensures status { result ≤ 4 }
     ensures came { CameTo script options result }
 {
-    let mut files = DiskFiles::new(rt.alloc(), rt);
+    let mut files = files_of(rt, &options);
     let mut output = Out::new(io::writer(rt));
-    edit(rt.alloc(), script, options, &mut files, &mut output)
+    let status = edit(rt.alloc(), script, options, &mut files, &mut output);
+    files.show_refusal(rt, status);
+    status
+}
+
+// The system's files, watched for a run that starts with these options.
+fn files_of<'a, R>(rt: &'a R, options: &Options) -> Watched<DiskFiles<&'a R>>
+where
+    R: Files<File = File> + AllocGlobal,
+{
+    let files = DiskFiles::new(rt.alloc(), rt);
+    Watched::new(rt.alloc(), files, options.path.is_some())
 }
 
 // Tells the standard output the certificate of the script's bytes, or why there is none.
@@ -148,35 +183,41 @@ where
     ensures came { CameToSay (Vouches script.now start) result }
 {
     let mut output = Out::new(io::writer(rt));
-    vouch_text(rt.alloc(), rt, script, start, &mut output)
+    let status = vouch_text(rt.alloc(), rt, script, start, &mut output);
+    show_output(rt, status);
+    status
 }
 
 // Tells the standard output the verdict on a certificate for the script's bytes.
 fn check_file<R>(rt: &R, script: &[u8], certificate: &[u8]) -> u8
 where
-    R: Print + AllocGlobal,
+    R: Print + Eprint + AllocGlobal,
     ensures status { result ≤ 4 }
     ensures came { CameToSay (Checks script.now certificate.now) result }
 {
     let mut output = Out::new(io::writer(rt));
-    check_text(rt.alloc(), script, certificate, &mut output)
+    let status = check_text(rt.alloc(), script, certificate, &mut output);
+    show_output(rt, status);
+    status
 }
 
 // Runs the script's bytes as `edit_file`, where the certificate allows it.
 fn run_file<R>(rt: &R, script: &[u8], certificate: &[u8], options: Options) -> u8
 where
-    R: Files<File = File> + Print + AllocGlobal,
+    R: Files<File = File> + Print + Eprint + AllocGlobal,
     ensures status { result ≤ 4 }
     ensures came { CameToRun script.now certificate.now options result }
 {
-    let mut files = DiskFiles::new(rt.alloc(), rt);
+    let mut files = files_of(rt, &options);
     let mut output = Out::new(io::writer(rt));
-    run(
+    let status = run(
         rt.alloc(),
         script,
         certificate,
         options,
         &mut files,
         &mut output,
-    )
+    );
+    files.show_refusal(rt, status);
+    status
 }

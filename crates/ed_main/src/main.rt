@@ -7,6 +7,7 @@ mod editing;
 mod job;
 mod known;
 mod reading;
+mod refusals;
 mod running;
 mod telling;
 mod vouching;

@@ -67,6 +67,10 @@ const NO_FILE: &str = "error: a file without a name, or named -";
 
 const NO_CERTIFICATE: &str = "error: a certificate without a name, or named -";
 
+const NO_MIN: &str = "error: --min isn't a number of lines up to 10^12";
+
+const NO_MAX: &str = "error: --max is neither a number of lines up to 10^12 nor any";
+
 /// The most lines that a start may have.
 const MOST_LINES: u64 = 1_000_000_000_000;
 
@@ -79,7 +83,7 @@ pub fn read_words(alloc: Global, words: &[&str]) -> Result<Job, WordsFault>
 {
     match program(alloc)?.try_get_matches_from(words) {
         Ok(matches) => job_of_matches(alloc, &matches),
-        Err(error) => Err(refused(alloc, &error, usage_of(words))),
+        Err(error) => Err(refused(alloc, &error, words)),
     }
 }
 
@@ -267,12 +271,10 @@ fn vouch_job(alloc: Global, given: &ArgMatches<'_>) -> Result<Job, WordsFault>
 {
     let path = text_of(given, "file");
     let Some(min) = lines_in(text_of(given, "min")) else {
-        let wrong = "error: --min isn't a number of lines up to 10^12";
-        return Err(WordsFault::of(alloc, wrong, VOUCH_USAGE));
+        return Err(WordsFault::of(alloc, NO_MIN, VOUCH_USAGE));
     };
     let Some(max) = limit_in(text_of(given, "max")) else {
-        let wrong = "error: --max is neither a number of lines up to 10^12 nor any";
-        return Err(WordsFault::of(alloc, wrong, VOUCH_USAGE));
+        return Err(WordsFault::of(alloc, NO_MAX, VOUCH_USAGE));
     };
     if !is_within(min, max) {
         return Err(WordsFault::of(alloc, "error: --min is above --max", VOUCH_USAGE));
@@ -410,22 +412,51 @@ fn is_within(min: u64, max: Option<u64>) -> bool
 }
 
 // What is shown of words that `clap` refuses, or the help that they ask for.
-fn refused(alloc: Global, error: &clap::Error, usage: &str) -> WordsFault
+fn refused(alloc: Global, error: &clap::Error, words: &[&str]) -> WordsFault
     ensures memory { kind_of error.now ≡ ErrorKind.OutOfMemory → result ≡ WordsFault.Memory }
 {
     if error.kind() == ErrorKind::OutOfMemory {
         return WordsFault::Memory;
     }
-    match error.to_string(alloc) {
-        Ok(text) => {
-            if error.use_stderr() {
-                WordsFault::of(alloc, first_line(text.as_str()), usage)
-            } else {
-                WordsFault::Usage(text)
-            }
-        }
-        Err(_) => WordsFault::Memory,
+    match shown(alloc, error, words) {
+        Ok(text) => WordsFault::Usage(text),
+        Err(AllocError) => WordsFault::Memory,
     }
+}
+
+fn shown(alloc: Global, error: &clap::Error, words: &[&str]) -> Result<String, AllocError> {
+    let text = error.to_string(alloc)?;
+    if !error.use_stderr() {
+        return Ok(text);
+    }
+    let usage = usage_of(words);
+    if error.kind() == ErrorKind::UnknownArgument {
+        if let Some(wrong) = bound_below_zero(words) {
+            return Ok(format!(in alloc; "{wrong}\n{usage}")?);
+        }
+    }
+    let wrong = first_sentence(alloc, text.as_str())?;
+    Ok(format!(in alloc; "{wrong}\n{usage}")?)
+}
+
+// What is wrong where the first word that `clap` doesn't know is a number below 0 and stands where a bound does.
+fn bound_below_zero(words: &[&str]) -> Option<&'static str> {
+    let mut bound = None;
+    for &word in words {
+        match word.as_bytes() {
+            [b'-', b'0'..=b'9', ..] => return bound,
+            b"--min" => bound = Some(NO_MIN),
+            b"--max" => bound = Some(NO_MAX),
+            [b'-', ..] if !has_bound(word) => return None,
+            _ => bound = None,
+        }
+    }
+    None
+}
+
+// Whether a word names a bound and gives it.
+fn has_bound(word: &str) -> bool {
+    word.starts_with("--min=") || word.starts_with("--max=")
 }
 
 // How the subcommand that the words begin with is used.
@@ -439,11 +470,18 @@ fn usage_of(words: &[&str]) -> &'static str {
     }
 }
 
-fn first_line(text: &str) -> &str {
-    match text.split_once('\n') {
-        Some((line, _)) => line,
-        None => text,
+// The first line of a text, and where it ends in a colon what the lines below it list.
+fn first_sentence(alloc: Global, text: &str) -> Result<String, AllocError> {
+    let mut lines = text.lines();
+    let mut sentence = String::from_str(alloc, lines.next().unwrap_or(""))?;
+    if sentence.as_str().ends_with(':') {
+        for line in lines.take_while(|line| !line.is_empty()) {
+            let is_first = sentence.as_str().ends_with(':');
+            sentence.push_str(if is_first { " " } else { ", " })?;
+            sentence.push_str(line.trim_start())?;
+        }
     }
+    Ok(sentence)
 }
 
 #[cfg(test)]
@@ -458,10 +496,14 @@ mod tests {
     }
 
     #[rattlefmt::skip]
-    const ROWS: [Row; 8] = [
+    const ROWS: [Row; 12] = [
         Row { words: &["ed_main", "edit", "-x"], shown: "error: unexpected argument '-x' found\nusage: ed_main edit [-s] [-p STRING] [FILE] <SCRIPT\n" },
         Row { words: &["ed_main", "edit", "-"], shown: "error: a file without a name, or named -\nusage: ed_main edit [-s] [-p STRING] [FILE] <SCRIPT\n" },
-        Row { words: &["ed_main", "vouch", "--min", "0"], shown: "error: the following required arguments were not provided:\nusage: ed_main vouch --min N --max M [FILE] <SCRIPT\n" },
+        Row { words: &["ed_main", "vouch", "--min", "0"], shown: "error: the following required arguments were not provided: --max <M>\nusage: ed_main vouch --min N --max M [FILE] <SCRIPT\n" },
+        Row { words: &["ed_main", "vouch", "F"], shown: "error: the following required arguments were not provided: --min <N>, --max <M>\nusage: ed_main vouch --min N --max M [FILE] <SCRIPT\n" },
+        Row { words: &["ed_main", "vouch", "--min", "-1", "--max", "3"], shown: "error: --min isn't a number of lines up to 10^12\nusage: ed_main vouch --min N --max M [FILE] <SCRIPT\n" },
+        Row { words: &["ed_main", "vouch", "--min=0", "--max", "-12"], shown: "error: --max is neither a number of lines up to 10^12 nor any\nusage: ed_main vouch --min N --max M [FILE] <SCRIPT\n" },
+        Row { words: &["ed_main", "vouch", "-x", "--min", "-1", "--max", "3"], shown: "error: unexpected argument '-x' found\nusage: ed_main vouch --min N --max M [FILE] <SCRIPT\n" },
         Row { words: &["ed_main", "vouch", "--min", "x", "--max", "3"], shown: "error: --min isn't a number of lines up to 10^12\nusage: ed_main vouch --min N --max M [FILE] <SCRIPT\n" },
         Row { words: &["ed_main", "vouch", "--min", "2", "--max", "1"], shown: "error: --min is above --max\nusage: ed_main vouch --min N --max M [FILE] <SCRIPT\n" },
         Row { words: &["ed_main", "check", ""], shown: "error: a certificate without a name, or named -\nusage: ed_main check CERT <SCRIPT\n" },

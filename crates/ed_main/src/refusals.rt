@@ -1,0 +1,133 @@
+//! What was refused outside, as a person reads it: a file, standard input, standard output. No clause speaks of these lines.
+ghost use Rattle.std.specs.Prelude.{◌≡◌};
+
+use ed_base::{Bytes, Fault};
+use ed_session::Outside;
+use ed_syntax::Answer;
+use std::alloc::{AllocError, Global};
+use std::mem;
+
+/// What is wrong with a file that was asked for.
+#[derive(Clone, Copy, Debug, PartialEq, Eq)]
+pub enum Wrong {
+    /// It isn't there.
+    Missing,
+    /// It can't be read.
+    Unread,
+    /// It can't be written.
+    Unwritten,
+}
+
+impl Wrong {
+    fn text(self) -> &'static str {
+        match self {
+            Wrong::Missing => "no such file",
+            Wrong::Unread => "can't be read",
+            Wrong::Unwritten => "can't be written",
+        }
+    }
+}
+
+/// A request that a file refused.
+#[derive(Drop)]
+struct Refusal {
+    /// None where there was no memory for it.
+    path: Option<Bytes>,
+    wrong: Wrong,
+}
+
+impl Refusal {
+    fn new(alloc: Global, path: &[u8], wrong: Wrong) -> Self {
+        Refusal {
+            path: Bytes::from_slice(alloc, path).ok(),
+            wrong,
+        }
+    }
+}
+
+/// An outside that remembers which file has refused last, to tell of it when the run is over.
+#[derive(Drop)]
+pub struct Watched<O: Outside + Drop> {
+    alloc: Global,
+    files: O,
+    // Whether the next read is that of the start, which may miss its file.
+    starts: bool,
+    refusal: Option<Refusal>,
+}
+
+impl<O: Outside + Drop> Watched<O> {
+    /// A watch over these files, whose first read is a run's start if `starts` is true.
+    pub fn new(alloc: Global, files: O, starts: bool) -> Self
+        ensures log { O.log result.files ≡ O.log files }
+        ensures count { O.failures result.files ≡ O.failures files }
+    {
+        Watched {
+            alloc,
+            files,
+            starts,
+            refusal: None,
+        }
+    }
+
+    /// Shows in one line what was refused where a run over these files ended with this status: a file, else standard output.
+    pub fn show_refusal(&self, rt: &impl Eprint, status: u8) {
+        match &self.refusal {
+            Some(refusal) if status == Fault::File.status() => {
+                if let Some(path) = &refusal.path {
+                    show_file(rt, path.as_slice(), refusal.wrong);
+                }
+            }
+            _ => show_output(rt, status),
+        }
+    }
+}
+
+impl<O: Outside + Drop> Outside for Watched<O> {
+    ghost log = { λ w. O.log w.files };
+
+    ghost failures = { λ w. O.failures w.files };
+
+    ghost few_failures = { λ w. O.few_failures w.files };
+
+    fn read(&mut self, path: &[u8]) -> Result<Answer, AllocError> {
+        let starts = mem::replace(&mut self.starts, false);
+        let answer = self.files.read(path)?;
+        match &answer {
+            Answer::Refused => self.refusal = Some(Refusal::new(self.alloc, path, Wrong::Unread)),
+            Answer::Missing if !starts => {
+                self.refusal = Some(Refusal::new(self.alloc, path, Wrong::Missing));
+            }
+            _ => {}
+        }
+        Ok(answer)
+    }
+
+    fn write(&mut self, path: &[u8], bytes: &[u8]) -> Result<Answer, AllocError> {
+        let answer = self.files.write(path, bytes)?;
+        if matches!(answer, Answer::Refused) {
+            self.refusal = Some(Refusal::new(self.alloc, path, Wrong::Unwritten));
+        }
+        Ok(answer)
+    }
+}
+
+/// Shows in one line what is wrong with the file at a path. Bytes that would end the line, or aren't text, are escaped.
+pub fn show_file(rt: &impl Eprint, path: &[u8], wrong: Wrong) {
+    let wrong = wrong.text();
+    let _ = match str::from_utf8(path) {
+        Ok(text) => eprintln!(rt; "error: {text:?}: {wrong}"),
+        Err(_) => eprintln!(rt; "error: \"{}\": {wrong}", path.escape_ascii()),
+    };
+}
+
+/// Shows in one line that standard input wasn't read.
+pub fn show_input(rt: &impl Eprint) {
+    let _ = eprintln!(rt; "error: standard input: can't be read");
+}
+
+/// Shows in one line that standard output was refused, if what was to be told ended with the status of that.
+pub fn show_output(rt: &impl Eprint, status: u8) {
+    if status == Fault::Output.status() {
+        let _ = eprintln!(rt; "error: standard output: can't be written");
+    }
+}
