@@ -4,6 +4,7 @@ ghost use Rattle.bre_parse.specs.Tree.{Tree};
 ghost use Rattle.bre_parse.specs.Bre.{bre_tree};
 ghost use Rattle.bre_parse.specs.Ways.{bytes_of};
 ghost use Rattle.bre_match.specs.Answer.{spans, LiesWithin};
+ghost use Rattle.ed_syntax.specs.declared.replacement.Part.TheVariants as part;
 ghost use Rattle.ed_syntax.specs.Substitution.{taken, taken_first, expanded, picked, replaced_in, split_at_newlines, substituted};
 ghost use Rattle.ed_base.specs.Lines.{IsLine};
 ghost use Rattle.ed_commands.specs.Scans.{left, left_from, scan_after, passed_over, Goes, nth_of, alone};
@@ -66,6 +67,7 @@ fn replace_one(
         return Ok(None);
     };
     let mut text = Bytes::new(alloc);
+    text.reserve(size_with(replacement, line, &found))?;
     replace(&mut text, replacement, line, 0, &found)?;
     text.extend_from_slice(&line[found.end..])?;
     Ok(Some(text))
@@ -85,6 +87,8 @@ fn replace_all(
         return Ok(None);
     };
     let mut text = Bytes::new(alloc);
+    // A first guess: further matches may make more of it, or less.
+    text.reserve(size_with(replacement, line, &first))?;
     replace(&mut text, replacement, line, 0, &first)?;
     let mut copied = first.end;
     while let Some(found) = next_taken(alloc, pattern, line, &mut scan)? {
@@ -145,11 +149,40 @@ fn append_part(text: &mut Bytes, part: Part, line: &[u8], found: &Match) -> Resu
     match part {
         Part::Literal(byte) => text.push(byte),
         Part::Match => text.extend_from_slice(within(line, found.start, found.end)),
-        Part::Group(group) => match found.groups.get(group as usize) {
-            Some(Some((start, end))) => text.extend_from_slice(within(line, *start, *end)),
-            _ => Ok(()),
-        },
+        Part::Group(group) => text.extend_from_slice(group_bytes(group, line, found)),
         Part::Split => text.push(b'\n'),
+    }
+}
+
+// The bytes of a group, none where it isn't set.
+fn group_bytes<'a>(group: u8, line: &'a [u8], found: &Match) -> &'a [u8]
+    ensures value { result.now ≡ expanded line.now (spans found.now) (part.Group group) }
+{
+    match found.groups.get(group as usize) {
+        Some(Some((start, end))) => within(line, *start, *end),
+        _ => within(line, 0, 0),
+    }
+}
+
+// How many bytes the line has with this match replaced, or the greatest `usize` where that is more. No clause speaks of room.
+fn size_with(replacement: &Replacement, line: &[u8], found: &Match) -> usize {
+    let mut size = found
+        .start
+        .saturating_add(line.len().saturating_sub(found.end));
+    for part in replacement.parts() {
+        size = size.saturating_add(part_size(*part, line, found));
+    }
+    size
+}
+
+// How many bytes a part of the replacement stands for.
+fn part_size(part: Part, line: &[u8], found: &Match) -> usize
+    ensures value { result ≡ length (expanded line.now (spans found.now) part) }
+{
+    match part {
+        Part::Literal(_) | Part::Split => 1,
+        Part::Match => within(line, found.start, found.end).len(),
+        Part::Group(group) => group_bytes(group, line, found).len(),
     }
 }
 
