@@ -130,12 +130,10 @@ pub when-none : (made : Option ℕ) (P : Type 0) → is_some made ≡ false → 
 when-none None P h p = p
 when-none (Some n) P h p = absurd cc
 
-pub first-change : (was now : PastValue) (b : Before) (marks : List (Option ℕ)) (lines old : List Line) (base : Earlier) →
-    earlier_of now (texts lines) ≡ earlier_after b.listed (kept_of b.current marks (texts lines)) (earlier_of was (texts lines)) → lettered marks 0 lines ≡ lines → lines ≡ old →
-    earlier_of was (texts lines) ≡ base → earlier_of now (texts lines) ≡ earlier_after b.listed (kept_lines b.current old) base
-first-change was now b marks lines old base begun own same kept =
-    begun
-    ∙ ap (λ k. earlier_after b.listed k (earlier_of was (texts lines))) (kept-own b.current marks lines own ∙ ap (kept_lines b.current) same)
+pub first-change : (was : PastValue) (b : Before) (lines old : List Line) (base : Earlier) → lines ≡ old → earlier_of was (texts lines) ≡ base →
+    earlier_after b.listed (kept_lines b.current lines) (earlier_of was (texts lines)) ≡ earlier_after b.listed (kept_lines b.current old) base
+first-change was b lines old base same kept =
+    ap (λ k. earlier_after b.listed k (earlier_of was (texts lines))) (ap (kept_lines b.current) same)
     ∙ ap (earlier_after b.listed (kept_lines b.current old)) kept
 
 -- what results with one more line that stays

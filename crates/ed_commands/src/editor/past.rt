@@ -3,7 +3,7 @@ ghost use Rattle.std.specs.Prelude.{◌≡◌, ◌≢◌, ◌<◌, ◌≤◌, �
 ghost use Rattle.ed_base.specs.Buffer.{texts};
 ghost use Rattle.ed_base.specs.declared.fault.Fault.TheVariants.{Memory, Undo};
 ghost use Rattle.ed_syntax.specs.States.{Nothing};
-ghost use Rattle.ed_commands.specs.Earlier.{Restores, closing, earlier_after, earlier_of, kept_of, nothing_earlier, noting, opening_global, texts_before, undoing};
+ghost use Rattle.ed_commands.specs.Earlier.{Restores, closing, earlier_after, earlier_of, kept_lines, kept_of, nothing_earlier, noting, opening_global, texts_before, undoing};
 
 use crate::editor::undoing::{rewind, take_flags};
 use ed_base::Fault;
@@ -122,13 +122,26 @@ impl Past {
             earlier_of self.new now ≡ earlier_after before.listed (kept_of before.current marks (texts_before change now))
             (earlier_of self.old (texts_before change now)) }
     {
-        self.begin(before, marks);
+        self.begin_with(before, marks);
         self.add(change);
     }
 
-    /// From here on the changes are those of a command, before which the letters were at `marks`: what there was then is kept; of
-    /// a listed command, what was kept. A global command that is open knows of the change.
-    pub fn begin(&mut self, before: Before, marks: Marks)
+    /// From here on the changes are those of a command, before which these were the lines: what there was then is kept; of a listed
+    /// command, what was kept, and then it isn't looked where the letters are. A global command that is open knows of the change.
+    pub fn begin<S: LineStore>(&mut self, before: Before, store: &S)
+        ensures kept { let now = texts (S.lines store.now) in
+            earlier_of self.new now ≡ earlier_after before.listed (kept_lines before.current (S.lines store.now)) (earlier_of self.old now) }
+        ensures keeps_room { 0 < self.old.room → 0 < self.new.room }
+    {
+        if before.listed {
+            self.note();
+        } else {
+            self.begin_with(before, Marks::of(store));
+        }
+    }
+
+    // The same, where the letters were at `marks`.
+    fn begin_with(&mut self, before: Before, marks: Marks)
         ensures kept { (now : List (List ℕ)) →
             earlier_of self.new now ≡ earlier_after before.listed (kept_of before.current marks now) (earlier_of self.old now) }
         ensures keeps_room { 0 < self.old.room → 0 < self.new.room }

@@ -12,7 +12,7 @@ use crate::editor::blocks::{exchange, split_text};
 use crate::editor::past::{Before, Change, Past};
 use crate::substitution::rewritten;
 use ed_syntax::{Pattern, Replacement, Which};
-use line_store::{Line, LineStore, Marks};
+use line_store::{Line, LineStore};
 use std::alloc::{AllocError, Global};
 
 // The new lines that a line becomes where the matches of a pattern are replaced; `None` where it stays as it is.
@@ -69,8 +69,7 @@ pub fn rewrite_lines<S: LineStore>(
             continue;
         };
         if made.is_none() {
-            let marks = Marks::of(store);
-            past.begin(before, marks);
+            past.begin(before, store);
         }
         rewrite_line(alloc, place, lines, store, past)?;
         made = Some(store.len() - (count - i - 1));

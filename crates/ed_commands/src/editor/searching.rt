@@ -1,5 +1,5 @@
 //! Searches for a line that a pattern matches (XCU ed, "Addresses in ed").
-ghost use Rattle.std.specs.Prelude.{◌≡◌, ◌+◌, ◌-◌, ◌≤◌, length, reverse, find, IfOk, OnErr, OnOk};
+ghost use Rattle.std.specs.Prelude.{◌≡◌, ◌+◌, ◌-◌, ◌≤◌, Some, length, reverse, find, IsTrue, IfOk, OnErr, OnOk};
 ghost use Rattle.ed_base.specs.Buffer.{Line};
 ghost use Rattle.ed_syntax.specs.Values.{count_from, lines_backward, lines_forward, matches_line, searched, sought};
 ghost use Rattle.ed_commands.specs.Editors.{TellsLine, SameButPattern, with_pattern};
@@ -55,6 +55,16 @@ fn last_match<S: LineStore>(
     Ok(None)
 }
 
+// Whether this pattern is the one that is remembered.
+fn is_remembered(remembered: &Option<Pattern>, own: &Pattern) -> bool
+    ensures same { IsTrue result → remembered.now ≡ Some own.now }
+{
+    match remembered {
+        Some(remembered) => remembered == own,
+        None => false,
+    }
+}
+
 impl<S: LineStore> Editor<S> {
     /// A search remembers its own pattern before it looks for a line; so do other commands that have one.
     pub(crate) fn remember(&mut self, own: &Option<Pattern>) -> Result<(), AllocError>
@@ -62,8 +72,11 @@ impl<S: LineStore> Editor<S> {
         ensures unchanged { OnErr result (self.new ≡ self.old) }
         ensures others { SameButPattern self.old self.new }
     {
-        if let Some(pattern) = own {
-            self.pattern = Some(pattern.try_copy()?);
+        match own {
+            Some(pattern) if !is_remembered(&self.pattern, pattern) => {
+                self.pattern = Some(pattern.try_copy()?);
+            }
+            _ => {}
         }
         Ok(())
     }

@@ -1,5 +1,5 @@
 //! `s`: matches are replaced, line by line (XCU ed, "Substitute Command").
-ghost use Rattle.std.specs.Prelude.{◌≡◌, ◌≢◌, ◌≤◌, IsOkAnd, MatchResult, OnErr};
+ghost use Rattle.std.specs.Prelude.{◌≡◌, ◌≢◌, ◌≤◌, Some, IsTrue, IsOkAnd, MatchResult, OnErr};
 ghost use Rattle.std.specs.List.{list_any};
 ghost use Rattle.ed_base.specs.declared.fault.Fault.TheVariants.{Memory};
 ghost use Rattle.ed_syntax.specs.PublicTypes.{suffix_value};
@@ -34,6 +34,43 @@ fn is_a_split(part: Part) -> bool
     ensures value { result ≡ is_split part }
 {
     matches!(part, Part::Split)
+}
+
+// Whether two parts are the same.
+fn is_same(part: Part, other: Part) -> bool
+    ensures same { IsTrue result → part ≡ other }
+{
+    match (part, other) {
+        (Part::Literal(byte), Part::Literal(another)) => byte == another,
+        (Part::Group(group), Part::Group(another)) => group == another,
+        (Part::Match, Part::Match) | (Part::Split, Part::Split) => true,
+        _ => false,
+    }
+}
+
+// Whether two replacements have the same parts.
+fn have_same_parts(parts: &[Part], others: &[Part]) -> bool
+    ensures same { IsTrue result → parts.now ≡ others.now }
+{
+    if parts.len() != others.len() {
+        return false;
+    }
+    for i in 0..parts.len() {
+        if !is_same(parts[i], others[i]) {
+            return false;
+        }
+    }
+    true
+}
+
+// Whether this replacement is the one that is remembered.
+fn is_remembered(remembered: &Option<Replacement>, own: &Replacement) -> bool
+    ensures same { IsTrue result → remembered.now ≡ Some own.now }
+{
+    match remembered {
+        Some(remembered) => have_same_parts(remembered.parts(), own.parts()),
+        None => false,
+    }
 }
 
 impl<S: LineStore> Editor<S> {
@@ -109,13 +146,12 @@ impl<S: LineStore> Editor<S> {
         if pattern.is_none() && self.pattern.is_none() {
             return Err(Fault::Pattern);
         }
+        // In a list it is mostly the one that is remembered already, since the line before.
         let replacement = match replacement {
-            Some(own) => Some(own.try_copy()?),
-            None => None,
+            Some(own) if !is_remembered(&self.replacement, own) => Some(own.try_copy()?),
+            _ => None,
         };
-        if let Some(own) = pattern {
-            self.pattern = Some(own.try_copy()?);
-        }
+        self.remember(pattern)?;
         if replacement.is_some() {
             self.replacement = replacement;
         }

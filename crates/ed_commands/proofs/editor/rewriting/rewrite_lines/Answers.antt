@@ -102,8 +102,9 @@ loop-i-preserved g c =
             | then-is_none w ↦
                 let none : is_some c.loop-i.made ≡ false = c.is_none.ensures ∙ ap not w.if-is_none.true in
                 ap (λ p. earlier_of p (texts now)) w.past-is
-                ∙ first-change c.loop-i.past w.begin.new.self c.args.before w.of-marks.result now old (earlier_of c.args.past.now (texts old))
-                (w.begin.ensures.kept (texts now)) w.of-marks.ensures.own (when-none c.loop-i.made (now ≡ old) none c.loop-i.invariant.untouched)
+                ∙ w.begin.ensures.kept
+                ∙ first-change c.loop-i.past c.args.before now old (earlier_of c.args.past.now (texts old))
+                (when-none c.loop-i.made (now ≡ old) none c.loop-i.invariant.untouched)
                 (c.loop-i.invariant.kept ∙ none-kept c.loop-i.made c.args.before.listed (kept_lines c.args.before.current old) (earlier_of c.args.past.now (texts old)) none)
             | else-is_none w ↦
                 let some : is_some c.loop-i.made ≡ true = c.is_none.ensures ∙ ap not w.if-is_none.false in
