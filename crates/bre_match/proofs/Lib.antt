@@ -25,3 +25,4 @@ pub mod TurnTables
 pub mod Words
 pub mod Needs
 pub mod Beginnings
+pub mod RowEnds

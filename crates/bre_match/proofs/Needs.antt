@@ -1,7 +1,9 @@
 -- Where a sequence lacks bytes that it needs, it has no way.
-use Rattle.std.proofs.Common.{◌≡◌, ◌≢◌, ltb, ℕ, zero, suc, ◌+◌, ◌-◌, ◌<◌, ◌≤◌, Bool, true, false, List, [], ◌∷◌, ◌++◌, flat_map, length, drop, get_or, Option, Some, None, refl, ap, sym, ◌∙◌, subst, append-nil, arith}
+use Rattle.std.proofs.Common.{◌≡◌, ◌≢◌, ltb, ℕ, zero, suc, ◌+◌, ◌-◌, ◌<◌, ◌≤◌, Bool, true, false, List, [], ◌∷◌, ◌++◌, flat_map, length, drop, take, get_or, Option, Some, None, refl, ap, sym, ◌∙◌, subst, append-nil, arith}
 use Rattle.std.specs.Prelude.{slice_get, slice_index, nat_le, ◌&&◌, ◌||◌, ◌==◌, option_map}
 use Rattle.std.proofs.lemmas.Bool.Decides.{nat_tests}
+use Rattle.std.proofs.lemmas.List.{drop-drop}
+use Rattle.std.specs.List.{list_any}
 use Rattle.memchr.specs.Find.{IsFirstByte, is_byte}
 use Rattle.bre_parse.specs.declared.tree.Node.{Node}
 use Rattle.bre_parse.specs.Tree.{Tree, Empty, Then, Set, TextStart, TextEnd, BackReference, Group, Repeat, in_set, tree_of, sequence_of}
@@ -185,3 +187,29 @@ passed_to t s from start le high none = by_order (ltb from start) refl
         let same : from ≡ start = grind (arith, nat_tests) in
         let count : suc (length s - from) ≡ length s + 1 - start = omega arith in
         ap (λ n. match_among n t s from) count ∙ ap (match_among (length s + 1 - start) t s) same
+
+-- The match from there is the match from the place before.
+pub match_passed_to : (t : Tree) (s : List ℕ) (from start : ℕ) → from ≤ start → start ≤ length s → ((k : ℕ) → from ≤ k → k < start → longest_from t s k ≡ None) → match_from t s start ≡ match_from t s from
+match_passed_to t s from start le high none =
+    let count : suc (length s - start) ≡ length s + 1 - start = omega arith in
+    ap (λ n. match_among n t s start) count ∙ sym (passed_to t s from start le high none)
+
+-- Bytes that aren't in a set are passed over.
+none_among : (n : Bool) (rs : List (ℕ × ℕ)) (at k : ℕ) (bytes : List ℕ) → list_any (in_set n rs) (take k bytes) ≡ false → behind_first n rs (at + k) (drop k bytes) ≡ behind_first n rs at bytes
+none_among n rs at zero bytes none = let same : at + 0 ≡ at = omega arith in ap (λ p. behind_first n rs p bytes) same
+none_among n rs at (suc k) [] none = refl
+none_among n rs at (suc k) (byte ∷ bytes) none = by_cases (in_set n rs byte) refl none (λ h. none_among n rs (at + 1) k bytes h)
+  where
+    by_cases : (c : Bool) → in_set n rs byte ≡ c → (c || list_any (in_set n rs) (take k bytes)) ≡ false → (list_any (in_set n rs) (take k bytes) ≡ false → behind_first n rs (at + 1 + k) (drop k bytes) ≡ behind_first n rs (at + 1) bytes) → behind_first n rs (at + suc k) (drop k bytes) ≡ behind_first n rs at (byte ∷ bytes)
+    by_cases true is h rest = absurd cc
+    by_cases false is h rest =
+        let same : at + suc k ≡ at + 1 + k = omega arith in
+        ap (λ p. behind_first n rs p (drop k bytes)) same
+        ∙ rest h
+        ∙ sym (ap (λ c. behind_if c at (behind_first n rs (at + 1) bytes)) is)
+
+pub block_passed : (n : Bool) (rs : List (ℕ × ℕ)) (s : List ℕ) (at k : ℕ) → list_any (in_set n rs) (take (at + k - at) (drop at s)) ≡ false → behind_first n rs (at + k) (drop (at + k) s) ≡ behind_first n rs at (drop at s)
+block_passed n rs s at k none =
+    let count : at + k - at ≡ k = omega arith in
+    ap (behind_first n rs (at + k)) (sym (drop-drop k at s))
+    ∙ none_among n rs at k (drop at s) (sym (ap (λ m. list_any (in_set n rs) (take m (drop at s))) count) ∙ none)

@@ -9,6 +9,7 @@ pub mod Order
 pub mod Turns
 pub mod Starts
 pub mod Needs
+pub mod RowEnds
 pub mod Parts
 pub mod Columns
 pub mod Marks

@@ -18,6 +18,8 @@ mod narrow;
 mod needed;
 mod order;
 mod row;
+mod row_end;
+mod row_search;
 mod run;
 mod search;
 mod span;
@@ -29,6 +31,7 @@ mod word;
 use crate::grouping::set_row;
 use crate::needed::{first_start, lacks_needed};
 use crate::row::{is_quick_row, is_too_wide};
+use crate::row_search::{RowMatch, row_match};
 use crate::span::span;
 use crate::start::{begins_at_start, longest_from, starts_without};
 use crate::word::find_word;
@@ -96,6 +99,32 @@ pub fn matches(alloc: Global, pattern: &Bre, text: &[u8]) -> Result<bool, AllocE
     Ok(found.is_some())
 }
 
+// The first match in a text of items one after another, from one start after another.
+fn searched_match(
+    alloc: Global,
+    items: &[Node],
+    text: &[u8],
+    from: usize,
+) -> Result<Option<Match>, AllocError>
+    requires place { from ≤ length text.now }
+    ensures value { IfOk result (λ found. option_map spans found ≡ match_from (sequence_of items.now) text.now from) }
+    ensures within { IfOk result (λ found. IfSome found (LiesWithin from (length text.now))) }
+{
+    let mut left = Vec::new(alloc);
+    let mut start = first_start(items, text, from);
+    while start <= text.len() {
+        match longest_from(&mut left, alloc, items, text, start)? {
+            Some(way) => {
+                let end = way.0;
+                let groups = way.1;
+                return Ok(Some(Match { start, end, groups }));
+            }
+            None => start += 1 + starts_without(items, text, start),
+        }
+    }
+    Ok(None)
+}
+
 // The first match in a text of items one after another.
 fn first_match(
     alloc: Global,
@@ -111,17 +140,15 @@ fn first_match(
     if !begins_at_start(items) && lacks_needed(items, text, from) {
         return Ok(None);
     }
-    let mut left = Vec::new(alloc);
-    let mut start = first_start(items, text, from);
-    while start <= text.len() {
-        match longest_from(&mut left, alloc, items, text, start)? {
-            Some(way) => {
-                let end = way.0;
-                let groups = way.1;
-                return Ok(Some(Match { start, end, groups }));
-            }
-            None => start += 1 + starts_without(items, text, start),
+    match row_match(items, text, from) {
+        RowMatch::At(start, end) => {
+            let groups = [None; 9];
+            Ok(Some(Match { start, end, groups }))
+        }
+        RowMatch::Nowhere => Ok(None),
+        RowMatch::Untold(start) => {
+            let found = searched_match(alloc, items, text, start)?;
+            Ok(found)
         }
     }
-    Ok(None)
 }

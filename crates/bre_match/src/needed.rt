@@ -1,7 +1,8 @@
 //! The bytes that a pattern needs, by which a text without a match is told soon.
 
 ghost use Rattle.std.specs.Prelude.{◌≡◌, ℕ, ◌<◌, ◌≤◌, ◌∷◌, [], None, false, IfSome, IsTrue, drop, length};
-ghost use Rattle.bre_parse.specs.Tree.{tree_of, sequence_of};
+ghost use Rattle.std.specs.List.{list_any};
+ghost use Rattle.bre_parse.specs.Tree.{in_set, tree_of, sequence_of};
 ghost use Rattle.bre_parse.specs.Match.{longest_from, match_from};
 ghost use Rattle.bre_match.specs.Starts.{one_byte_of};
 ghost use Rattle.bre_match.specs.Needs.{behind_first, behind_item, lacks_needed};
@@ -34,11 +35,42 @@ fn behind_byte(byte: u8, text: &[u8], from: usize) -> Option<usize>
     }
 }
 
+// How many bytes are looked at together: enough for the compiler to compare them at once, and few beside a line's.
+const BLOCK: usize = 16;
+
+// Whether a byte is in a range. It goes on behind one that is, so that nothing hangs on the byte before.
+fn has_in_range(low: u8, high: u8, bytes: &[u8]) -> bool
+    ensures value { result ≡ list_any (in_set false ((low, high) ∷ [])) bytes.now }
+{
+    let mut found = false;
+    for byte in bytes {
+        if low <= *byte && *byte <= high {
+            found = true;
+        }
+    }
+    found
+}
+
+// The first place from one on that isn't passed over by whole blocks without a byte in a range.
+fn behind_blocks(low: u8, high: u8, text: &[u8], from: usize) -> usize
+    ensures value { behind_first false ((low, high) ∷ []) result (drop result text.now) ≡ behind_first false ((low, high) ∷ []) from (drop from text.now) }
+{
+    let mut at = from;
+    'skipped: while BLOCK <= text.len().saturating_sub(at) {
+        if has_in_range(low, high, &text[at..at + BLOCK]) {
+            return at;
+        }
+        at += BLOCK;
+    }
+    at
+}
+
 // The place behind the first byte in a range.
 fn behind_range(low: u8, high: u8, text: &[u8], from: usize) -> Option<usize>
     ensures value { result ≡ behind_first false ((low, high) ∷ []) from (drop from text.now) }
 {
-    for at in from..text.len() {
+    let start = behind_blocks(low, high, text, from);
+    for at in start..text.len() {
         if low <= text[at] && text[at] <= high {
             return Some(at + 1);
         }

@@ -8,6 +8,7 @@ ghost use Rattle.bre_parse.specs.Groups.{refers};
 ghost use Rattle.bre_match.specs.Spans.{better, is_over, start_and_end, SpansWithin};
 
 use crate::column::{Asked, Passed, step_all};
+use crate::needed::{first_start, lacks_needed};
 use bre_parse::tree::Node;
 use std::alloc::{AllocError, Global};
 use std::mem;
@@ -52,8 +53,8 @@ fn is_over(best: Option<(usize, usize)>, marks: &[Option<usize>]) -> bool
     }
 }
 
-/// Where the first match at or after a place starts and ends.
-pub(crate) fn span(
+// Where the first match at or after a place starts and ends, by columns at each byte from there on.
+fn span_by_columns(
     alloc: Global,
     items: &[Node],
     text: &[u8],
@@ -84,4 +85,26 @@ pub(crate) fn span(
         place += 1;
     }
     Ok(best)
+}
+
+/// Where the first match at or after a place starts and ends.
+pub(crate) fn span(
+    alloc: Global,
+    items: &[Node],
+    text: &[u8],
+    from: usize,
+) -> Result<Option<(usize, usize)>, AllocError>
+    requires place { from ≤ length text.now }
+    requires free { refers (sequence_of items.now) ≡ false }
+    requires in_order { repeats_in_order (sequence_of items.now) ≡ true }
+    ensures value { IfOk result (λ found. found ≡ option_map start_and_end (match_from (sequence_of items.now) text.now from)) }
+    ensures within { IfOk result (λ found. IfSome found (SpansWithin from (length text.now))) }
+{
+    // What is looked for first lies no further than the end of a match, and costs less than columns.
+    if lacks_needed(items, text, from) {
+        return Ok(None);
+    }
+    let start = first_start(items, text, from);
+    let found = span_by_columns(alloc, items, text, start)?;
+    Ok(found)
 }

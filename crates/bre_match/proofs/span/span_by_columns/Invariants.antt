@@ -1,7 +1,7 @@
 use Rattle.std.proofs.Common.{◌+◌, ◌-◌, length}
 use Rattle.bre_parse.specs.Tree.{sequence_of}
 use Rattle.bre_match.proofs.ColumnSearch.{Searched}
-use Rattle.bre_match.proofs.span.span.Given as goal
+use Rattle.bre_match.proofs.span.span_by_columns.Given as goal
 
 abbrev pub invariant-loop-place : goal.invariant-loop-place
 invariant-loop-place l = Searched (sequence_of l.items) l.text l.from l.place l.marks.items l.best

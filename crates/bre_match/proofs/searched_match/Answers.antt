@@ -1,0 +1,30 @@
+use Rattle.std.proofs.Common.{◌+◌, ◌-◌, length, sym, ◌∙◌, arith}
+use Rattle.bre_parse.specs.Tree.{sequence_of}
+use Rattle.bre_match.proofs.Needs.{passed_to}
+use Rattle.bre_match.proofs.Starts.{skip_starts, longest_within}
+use Rattle.bre_match.proofs.searched_match.Goals as goal
+
+pub loop-start-init : goal.loop-start-init
+loop-start-init c =
+    record {
+      passed = c.first_start-start.ensures.behind;
+      within = omega arith;
+      left = passed_to (sequence_of c.args.items.now) c.args.text.now c.args.from c.first_start-start.result c.first_start-start.ensures.behind c.first_start-start.ensures.within c.first_start-start.ensures.sound;
+    }
+
+pub returns-in-Some-clause-within : goal.returns-in-Some-clause-within
+returns-in-Some-clause-within c =
+    let w = longest_within (sequence_of c.args.items.now) c.args.text.now c.loop-start.start c.in-Some.way (omega arith) (sym c.in-Some.is ∙ c.in_ok-way.ensures.value) in
+    (c.loop-start.invariant.passed, w.0, w.1)
+
+pub loop-start-preserved : goal.loop-start-preserved
+loop-start-preserved c =
+    record {
+      passed = omega arith;
+      within = omega arith;
+      left =
+          c.loop-start.invariant.left
+          ∙ skip_starts c.starts_without.result (length c.args.text.now + 1 - (c.loop-start.start + (1 + c.starts_without.result))) (length c.args.text.now + 1 - c.loop-start.start) (sequence_of c.args.items.now) c.args.text.now c.loop-start.start (c.loop-start.start + (1 + c.starts_without.result))
+          (omega arith) (omega arith)
+          (c.starts_without.ensures.sound (sym c.in_ok-way.ensures.value ∙ c.in-None.is));
+    }
