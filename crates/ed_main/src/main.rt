@@ -10,6 +10,7 @@ mod reading;
 mod refusals;
 mod running;
 mod telling;
+mod usage;
 mod vouching;
 mod words;
 

@@ -1,6 +1,6 @@
 //! The words that the program is given, as `clap` reads them.
 ghost use Rattle.std.specs.Prelude.{◌≡◌, ◌≢◌, List, Some, None, false, if◌then◌else◌, map, IfOk, IfErr, option_and_then, option_map};
-ghost use Rattle.clap.specs.Words.{app_of, found_of, first_of, kind_of, rows_of, rule_of, subcommand_rows_of};
+ghost use Rattle.clap.specs.Words.{app_of, found_of, first_of, rows_of, rule_of, subcommand_rows_of};
 ghost use Rattle.clap.specs.declared.builder.command.Command.TheViews.{out-Command as fields_of};
 ghost use Rattle.cert_check.specs.HasText as text;
 ghost use Rattle.ed_main.specs.Words as meaning;
@@ -8,8 +8,11 @@ ghost use Rattle.ed_main.specs.Words.{job_of, job_named, options_in};
 ghost use Rattle.ed_main.specs.Given.{IsGiven};
 
 use crate::job::Job;
+use crate::usage::{
+    CHECK_USAGE, EDIT_USAGE, NO_CERTIFICATE, NO_FILE, NO_MAX, NO_MIN, RUN_USAGE, USAGE,
+    VOUCH_USAGE, refused,
+};
 use analyser::Start;
-use clap::error::ErrorKind;
 use clap::{Arg, ArgAction, ArgMatches, Command};
 use ed_base::Bytes;
 use ed_syntax::Options;
@@ -46,30 +49,6 @@ impl WordsFault {
         }
     }
 }
-
-/// How the program is used.
-pub const USAGE: &str = "\
-usage: ed_main edit [-s] [-p STRING] [FILE] <SCRIPT
-       ed_main vouch --min N --max M [FILE] <SCRIPT
-       ed_main check CERT <SCRIPT
-       ed_main run CERT [-s] [FILE] <SCRIPT
-";
-
-const EDIT_USAGE: &str = "usage: ed_main edit [-s] [-p STRING] [FILE] <SCRIPT\n";
-
-const VOUCH_USAGE: &str = "usage: ed_main vouch --min N --max M [FILE] <SCRIPT\n";
-
-const CHECK_USAGE: &str = "usage: ed_main check CERT <SCRIPT\n";
-
-const RUN_USAGE: &str = "usage: ed_main run CERT [-s] [FILE] <SCRIPT\n";
-
-const NO_FILE: &str = "error: a file without a name, or named -";
-
-const NO_CERTIFICATE: &str = "error: a certificate without a name, or named -";
-
-const NO_MIN: &str = "error: --min isn't a number of lines up to 10^12";
-
-const NO_MAX: &str = "error: --max is neither a number of lines up to 10^12 nor any";
 
 /// The most lines that a start may have.
 const MOST_LINES: u64 = 1_000_000_000_000;
@@ -408,117 +387,5 @@ fn is_within(min: u64, max: Option<u64>) -> bool
     match max {
         Some(max) => min <= max,
         None => true,
-    }
-}
-
-// What is shown of words that `clap` refuses, or the help that they ask for.
-fn refused(alloc: Global, error: &clap::Error, words: &[&str]) -> WordsFault
-    ensures memory { kind_of error.now ≡ ErrorKind.OutOfMemory → result ≡ WordsFault.Memory }
-{
-    if error.kind() == ErrorKind::OutOfMemory {
-        return WordsFault::Memory;
-    }
-    match shown(alloc, error, words) {
-        Ok(text) => WordsFault::Usage(text),
-        Err(AllocError) => WordsFault::Memory,
-    }
-}
-
-fn shown(alloc: Global, error: &clap::Error, words: &[&str]) -> Result<String, AllocError> {
-    let text = error.to_string(alloc)?;
-    if !error.use_stderr() {
-        return Ok(text);
-    }
-    let usage = usage_of(words);
-    if error.kind() == ErrorKind::UnknownArgument {
-        if let Some(wrong) = bound_below_zero(words) {
-            return Ok(format!(in alloc; "{wrong}\n{usage}")?);
-        }
-    }
-    let wrong = first_sentence(alloc, text.as_str())?;
-    Ok(format!(in alloc; "{wrong}\n{usage}")?)
-}
-
-// What is wrong where the first word that `clap` doesn't know is a number below 0 and stands where a bound does.
-fn bound_below_zero(words: &[&str]) -> Option<&'static str> {
-    let mut bound = None;
-    for &word in words {
-        match word.as_bytes() {
-            [b'-', b'0'..=b'9', ..] => return bound,
-            b"--min" => bound = Some(NO_MIN),
-            b"--max" => bound = Some(NO_MAX),
-            [b'-', ..] if !has_bound(word) => return None,
-            _ => bound = None,
-        }
-    }
-    None
-}
-
-// Whether a word names a bound and gives it.
-fn has_bound(word: &str) -> bool {
-    word.starts_with("--min=") || word.starts_with("--max=")
-}
-
-// How the subcommand that the words begin with is used.
-fn usage_of(words: &[&str]) -> &'static str {
-    match words {
-        [_, "edit", ..] => EDIT_USAGE,
-        [_, "vouch", ..] => VOUCH_USAGE,
-        [_, "check", ..] => CHECK_USAGE,
-        [_, "run", ..] => RUN_USAGE,
-        _ => USAGE,
-    }
-}
-
-// The first line of a text, and where it ends in a colon what the lines below it list.
-fn first_sentence(alloc: Global, text: &str) -> Result<String, AllocError> {
-    let mut lines = text.lines();
-    let mut sentence = String::from_str(alloc, lines.next().unwrap_or(""))?;
-    if sentence.as_str().ends_with(':') {
-        for line in lines.take_while(|line| !line.is_empty()) {
-            let is_first = sentence.as_str().ends_with(':');
-            sentence.push_str(if is_first { " " } else { ", " })?;
-            sentence.push_str(line.trim_start())?;
-        }
-    }
-    Ok(sentence)
-}
-
-#[cfg(test)]
-mod tests {
-    use super::*;
-    use std::test::Fail;
-
-    /// Words, the program's name first, and what is shown of them.
-    struct Row {
-        words: &'static [&'static str],
-        shown: &'static str,
-    }
-
-    #[rattlefmt::skip]
-    const ROWS: [Row; 12] = [
-        Row { words: &["ed_main", "edit", "-x"], shown: "error: unexpected argument '-x' found\nusage: ed_main edit [-s] [-p STRING] [FILE] <SCRIPT\n" },
-        Row { words: &["ed_main", "edit", "-"], shown: "error: a file without a name, or named -\nusage: ed_main edit [-s] [-p STRING] [FILE] <SCRIPT\n" },
-        Row { words: &["ed_main", "vouch", "--min", "0"], shown: "error: the following required arguments were not provided: --max <M>\nusage: ed_main vouch --min N --max M [FILE] <SCRIPT\n" },
-        Row { words: &["ed_main", "vouch", "F"], shown: "error: the following required arguments were not provided: --min <N>, --max <M>\nusage: ed_main vouch --min N --max M [FILE] <SCRIPT\n" },
-        Row { words: &["ed_main", "vouch", "--min", "-1", "--max", "3"], shown: "error: --min isn't a number of lines up to 10^12\nusage: ed_main vouch --min N --max M [FILE] <SCRIPT\n" },
-        Row { words: &["ed_main", "vouch", "--min=0", "--max", "-12"], shown: "error: --max is neither a number of lines up to 10^12 nor any\nusage: ed_main vouch --min N --max M [FILE] <SCRIPT\n" },
-        Row { words: &["ed_main", "vouch", "-x", "--min", "-1", "--max", "3"], shown: "error: unexpected argument '-x' found\nusage: ed_main vouch --min N --max M [FILE] <SCRIPT\n" },
-        Row { words: &["ed_main", "vouch", "--min", "x", "--max", "3"], shown: "error: --min isn't a number of lines up to 10^12\nusage: ed_main vouch --min N --max M [FILE] <SCRIPT\n" },
-        Row { words: &["ed_main", "vouch", "--min", "2", "--max", "1"], shown: "error: --min is above --max\nusage: ed_main vouch --min N --max M [FILE] <SCRIPT\n" },
-        Row { words: &["ed_main", "check", ""], shown: "error: a certificate without a name, or named -\nusage: ed_main check CERT <SCRIPT\n" },
-        Row { words: &["ed_main", "run", "C", "-p", "a"], shown: "error: unexpected argument '-p' found\nusage: ed_main run CERT [-s] [FILE] <SCRIPT\n" },
-        Row { words: &["ed_main"], shown: "error: 'ed_main' requires a subcommand but one was not provided\nusage: ed_main edit [-s] [-p STRING] [FILE] <SCRIPT\n       ed_main vouch --min N --max M [FILE] <SCRIPT\n       ed_main check CERT <SCRIPT\n       ed_main run CERT [-s] [FILE] <SCRIPT\n" },
-    ];
-
-    #[test]
-    fn wrong_words_are_shown_with_how_the_program_is_used(rt: HostRuntime) -> Result<(), Fail> {
-        for row in &ROWS {
-            match read_words(rt.alloc(), row.words) {
-                Err(fault) => assert_eq!(rt; fault.to_string(rt.alloc())?.as_str(), row.shown),
-                Ok(_) => assert!(rt; false, "{:?} give a job", row.words),
-            }
-        }
-        Ok(())
     }
 }
