@@ -7,7 +7,7 @@ ghost use Rattle.analyser.specs.Walking.{IsRound, invariant_after, OldIsZone, Ha
 
 use cert_check::covering_is_decided;
 use ed_base::Fault;
-use ed_rules::{Old, State, after, body_entry, needs};
+use ed_rules::{Old, State, body_entry, outcome};
 use ed_syntax::Command;
 use std::alloc::{AllocError, Global};
 use zones::{Name, Zone};
@@ -36,16 +36,17 @@ fn go_round(alloc: Global, list: &[Command], entry: State) -> Result<Round, Allo
     let mut inner = Vec::new(alloc);
     let mut coming = entry;
     for command in list {
-        if let Some(why) = needs(command, &coming)? {
-            inner.push(coming)?;
-            return Ok(Round {
-                inner,
-                end: Err(why),
-            });
-        }
-        let left = after(command, &coming)?;
+        let outcome = outcome(command, &coming)?;
         inner.push(coming)?;
-        coming = left;
+        match outcome {
+            Ok(left) => coming = left,
+            Err(why) => {
+                return Ok(Round {
+                    inner,
+                    end: Err(why),
+                });
+            }
+        }
     }
     Ok(Round {
         inner,

@@ -12,7 +12,7 @@ use crate::paths::list_taken;
 use crate::rounds::{Settled, settle};
 use cert_check::{Looped, Note, Place};
 use ed_base::{Bytes, Fault};
-use ed_rules::{State, after, loop_end, loop_start, needs};
+use ed_rules::{State, loop_end, loop_start, outcome};
 use ed_syntax::{Command, Verb};
 use std::alloc::{AllocError, Global};
 
@@ -130,20 +130,21 @@ fn take_global(alloc: Global, command: &Command, state: &State) -> Result<Taken,
 fn take(alloc: Global, command: &Command, state: &State) -> Result<Taken, AllocError>
     ensures value { IfOk result (λ taken. IsTaken (step_value command.now) state.now taken.looped taken.end) }
 {
-    if let Some(why) = needs(command, state)? {
-        return Ok(Taken {
+    match outcome(command, state)? {
+        Ok(left) => {
+            if is_global(&command.verb) {
+                return take_global(alloc, command, state);
+            }
+            Ok(Taken {
+                looped: None,
+                end: End::Leaves(left),
+            })
+        }
+        Err(why) => Ok(Taken {
             looped: None,
             end: End::Stops { inner: None, why },
-        });
+        }),
     }
-    if is_global(&command.verb) {
-        return take_global(alloc, command, state);
-    }
-    let left = after(command, state)?;
-    Ok(Taken {
-        looped: None,
-        end: End::Leaves(left),
-    })
 }
 
 fn note_of(state: State, looped: Option<Looped>) -> Note

@@ -14,7 +14,7 @@ use crate::laws::covering_is_decided;
 use crate::loops::pass_loop;
 use crate::verdict::Place;
 use ed_base::Bytes;
-use ed_rules::{State, after, needs};
+use ed_rules::{State, outcome};
 use ed_syntax::{Command, Verb};
 use std::alloc::AllocError;
 use zones::{Name, Zone};
@@ -71,12 +71,10 @@ pub(crate) fn is_covered(weak: &State, strong: &State) -> bool
 fn left_by(command: &Command, note: &State) -> Result<Option<State>, AllocError>
     ensures value { IfOk result (λ left. left ≡ left_where_met (command_value command.now) note.now) }
 {
-    let need = needs(command, note)?;
-    if need.is_some() {
-        return Ok(None);
+    match outcome(command, note)? {
+        Ok(left) => Ok(Some(left)),
+        Err(_) => Ok(None),
     }
-    let left = after(command, note)?;
-    Ok(Some(left))
 }
 
 /// A path that may be written is among those that are listed.

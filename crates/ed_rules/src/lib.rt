@@ -23,5 +23,5 @@ pub use laws::{
     commands_are_sound, globals_are_sound, states_stay_formed, weaker_states_stand_for_more,
 };
 pub use marks::Marks;
-pub use rules::{after, needs};
+pub use rules::{after, needs, outcome};
 pub use state::{Changed, Old, Replacements, State, Undo};

@@ -179,6 +179,18 @@ impl State {
     }
 }
 
+/// What a command comes to in a state: the state after it, or the first of its needs that fails. It is what `needs` and `after`
+/// tell one by one, and carries the rule out once.
+pub fn outcome(command: &Command, state: &State) -> Result<Result<State, Fault>, AllocError>
+    ensures exact { IfOk result (λ outcome. outcome ≡ step (command_value command.now) state.now) }
+{
+    match state.step(command) {
+        Ok(after) => Ok(Ok(after)),
+        Err(Fault::Memory) => Err(AllocError),
+        Err(fault) => Ok(Err(fault)),
+    }
+}
+
 /// The first need of a command that fails in a state.
 pub fn needs(command: &Command, state: &State) -> Result<Option<Fault>, AllocError>
     ensures exact { IfOk result (λ need. need ≡ fault_of (step (command_value command.now) state.now)) }
