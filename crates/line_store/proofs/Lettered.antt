@@ -45,7 +45,7 @@ get_or-with_line : (at letter : ℕ) (letters : List Bool) (marks : List (Option
     get_or (with_line at letters marks) letter None ≡ opened at (get_or letters letter false) (get_or marks letter None)
 get_or-with_line at letter letters marks h = get_or-map-range_with_len (λ k. opened at (get_or letters k false) (get_or marks k None)) 0 26 letter letter None h (omega arith)
 
-get_or-without_line : (at letter : ℕ) (marks : List (Option ℕ)) → letter < 26 →
+pub get_or-without_line : (at letter : ℕ) (marks : List (Option ℕ)) → letter < 26 →
     get_or (without_line at marks) letter None ≡ closed at (get_or marks letter None)
 get_or-without_line at letter marks h = get_or-map-range_with_len (λ k. closed at (get_or marks k None)) 0 26 letter letter None h (omega arith)
 

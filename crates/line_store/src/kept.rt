@@ -133,9 +133,7 @@ impl<L: BareLines> LineStore for Store<L> {
     fn exchange(&mut self, i: usize, line: Line) -> Line {
         let Line { bare, letters } = line;
         self.unflagged = place_exchanged(self.unflagged, i, bare.flag());
-        let others = self.lines.len() - 1;
-        let before = self.marks.close(i);
-        self.marks.open_among(i, others, &letters);
+        let before = self.marks.pass_on(i, &letters);
         Line {
             bare: self.lines.exchange(i, bare),
             letters: before,

@@ -51,6 +51,17 @@ fn place_closed(at: usize, place: Option<usize>) -> Option<usize>
     }
 }
 
+// Where a letter is after the line at a place has given way to one that comes with it or without it.
+fn place_passed_on(at: usize, comes: bool, place: Option<usize>) -> Option<usize>
+    ensures value { result ≡ opened at comes (closed at place) }
+{
+    match place {
+        _ if comes => Some(at),
+        Some(old) if old == at => None,
+        _ => place,
+    }
+}
+
 // Where a letter is, if that is one of the first `count` lines.
 fn place_among(count: usize, place: Option<usize>) -> Option<usize>
     ensures value { result ≡ below count place }
@@ -164,5 +175,18 @@ impl Marks {
             }
         }
         letters
+    }
+
+    /// The line at this place has given way to one that these letters mark, and those of the old one are told.
+    pub(crate) fn pass_on(&mut self, at: usize, letters: &[bool; LETTERS]) -> [bool; LETTERS]
+        ensures letters { result ≡ letters_at at self.old }
+        ensures value { self.new ≡ with_line at letters.now (without_line at self.old) }
+    {
+        let mut before = [false; LETTERS];
+        for letter in 0..LETTERS {
+            before[letter] = self.places[letter] == Some(at);
+            self.places[letter] = place_passed_on(at, letters[letter], self.places[letter]);
+        }
+        before
     }
 }

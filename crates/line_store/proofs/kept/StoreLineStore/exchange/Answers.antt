@@ -1,25 +1,12 @@
 -- The new line's letters are at its place, and those of the line before it have gone with that.
-use Rattle.std.proofs.Common.{◌≡◌, ◌<◌, ◌-◌, ◌∙◌, ap, sym, subst, length, length-set, arith, remove, set, get_or, []}
-use Rattle.std.proofs.lemmas.List.Edits.{length-remove}
+use Rattle.std.proofs.Common.{◌≡◌, ◌<◌, ◌∙◌, ap, sym, subst, length, length-set, arith, remove, set, get_or, []}
 use Rattle.ed_base.specs.Buffer.{plain_line, SharesNoLetter}
 use Rattle.line_store.specs.Marks.{AllBelow, lettered}
-use Rattle.line_store.specs.Shifts.{with_line, without_line}
+use Rattle.line_store.specs.Shifts.{without_line}
 use Rattle.line_store.specs.Kept.{lines_of, Unflagged}
-use Rattle.line_store.proofs.Lettered.{length-lettered, lettered-at, HaveNoPlace, without_line-below}
+use Rattle.line_store.proofs.Lettered.{length-lettered, lettered-at, HaveNoPlace}
 use Rattle.line_store.proofs.Flags.{exchanged-places, exchanged-below, lettered-exchange}
 use Rattle.line_store.proofs.kept.StoreLineStore.exchange.Goals as goal
-
-pub open_among-requires : goal.open_among-requires
-open_among-requires g c =
-    let e = c.self.inside in
-    let lines = g.L.BareLines.items e.lines in
-    let place : c.args.i < length lines = omega (arith, c.requires.place, length-lettered e.marks 0 lines, ap (λ v. length (lines_of v)) c.self.view_is) in
-    let fewer = length-remove lines c.args.i place in
-    let others : length (remove lines c.args.i) ≡ c.len-others.result - 1 = omega (arith, fewer, c.len-others.ensures.value) in
-    record {
-      bound = subst (λ n. AllBelow n c.close-before.new.self) others (subst (AllBelow (length (remove lines c.args.i))) (sym c.close-before.ensures.value)
-          (without_line-below (length lines) (length (remove lines c.args.i)) c.args.i e.marks place fewer c.self.invariant.0));
-    }
 
 pub exchange-requires : goal.exchange-requires
 exchange-requires g c = omega (arith, c.requires.place, length-lettered c.self.inside.marks 0 (g.L.BareLines.items c.self.inside.lines), ap (λ v. length (lines_of v)) c.self.view_is)
@@ -30,9 +17,8 @@ invariant_of-self g c =
     let lines = g.L.BareLines.items e.lines in
     let place : c.args.i < length lines = omega (arith, c.requires.place, length-lettered e.marks 0 lines, ap (λ v. length (lines_of v)) c.self.view_is) in
     let bare = c.line.inside.bare in
-    let long : length lines ≡ length (g.L.BareLines.items c.exchange.new.self) = sym (ap length c.exchange.ensures.exchanged ∙ length-set lines c.args.i bare) in
-    let marks = c.open_among.ensures.value ∙ ap (with_line c.args.i c.line.inside.letters) c.close-before.ensures.value in (
-      subst (λ n. AllBelow n c.open_among.new.self) long (subst (AllBelow (length lines)) (sym marks)
+    let long : length lines ≡ length (g.L.BareLines.items c.exchange.new.self) = sym (ap length c.exchange.ensures.exchanged ∙ length-set lines c.args.i bare) in (
+      subst (λ n. AllBelow n c.pass_on-before.new.self) long (subst (AllBelow (length lines)) (sym c.pass_on-before.ensures.value)
           (exchanged-below e.marks c.args.i c.line.inside.letters lines bare place c.self.invariant.0)),
       subst (Unflagged c.place_exchanged-self-inside.result) (sym c.exchange.ensures.exchanged)
           (c.place_exchanged-self-inside.ensures lines bare (sym c.flag.ensures.value) c.self.invariant.1),
@@ -43,7 +29,7 @@ returns-clause-value g c =
     let e = c.self.inside in
     let lines = g.L.BareLines.items e.lines in
     let place : c.args.i < length lines = omega (arith, c.requires.place, length-lettered e.marks 0 lines, ap (λ v. length (lines_of v)) c.self.view_is) in
-    rw c.close-before.ensures.letters (
+    rw c.pass_on-before.ensures.letters (
     sym (lettered-at e.marks lines c.args.i c.exchange.result place c.exchange.ensures.value)
     ∙ ap (λ v. get_or (lines_of v) c.args.i (plain_line [])) c.self.view_is)
 
@@ -57,7 +43,7 @@ returns-clause-exchanged g c =
     let shares : SharesNoLetter c.args.line (remove (lettered e.marks 0 lines) c.args.i) = subst (λ v. SharesNoLetter c.args.line (remove (lines_of v) c.args.i)) (sym c.self.view_is) c.requires.letters in
     let none : HaveNoPlace letters (without_line c.args.i e.marks) = subst (λ l. HaveNoPlace l.letters (without_line c.args.i e.marks)) (sym c.line.view_is)
     (exchanged-places e.marks c.args.i lines c.args.line place c.self.invariant.0 shares) in
-    rw (c.open_among.ensures.value, c.close-before.ensures.value, c.exchange.ensures.exchanged) (
+    rw (c.pass_on-before.ensures.value, c.exchange.ensures.exchanged) (
     lettered-exchange e.marks c.args.i lines bare letters place c.line.invariant none
     ∙ ap (λ v. set (lines_of v) c.args.i (record bare { letters = letters })) c.self.view_is
     ∙ ap (set (lines_of c.args.self.now) c.args.i) c.line.view_is)
