@@ -10,19 +10,17 @@ use Rattle.ed_base.specs.Lines.{newline, onto_first, lines_of, IsLine}
 use Rattle.ed_base.proofs.LineLemmas.{lines_of-bytes_of}
 use Rattle.ed_base.specs.Buffer.{Line, plain_line, texts}
 use Rattle.ed_base.specs.Parts.{block, exchanged}
-use Rattle.line_store.specs.Marks.{lettered}
 use Rattle.ed_syntax.specs.declared.replacement.Part.{Part}
 use Rattle.ed_syntax.specs.declared.replacement.Which.{Which}
 use Rattle.ed_syntax.specs.States.{Kept}
 use Rattle.ed_syntax.specs.Substitution.{split_at_newlines, substituted, replaced_in, picked, taken}
 use Rattle.ed_syntax.specs.SubstitutedLines.{Results, each, made_of, onto}
 use Rattle.ed_commands.specs.declared.editor.past.Before.{Before}
-use Rattle.ed_commands.specs.Earlier.{Earlier, PastValue, earlier_after, earlier_of, kept_of, kept_lines}
+use Rattle.ed_commands.specs.Earlier.{Earlier, PastValue, earlier_after, earlier_of, kept_lines}
 use Rattle.ed_commands.specs.Editors.{AreNew}
 use Rattle.ed_commands.specs.Rewriting.{earlier_of_rewritten}
 use Rattle.ed_commands.proofs.Blocks.{block-more, length-exchanged, taken-back}
 use Rattle.ed_commands.proofs.Changes.{made-new}
-use Rattle.ed_commands.proofs.Kept.{kept-own}
 
 -- what results of lines, and of one more behind them
 abbrev pub with_last : Line → Option (List (List ℕ)) → Results → Results
