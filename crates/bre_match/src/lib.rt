@@ -1,7 +1,7 @@
 //! Where a basic regular expression matches a text (XBD 9.3).
 #![tactic(auto)]
 
-ghost use Rattle.std.specs.Prelude.{◌≡◌, ◌≤◌, IfOk, IfSome, IsOk, IsSome, length, option_map};
+ghost use Rattle.std.specs.Prelude.{◌≡◌, ◌≤◌, Some, IfOk, IfSome, IsOk, IsSome, length, option_map};
 ghost use Rattle.std.specs.Option.{is_some};
 ghost use Rattle.bre_parse.specs.Tree.{sequence_of};
 ghost use Rattle.bre_parse.specs.Bre.{bre_tree};
@@ -30,7 +30,7 @@ mod word;
 
 use crate::grouping::set_row;
 use crate::needed::{first_start, lacks_needed};
-use crate::row::{is_quick_row, is_too_wide};
+use crate::row::{is_quick_row, is_told_in_order, is_too_wide};
 use crate::row_search::{RowMatch, row_match};
 use crate::span::span;
 use crate::start::{begins_at_start, longest_from, starts_without};
@@ -72,6 +72,11 @@ pub fn find(
     if pattern.refers() || is_quick_row(items) || is_too_wide(items) {
         return first_match(alloc, items, text, from);
     }
+    if is_told_in_order(items) {
+        if let Some(found) = match_here(alloc, items, text, from)? {
+            return Ok(Some(found));
+        }
+    }
     match span(alloc, items, text, from)? {
         None => Ok(None),
         Some((start, end)) => {
@@ -97,6 +102,33 @@ pub fn matches(alloc: Global, pattern: &Bre, text: &[u8]) -> Result<bool, AllocE
     }
     let found = span(alloc, items, text, 0)?;
     Ok(found.is_some())
+}
+
+// The match that starts at this very place, if there is one: with its groups, which cost a second look where a match is searched by
+// columns.
+fn match_here(
+    alloc: Global,
+    items: &[Node],
+    text: &[u8],
+    from: usize,
+) -> Result<Option<Match>, AllocError>
+    requires place { from ≤ length text.now }
+    ensures value { IfOk result (λ found. IfSome found (λ m. Some (spans m) ≡ match_from (sequence_of items.now) text.now from)) }
+    ensures within { IfOk result (λ found. IfSome found (LiesWithin from (length text.now))) }
+{
+    let mut left = Vec::new(alloc);
+    match longest_from(&mut left, alloc, items, text, from)? {
+        Some(way) => {
+            let end = way.0;
+            let groups = way.1;
+            Ok(Some(Match {
+                start: from,
+                end,
+                groups,
+            }))
+        }
+        None => Ok(None),
+    }
 }
 
 // The first match in a text of items one after another, from one start after another.
