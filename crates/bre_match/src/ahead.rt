@@ -4,7 +4,8 @@ ghost use Rattle.std.specs.Prelude.{◌≡◌, ℕ, ◌-◌, ◌<◌, List, ◌+
 ghost use Rattle.bre_parse.specs.Ways.{Way};
 ghost use Rattle.bre_match.specs.Runs.{groups_at, other_ways, at_item, tasks, AreOf};
 
-use crate::run::{Ahead, Run, Way};
+use crate::run::{Ahead, Ends, Run, Way};
+use bre_parse::tree::Groups;
 use std::alloc::AllocError;
 
 /// Puts ways before all else, each to meet this item next.
@@ -21,16 +22,23 @@ pub(crate) fn push_ahead(left: &mut Vec<Ahead>, item: usize, ways: &[Way]) -> Re
     Ok(())
 }
 
-/// Puts a run, if there is one, before all else.
+/// Puts the ways that end there, if any do, before all else, each to meet this item next.
 #[tactic(auto, using(crate::proofs::Tasks::tasks_push))]
 pub(crate) fn push_run_ahead(
     left: &mut Vec<Ahead>,
     item: usize,
-    found: Option<Run>,
+    groups: &Groups,
+    found: Option<Ends>,
 ) -> Result<(), AllocError>
-    ensures value { (ways : List Way) → AreOf found ways → OnOk result (tasks left.new.items ≡ map (at_item item) ways ++ tasks left.old.items) }
+    ensures value { (ways : List Way) → AreOf groups.now found ways → OnOk result (tasks left.new.items ≡ map (at_item item) ways ++ tasks left.old.items) }
 {
-    if let Some(run) = found {
+    if let Some(ends) = found {
+        let run = Run {
+            end: ends.end,
+            shorter: ends.shorter,
+            groups: *groups,
+            closes: ends.closes,
+        };
         left.push(Ahead { item, run })?;
     }
     Ok(())

@@ -69,13 +69,16 @@ pub fn find(
         return Ok(find_word(word, text, from));
     }
     let items = pattern.items();
-    if pattern.refers() || is_quick_row(items) || is_too_wide(items) {
+    if pattern.refers() || is_quick_row(items) {
         return first_match(alloc, items, text, from);
     }
     if is_told_in_order(items) {
         if let Some(found) = match_here(alloc, items, text, from)? {
             return Ok(Some(found));
         }
+    }
+    if is_too_wide(items) {
+        return first_match(alloc, items, text, from);
     }
     match span(alloc, items, text, from)? {
         None => Ok(None),
