@@ -7,7 +7,7 @@ const CROSSES: Option<&[u8]> = Some(b"aXbXc\n");
 
 // XCU ed, "Substitute Command": which matches are replaced, and by what.
 #[rattlefmt::skip]
-static MATCHES: [Row; 17] = [
+static MATCHES: [Row; 19] = [
     Row { script: b"s/\\(ab*\\)\\1/<&>/p\nQ\n", file: Some(b"abbabbb\n"), output: b"<abbabb>b\n", ends: Ok(1) },
     Row { script: b"s/\\(a*\\)*/[\\1]/p\nQ\n", file: Some(b"bc\n"), output: b"[]bc\n", ends: Ok(1) },
     Row { script: b"s/a*/x/gp\nQ\n", file: Some(b"baaac\n"), output: b"xbxcx\n", ends: Ok(1) },
@@ -23,6 +23,8 @@ static MATCHES: [Row; 17] = [
     Row { script: b"s,a\\,b,c,p\nQ\n", file: Some(b"a,b\n"), output: b"c\n", ends: Ok(1) },
     Row { script: b"s/X/\\&&\\\\/p\nQ\n", file: CROSSES, output: b"a&X\\bXc\n", ends: Ok(1) },
     Row { script: b"s/a/b/g2\n", file: Some(b"a\n"), output: b"?\n", ends: Err(Fault::Syntax) },
+    Row { script: b"s/a/b/gg\n", file: Some(b"a\n"), output: b"?\n", ends: Err(Fault::Syntax) },
+    Row { script: b"s/a/b/0\n", file: Some(b"a\n"), output: b"?\n", ends: Err(Fault::Syntax) },
     Row { script: b"s/X/-\nQ\n", file: CROSSES, output: b"a-bXc\n", ends: Ok(1) },
     Row { script: b"3c\n..\n.\ns/.//\n1d\n,p\nQ\n", file: Some(b"a\nb\nc\n"), output: b"b\n.\n", ends: Ok(2) },
 ];
