@@ -78,6 +78,20 @@ fn a_line_becomes_what_the_standard_says(rt: HostRuntime) -> Result<(), Fail> {
     Ok(())
 }
 
+// The lines that crates/ed_commands/README.md shows a caller.
+#[test]
+fn the_caller_that_the_readme_shows_swaps_two_words(rt: HostRuntime) -> Result<(), Fail> {
+    let alloc = rt.alloc();
+    let pattern = Bre::read(alloc, b"\\([0-9]*\\) \\([a-z]*\\)")?;
+    let mut swapped = Replacement::new(alloc);
+    for part in [Part::Group(1), Part::Literal(b' '), Part::Group(0)] {
+        swapped.push(part)?;
+    }
+    let lines = substitute(alloc, &pattern, &swapped, Which::First, b"12 ab")?;
+    assert!(rt; are_lines(&lines, Some(&[b"ab 12"])), "{:?}", lines);
+    Ok(())
+}
+
 // With each allocation refused in turn, there is no answer or the right one.
 #[test]
 fn being_out_of_memory_is_no_other_answer(rt: HostRuntime) {
