@@ -86,5 +86,9 @@ on '$a\nd\n.\nw\nf\nq\n' ''
 on 'g/^/m0\\\nka\n,p\nu\nu\nv/b/d\nu\n,n\nQ\n'
 on '1d\nu\nu\n,p\nQ\n'
 on '2r FILE\n,p\nE\n1d\nw\nq\n' ''
+on 'g/^/m0\n,p\nQ\n'
+on '1d\nq\n'
+on 'u\n'
+on 'g/z/d\nu\nq\n'
 echo "$passed passed, $failed failed"
 [ "$failed" -eq 0 ]
