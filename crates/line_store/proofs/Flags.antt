@@ -1,14 +1,14 @@
 -- Lines exchanged and flagged, whose letters are told from places, and how far none has the flag.
-use Rattle.std.proofs.Common.{◌≡◌, ℕ, zero, suc, ◌+◌, ◌-◌, ◌<◌, ◌≤◌, List, [], ◌∷◌, Bool, true, false, length, get_or, set, insert, remove, nat_lt, Option, Some, None, refl, ap, ◌∙◌, sym, subst, arith, get_or-set_same, get_or-set_other, ⊎_elim}
+use Rattle.std.proofs.Common.{◌≡◌, ℕ, zero, suc, ◌+◌, ◌-◌, ◌<◌, ◌≤◌, List, [], ◌∷◌, Bool, true, false, length, get_or, set, insert, remove, nat_lt, cond, Option, Some, None, refl, ap, ◌∙◌, sym, subst, arith, get_or-set_same, get_or-set_other, ⊎_elim}
 use Rattle.std.specs.List.{position_or_len}
 use Rattle.std.proofs.lemmas.Bool.{cases_lt, cases_eq, cases_order, cond-true, cond-false, lt-ltb, le-ltb}
-use Rattle.std.proofs.lemmas.List.{get_or_past, set_past}
-use Rattle.std.proofs.lemmas.List.Sums.{position_or_len_is}
+use Rattle.std.proofs.lemmas.List.{get_or_past, get_or_default, set_past}
+use Rattle.std.proofs.lemmas.List.Sums.{position_or_len_is, sum_by-cons, get_or-le-sum_by}
 use Rattle.std.proofs.lemmas.List.Edits.{length-remove, get_or-insert_below, get_or-insert_at, get_or-insert_above, get_or-remove_below, get_or-remove_above}
 use Rattle.ed_base.specs.Buffer.{Line, plain_line, with_flag, flagged_at, flagged_place, SharesNoLetter}
-use Rattle.line_store.specs.Marks.{lettered, AllBelow}
+use Rattle.line_store.specs.Marks.{lettered, letters_at, AllBelow}
 use Rattle.line_store.specs.Shifts.{with_line, without_line}
-use Rattle.line_store.specs.Kept.{Unflagged}
+use Rattle.line_store.specs.Kept.{Unflagged, flag_count}
 use Rattle.line_store.proofs.Lettered.{line_with, length-lettered, get_or-lettered, lettered-insert, lettered-remove, HaveNoPlace, without_places, with_line-below, without_line-below}
 
 -- a line exchanged is a line that went out and one that came in
@@ -117,6 +117,11 @@ flag-lettered marks lines k = ⊎_elim
     (λ past. ap (λ line. line.flag) (get_or_past (lettered marks 0 lines) k (plain_line []) (omega (arith, length-lettered marks 0 lines)) ∙ sym (get_or_past lines k (plain_line []) past)))
     (cases_lt k (length lines))
 
+-- whether a line has it, told from the line
+pub flag-at : (lines : List Line) (i : ℕ) (line : Line) (flag : Bool) → i < length lines → line ≡ get_or lines i line → flag ≡ line.flag →
+    (get_or lines i (plain_line [])).flag ≡ flag
+flag-at lines i line flag h e f = ap (λ line. line.flag) (get_or_default lines i (plain_line []) line h ∙ sym e) ∙ sym f
+
 -- the first flagged line, where the search found one
 pub flagged-found : (marks : List (Option ℕ)) (lines : List Line) (place : ℕ) → place < length lines → Unflagged place lines → (get_or lines place (plain_line [])).flag ≡ true →
     flagged_place (lettered marks 0 lines) ≡ Some place
@@ -136,3 +141,20 @@ flagged-none marks lines place h none =
     let at : n ≡ length all = position_or_len_is (λ line. line.flag) all (length all) (plain_line []) (omega arith)
     (λ k l. flag-lettered marks lines k ∙ none k (omega arith)) (λ l. absurd (omega arith)) in
     cond-false (nat_lt n (length all)) (Some n) None (le-ltb n (length all) (omega arith))
+
+-- how many lines have it, whatever their letters
+pub count-lettered : (marks : List (Option ℕ)) (place : ℕ) (lines : List Line) → flag_count (lettered marks place lines) ≡ flag_count lines
+count-lettered marks place [] = refl
+count-lettered marks place (line ∷ lines) =
+    let head = record line { letters = letters_at place marks } in
+    let more = count-lettered marks (suc place) lines in
+    omega (arith, more, sum_by-cons (λ line. cond line.flag 1 0) head (lettered marks (suc place) lines), sum_by-cons (λ line. cond line.flag 1 0) line lines)
+
+-- where none has the flag, none does
+pub none-flagged : (lines : List Line) → flag_count lines ≡ 0 → (place : ℕ) → place ≡ length lines → Unflagged place lines
+none-flagged lines none place all i l =
+    bare (get_or lines i (plain_line [])).flag (omega (arith, get_or-le-sum_by (λ line. cond line.flag 1 0) lines i (plain_line []) (omega arith)))
+  where
+    bare : (flag : Bool) → cond flag 1 0 ≤ 0 → flag ≡ false
+    bare true h = absurd (omega arith)
+    bare false h = refl

@@ -1,5 +1,5 @@
 -- What a store holds.
-use Rattle.std.specs.Prelude.{ℕ, ◌<◌, ◌≡◌, List, [], Option, false, slice_index_or}
+use Rattle.std.specs.Prelude.{ℕ, ◌<◌, ◌≡◌, List, [], Option, false, count_by, slice_index_or}
 use Rattle.ed_base.specs.Buffer.{Line, plain_line}
 use Rattle.line_store.specs.Marks.{lettered}
 
@@ -12,6 +12,10 @@ pub record StoreValue : Type 0 where
 -- its lines
 abbrev pub lines_of : StoreValue → List Line
 lines_of v = lettered v.marks 0 v.items
+
+-- how many lines have the flag
+abbrev pub flag_count : List Line → ℕ
+flag_count lines = count_by (λ line. line.flag) lines
 
 -- no line before this place has the flag
 abbrev pub Unflagged : (place : ℕ) → List Line → Type 0

@@ -1,7 +1,7 @@
 //! Stores: a list of lines without letters, and apart from it where each letter's line is.
-ghost use Rattle.std.specs.Prelude.{◌≡◌, ◌<◌, ◌≤◌, List, [], length, true, insert, remove, slice_index_or, slice_set};
+ghost use Rattle.std.specs.Prelude.{◌≡◌, ℕ, ◌<◌, ◌≤◌, ◌-◌, ◌^◌, Bool, List, [], length, true, insert, remove, slice_index_or, slice_set};
 ghost use Rattle.ed_base.specs.Buffer.{Line, plain_line};
-ghost use Rattle.line_store.specs.Kept.{Unflagged};
+ghost use Rattle.line_store.specs.Kept.{Unflagged, flag_count};
 
 use crate::marks::Marks;
 use crate::{BareLine, BareLines, Line, LineStore};
@@ -17,6 +17,8 @@ pub struct Store<L: BareLines> {
     marks: Marks,
     // No line before this place has the flag, so the search for the next one goes on from here.
     unflagged: usize,
+    // How many lines have the flag.
+    flags: usize,
 }
 
 /// A store in one vector: a line put or taken moves all the lines behind it.
@@ -25,13 +27,15 @@ pub type PlainStore = Store<Vec<BareLine>>;
 impl<L: BareLines> Model for Store<L> {
     ghost use Rattle.std.specs.Prelude.{length};
     ghost use Rattle.line_store.specs.Marks.{AllBelow};
-    ghost use Rattle.line_store.specs.Kept.{StoreValue, Unflagged};
+    ghost use Rattle.std.specs.Prelude.{◌≡◌};
+    ghost use Rattle.line_store.specs.Kept.{StoreValue, Unflagged, flag_count};
 
     ghost Value = { StoreValue };
 
     ghost view = { λ s. record { items = L.items s.lines; marks = s.marks; room = L.spare s.lines } };
 
-    ghost invariant = { λ s. AllBelow (length (L.items s.lines)) s.marks × Unflagged s.unflagged (L.items s.lines) };
+    ghost invariant = { λ s. AllBelow (length (L.items s.lines)) s.marks × Unflagged s.unflagged (L.items s.lines)
+        × (s.flags ≡ flag_count (L.items s.lines)) };
 }
 
 // The first place from `place` on where a line has the flag, or one behind all lines.
@@ -76,6 +80,39 @@ fn place_exchanged(place: usize, i: usize, flag: bool) -> usize
     if flag { place.min(i) } else { place }
 }
 
+// How many lines have the flag, once a line has come in.
+fn flags_with(flags: usize, flag: bool) -> usize
+    requires room { flags < 2 ^ 64 - 1 }
+    ensures { (lines : List Line) (at : ℕ) (new : Line) → new.flag ≡ flag → flags ≡ flag_count lines →
+        result ≡ flag_count (insert lines at new) }
+{
+    if flag { flags + 1 } else { flags }
+}
+
+// The same, once a line has gone out.
+fn flags_without(flags: usize, flag: bool) -> usize
+    ensures { (lines : List Line) (i : ℕ) → i < length lines → (slice_index_or lines i (plain_line [])).flag ≡ flag →
+        flags ≡ flag_count lines → result ≡ flag_count (remove lines i) }
+{
+    if flag { flags.saturating_sub(1) } else { flags }
+}
+
+// The same, once a line has come in place of another.
+fn flags_exchanged(flags: usize, before: bool, flag: bool) -> usize
+    ensures { (lines : List Line) (i : ℕ) (new : Line) → i < length lines → length lines < 2 ^ 64 →
+        (slice_index_or lines i (plain_line [])).flag ≡ before → new.flag ≡ flag → flags ≡ flag_count lines →
+        result ≡ flag_count (slice_set lines i new) }
+{
+    if before == flag {
+        return flags;
+    }
+    if flag {
+        flags.saturating_add(1)
+    } else {
+        flags.saturating_sub(1)
+    }
+}
+
 impl<L: BareLines> LineStore for Store<L> {
     ghost use Rattle.line_store.specs.Kept.{lines_of};
     ghost use Rattle.line_store.specs.Lettered.{lettered-once, lettered-known};
@@ -93,6 +130,7 @@ impl<L: BareLines> LineStore for Store<L> {
             lines: L::empty(alloc)?,
             marks: Marks::none(),
             unflagged: 0,
+            flags: 0,
         })
     }
 
@@ -116,6 +154,9 @@ impl<L: BareLines> LineStore for Store<L> {
             Ok(()) => {
                 self.marks.open_among(at, count, &letters);
                 self.unflagged = place_with(self.unflagged, at, flag);
+                // The proof reads off the count of lines that the count of flags fits.
+                let _ = self.lines.len();
+                self.flags = flags_with(self.flags, flag);
                 Ok(())
             }
             Err(bare) => Err(Line { bare, letters }),
@@ -124,19 +165,26 @@ impl<L: BareLines> LineStore for Store<L> {
 
     fn take(&mut self, i: usize) -> Line {
         self.unflagged = place_without(self.unflagged, i);
+        let bare = self.lines.remove(i);
+        self.flags = flags_without(self.flags, bare.flag());
         Line {
-            bare: self.lines.remove(i),
+            bare,
             letters: self.marks.close(i),
         }
     }
 
     fn exchange(&mut self, i: usize, line: Line) -> Line {
         let Line { bare, letters } = line;
-        self.unflagged = place_exchanged(self.unflagged, i, bare.flag());
-        let before = self.marks.pass_on(i, &letters);
+        let flag = bare.flag();
+        self.unflagged = place_exchanged(self.unflagged, i, flag);
+        let letters = self.marks.pass_on(i, &letters);
+        // The proof reads off the count of lines that the count of flags fits.
+        let _ = self.lines.len();
+        let before = self.lines.exchange(i, bare);
+        self.flags = flags_exchanged(self.flags, before.flag(), flag);
         Line {
-            bare: self.lines.exchange(i, bare),
-            letters: before,
+            bare: before,
+            letters,
         }
     }
 
@@ -153,11 +201,16 @@ impl<L: BareLines> LineStore for Store<L> {
     }
 
     fn flag(&mut self, i: usize) {
+        // The proof reads off the count of lines that the count of flags fits.
+        let _ = self.lines.len();
+        self.flags = flags_exchanged(self.flags, self.lines.line(i).flag(), true);
         self.lines.set_flag(i, true);
         self.unflagged = self.unflagged.min(i);
     }
 
     fn unflag(&mut self, i: usize) {
+        let _ = self.lines.len();
+        self.flags = flags_exchanged(self.flags, self.lines.line(i).flag(), false);
         self.lines.set_flag(i, false);
     }
 
@@ -165,7 +218,15 @@ impl<L: BareLines> LineStore for Store<L> {
         self.lines.line(i).flag()
     }
 
+    fn flag_count(&self) -> usize {
+        self.flags
+    }
+
     fn next_flagged(&mut self) -> Option<usize> {
+        if self.flags == 0 {
+            self.unflagged = self.lines.len();
+            return None;
+        }
         let place = flagged_from(&self.lines, self.unflagged);
         self.unflagged = place;
         if place < self.lines.len() {
@@ -184,6 +245,7 @@ impl<L: BareLines> LineStore for Store<L> {
             lines: self.lines.try_copy()?,
             marks: self.marks.copy(),
             unflagged: self.unflagged,
+            flags: self.flags,
         })
     }
 }

@@ -1,5 +1,5 @@
 //! A list of lines, however it is kept.
-ghost use Rattle.std.specs.Prelude.{◌≡◌, ◌+◌, ◌<◌, ◌≤◌, ℕ, List, [], true, false, length, insert, remove, slice_index_or, slice_set, IfOk, IfErr, OnOk, OnErr, IsOk};
+ghost use Rattle.std.specs.Prelude.{◌≡◌, ◌+◌, ◌<◌, ◌≤◌, ℕ, List, [], true, false, count_by, length, insert, remove, slice_index_or, slice_set, IfOk, IfErr, OnOk, OnErr, IsOk};
 ghost use Rattle.ed_base.specs.Lines.{IsLine};
 ghost use Rattle.ed_base.specs.Buffer.{Line, plain_line, marked_at, marked_place, flagged_at, flagged_place, AtMostOnce, KnowLetters, SharesNoLetter};
 ghost use Rattle.line_store.specs.Marks.{lettered};
@@ -103,7 +103,12 @@ pub trait LineStore: Drop {
         requires place { i < length (lines self.now) }
         ensures value { result ≡ (slice_index_or (lines self.now) i (plain_line [])).flag };
 
-    /// The place of the first line that has the flag. It remembers how far it has looked.
+    /// How many lines have the flag. No line is looked at for it.
+    fn flag_count(&self) -> usize
+        ensures value { result ≡ count_by (λ line. line.flag) (lines self.now) };
+
+    /// The place of the first line that has the flag. It remembers how far it has looked, and where no line has the flag it looks
+    /// at none.
     fn next_flagged(&mut self) -> Option<usize>
         ensures value { result ≡ flagged_place (lines self.old) }
         ensures unchanged { lines self.new ≡ lines self.old }

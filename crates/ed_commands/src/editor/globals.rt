@@ -1,6 +1,6 @@
 //! Global commands: the lines that they take, and what comes before and after their lists (XCU ed, "Global Command", "Global
 //! Non-Matched Command").
-ghost use Rattle.std.specs.Prelude.{◌≡◌, ◌+◌, ◌-◌, ◌≤◌, None, Err, length, map, count_by, is_some, unwrap_or, IfSome, IsTrue, OnOk};
+ghost use Rattle.std.specs.Prelude.{◌≡◌, ◌+◌, ◌-◌, ◌≤◌, None, Err, length, map, is_some, unwrap_or, IfSome, IsTrue, OnOk};
 ghost use Rattle.ed_base.specs.Parts.{block, exchanged};
 ghost use Rattle.ed_syntax.specs.PublicTypes.{command_value};
 ghost use Rattle.ed_syntax.specs.States.{last};
@@ -62,19 +62,6 @@ fn flag_block<S: LineStore>(
     Ok(())
 }
 
-// How many lines have the flag.
-fn count_flags<S: LineStore>(store: &S) -> usize
-    ensures value { result ≡ count_by (λ line. line.flag) (S.lines store.now) }
-{
-    let mut count = 0;
-    for i in 0..store.len() {
-        if store.flagged(i) {
-            count += 1;
-        }
-    }
-    count
-}
-
 impl<S: LineStore> Editor<S> {
     /// Begins a global command (XCU ed, "Global Command", "Global Non-Matched Command"): flags those of its lines that it takes,
     /// remembers its pattern, and tells how many lines have the flag and what it wrote. The commands of its list follow for each line that
@@ -107,7 +94,7 @@ impl<S: LineStore> Editor<S> {
         let output = self.carry_out(command, Answer::Refused)?;
         self.past.open(current, marks);
         Ok(Begun {
-            lines: count_flags(&self.store),
+            lines: self.store.flag_count(),
             output,
         })
     }

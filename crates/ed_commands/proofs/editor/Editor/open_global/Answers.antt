@@ -34,8 +34,8 @@ returns-clause-exact g c =
     let lines = g.S.LineStore.lines e.store in
     let t = held lines e.current e.pattern e.replacement e.name e.changed e.past in
     let is : t ≡ mid = ap (λ v. v.state) c.self-2.view_is in
-    subst (λ n. IsOkAnd (command s given None) (BeginsBy s n (record { lines = c.count_flags.result; output = c.in_ok-output.output })))
+    subst (λ n. IsOkAnd (command s given None) (BeginsBy s n (record { lines = c.flag_count.result; output = c.in_ok-output.output })))
     (sym (ap (λ e. with_earlier e t) (c.open.ensures.opened (texts lines)) ∙ ap (λ u. with_earlier (opening_global (kept_of current marks (texts u.lines)) (earlier_in u)) u) is))
-    (begun s mid given answer.Refused c.in_ok-output.output current marks c.count_flags.result c.requires.global c.in_ok-output.ensures.exact
+    (begun s mid given answer.Refused c.in_ok-output.output current marks c.flag_count.result c.requires.global c.in_ok-output.ensures.exact
     (ap (λ v. v.state.current) c.self.view_is) (omega (arith, c.self.invariant, ap (λ v. v.state.current) c.self.view_is, ap (λ v. last v.state) c.self.view_is))
-    (subst (λ lines. lettered marks 0 lines ≡ lines) (ap (λ v. v.state.lines) c.self.view_is) c.of-marks.ensures.own) (c.count_flags.ensures.value ∙ ap flags is))
+    (subst (λ lines. lettered marks 0 lines ≡ lines) (ap (λ v. v.state.lines) c.self.view_is) c.of-marks.ensures.own) (c.flag_count.ensures.value ∙ ap flags is))

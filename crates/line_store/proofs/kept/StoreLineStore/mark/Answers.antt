@@ -10,7 +10,7 @@ invariant_of-self g c =
     let e = c.self.inside in
     let lines = g.L.BareLines.items e.lines in
     let place : c.args.i < length lines = omega (arith, c.requires.place, length-lettered e.marks 0 lines, ap (λ v. length (lines_of v)) c.self.view_is) in
-    rw c.set.ensures.value (set-below e.marks _ c.args.letter c.args.i c.self.invariant.0 place, c.self.invariant.1)
+    rw c.set.ensures.value (set-below e.marks _ c.args.letter c.args.i c.self.invariant.0 place, c.self.invariant.1, c.self.invariant.2)
 
 pub returns-clause-marked : goal.returns-clause-marked
 returns-clause-marked g c =

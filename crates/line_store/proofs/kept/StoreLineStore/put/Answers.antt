@@ -1,6 +1,7 @@
 -- The lines are those with the new one, and its letters are at its place.
 use Rattle.std.proofs.Common.{◌≤◌, ◌∙◌, ap, sym, length, arith, insert, subst}
 use Rattle.std.proofs.lemmas.List.Edits.{length-insert}
+use Rattle.std.proofs.lemmas.List.Sums.{count_by-le-length}
 use Rattle.ed_base.specs.Buffer.{SharesNoLetter}
 use Rattle.line_store.specs.Marks.{lettered}
 use Rattle.line_store.specs.Kept.{lines_of}
@@ -10,6 +11,20 @@ use Rattle.line_store.proofs.kept.StoreLineStore.put.Goals as goal
 pub insert-requires : goal.insert-requires
 insert-requires g c = omega (arith, c.requires.place, length-lettered c.self.inside.marks 0 (g.L.BareLines.items c.self.inside.lines), ap (λ v. length (lines_of v)) c.self.view_is)
 
+pub flags_with-self-inside-requires : goal.flags_with-self-inside-requires
+flags_with-self-inside-requires g c =
+    let e = c.self.inside in
+    let lines = g.L.BareLines.items e.lines in
+    let at : c.args.at ≤ length lines = omega (arith, c.requires.place, length-lettered e.marks 0 lines, ap (λ v. length (lines_of v)) c.self.view_is) in
+    omega (
+      arith,
+      c.len.ensures.value,
+      ap length c.in-Ok.ensures.inserted,
+      length-insert lines c.args.at c.line.inside.bare at,
+      count_by-le-length (λ line. line.flag) lines,
+      c.self.invariant.2,
+    )
+
 pub invariant_of-self : goal.invariant_of-self
 invariant_of-self g c =
     let e = c.self.inside in
@@ -18,6 +33,7 @@ invariant_of-self g c =
     rw (c.open_among.ensures.value, c.in-Ok.ensures.inserted) (
       with_line-below _ _ c.args.at c.line.inside.letters e.marks at (length-insert lines c.args.at c.line.inside.bare at) c.self.invariant.0,
       c.place_with-self-inside.ensures lines c.line.inside.bare (sym c.flag-flag.ensures.value) at c.self.invariant.1,
+      c.flags_with-self-inside.ensures lines c.args.at c.line.inside.bare (sym c.flag-flag.ensures.value) c.self.invariant.2,
     )
 
 pub returns-in-Ok-clause-inserted : goal.returns-in-Ok-clause-inserted

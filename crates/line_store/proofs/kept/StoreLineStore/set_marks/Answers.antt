@@ -11,7 +11,7 @@ pub invariant_of-self : goal.invariant_of-self
 invariant_of-self g c =
     let count = length (g.L.BareLines.items c.self.inside.lines) in
     let is = c.among-self-inside.ensures.value ∙ ap (λ n. places_below n c.args.marks.now) c.len.ensures.value in
-    (subst (AllBelow count) (sym is) (places-below count c.args.marks.now), c.self.invariant.1)
+    (subst (AllBelow count) (sym is) (places-below count c.args.marks.now), c.self.invariant.1, c.self.invariant.2)
 
 pub returns-clause-marked : goal.returns-clause-marked
 returns-clause-marked g c =
