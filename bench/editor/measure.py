@@ -1,12 +1,15 @@
 """Processor time and peak memory of our editor beside `ed`, `sed`, `perl` and `vim`, on the same inputs and interleaved.
 
 Each measure is the best of three runs. For each size the table gives seconds of processor time, mebibytes of peak memory
-and the ratio to `ed`; the last lines give the exponent by which the time grows from the smallest size to the largest.
-A peak of some 10 MiB is that of this script, from which each program is started: the program's own lies below it.
+and the ratio to `ed`; the last lines give the exponent by which the time grows from the smallest size to the largest. A run that
+takes too long is ended, which its line says, and that program isn't run again in this table.
+A peak of some 11 MiB is that of this script, from which each program is started: the program's own lies below it. So nothing here
+holds an input in memory.
 
     measure.py PROGRAM [WORD..]     with words, only what has one of them in its title
 """
 
+import itertools
 import math
 import os
 import random
@@ -19,12 +22,12 @@ import tempfile
 OURS, WORDS = sys.argv[1], sys.argv[2:]
 RUNS = 3
 
-# In seconds of processor time: a program that takes longer is ended, and isn't run on the next sizes.
+# In seconds of processor time: a run that takes longer is ended.
 LIMIT = 20
 
 
 class Work:
-    """One piece of work at one size: the file, the script, and how often it is run."""
+    """One piece of work at one size: the file, the script, and how often it is run. Lines and script come in small pieces."""
 
     def __init__(self, folder, name, size, lines, script, repeat=1, sed=None, perl=None, vim=False):
         self.name, self.size, self.repeat = name, size, repeat
@@ -76,6 +79,19 @@ def search_around(folder, n):
     return Work(folder, "around", n, text_lines(LINES), (b"/0050000 of/\n" if i < n else b"Q\n" for i in range(n + 1)))
 
 
+def worded_lines(count):
+    """Lines of 50 bytes: words of small letters, and a last line that has what is searched for."""
+    chance = random.Random(1)
+    known = [bytes(chance.choices(b"abcdefghijklmnopqrstuvwxyz", k=chance.randint(3, 8))) for _ in range(1_000)]
+    for _ in range(count - 1):
+        yield b" ".join(chance.choices(known, k=13))[:50] + b"\n"
+    yield b"# a needle and foo123bar in a line of fifty bytes:\n"
+
+
+def ten_times(command):
+    return lambda folder, n: Work(folder, "ten", n, worded_lines(n), [command + b"\n"] * 10 + [b"Q\n"])
+
+
 def print_between_marks(folder, n):
     script = [b"90000ka\n90009kb\n"] + [b"'a,'bp\n"] * n + [b"Q\n"]
     return Work(folder, "marks", n, text_lines(LINES), script)
@@ -122,7 +138,8 @@ def swap_fields(folder, n):
 
 def replace_in_a_long_line(folder, megabytes):
     """One line, of whose bytes each sixteenth is replaced."""
-    return Work(folder, "long", megabytes, [b"0123456789abcdef" * (megabytes << 16), b"\n"], [b"s/a/b/g\nQ\n"],
+    line = itertools.chain(itertools.repeat(b"0123456789abcdef" * 64, megabytes << 10), [b"\n"])
+    return Work(folder, "long", megabytes, line, [b"s/a/b/g\nQ\n"],
                 sed=["sed", "s/a/b/g"], perl=["perl", "-pe", "s/a/b/g"])
 
 
@@ -139,7 +156,8 @@ def substitute_at_random(folder, n):
 
 def edit_and_write(folder, n):
     """The file is 47 bytes a line; the whole of it is written to another one."""
-    return Work(folder, "write", n, text_lines(n), [b"1d\nw %s\nQ\n" % os.path.join(folder, "written").encode()], sed=["sed", "1d"], vim=True)
+    written = os.path.join(folder, "written").encode()
+    return Work(folder, "write", n, text_lines(n), [b"1d\nw %s\nQ\n" % written], sed=["sed", "1d"], vim=True)
 
 
 def update(folder, hunks):
@@ -165,11 +183,16 @@ def delete_matching(folder, n):
 
 
 def reverse(folder, n):
-    return Work(folder, "g-m0", n, things(n), [b"g/^/m0\nQ\n"], vim=True)
+    return Work(folder, "g-m0", n, things(n), [b"g/^/m0\nQ\n"], vim=True, perl=["perl", "-e", "print reverse <>"])
 
 
 def join_pairs(folder, n):
-    return Work(folder, "g-j", n, things(n), [b"g/^/.,+1j\nQ\n"], vim=True)
+    return Work(folder, "g-j", n, things(n), [b"g/^/.,+1j\nQ\n"], vim=True, sed=["sed", r"N;s/\n//"])
+
+
+def globals_of_one_line(folder, n):
+    script = [b"%dg/^/s/^/x/\n" % line for line in changed_lines(n, 10_000)] + [b"Q\n"]
+    return Work(folder, "g of one", n, text_lines(n), script, vim=True)
 
 
 def delete_and_undo(folder, n):
@@ -183,8 +206,8 @@ def undo_of_a_global(folder, n):
 
 
 def measured(words, work):
-    """Processor seconds and peak mebibytes of the runs of the work."""
-    seconds, peak = 0.0, 0
+    """Processor seconds and peak mebibytes of the runs of the work, and whether one of them was ended."""
+    seconds, peak, ended = 0.0, 0, False
     for _ in range(work.repeat):
         with open(work.script, "rb") as script, open(os.devnull, "wb") as out:
             limited = lambda: resource.setrlimit(resource.RLIMIT_CPU, (LIMIT, LIMIT))
@@ -193,16 +216,18 @@ def measured(words, work):
             child.returncode = os.waitstatus_to_exitcode(status)
         seconds += usage.ru_utime + usage.ru_stime
         peak = max(peak, usage.ru_maxrss)
-    return seconds, peak / 1024
+        ended |= os.WIFSIGNALED(status)
+    return seconds, peak / 1024, ended
 
 
 def best(programs, work):
-    """The best of the runs of each program, one after the other in turn."""
-    result = {name: (math.inf, math.inf) for name in programs}
+    """The best of the runs of each program, one after the other in turn; a program that was ended isn't run again."""
+    result = {name: (math.inf, math.inf, False) for name in programs}
     for _ in range(RUNS):
         for name, words in programs.items():
-            seconds, peak = measured(words, work)
-            result[name] = (min(result[name][0], seconds), min(result[name][1], peak))
+            if not result[name][2]:
+                seconds, peak, ended = measured(words, work)
+                result[name] = (min(result[name][0], seconds), min(result[name][1], peak), ended)
     return result
 
 
@@ -220,8 +245,8 @@ def programs_for(work):
 
 
 def ratio_to_ed(figures, name):
-    """How a program's time compares with that of `ed`, where `ed` is there and took any."""
-    if "ed" not in figures or not figures["ed"][0]:
+    """How a program's time compares with that of `ed`, where `ed` is there, took any and wasn't ended."""
+    if "ed" not in figures or not figures["ed"][0] or figures["ed"][2]:
         return ""
     return f"{figures[name][0] / figures['ed'][0]:6.2f} x ed"
 
@@ -232,13 +257,14 @@ def report(title, works):
     for work in works:
         programs = {name: words for name, words in programs_for(work).items() if name not in slow}
         figures = best(programs, work)
-        for name, (seconds, peak) in figures.items():
-            late = " ended there" if seconds > 0.9 * LIMIT else ""
-            print(f"  {work.size:>8} {name:<5} {seconds:8.3f} s {peak:8.1f} MiB {ratio_to_ed(figures, name)}{late}", flush=True)
+        for name, (seconds, peak, ended) in figures.items():
+            if ended:
+                print(f"  {work.size:>8} {name:<5} ended after {LIMIT} s, {peak:.1f} MiB by then", flush=True)
+                slow.add(name)
+                continue
+            print(f"  {work.size:>8} {name:<5} {seconds:8.3f} s {peak:8.1f} MiB {ratio_to_ed(figures, name)}".rstrip(), flush=True)
             first.setdefault(name, (work.size, seconds))
             last[name] = (work.size, seconds)
-            if seconds > 0.9 * LIMIT:
-                slow.add(name)
     for name, (size, seconds) in last.items():
         size_before, before = first[name]
         if size > size_before and before > 0 and seconds > 0:
@@ -261,6 +287,8 @@ WORKS = (
     ("10,000 times s on one line, in random order (lines)", substitute_at_random, (250_000, 500_000, 1_000_000)),
     ("search onwards in 100,000 lines (searches)", search_onwards, (250, 500, 1_000)),
     ("search around 100,000 lines (searches)", search_around, (10, 20, 40)),
+    *((f"ten times {command} through lines of 50 bytes (lines)", ten_times(command.encode()), (50_000, 100_000, 200_000))
+      for command in ("/needle/", "/[0-9][0-9]*/", "/foo[0-9]*bar/", "/^#/", "v/[ ]*$/p")),
     ("print ten of 100,000 lines between marks (times)", print_between_marks, (2_500, 5_000, 10_000)),
     ("mark one of 100,000 lines and tell its number (times)", move_a_mark, (2_500, 5_000, 10_000)),
     ("load, delete a line and write the others to a file (lines)", edit_and_write, (600_000, 1_200_000, 2_400_000)),
@@ -269,6 +297,7 @@ WORKS = (
     ("global: delete each second line, g/foo/d (lines)", delete_matching, (100_000, 200_000, 400_000)),
     ("global: move each line to the front, g/^/m0 (lines)", reverse, (50_000, 100_000, 200_000)),
     ("global: join lines in pairs, g/^/.,+1j (lines)", join_pairs, (50_000, 100_000, 200_000)),
+    ("global: 10,000 of one line each, Ng/^/s/^/x/, at rising places (lines)", globals_of_one_line, (250_000, 500_000, 1_000_000)),
     ("global: delete each second line, and undo that three times (lines)", undo_of_a_global, (50_000, 100_000, 200_000)),
     ("undo: 5,000 times Nd and u, at random places (lines)", delete_and_undo, (50_000, 100_000, 200_000)),
 )
