@@ -1,13 +1,14 @@
 #!/usr/bin/env python3
 """Measures bre_bench beside sed, perl and grep in one run: lines made to be slow, many short lines, and long lines.
 
-    python3 measure.py [hostile] [growth] [lines] [long]
+    python3 measure.py [hostile] [growth] [lines] [long] [places]
 
 Each figure is processor seconds, the least of three runs, and the most memory in MB; what runs the programs has 11 MB
-itself, so no less is told. `^` is how the time grows with the line: 1 is in proportion, 2 is with its square; it is told
-where both times are above what starting takes. A program that takes more than 20 seconds is stopped. The counts of lines
-have to agree. Build crates/bre_bench first.
+itself, so no less is told, and no text is held here. `^` is how the time grows with the line: 1 is in proportion, 2 is with
+its square; it is told where both times are above what starting takes. A program that takes more than 20 seconds is stopped.
+The counts of lines have to agree. Build crates/bre_bench first.
 """
+import itertools
 import math
 import os
 import resource
@@ -24,12 +25,16 @@ EQUALS = r'\(.*\)=\(.*\)=\1$'
 
 
 NESTED = (r'\(a*\)*[bc]', 'a*a*a*a*a*[bc]', r'\(a\)*b', r'\(a*\)*', r'\(\(a*\)*b\)*')
+# A line of `a` alone lacks the `b`, which is told without a search; one of `a` between two `b` has all bytes and no match.
+SEARCHED = (r'\(a*\)*bb', 'a*a*a*a*a*bb', r'\(a\)*bb')
 
 
 def hostile():
     """Patterns with texts of one line: the pattern, the name of the text, and the texts."""
     for pattern in NESTED:
         yield pattern, 'a', ['a' * size for size in (5_000, 10_000, 20_000)]
+    for pattern in SEARCHED:
+        yield pattern, 'b, a, b', ['b' + 'a' * size + 'b' for size in (5_000, 10_000, 20_000)]
     yield r'\(a\{0,99\}\)\{0,99\}[bc]', 'a', ['a' * 20, 'a' * 60]
     yield r'\(a*\)\1b', 'a', ['a' * size for size in (500, 1_000, 2_000)]
     yield r'\(a*\)\1b', 'a, cb', ['a' * size + 'cb' for size in (500, 1_000, 2_000)]
@@ -38,6 +43,7 @@ def hostile():
     yield EQUALS, 'nine a and =, x', [('a' * 9 + '=') * (size // 10) + 'x' for size in (250, 500)]
     yield EQUALS, 'a=, x', ['a=' * (size // 2) + 'x' for size in (250, 500)]
     yield EQUALS, '=, x', ['=' * size + 'x' for size in (250, 500)]
+    yield r'\(.*\)=\(.*\)=\1b', '=, cb', ['=' * size + 'cb' for size in (250, 500)]
 
 
 def extended(pattern):
@@ -57,8 +63,16 @@ def commands(pattern):
     }
 
 
+def counted(command, out):
+    """How many lines matched; sed prints them, the others their number. Of `places` it is what was printed."""
+    if command[0] == 'sed':
+        return sum(1 for line in out)
+    printed = out.read().decode().strip()
+    return int(printed) if printed.isdigit() else printed
+
+
 def run(command, path):
-    """Processor seconds, MB and what was printed, or None after too long a time."""
+    """Processor seconds, MB and what is counted of the output, or None after too long a time."""
     with open(path) as text, tempfile.TemporaryFile() as out:
         child = subprocess.Popen(
             command, stdin=text, stdout=out, stderr=subprocess.DEVNULL, env={**os.environ, 'LC_ALL': 'C'},
@@ -68,7 +82,7 @@ def run(command, path):
         out.seek(0)
         if os.WIFSIGNALED(status):
             return None
-        return used.ru_utime + used.ru_stime, used.ru_maxrss / 1024, out.read()
+        return used.ru_utime + used.ru_stime, used.ru_maxrss / 1024, counted(command, out)
 
 
 def best(command, path):
@@ -78,11 +92,6 @@ def best(command, path):
         if runs[-1] is None or runs[-1][0] > 5:
             break
     return None if None in runs else min(runs, key=lambda figures: figures[0])
-
-
-def counted(name, out):
-    """How many lines matched; sed prints them, the others their number."""
-    return out.count(b'\n') if name == 'sed -n' else int(out)
 
 
 def compare(pattern, texts, starting, programs=None):
@@ -97,14 +106,14 @@ def compare(pattern, texts, starting, programs=None):
             if found is None:
                 figures.append(f'over {MOST} s')
                 break
-            seconds, memory, out = found
+            seconds, memory, lines = found
             told = f'{seconds:.3f} s {memory:.0f} MB'
             net = seconds - starting[name]
             if last and net > 0.02 and last[0] > 0.005:
                 told += f' ^{math.log(net / last[0]) / math.log(size / last[1]):.1f}'
             last = (net, size)
             figures.append(told)
-            rows.setdefault(path, {})[name] = counted(name, out)
+            rows.setdefault(path, {})[name] = lines
         print(f'  {name:10}' + '  '.join(f'{told:24}' for told in figures).rstrip())
     for path, counts in rows.items():
         if len(set(counts.values())) > 1:
@@ -112,11 +121,13 @@ def compare(pattern, texts, starting, programs=None):
     sys.stdout.flush()
 
 
-def written(folder, name, text):
+def written(folder, name, text, times=1, ending=''):
+    """A file with a text that many times, and its ending."""
     path = os.path.join(folder, name)
     with open(path, 'w') as file:
-        file.write(text)
-    return path, len(text)
+        file.writelines(itertools.repeat(text, times))
+        file.write(ending)
+    return path, os.path.getsize(path)
 
 
 def many_lines(folder):
@@ -133,16 +144,25 @@ def measure_hostile(folder, starting):
         compare(pattern, [written(folder, str(len(text)), text + '\n') for text in texts], starting)
 
 
+def between(folder, size):
+    """A line of so many `a` between two `b`."""
+    return written(folder, str(size), 'b' + 'a' * size + 'b\n')
+
+
 def measure_growth(folder, starting):
     """How the time grows, on lines so long that a start doesn't count, and with 64 repeats in one another."""
     print('\nOne line, 500,000 and 1,000,000 and 2,000,000 bytes')
-    lines = [written(folder, str(size), 'a' * size + '\n') for size in (500_000, 1_000_000, 2_000_000)]
+    lines = [written(folder, str(size), 'a' * 1_000, size // 1_000, '\n') for size in (500_000, 1_000_000, 2_000_000)]
     for pattern in NESTED:
         print(f'{pattern}  on a')
         compare(pattern, lines, starting, ('bre_bench',))
-    print('a, 64 times *, b  on a, 5000 and 10000 and 20000 bytes')
-    lines = [written(folder, str(size), 'a' * size + '\n') for size in (5_000, 10_000, 20_000)]
-    compare('a' + '*' * 64 + 'b', lines, starting, ('bre_bench', 'sed -n', 'grep -c'))
+    lines = [between(folder, size) for size in (500_000, 1_000_000, 2_000_000)]
+    for pattern in SEARCHED:
+        print(f'{pattern}  on b, a, b')
+        compare(pattern, lines, starting, ('bre_bench',))
+    print('a, 64 times *, bb  on b, a, b, 5002 and 10002 and 20002 bytes')
+    lines = [between(folder, size) for size in (5_000, 10_000, 20_000)]
+    compare('a' + '*' * 64 + 'bb', lines, starting, ('bre_bench', 'sed -n', 'grep -c'))
 
 
 def measure_lines(folder, starting):
@@ -156,13 +176,31 @@ def measure_lines(folder, starting):
 def measure_long(folder, starting):
     print('\nOne line of 50,000,000 bytes')
     for word in ('a', 'ax'):
-        line = written(folder, 'long', word * (50_000_000 // len(word)) + '\n')
+        line = written(folder, 'long', word * (1_000 // len(word)), 50_000, '\n')
         for pattern in ('.*', '[a-z]*x', '[a-z][a-z]*x'):
             print(f'{pattern}  on {word}')
             compare(pattern, [line], starting)
 
 
-PARTS = {'hostile': measure_hostile, 'growth': measure_growth, 'lines': measure_lines, 'long': measure_long}
+def measure_places(folder, starting):
+    """What a find costs that ends after a few bytes of a long line, beside reading the line: a place behind it isn't looked at."""
+    print('\nOne find in a line of 50,000,000 bytes, x but for a word in the middle; bre_bench places')
+    half = 25_000_000
+    for pattern, word in ((r'\(a\)*b', 'aab'), (r'\(a\)*=\1b', 'a=ab')):
+        for name, start in (('reading alone', 2 * half + 1_000), ('from the word', half), ('from the start', 0)):
+            path = os.path.join(folder, 'place')
+            with open(path, 'w') as file:
+                file.write(f'{start}\t{pattern}\t')
+                file.writelines(itertools.repeat('x' * 1_000, half // 1_000))
+                file.write(word)
+                file.writelines(itertools.repeat('x' * 1_000, half // 1_000))
+                file.write('\n')
+            found = best([PROGRAM, 'places'], path)
+            told = f'over {MOST} s' if found is None else f'{found[0]:.3f} s {found[1]:.0f} MB  {found[2]}'
+            print(f'  {pattern} on {word}, {name:15} {told}'.rstrip(), flush=True)
+
+
+PARTS = {'hostile': measure_hostile, 'growth': measure_growth, 'lines': measure_lines, 'long': measure_long, 'places': measure_places}
 
 
 def main():
