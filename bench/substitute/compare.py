@@ -4,8 +4,8 @@
     python3 compare.py COUNT SEED
 
 The reference says what the standard does: it takes the matches of ../patterns/reference.py from the left, and replaces those that
-the flags pick. Each case must equal it. Where `ed` or `sed` differs from both, the case is counted by the kind of its pattern, and
-the first ones are shown: README.md says why they differ. Build the program first.
+the flags pick. Each case must equal it. Where `ed` or `sed` differs from both, the case is counted by its cause (causes.py), and shown
+where it has none. Build the program first.
 """
 import collections
 import os
@@ -17,12 +17,13 @@ import tempfile
 sys.dont_write_bytecode = True
 HERE = os.path.dirname(os.path.abspath(__file__))
 sys.path.insert(0, os.path.join(HERE, '../patterns'))
+import causes
 import compare
 import reference
 from substitution import replaced
 
 PROGRAM = os.path.join(HERE, '../../crates/ed_main/out/ed_main')
-SHOWN = 5
+SHOWN = 20
 
 
 def replacement(chance, groups):
@@ -79,7 +80,7 @@ def cases(count, seed):
 
 def main():
     count, seed = int(sys.argv[1]), int(sys.argv[2])
-    tally, kinds, wrong = collections.Counter(), collections.Counter(), 0
+    tally, known, wrong, unexplained = collections.Counter(), collections.Counter(), 0, 0
     folder = tempfile.mkdtemp()
     path = os.path.join(folder, 'F')
     for kind, tree, parts, which, lines, first, last in cases(count, seed):
@@ -104,19 +105,25 @@ def main():
             wrong += 1
             print(f'lines {lines}\nscript {script!r}\n  reference {right!r}\n  ours      {ours!r}')
         others = output(['ed', '-s', path], script)
+        differing = {}
         # After a fault `ed` goes on with the next command.
         if not others.startswith(right) if right == '?\n' else others != right:
-            tally['where ed differs'] += 1
-            kinds['ed', kind] += 1
-            if kinds['ed', kind] <= SHOWN:
-                print(f'[{kind}] lines {lines}\n  script {script!r}\n  ours {right!r}\n  ed   {others!r}')
+            differing['ed'] = others, output(['ed', '-s', path], 'H\n' + script)
         if right != '?\n':
             told = output(['sed', f'{first},{last}{command.rstrip()}', path], '')
             if told != ''.join(line.split('\t', 1)[1] + '\n' for line in right.splitlines()[1:]):
-                tally['where sed differs'] += 1
-                kinds['sed', kind] += 1
+                differing['sed'] = told, ''
+        for program, (told, reason) in differing.items():
+            tally[f'where {program} differs'] += 1
+            cause = causes.cause(program, tree, lines[first - 1:last], which, reason)
+            known[program, cause or 'NO CAUSE'] += 1
+            unexplained += cause is None
+            if cause is None and unexplained <= SHOWN:
+                print(f'[{kind}] lines {lines}\n  script {script!r}\n  ours {right!r}\n  {program:4} {told!r} {reason!r}')
     print(f'seed {seed}, {count} cases: ' + ', '.join(f'{number} {name}' for name, number in tally.items()))
-    print('by kind of pattern: ' + ', '.join(f'{program} {kind} {number}' for (program, kind), number in sorted(kinds.items())))
+    for (program, cause), number in sorted(known.items()):
+        print(f'{number:6} {program:4} {cause}')
+    print(f'{unexplained} differences without a cause')
     sys.exit(wrong > 0)
 
 
