@@ -4,9 +4,10 @@
     python3 compare.py COUNT SEED [PROCESSES]
 
 Each script has a few commands on a file of a few short lines: texts, marks, searches, `s`, moves, copies, joins, files, globals with
-lists, undo. Output, status and files have to be those of editor.py. `ed` goes on after a fault, so what we write has to be the front of
-what it writes, and where there is no fault the files have to be the same. Where `ed` differs from both, the case is counted by what
-editor.py noted, and shown where it noted nothing: README.md says why `ed` differs. Build the program first.
+lists, undo, the help mode and the prompt. Output, status and files have to be those of editor.py. `ed` goes on after a fault, so what we
+write has to be the front of what it writes, but for the help mode's text of the fault, and where there is no fault the files have to be
+the same. Where `ed` differs from both, the case is counted by what editor.py noted, and shown where it noted nothing: README.md says why
+`ed` differs. Build the program first.
 """
 import collections
 import multiprocessing
@@ -49,6 +50,11 @@ REPLACEMENTS = (
     ('x', ['x'], 0), ('', [], 0), ('&&', [0, 0], 0), ('<&>', ['<', 0, '>'], 0), (r'\1', [1], 1), (r'\2-', [2, '-'], 2), ('a', ['a'], 0),
     (r'\&', ['&'], 0), ('y&', ['y', 0], 0), ('%', None, 0), ('p\\\nq', ['p', '\n', 'q'], 0),
 )
+
+
+# The commands of a list, and those of a script.
+LISTED = [*'aicddjjkmmtsssspnl=frwhHP', '']
+ALONE = [*'aicddjkmtsspn=gggvuurwfeEhHHP', '']
 
 
 class Writer:
@@ -108,12 +114,10 @@ class Writer:
     def command(self, listed):
         """A command and its lines; in a list they are joined by backslashes."""
         chance = self.chance
-        letter = chance.choice(['a', 'i', 'c', 'd', 'd', 'j', 'j', 'k', 'm', 'm', 't', 's', 's', 's', 'p', 'n', 'l', '=', '', 'f', 'r', 'w']
-                               + [] if listed else ['a', 'i', 'c', 'd', 'd', 'j', 'k', 'm', 't', 's', 's', 'p', 'n', '=', '', 'g', 'g', 'g', 'v',
-                                                    'u', 'u', 'r', 'w', 'f', 'e', 'E'])
+        letter = chance.choice(LISTED if listed else ALONE)
         given, text = self.addresses()
         made = Command(letter, given, listed=listed)
-        if letter in tuple('aicdjmt='):
+        if letter in tuple('aicdjmt=hHP'):
             made.suffix = self.suffix()
         if letter in tuple('aic'):
             made.text = [chance.choice(WORDS) for _ in range(chance.choice((0, 1, 1, 2)))]
@@ -128,7 +132,7 @@ class Writer:
             return self.substitution(made, text)
         if letter in ('g', 'v'):
             return self.everywhere(made, text)
-        if letter in ('u', 'f', 'e', 'E'):
+        if letter in ('u', 'f', 'e', 'E', 'h', 'H', 'P'):
             made.addresses, text = None, ''
         if letter == 'u':
             made.suffix = self.suffix()
@@ -190,9 +194,9 @@ def case(number_and_seed):
     chance = random.Random(seed * 1000003 + number)
     files = {name: ''.join(chance.choice(WORDS) + '\n' for _ in range(chance.randrange(most))).encode() for name, most in (('F', 6), ('G', 3))}
     commands, script = Writer(chance, files['F'].count(b'\n')).script()
-    silent = chance.choice((True, False))
-    right = editor.Run(files, 'F', silent)
-    words = ['-s'] * silent + ['F']
+    silent, prompt = chance.choice((True, False)), chance.choice((None, None, None, '> '))
+    right = editor.Run(files, 'F', silent, prompt)
+    words = ['-s'] * silent + ([] if prompt is None else ['-p', prompt]) + ['F']
     folder = tempfile.mkdtemp()
     try:
         status = right.end(commands)
@@ -202,8 +206,9 @@ def case(number_and_seed):
         return 'too slow', None
     finally:
         shutil.rmtree(folder)
-    shown = f'files {files} {words}\n{script}  reference {status} {right.output!r} {right.files}\n  ours      {ours}\n  ed        {others!r} {theirs}\n'
-    if ours != (status, right.output, right.files):
+    shown = (f'files {files} {words}\n{script}  reference {status} {right.output!r} {right.told!r} {right.files}\n  ours      {ours}\n'
+             f'  ed        {others!r} {theirs}\n')
+    if ours != (status, right.output + right.told, right.files):
         return 'DIFFERENT from the reference', shown
     fault = 'without a fault' if status == 0 else 'with a fault'
     if (others, theirs) == (right.output, right.files) if status == 0 else others.startswith(right.output):

@@ -51,9 +51,20 @@ DEFAULTS = {
 }
 
 
+# What the help mode tells of each fault.
+TEXTS = {
+    'Address': 'invalid address', 'Mark': 'mark not set', 'Pattern': 'no previous pattern', 'NoMatch': 'no match',
+    'Destination': 'invalid destination', 'Name': 'no current file name', 'Unsaved': 'buffer modified', 'Undo': 'nothing to undo',
+    'Replacement': 'invalid replacement', 'File': 'file refused',
+}
+
+
 class Run:
-    def __init__(self, files, start, silent):
+    def __init__(self, files, start, silent, prompt=None):
         self.files, self.silent, self.output = dict(files), silent, b''
+        # What the help mode told of the fault that ended the run.
+        self.told = b''
+        self.help, self.prompting, self.prompt = False, prompt is not None, '*' if prompt is None else prompt
         self.lines, self.current, self.pattern, self.parts, self.changed, self.past = [], 0, None, None, False, None
         self.name, self.noted, self.altered = start, set(), False
         if start in files:
@@ -274,6 +285,9 @@ class Run:
             self.current = last
         elif letter == 'u':
             self.undo()
+        elif letter in ('h', 'H', 'P'):
+            # `h` has no fault to tell of; `one` turns the modes.
+            pass
         else:
             return self.on_file(command, first, last)
         return False
@@ -310,7 +324,7 @@ class Run:
         try:
             found = self.values(command.addresses or DEFAULTS.get(command.letter))
             target = None if command.target is None else self.value(command.target)
-            first, last = (0, 0) if command.letter in ('u', 'e', 'E', 'f') else self.span(command.letter, found)
+            first, last = (0, 0) if command.letter in ('u', 'e', 'E', 'f', 'h', 'H', 'P') else self.span(command.letter, found)
             alters = self.effect(command, first, last, target)
             if command.suffix:
                 if self.current == 0:
@@ -321,6 +335,11 @@ class Run:
             # A command that faults writes nothing of its own.
             self.output = written
             raise
+        # A mode is turned by a command that is done.
+        if command.letter == 'H':
+            self.help = not self.help
+        if command.letter == 'P':
+            self.prompting = not self.prompting
         if alters:
             self.changed = self.altered = True
             if not command.listed:
@@ -345,18 +364,28 @@ class Run:
                 self.one(listed)
         self.past = before if self.altered else 'same'
 
+    def ask(self):
+        """The prompt, before each command of the script and before its end is found."""
+        if self.prompting:
+            self.write(self.prompt)
+
     def end(self, script):
         """Carries the script out; the status that the run ends with."""
         try:
             for command in script:
+                self.ask()
                 if command.letter == 'Q':
                     return 0
                 if command.letter == 'q':
                     break
                 (self.everywhere if command.letter in ('g', 'v') else self.one)(command)
+            else:
+                self.ask()
             if self.changed:
                 raise Fault('Unsaved')
             return 0
         except Fault as fault:
             self.write('?\n')
+            if self.help:
+                self.told = (TEXTS[fault.args[0]] + '\n').encode()
             return 3 if fault.args == ('File',) else 1
