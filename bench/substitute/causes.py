@@ -12,7 +12,7 @@ import reference
 from substitution import taken
 
 REFUSED = 'the C library refuses an interval on a repeat; here it repeats the repeat'
-REPEATS = 'the C library takes an interval on a repeat, or of empty turns, for another repeat; here the turns are those of the definition'
+REPEATS = 'the C library takes an interval on a repeat, or of empty turns, otherwise; here the turns are those of the definition'
 REFERENCES = 'the C library finds another match for a back-reference; here all ways are tried'
 GROUPS = 'the C library keeps groups from an earlier turn, or adds an empty turn; here a turn unsets them, and one not needed ends the repeat'
 LOOP = 'ed stops at the second empty match in a row with g; here each is taken'
