@@ -14,7 +14,7 @@ from substitution import taken
 REFUSED = 'the C library refuses an interval on a repeat; here it repeats the repeat'
 REPEATS = 'the C library takes an interval on a repeat, or of empty turns, otherwise; here the turns are those of the definition'
 REFERENCES = 'the C library finds another match for a back-reference; here all ways are tried'
-GROUPS = 'the C library keeps groups from an earlier turn, or adds an empty turn; here a turn unsets them, and one not needed ends the repeat'
+GROUPS = 'the C library keeps groups from an earlier turn, or adds an empty turn; here a turn unsets them, and one that is idle ends it'
 LOOP = 'ed stops at the second empty match in a row with g; here each is taken'
 COUNTED = 'ed counts empty matches otherwise; here each is counted once, and none right after a full match'
 
