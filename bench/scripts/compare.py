@@ -155,8 +155,8 @@ class Writer:
             command, spelled = self.command(True)
             made.list.append(command)
             lines += spelled
-        if lines[-1] == '.' and self.chance.random() < 0.5:
-            # A text ends with its list.
+        if lines[-1] == '.' and made.list[-1].letter in tuple('aic') and self.chance.random() < 0.5:
+            # A text ends with its list; a null command with the address `.` is no end of a text.
             lines.pop()
         if lines == ['']:
             # A list of one empty line is `p`.

@@ -224,9 +224,11 @@ class Run:
     def move(self, first, last, target):
         if first <= target <= last:
             if target == last:
-                self.noted.add('m to behind its own last line')
+                self.noted.add('m to after its own last line')
             raise Fault('Destination')
         moved = self.lines[first - 1:last]
+        if any(line.flag for line in moved):
+            self.noted.add('m of lines that its global has yet to take')
         del self.lines[first - 1:last]
         place = target if target < first else target - len(moved)
         self.lines[place:place] = moved
