@@ -70,7 +70,7 @@ struct SynopsisRow {
 
 // XCU ed, "Commands in ed": each command's synopsis, and what line 0 means to it.
 #[rattlefmt::skip]
-const SYNOPSES: [SynopsisRow; 16] = [
+static SYNOPSES: [SynopsisRow; 16] = [
     SynopsisRow { script: b"a", spelled_out: b".a", taking: Taking::Place, has_text: true, has_target: false, takes_suffix: true },
     SynopsisRow { script: b"c", spelled_out: b".,.c", taking: Taking::Lines, has_text: true, has_target: false, takes_suffix: true },
     SynopsisRow { script: b"d", spelled_out: b".,.d", taking: Taking::Range, has_text: false, has_target: false, takes_suffix: true },

@@ -1,8 +1,10 @@
 //! An editor between two commands: an address is evaluated, and a file is loaded.
 use ed_base::{Bytes, Fault};
 use ed_commands::{Editor, Reply};
-use ed_syntax::{Address, Answer, Base, Pattern, Request, read_script};
+use ed_syntax::{Address, Answer, Base, Command, Pattern, Request, read_script};
 use line_store::{LineStore, PlainStore};
+use std::alloc::{AllocError, Global};
+use std::process::Abort;
 use std::test::Fail;
 
 // The address of a search for the remembered pattern.
@@ -15,8 +17,7 @@ const REMEMBERED: Address = Address {
 fn an_address_that_meets_a_fault_leaves_an_editor_that_goes_on(
     rt: HostRuntime,
 ) -> Result<(), Fail> {
-    let mut editor = Editor::new(rt.alloc(), PlainStore::empty(rt.alloc())?);
-    editor.load(b"a\nb\nc\n", Bytes::from_slice(rt.alloc(), b"F")?)?;
+    let mut editor = loaded(rt.alloc())?;
     let last = Address {
         base: Base::Last,
         offset: 0,
@@ -53,34 +54,91 @@ fn a_file_is_loaded_from_its_own_bytes(rt: HostRuntime) -> Result<(), Fail> {
     Ok(())
 }
 
-// XCU ed, "Write Command", "Read Command", "Filename Command".
-#[test]
-fn a_command_asks_for_its_file_and_goes_on_with_the_answer(rt: HostRuntime) -> Result<(), Fail> {
-    let alloc = rt.alloc();
+fn loaded(alloc: Global) -> Result<Editor<PlainStore>, Fail> {
     let mut editor = Editor::new(alloc, PlainStore::empty(alloc)?);
     editor.load(b"a\nb\nc\n", Bytes::from_slice(alloc, b"F")?)?;
-    let read = read_script(alloc, b"1d\nw G\n1r\nf\n")?;
-    let [delete, write, enter, name] = read.commands.as_slice() else {
-        return Err(Fail::new("there are four commands"));
-    };
-    let nothing = Ok(Reply::Done(Bytes::new(alloc)));
-    assert_eq!(rt; editor.apply(delete, None), nothing);
-    let lines = Request::Write(
-        Bytes::from_slice(alloc, b"G")?,
-        Bytes::from_slice(alloc, b"b\nc\n")?,
-    );
-    assert_eq!(rt; editor.apply(write, None), Ok(Reply::Wants(lines)));
-    assert_eq!(rt; editor.apply(write, Some(Answer::Done)), nothing);
-    assert_eq!(rt; editor.changed(), false);
-    let file = Request::Read(Bytes::from_slice(alloc, b"F")?);
-    assert_eq!(rt; editor.apply(enter, None), Ok(Reply::Wants(file)));
-    let bytes = Answer::Bytes(Bytes::from_slice(alloc, b"d\ne")?);
-    assert_eq!(rt; editor.apply(enter, Some(bytes)), nothing);
+    Ok(editor)
+}
+
+fn writes(alloc: Global, path: &[u8], lines: &[u8]) -> Result<Reply, AllocError> {
+    Ok(Reply::Wants(Request::Write(
+        Bytes::from_slice(alloc, path)?,
+        Bytes::from_slice(alloc, lines)?,
+    )))
+}
+
+fn reads(alloc: Global, path: &[u8]) -> Result<Reply, AllocError> {
+    Ok(Reply::Wants(Request::Read(Bytes::from_slice(alloc, path)?)))
+}
+
+fn gives(alloc: Global, output: &[u8]) -> Result<Reply, AllocError> {
+    Ok(Reply::Done(Bytes::from_slice(alloc, output)?))
+}
+
+// A write asks first, and leaves nothing to be saved once it is done.
+fn check_write(
+    rt: &impl Abort,
+    alloc: Global,
+    editor: &mut Editor<PlainStore>,
+    write: &Command,
+) -> Result<(), Fail> {
+    let asked = writes(alloc, b"G", b"b\nc\n")?;
+    assert_eq!(rt; editor.apply(write, None), Ok(asked));
+    let done = gives(alloc, b"")?;
+    assert_eq!(rt; editor.apply(write, Some(Answer::Done)), Ok(done));
+    assert!(rt; !editor.changed());
+    Ok(())
+}
+
+// A read asks first, and puts the lines of the answer behind its line.
+fn check_read(
+    rt: &impl Abort,
+    alloc: Global,
+    editor: &mut Editor<PlainStore>,
+    enter: &Command,
+) -> Result<(), Fail> {
+    let asked = reads(alloc, b"F")?;
+    assert_eq!(rt; editor.apply(enter, None), Ok(asked));
+    let bytes = Bytes::from_slice(alloc, b"d\ne")?;
+    let done = gives(alloc, b"")?;
+    assert_eq!(rt; editor.apply(enter, Some(Answer::Bytes(bytes))), Ok(done));
     assert_eq!(rt;
         (editor.current(), editor.lines().len(), editor.changed()),
         (3, 4, true)
     );
-    let path = Ok(Reply::Done(Bytes::from_slice(alloc, b"F\n")?));
-    assert_eq!(rt; editor.apply(name, None), path);
     Ok(())
+}
+
+fn check_reply(
+    rt: &impl Abort,
+    editor: &mut Editor<PlainStore>,
+    command: &Command,
+    reply: Result<Reply, AllocError>,
+) -> Result<(), Fail> {
+    assert_eq!(rt; editor.apply(command, None), Ok(reply?));
+    Ok(())
+}
+
+fn check_commands(
+    rt: &impl Abort,
+    alloc: Global,
+    editor: &mut Editor<PlainStore>,
+    commands: &[Command],
+) -> Result<(), Fail> {
+    let [delete, write, enter, name] = commands else {
+        return Err(Fail::new("there are four commands"));
+    };
+    check_reply(rt, editor, delete, gives(alloc, b""))?;
+    check_write(rt, alloc, editor, write)?;
+    check_read(rt, alloc, editor, enter)?;
+    check_reply(rt, editor, name, gives(alloc, b"F\n"))
+}
+
+// XCU ed, "Write Command", "Read Command", "Filename Command".
+#[test]
+fn a_command_asks_for_its_file_and_goes_on_with_the_answer(rt: HostRuntime) -> Result<(), Fail> {
+    let alloc = rt.alloc();
+    let mut editor = loaded(alloc)?;
+    let read = read_script(alloc, b"1d\nw G\n1r\nf\n")?;
+    check_commands(&rt, alloc, &mut editor, read.commands.as_slice())
 }

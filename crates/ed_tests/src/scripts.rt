@@ -2,7 +2,7 @@
 use crate::expected::{at, from, letter, pattern};
 use bre_parse::fault::BreFault;
 use ed_base::Bytes;
-use ed_syntax::{Addresses, Answer, Base, Pattern, Verb, read_script};
+use ed_syntax::{Address, Addresses, Answer, Base, Pattern, Verb, read_script};
 use std::alloc::Global;
 use std::test::Fail;
 
@@ -121,34 +121,74 @@ fn offsets_are_summed(rt: HostRuntime) -> Result<(), Fail> {
     Ok(())
 }
 
-#[derive(Drop)]
+/// An address, as rows have it.
+#[derive(Clone, Copy)]
+enum Place {
+    Number(u32),
+    Current(i128),
+    Last(i128),
+}
+
+/// The addresses of a command, as rows have them.
+#[derive(Clone, Copy)]
+enum Given {
+    Without,
+    One(Place),
+    Comma(Place, Place),
+    Semicolon(Place, Option<Place>),
+}
+
 struct AddressRow {
     script: &'static [u8],
-    addresses: Addresses,
+    given: Given,
 }
 
 // What an address begins with, and what stands for one that is left out.
 #[rattlefmt::skip]
+static ADDRESSES: [AddressRow; 11] = [
+    AddressRow { script: b"7p", given: Given::One(Place::Number(7)) },
+    AddressRow { script: b"$-p", given: Given::One(Place::Last(-1)) },
+    AddressRow { script: b"p", given: Given::Without },
+    AddressRow { script: b",p", given: Given::Comma(Place::Number(1), Place::Last(0)) },
+    AddressRow { script: b",7p", given: Given::Comma(Place::Number(1), Place::Number(7)) },
+    AddressRow { script: b"7,p", given: Given::Comma(Place::Number(7), Place::Number(7)) },
+    AddressRow { script: b" 7 , + p", given: Given::Comma(Place::Number(7), Place::Current(1)) },
+    AddressRow { script: b";p", given: Given::Semicolon(Place::Current(0), Some(Place::Last(0))) },
+    AddressRow { script: b";7p", given: Given::Semicolon(Place::Current(0), Some(Place::Number(7))) },
+    AddressRow { script: b"7;p", given: Given::Semicolon(Place::Number(7), None) },
+    AddressRow { script: b" 7 ; + p", given: Given::Semicolon(Place::Number(7), Some(Place::Current(1))) },
+];
+
+fn address(place: Place) -> Address {
+    match place {
+        Place::Number(number) => at(Base::Number(number)),
+        Place::Current(offset) => from(Base::Current, offset),
+        Place::Last(offset) => from(Base::Last, offset),
+    }
+}
+
+fn addresses(given: Given) -> Addresses {
+    match given {
+        Given::Without => Addresses::Without,
+        Given::One(place) => Addresses::One(address(place)),
+        Given::Comma(first, second) => Addresses::Comma(address(first), address(second)),
+        Given::Semicolon(first, second) => {
+            Addresses::Semicolon(address(first), second.map(address))
+        }
+    }
+}
+
 #[test]
 fn an_address_that_is_left_out_is_filled_in(rt: HostRuntime) -> Result<(), Fail> {
-    let rows = [
-        AddressRow { script: b"7p", addresses: Addresses::One(at(Base::Number(7))) },
-        AddressRow { script: b"$-p", addresses: Addresses::One(from(Base::Last, -1)) },
-        AddressRow { script: b"'z+2p", addresses: Addresses::One(from(Base::Marked(letter(b'z')?), 2)) },
-        AddressRow { script: b"p", addresses: Addresses::Without },
-        AddressRow { script: b",p", addresses: Addresses::Comma(at(Base::Number(1)), at(Base::Last)) },
-        AddressRow { script: b",7p", addresses: Addresses::Comma(at(Base::Number(1)), at(Base::Number(7))) },
-        AddressRow { script: b"7,p", addresses: Addresses::Comma(at(Base::Number(7)), at(Base::Number(7))) },
-        AddressRow { script: b" 7 , + p", addresses: Addresses::Comma(at(Base::Number(7)), from(Base::Current, 1)) },
-        AddressRow { script: b";p", addresses: Addresses::Semicolon(at(Base::Current), Some(at(Base::Last))) },
-        AddressRow { script: b";7p", addresses: Addresses::Semicolon(at(Base::Current), Some(at(Base::Number(7)))) },
-        AddressRow { script: b"7;p", addresses: Addresses::Semicolon(at(Base::Number(7)), None) },
-        AddressRow { script: b" 7 ; + p", addresses: Addresses::Semicolon(at(Base::Number(7)), Some(from(Base::Current, 1))) },
-    ];
-    for row in rows {
-        let AddressRow { script, addresses } = row;
-        assert!(rt; reads(rt.alloc(), script, addresses)?, "at {:?}", script);
+    for row in &ADDRESSES {
+        assert!(rt;
+            reads(rt.alloc(), row.script, addresses(row.given))?,
+            "at {:?}",
+            row.script
+        );
     }
+    let marked = Addresses::One(from(Base::Marked(letter(b'z')?), 2));
+    assert!(rt; reads(rt.alloc(), b"'z+2p", marked)?);
     Ok(())
 }
 

@@ -53,7 +53,7 @@ struct ClipRow {
 #[test]
 fn numbers_are_clipped_to_the_weaker_side(rt: HostRuntime) {
     #[rattlefmt::skip]
-    const ROWS: [ClipRow; 8] = [
+    static ROWS: [ClipRow; 8] = [
         ClipRow { guard: LIMIT,     growth: 1,        guarded: Some(LIMIT),     grown: None },
         ClipRow { guard: LIMIT,     growth: 0,        guarded: Some(LIMIT),     grown: Some(LIMIT) },
         ClipRow { guard: LIMIT - 1, growth: 1,        guarded: Some(LIMIT - 1), grown: Some(LIMIT) },
