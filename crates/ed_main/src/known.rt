@@ -1,29 +1,42 @@
-//! What is known where a script isn't vouched for, as a person reads it.
+//! The command that isn't vouched for and what is known before it, as a person reads it.
 
+use crate::command_line::line_of_command;
 use analyser::Analysis;
 use cert_check::{Note, Place};
 use ed_rules::State;
 use std::alloc::{AllocError, Global};
 use zones::{Name, Zone};
 
-/// Shows in one line what is known of the last and the current line before the last command that was noted. Without notes, or
-/// without memory, nothing is shown.
-pub fn show_known(alloc: Global, rt: &impl Eprint, analysis: &Analysis) {
+/// Shows in one line the command of a script that isn't vouched for and what is known before it of the last and the current line, or
+/// where the script ends. Without memory nothing is shown.
+pub fn show_known(alloc: Global, rt: &impl Eprint, script: &[u8], analysis: &Analysis) {
     if let Analysis::Cannot { place, notes, .. } = analysis {
-        if let Some(note) = notes.as_slice().last() {
-            if let Ok(text) = known_text(alloc, notes.len(), place, note) {
-                let _ = rt.eprint(text);
-            }
+        if let Ok(text) = known_text(alloc, script, place, notes.as_slice()) {
+            let _ = rt.eprint(text);
         }
     }
 }
 
 fn known_text(
     alloc: Global,
-    number: usize,
+    script: &[u8],
     place: &Place,
-    note: &Note,
+    notes: &[Note],
 ) -> Result<String, AllocError> {
+    let number = place.command;
+    let before = number.saturating_sub(1);
+    let Some(line) = line_of_command(alloc, script, number)? else {
+        let last = line_of_command(alloc, script, before)?.unwrap_or(String::new(alloc));
+        return Ok(format!(in alloc; "the script ends after command {before}: {last}\n")?);
+    };
+    match notes.get(before) {
+        Some(note) => noted_text(alloc, line.as_str(), place, note),
+        None => Ok(format!(in alloc; "command {number}: {line}\n")?),
+    }
+}
+
+fn noted_text(alloc: Global, line: &str, place: &Place, note: &Note) -> Result<String, AllocError> {
+    let number = place.command;
     let inner = last_inner(place, note);
     let zone = match inner {
         Some((_, state)) => &state.zone,
@@ -33,10 +46,10 @@ fn known_text(
     let current = lines_text(alloc, zone, Name::CURRENT_LINE)?;
     match inner {
         Some((inner, _)) => Ok(format!(in alloc;
-            "before command {number}.{inner}: the last line is {last}, the current line {current}\n"
+            "command {number}.{inner}: {line}: the last line is {last}, the current line {current}\n"
         )?),
         None => Ok(format!(in alloc;
-            "before command {number}: the last line is {last}, the current line {current}\n"
+            "command {number}: {line}: the last line is {last}, the current line {current}\n"
         )?),
     }
 }

@@ -3,6 +3,7 @@
 
 mod checked;
 mod checking;
+mod command_line;
 mod editing;
 mod job;
 mod known;

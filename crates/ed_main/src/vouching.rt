@@ -34,7 +34,7 @@ pub fn vouch_text<W: Sink>(
         Ok(analysis) => {
             let status = tell(told_of(alloc, &analysis), sink);
             if status == 1 {
-                show_known(alloc, rt, &analysis);
+                show_known(alloc, rt, script, &analysis);
             }
             status
         }
