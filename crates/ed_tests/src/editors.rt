@@ -1,4 +1,5 @@
 //! An editor between two commands: an address is evaluated, and a file is loaded.
+use crate::expected::texts;
 use ed_base::{Bytes, Fault};
 use ed_commands::{Editor, Reply};
 use ed_syntax::{Address, Answer, Base, Command, Pattern, Request, read_script};
@@ -45,11 +46,7 @@ fn a_file_is_loaded_from_its_own_bytes(rt: HostRuntime) -> Result<(), Fail> {
     let file = Bytes::from_slice(rt.alloc(), b"a\n\nc")?;
     editor.load_bytes(file, Bytes::from_slice(rt.alloc(), b"F")?)?;
     assert_eq!(rt; (editor.current(), editor.changed()), (3, false));
-    let mut texts = Bytes::new(rt.alloc());
-    for place in 0..editor.lines().len() {
-        texts.extend_from_slice(editor.lines().text(place))?;
-        texts.push(b'\n')?;
-    }
+    let texts = texts(rt.alloc(), editor.lines())?;
     assert_eq!(rt; texts.as_slice(), b"a\n\nc\n".as_slice());
     Ok(())
 }

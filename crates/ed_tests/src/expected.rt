@@ -1,7 +1,8 @@
-//! Values that tests expect of a script.
+//! Values that tests expect of a script, and the lines of a store as they expect them.
 use ed_base::{Bytes, Letter};
 use ed_syntax::{Address, Base, Pattern};
-use std::alloc::Global;
+use line_store::LineStore;
+use std::alloc::{AllocError, Global};
 use std::test::Fail;
 
 pub(crate) fn at(base: Base) -> Address {
@@ -21,4 +22,14 @@ pub(crate) fn pattern(alloc: Global, text: &[u8]) -> Result<Pattern, Fail> {
         Ok(pattern) => Ok(pattern),
         Err(_) => Err(Fail::from("no pattern")),
     }
+}
+
+/// The lines of a store, each with its newline.
+pub(crate) fn texts<S: LineStore>(alloc: Global, store: &S) -> Result<Bytes, AllocError> {
+    let mut texts = Bytes::new(alloc);
+    for place in 0..store.len() {
+        texts.extend_from_slice(store.text(place))?;
+        texts.push(b'\n')?;
+    }
+    Ok(texts)
 }

@@ -3,11 +3,11 @@ ghost use Rattle.std.specs.Prelude.{IsTrue};
 ghost use Rattle.ed_syntax.specs.PublicTypes.{command_value};
 ghost use Rattle.ed_commands.specs.Editors.{is_global};
 
-use crate::expected::{at, letter, pattern};
+use crate::expected::{at, letter, pattern, texts};
 use ed_base::{Bytes, Fault};
 use ed_commands::Editor;
 use ed_syntax::{Addresses, Base, Command, Pattern, Sense, Verb, read_script};
-use line_store::{GapStore, LineStore, PlainStore};
+use line_store::{ChunkStore, GapStore, LineStore, PlainStore};
 use std::alloc::Global;
 use std::process::Abort;
 use std::test::Fail;
@@ -55,11 +55,7 @@ fn check_lines<S: LineStore>(
     lines: &[u8],
     current: usize,
 ) -> Result<(), Fail> {
-    let mut texts = Bytes::new(alloc);
-    for place in 0..editor.lines().len() {
-        texts.extend_from_slice(editor.lines().text(place))?;
-        texts.push(b'\n')?;
-    }
+    let texts = texts(alloc, editor.lines())?;
     assert_eq!(rt; (texts.as_slice(), editor.current()), (lines, current));
     Ok(())
 }
@@ -107,7 +103,8 @@ fn undo_exchanges_the_buffer_before_a_command_with_the_one_after_it(
     rt: HostRuntime,
 ) -> Result<(), Fail> {
     check_undone::<PlainStore>(&rt, rt.alloc())?;
-    check_undone::<GapStore>(&rt, rt.alloc())
+    check_undone::<GapStore>(&rt, rt.alloc())?;
+    check_undone::<ChunkStore>(&rt, rt.alloc())
 }
 
 fn check_start<S: LineStore>(rt: &impl Abort, alloc: Global) -> Result<(), Fail> {
@@ -120,7 +117,8 @@ fn check_start<S: LineStore>(rt: &impl Abort, alloc: Global) -> Result<(), Fail>
 #[test]
 fn before_the_first_change_nothing_is_to_be_undone(rt: HostRuntime) -> Result<(), Fail> {
     check_start::<PlainStore>(&rt, rt.alloc())?;
-    check_start::<GapStore>(&rt, rt.alloc())
+    check_start::<GapStore>(&rt, rt.alloc())?;
+    check_start::<ChunkStore>(&rt, rt.alloc())
 }
 
 // Where the line is that a letter marks.
@@ -165,7 +163,8 @@ fn check_marks<S: LineStore>(rt: &impl Abort, alloc: Global) -> Result<(), Fail>
 #[test]
 fn undo_brings_the_marks_back_and_takes_later_ones(rt: HostRuntime) -> Result<(), Fail> {
     check_marks::<PlainStore>(&rt, rt.alloc())?;
-    check_marks::<GapStore>(&rt, rt.alloc())
+    check_marks::<GapStore>(&rt, rt.alloc())?;
+    check_marks::<ChunkStore>(&rt, rt.alloc())
 }
 
 #[derive(Drop)]
@@ -241,7 +240,8 @@ fn check_globals<S: LineStore>(rt: &impl Abort, alloc: Global) -> Result<(), Fai
 #[test]
 fn a_global_command_is_one_change_for_undo(rt: HostRuntime) -> Result<(), Fail> {
     check_globals::<PlainStore>(&rt, rt.alloc())?;
-    check_globals::<GapStore>(&rt, rt.alloc())
+    check_globals::<GapStore>(&rt, rt.alloc())?;
+    check_globals::<ChunkStore>(&rt, rt.alloc())
 }
 
 fn check_unchanged<S: LineStore>(rt: &impl Abort, alloc: Global) -> Result<(), Fail> {
@@ -267,5 +267,6 @@ fn after_a_global_command_that_changed_nothing_undo_does_nothing(
     rt: HostRuntime,
 ) -> Result<(), Fail> {
     check_unchanged::<PlainStore>(&rt, rt.alloc())?;
-    check_unchanged::<GapStore>(&rt, rt.alloc())
+    check_unchanged::<GapStore>(&rt, rt.alloc())?;
+    check_unchanged::<ChunkStore>(&rt, rt.alloc())
 }
