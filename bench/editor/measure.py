@@ -29,9 +29,9 @@ LIMIT = 20
 class Work:
     """One piece of work at one size: the file, the script, and how often it is run. Lines and script come in small pieces."""
 
-    def __init__(self, folder, name, size, lines, script, repeat=1, sed=None, perl=None, vim=False):
+    def __init__(self, folder, name, size, lines, script, repeat=1, sed=None, perl=None, vim=False, patch=False):
         self.name, self.size, self.repeat = name, size, repeat
-        self.sed, self.perl, self.vim = sed, perl, vim
+        self.sed, self.perl, self.vim, self.patch = sed, perl, vim, patch
         self.file = os.path.join(folder, f"{name}-{size}")
         self.script = self.file + ".ed"
         with open(self.file, "wb") as out:
@@ -165,7 +165,7 @@ def update(folder, hunks):
     script = []
     for number, line in enumerate(reversed(changed_lines(300_000, hunks))):
         script.append((b"%dc\nx\n.\n", b"%dd\n", b"%da\nx\ny\n.\n")[number % 3] % line)
-    return Work(folder, "update", hunks, text_lines(300_000), script + [b"Q\n"], vim=True)
+    return Work(folder, "update", hunks, text_lines(300_000), script + [b"Q\n"], vim=True, patch=True)
 
 
 def things(count):
@@ -239,6 +239,9 @@ def programs_for(work):
         programs["sed"] = work.sed
     if work.perl and shutil.which("perl"):
         programs["perl"] = work.perl
+    if work.patch and shutil.which("patch"):
+        # It takes the last line, which is none of diff's, for what stands behind the update.
+        programs["patch"] = ["patch", "-s", "-e", "-o", os.devnull]
     if work.vim and shutil.which("vim"):
         programs["vim"] = ["vim", "-es", "-u", "NONE", "-n", "-i", "NONE"]
     return programs
@@ -291,7 +294,7 @@ WORKS = (
       for command in ("/needle/", "/[0-9][0-9]*/", "/foo[0-9]*bar/", "/^#/", "v/[ ]*$/p")),
     ("print ten of 100,000 lines between marks (times)", print_between_marks, (2_500, 5_000, 10_000)),
     ("mark one of 100,000 lines and tell its number (times)", move_a_mark, (2_500, 5_000, 10_000)),
-    ("load, delete a line and write the others to a file (lines)", edit_and_write, (600_000, 1_200_000, 2_400_000)),
+    ("load, delete a line and write the others to a file (lines)", edit_and_write, (600_000, 1_000_000, 1_200_000, 2_400_000)),
     ("an update of 300,000 lines as diff -e makes it (hunks)", update, (5_000, 10_000, 20_000)),
     ("global: replace a word in each second line, g/foo[0-9]*/s//x/ (lines)", substitute_matching, (250_000, 500_000, 1_000_000)),
     ("global: delete each second line, g/foo/d (lines)", delete_matching, (100_000, 200_000, 400_000)),
