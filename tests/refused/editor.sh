@@ -32,14 +32,25 @@ is_front() {
     grep -q '^H$' script && is_behind_front full "$1"
 }
 
-# The file as each run finds it.
+# A file whose last line has no newline, which scripts read.
+printf 'x' > OTHER
+
+# The file as each run finds it, which may not be there.
+has_file=yes
 fresh() {
-    printf 'a\nb\nc\n' > FILE
+    rm -f FILE
+    if [ "$has_file" = yes ]; then
+        printf 'a\nb\nc\n' > FILE
+    fi
 }
 
 # The file is as it was, or as the whole run left it: it was written at once or not at all.
 is_whole() {
-    cmp -s FILE written || printf 'a\nb\nc\n' | cmp -s - FILE
+    if [ -e FILE ]; then
+        cmp -s FILE written || { [ "$has_file" = yes ] && printf 'a\nb\nc\n' | cmp -s - FILE; }
+    else
+        [ "$has_file" = no ]
+    fi
 }
 
 # Refuses the allocations of the script's run one after the other, until none is left to refuse.
@@ -47,7 +58,7 @@ each_is_refused() {
     fresh
     "$program" edit $words FILE < script > whole
     ends=$?
-    cp FILE written
+    cp FILE written || return 1
     refused=0
     while :; do
         fresh
@@ -90,5 +101,8 @@ on 'g/^/m0\n,p\nQ\n'
 on '1d\nq\n'
 on 'u\n'
 on 'g/z/d\nu\nq\n'
+on 'r OTHER\n,p\nw\nq\n' ''
+has_file=no
+on 'a\nx\n.\nw\nq\n' ''
 echo "$passed passed, $failed failed"
 [ "$failed" -eq 0 ]
