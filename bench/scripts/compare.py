@@ -54,7 +54,7 @@ REPLACEMENTS = (
 
 # The commands of a list, and those of a script.
 LISTED = [*'aicddjjkmmtsssspnl=frwhHP', '']
-ALONE = [*'aicddjkmtsspn=gggvuurwfeEhHHP', '']
+ALONE = [*'aicddjklmtsspn=gggvuurwfeEhHHP', '']
 
 
 class Writer:
