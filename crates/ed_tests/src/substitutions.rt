@@ -92,7 +92,7 @@ fn the_caller_that_the_readme_shows_swaps_two_words(rt: HostRuntime) -> Result<(
     Ok(())
 }
 
-// With each allocation refused in turn, there is no answer or the right one.
+// To be run with each allocation refused in turn (`rt try --test --fail-alloc N`): there is no answer or the right one.
 #[test]
 fn being_out_of_memory_is_no_other_answer(rt: HostRuntime) {
     for row in [&ROWS[1], &ROWS[6], &ROWS[9]] {

@@ -202,7 +202,7 @@ fn ends_as_it_may(alloc: Global, row: Row) -> bool {
     (ends == Err(Fault::Memory) || ends == row.ends) && (now == row.after.1 || now == row.f)
 }
 
-// Also with each allocation refused in turn.
+// To be run with each allocation refused in turn, too (`rt try --test --fail-alloc N`).
 #[test]
 fn a_run_on_files_that_is_out_of_memory_ends_by_no_other_fault(rt: HostRuntime) {
     for row in [

@@ -141,7 +141,7 @@ fn a_list_has_no_prompts(rt: HostRuntime) -> Result<(), Fail> {
     check(&rt, rt.alloc(), case, b"> a\n2\nb\n2\n> a\n> ", Ok(2))
 }
 
-// With each allocation refused in turn, the run ends as it should or by being out of memory.
+// To be run with each allocation refused in turn (`rt try --test --fail-alloc N`): the run ends as it should or by being out of memory.
 #[test]
 fn a_global_that_is_out_of_memory_ends_by_no_other_fault(rt: HostRuntime) {
     check_memory(
