@@ -3,8 +3,10 @@
     measure.py PROGRAM
 
 Straight scripts change lines one after another from the last to the first, as `diff -e` writes them; the others are of globals, whose
-lists the verifier goes through until an invariant is found. The file has 100,000 lines there, and 1,000 here. Each figure
-is the best of three runs. A peak of some 10 MiB is that of this script, from which the program is started.
+lists the verifier goes through until an invariant is found. The file of the straight scripts has 100,000 lines, that of the globals 1,000,
+and that of the small scripts ten: there `edit` over no command is the start of the program. Each figure is the best of three runs, that
+of a small script the best of a hundred. For large straight scripts the times, and the peak of `check`, are given for each command too. A
+peak of some 10 MiB is that of this script, from which the program is started.
 """
 
 import os
@@ -14,7 +16,7 @@ import sys
 import tempfile
 
 OURS = sys.argv[1]
-RUNS = 3
+LARGE = 1000
 
 
 def straight(count):
@@ -22,6 +24,14 @@ def straight(count):
     for number in range(count - 2, 0, -1):
         yield f'{number}c\nchanged\n.\n'
     yield 'w\nq\n'
+
+
+def small(count):
+    """So many commands, the last of which writes; the end of the script is its `q`."""
+    for number in range(count - 1, 0, -1):
+        yield f'{number}c\nchanged\n.\n'
+    if count:
+        yield 'w\n'
 
 
 def globals_of(count):
@@ -40,9 +50,9 @@ def measured(words, script, output):
     return used.ru_utime + used.ru_stime, used.ru_maxrss / 1024, os.waitstatus_to_exitcode(status)
 
 
-def best(words, script, output, restore):
+def best(words, script, output, restore, runs):
     seconds, peaks = [], []
-    for _ in range(RUNS):
+    for _ in range(runs):
         restore()
         time, peak, status = measured(words, script, output)
         seconds.append(time)
@@ -50,9 +60,18 @@ def best(words, script, output, restore):
     return min(seconds), min(peaks), status
 
 
-def table(title, kind, lines, counts):
+def each(count, figures):
+    """Microseconds a command of `vouch`, `check` and `run`, and KiB of the peak of `check`, which doesn't read the file."""
+    times = ' '.join(f'{seconds * 1e6 / count:4.0f}' for seconds, _, _ in figures)
+    return f' {times} us {figures[1][1] * 1024 / count:5.1f} KiB'
+
+
+def table(title, kind, lines, counts, runs=3):
+    """One row for each number of commands. Times are in milliseconds where there are many runs."""
+    unit, factor, digits = ('s', 1, 3) if runs == 3 else ('ms', 1000, 2)
+    by_command = '  a command of vouch, check, run' if kind == straight else ''
     print(f'\n{title}')
-    print(f'{"commands":>9} {"vouch":>16} {"check":>16} {"run":>16} {"edit":>16} {"certificate":>12}')
+    print(f'{"commands":>9} {"vouch":>17} {"check":>17} {"run":>17} {"edit":>17} {"certificate":>12}{by_command}')
     with tempfile.TemporaryDirectory() as folder:
         os.chdir(folder)
         text = ''.join(f'line {number} of the file\n' for number in range(lines))
@@ -64,19 +83,21 @@ def table(title, kind, lines, counts):
         for count in counts:
             with open('script', 'w') as out:
                 out.writelines(kind(count))
-            row = []
-            for words, output in [(['vouch', '--min', str(lines), '--max', str(lines), 'F'], 'C'), (['check', 'C'], 'told'),
-                                  (['run', 'C', '-s', 'F'], 'told'), (['edit', '-s', 'F'], 'told')]:
-                time, peak, status = best(words, 'script', output, restore)
-                row.append(f'{time:8.3f} s {peak:4.0f} M' + ('' if status == 0 else f' ({status})'))
-            print(f'{count:>9} ' + ' '.join(row) + f' {os.path.getsize("C") / 2**20:8.1f} MiB')
+            figures = [best(words, 'script', output, restore, runs) for words, output in (
+                (['vouch', '--min', str(lines), '--max', str(lines), 'F'], 'C'), (['check', 'C'], 'told'),
+                (['run', 'C', '-s', 'F'], 'told'), (['edit', '-s', 'F'], 'told'))]
+            row = [f'{time * factor:8.{digits}f} {unit:<2} {peak:4.0f} M' + ('' if status == 0 else f' ({status})')
+                   for time, peak, status in figures]
+            print(f'{count:>9} ' + ' '.join(row) + f' {os.path.getsize("C") / 2**20:8.1f} MiB'
+                  + (each(count, figures[:3]) if by_command and count >= LARGE else ''), flush=True)
         os.chdir('/')
 
 
 def main():
     resource.setrlimit(resource.RLIMIT_CORE, (0, 0))
-    table('Straight scripts', straight, 100000, [10, 1000, 10000, 20000, 100000])
-    table('Globals', globals_of, 1000, [10, 100, 1000])
+    table('Small scripts, over a file of 10 lines', small, 10, [0, 1, 10], 100)
+    table('Straight scripts, over a file of 100,000 lines', straight, 100000, [10, 1000, 10000, 20000, 100000])
+    table('Globals, over a file of 1,000 lines', globals_of, 1000, [10, 100, 1000])
 
 
 if __name__ == '__main__':
