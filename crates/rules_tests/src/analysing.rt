@@ -72,6 +72,15 @@ fn scripts_that_cannot_fail_get_certificates(rt: HostRuntime) -> Result<(), Fail
         // Each path once, in the order of bytes.
         Row { script: b"w b\nw a\nw b\nw\n", start: lines(0, Some(4)), notes: 4, low: 0, high: Some(4), writes: &[b"F", b"a", b"b"] },
         Row { script: b"w b\nw\n", start: Start { named: false, min: 0, max: Some(0) }, notes: 2, low: 0, high: Some(0), writes: &[b"b"] },
+        // Of a file whose number of lines is known it stays known, whatever is changed, moved, copied, joined or put in.
+        Row { script: b"3c\nx\n.\n1d\nw\nq\n", start: lines(3, Some(3)), notes: 4, low: 2, high: Some(2), writes: F },
+        Row { script: b"2m0\n1,2t$\n4,5j\nw\nq\n", start: lines(3, Some(3)), notes: 5, low: 4, high: Some(4), writes: F },
+        Row { script: b"0i\n.\n4d\n5p\nQ\n", start: lines(6, Some(6)), notes: 4, low: 5, high: Some(5), writes: &[] },
+        // Without text `0a` leaves line 0 current, and `c` takes that for line 1.
+        Row { script: b"0a\n.\nc\nx\n.\nQ\n", start: lines(3, Some(3)), notes: 3, low: 3, high: Some(3), writes: &[] },
+        // What is written of the buffer matters only where it is changed; the last row writes all that is left.
+        Row { script: b"2w\nq\n", start: lines(2, None), notes: 2, low: 2, high: None, writes: F },
+        Row { script: b"2d\n1w\nq\n", start: lines(2, Some(2)), notes: 3, low: 1, high: Some(1), writes: F },
         // A bound above 10^12 is told as 10^12, or as none.
         Row { script: b"1t1\nQ\n", start: most, notes: 2, low: MOST_LINES, high: None, writes: &[] },
         Row { script: b"1p\nQ\n", start: most, notes: 2, low: MOST_LINES, high: Some(MOST_LINES), writes: &[] },
@@ -128,6 +137,13 @@ fn the_first_need_that_fails_is_told(rt: HostRuntime) -> Result<(), Fail> {
         Refusal { script: b"/x*/,p\nQ\n", start: lines(1, None), command: 1, inner: None, why: Fault::Address, notes: 1 },
         Refusal { script: b"w\n", start: unnamed, command: 1, inner: None, why: Fault::Name, notes: 1 },
         Refusal { script: b"1d\nq\n", start: lines(1, None), command: 2, inner: None, why: Fault::Unsaved, notes: 2 },
+        Refusal { script: b"1,3m2\nQ\n", start: lines(3, Some(3)), command: 1, inner: None, why: Fault::Destination, notes: 1 },
+        // `0i` without text puts nothing in, so line 4 isn't there, or line 5 no more; with a line line 4 is there at first.
+        Refusal { script: b"0i\n.\n4d\n5p\nQ\n", start: lines(3, Some(3)), command: 2, inner: None, why: Fault::Address, notes: 2 },
+        Refusal { script: b"0i\n.\n4d\n5p\nQ\n", start: lines(5, Some(5)), command: 3, inner: None, why: Fault::Address, notes: 3 },
+        Refusal { script: b"0i\nx\n.\n4d\n5p\nQ\n", start: lines(3, Some(3)), command: 3, inner: None, why: Fault::Address, notes: 3 },
+        // One of two lines is written, so the change is still unsaved.
+        Refusal { script: b"2d\n1w\nq\n", start: lines(3, Some(3)), command: 3, inner: None, why: Fault::Unsaved, notes: 3 },
         // A command of a list, and a global command itself.
         Refusal { script: b"g/x/-1d\nQ\n", start: lines(1, Some(3)), command: 1, inner: Some(1), why: Fault::Address, notes: 1 },
         Refusal { script: b"g/x/-1d\nQ\n", start: lines(0, None), command: 1, inner: Some(1), why: Fault::Address, notes: 1 },

@@ -2,6 +2,7 @@
 
 use crate::certifying::{Final, Start, certificate_of};
 use crate::rules::SCRIPTS;
+use crate::text::DELETED;
 use cert_check::{Certificate, Place, Verdict, check};
 use ed_rules::Changed;
 use ed_syntax::{Script, read_script};
@@ -96,6 +97,8 @@ enum Change {
     UnchangedAfterDeletion,
     NarrowEnd,
     LowAboveHigh,
+    HighOfOne,
+    NoPathWritten,
 }
 
 fn make(change: Change, certificate: &mut Certificate) {
@@ -126,6 +129,8 @@ fn make(change: Change, certificate: &mut Certificate) {
             .zone
             .put(Name::LAST_LINE, Name::ZERO, Some(1)),
         Change::LowAboveHigh => certificate.low = 3,
+        Change::HighOfOne => certificate.high = Some(1),
+        Change::NoPathWritten => certificate.writes.clear(),
     }
 }
 
@@ -145,6 +150,26 @@ fn a_changed_certificate_is_refused_at_its_place(rt: HostRuntime) -> Result<(), 
     ];
     for (changed, verdict) in &rows {
         let (script, mut certificate) = deletion(rt.alloc())?;
+        make(*changed, &mut certificate);
+        assert_eq!(rt; check(&script, &certificate)?, *verdict, "{changed:?}");
+    }
+    Ok(())
+}
+
+/// The certificate that is written down by hand, as a value.
+#[rattlefmt::skip]
+#[test]
+fn the_written_certificate_gets_its_verdicts(rt: HostRuntime) -> Result<(), Fail> {
+    let rows = [
+        (Change::Nothing, Verdict::Accepted),
+        // Two lines may be left.
+        (Change::HighOfOne, refused(4)),
+        (Change::ContradictoryNote, refused(1)),
+        (Change::NoPathWritten, refused(2)),
+    ];
+    let script = read_script(rt.alloc(), b"1d\nw\nq\n")?;
+    for (changed, verdict) in &rows {
+        let mut certificate = Certificate::read(rt.alloc(), DELETED)?;
         make(*changed, &mut certificate);
         assert_eq!(rt; check(&script, &certificate)?, *verdict, "{changed:?}");
     }

@@ -1,10 +1,13 @@
 //! The rules of global commands, and of `u`.
 
-use crate::certifying::state_of;
+use crate::certifying::{Start, path_of, state_of};
 use crate::rules::lines;
+use cert_check::{Certificate, Looped, Note, Place, Verdict, check};
 use ed_base::{Bytes, Fault};
 use ed_rules::{State, after, body_entry, loop_end, loop_start, needs};
-use ed_syntax::{Address, Addresses, Base, Command, Form, Pattern, Sense, Verb};
+use ed_syntax::{
+    Address, Addresses, Base, Command, Form, Pattern, Script, Sense, Verb, read_script,
+};
 use std::alloc::Global;
 use std::test::Fail;
 use zones::Name;
@@ -189,5 +192,139 @@ fn undo_may_leave_the_buffer_and_what_undo_finds(rt: HostRuntime) -> Result<(), 
     assert_eq!(rt; undone.zone.bound(Name::LAST_LINE, Name::ZERO), Some(3));
     assert!(rt; undone.undo.same && !undone.undo.nothing);
     assert!(rt; undone.undo.was.is_some());
+    Ok(())
+}
+
+/// Which state a certificate tells as known at every turn of a list.
+#[derive(Clone, Copy)]
+enum Told {
+    /// What is known before the first turn.
+    Start,
+    /// What is known once a line is taken.
+    Entry,
+    /// What is known both before the first turn and after it.
+    Joined,
+}
+
+/// What is known after a global command's list of one command, if `invariant` is known before it.
+fn turned(command: &Command, invariant: &State) -> Result<State, Fail> {
+    let entry = body_entry(invariant)?;
+    match &command.verb {
+        Verb::Global { list, .. } => match list.first() {
+            Some(listed) => done(listed, &entry),
+            None => Err(Fail::from("an empty list")),
+        },
+        _ => Err(Fail::from("no global command")),
+    }
+}
+
+fn invariant_of(command: &Command, state: &State, told: Told) -> Result<State, Fail> {
+    let start = begun(command, state)?;
+    match told {
+        Told::Start => Ok(start),
+        Told::Entry => Ok(body_entry(&start)?),
+        Told::Joined => Ok(start.join(&turned(command, &start)?)?),
+    }
+}
+
+/// What a certificate tells of a global command's list of one command.
+fn looped(alloc: Global, command: &Command, state: &State, told: Told) -> Result<Looped, Fail> {
+    let invariant = invariant_of(command, state, told)?;
+    let inner = vec![in alloc; body_entry(&invariant)?]?;
+    Ok(Looped { invariant, inner })
+}
+
+/// What is known after a command, of which `looped` tells what is known in its list.
+fn passed(command: &Command, state: &State, looped: &Option<Looped>) -> Result<State, Fail> {
+    match looped {
+        Some(looped) => over(command, state, &looped.invariant),
+        None => done(command, state),
+    }
+}
+
+/// The certificate that the rules give, one after another. It says nothing of the number of lines at the end.
+fn certificate_with(
+    alloc: Global,
+    script: &Script,
+    start: Start,
+    told: Told,
+) -> Result<Certificate, Fail> {
+    let mut notes = Vec::new(alloc);
+    let mut state = state_of(alloc, start)?;
+    for command in &script.commands {
+        let looped = match &command.verb {
+            Verb::Global { .. } => Some(looped(alloc, command, &state, told)?),
+            _ => None,
+        };
+        let next = passed(command, &state, &looped)?;
+        notes.push(Note { state, looped })?;
+        state = next;
+    }
+    let writes = vec![in alloc; Bytes::from_slice(alloc, b"F")?]?;
+    Ok(Certificate {
+        path: path_of(alloc, start)?,
+        min: start.min,
+        max: start.max,
+        notes,
+        last: state,
+        low: 0,
+        high: None,
+        writes,
+    })
+}
+
+#[derive(Drop)]
+struct Row {
+    script: &'static [u8],
+    min: u64,
+    max: Option<u64>,
+    told: Told,
+    verdict: Verdict,
+}
+
+/// A list's first command may fail.
+const IN_LIST: Verdict = Verdict::Refused(Place {
+    command: 1,
+    inner: Some(1),
+});
+
+/// What is told as known at every turn isn't known after a list of one command.
+const AFTER_LIST: Verdict = Verdict::Refused(Place {
+    command: 1,
+    inner: Some(2),
+});
+
+/// It isn't even known before the first turn.
+const AT_INVARIANT: Verdict = Verdict::Refused(Place {
+    command: 1,
+    inner: None,
+});
+
+#[rattlefmt::skip]
+static VERDICTS: [Row; 6] = [
+    // At the first turn a replacement may become the remembered one, and the buffer changed: the state before it doesn't cover that.
+    Row { script: b"g/foo/s//bar/\nw\nq\n", min: 0, max: None, told: Told::Joined, verdict: Verdict::Accepted },
+    Row { script: b"g/foo/s//bar/\nw\nq\n", min: 0, max: None, told: Told::Start, verdict: AFTER_LIST },
+    // The list is never run over an empty buffer, whose current line is 0.
+    Row { script: b"g/x/p\nQ\n", min: 0, max: None, told: Told::Entry, verdict: AT_INVARIANT },
+    // The list adds a line.
+    Row { script: b"g/x/t.\nQ\n", min: 3, max: Some(3), told: Told::Start, verdict: AFTER_LIST },
+    // The line that is taken may be the first one.
+    Row { script: b"g/x/-1d\nQ\n", min: 0, max: None, told: Told::Start, verdict: IN_LIST },
+    Row { script: b"1d\nu\n1p\nQ\n", min: 1, max: None, told: Told::Start, verdict: Verdict::Accepted },
+];
+
+#[test]
+fn certificates_with_lists_get_their_verdicts(rt: HostRuntime) -> Result<(), Fail> {
+    for row in &VERDICTS {
+        let script = read_script(rt.alloc(), row.script)?;
+        let certificate = certificate_with(rt.alloc(), &script, lines(row.min, row.max), row.told)?;
+        assert_eq!(rt;
+            check(&script, &certificate)?,
+            row.verdict,
+            "{:?}",
+            row.script
+        );
+    }
     Ok(())
 }

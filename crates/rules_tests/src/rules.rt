@@ -55,6 +55,7 @@ fn the_first_need_that_fails_is_told(rt: HostRuntime) -> Result<(), Fail> {
         Refusal { script: b"1m$\n", start: lines(1, None), command: 1, fault: Fault::Destination },
         Refusal { script: b"1d\n.p\n", start: lines(1, Some(1)), command: 2, fault: Fault::Address },
         Refusal { script: b"/x*/,p\n", start: lines(1, None), command: 1, fault: Fault::Address },
+        Refusal { script: b"1d\nq\n", start: lines(1, Some(3)), command: 2, fault: Fault::Unsaved },
     ];
     for row in &rows {
         match walked(rt.alloc(), row.script, row.start)? {

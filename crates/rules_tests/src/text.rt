@@ -10,7 +10,7 @@ use std::test::Fail;
 use zones::Name;
 
 /// The certificate's text for `1d`, `w`, `q` over a file F of 1 to 3 lines.
-const DELETED: &[u8] = b"ed-certificate 1
+pub(crate) const DELETED: &[u8] = b"ed-certificate 1
 path =F
 start 1 3
 note
@@ -76,6 +76,15 @@ fn deleted(alloc: Global) -> Result<Certificate, Fail> {
 #[test]
 fn a_certificate_is_written(rt: HostRuntime) -> Result<(), Fail> {
     let certificate = deleted(rt.alloc())?;
+    assert!(rt; certificate.has_text());
+    let text = certificate.write()?;
+    assert_eq!(rt; text.as_slice(), DELETED);
+    Ok(())
+}
+
+#[test]
+fn a_certificate_is_read_and_written_again(rt: HostRuntime) -> Result<(), Fail> {
+    let certificate = Certificate::read(rt.alloc(), DELETED)?;
     assert!(rt; certificate.has_text());
     let text = certificate.write()?;
     assert_eq!(rt; text.as_slice(), DELETED);
