@@ -1,4 +1,4 @@
-"""Processor time and peak memory of our editor beside `ed`, `sed`, `perl` and `vim`, on the same inputs and interleaved.
+"""Processor time and peak memory of our editor beside `ed`, `sed`, `perl`, `vim` and others, on the same inputs and interleaved.
 
 Each measure is the best of three runs. For each size the table gives seconds of processor time, mebibytes of peak memory
 and the ratio to `ed`; the last lines give the exponent by which the time grows from the smallest size to the largest. A run that
@@ -29,9 +29,9 @@ LIMIT = 20
 class Work:
     """One piece of work at one size: the file, the script, and how often it is run. Lines and script come in small pieces."""
 
-    def __init__(self, folder, name, size, lines, script, repeat=1, sed=None, perl=None, vim=False, patch=False):
+    def __init__(self, folder, name, size, lines, script, repeat=1, sed=None, busybox=None, perl=None, vim=False, patch=False):
         self.name, self.size, self.repeat = name, size, repeat
-        self.sed, self.perl, self.vim, self.patch = sed, perl, vim, patch
+        self.sed, self.busybox, self.perl, self.vim, self.patch = sed, busybox, perl, vim, patch
         self.file = os.path.join(folder, f"{name}-{size}")
         self.script = self.file + ".ed"
         with open(self.file, "wb") as out:
@@ -157,7 +157,8 @@ def substitute_at_random(folder, n):
 def edit_and_write(folder, n):
     """The file is 47 bytes a line; the whole of it is written to another one."""
     written = os.path.join(folder, "written").encode()
-    return Work(folder, "write", n, text_lines(n), [b"1d\nw %s\nQ\n" % written], sed=["sed", "1d"], vim=True)
+    return Work(folder, "write", n, text_lines(n), [b"1d\nw %s\nQ\n" % written], sed=["sed", "1d"],
+                busybox=["busybox", "sed", "1d"], vim=True)
 
 
 def update(folder, hunks):
@@ -237,6 +238,9 @@ def programs_for(work):
         programs["ed"] = ["ed", "-s"]
     if work.sed and shutil.which("sed"):
         programs["sed"] = work.sed
+    # Debian's busybox has no `ed`, so its `sed` stands here.
+    if work.busybox and shutil.which("busybox"):
+        programs["busybox"] = work.busybox
     if work.perl and shutil.which("perl"):
         programs["perl"] = work.perl
     if work.patch and shutil.which("patch"):
@@ -262,10 +266,10 @@ def report(title, works):
         figures = best(programs, work)
         for name, (seconds, peak, ended) in figures.items():
             if ended:
-                print(f"  {work.size:>8} {name:<5} ended after {LIMIT} s, {peak:.1f} MiB by then", flush=True)
+                print(f"  {work.size:>8} {name:<7} ended after {LIMIT} s, {peak:.1f} MiB by then", flush=True)
                 slow.add(name)
                 continue
-            print(f"  {work.size:>8} {name:<5} {seconds:8.3f} s {peak:8.1f} MiB {ratio_to_ed(figures, name)}".rstrip(), flush=True)
+            print(f"  {work.size:>8} {name:<7} {seconds:8.3f} s {peak:8.1f} MiB {ratio_to_ed(figures, name)}".rstrip(), flush=True)
             first.setdefault(name, (work.size, seconds))
             last[name] = (work.size, seconds)
     for name, (size, seconds) in last.items():
