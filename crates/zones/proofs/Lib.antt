@@ -11,3 +11,4 @@ pub mod Guarded
 pub mod Known
 pub mod Isolated
 pub mod Writes
+pub mod Keeping

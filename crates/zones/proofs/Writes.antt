@@ -20,6 +20,11 @@ pub bound-set_column : (table : Bounds) (p q a b : ℕ) (v : Option ℤ) → q <
 unfolding bound
 bound-set_column table p q a b v hq hb n = get_or-set_other table (32 * p + q) (32 * a + b) v None (omega arith)
 
+-- a write on the diagonal changes nothing beside it
+pub bound-set_diagonal : (table : Bounds) (p a b : ℕ) (v : Option ℤ) → p < 32 → b < 32 → a ≢ b → bound (set table (32 * p + p) v) a b ≡ bound table a b
+unfolding bound
+bound-set_diagonal table p a b v hp hb n = get_or-set_other table (32 * p + p) (32 * a + b) v None (omega arith)
+
 -- one more bound of a column that is being written, and of a row
 pub column-set : (table : Bounds) (column_at : ℕ → Option ℤ) (p x : ℕ) (v : Option ℤ) → x < 32 → 32 * p + x < length table →
     v ≡ column_at p → ((a : ℕ) → a < p → bound table a x ≡ column_at a) →

@@ -11,3 +11,5 @@ pub mod Isolated
 pub mod Room
 -- how a bound is kept as one number
 pub mod Entry
+-- how a kept zone is read
+pub mod Written

@@ -1,6 +1,6 @@
 //! A bound in 8 bytes: half of what an `Option<i64>` takes, so that a zone takes half as well.
 
-ghost use Rattle.std.specs.Prelude.{◌≡◌, None};
+ghost use Rattle.std.specs.Prelude.{◌≡◌, ◌↔◌, None, IsTrue};
 ghost use Rattle.zones.specs.Bound.{IsKept};
 
 use std::fmt;
@@ -60,6 +60,13 @@ impl Entry {
         } else {
             Some(self.number)
         }
+    }
+
+    /// Whether both are one bound. It reads the numbers alone, which is quicker than `==`.
+    pub(crate) fn is(self, other: Entry) -> bool
+        ensures exact { IsTrue result ↔ (self ≡ other) }
+    {
+        self.number == other.number
     }
 }
 

@@ -2,6 +2,7 @@
 #![tactic(auto)]
 
 mod entry;
+mod kept_zone;
 mod laws;
 mod name;
 mod number;
@@ -9,6 +10,7 @@ mod table;
 mod wide;
 mod zone;
 
+pub use kept_zone::KeptZone;
 pub use laws::{
     bounds_are_formulas, covering_is_an_order, covering_is_weaker, differences_obey_sums,
     fixed_names_stay_fixed, isolated_names_stay_isolated, known_bounds_are_true,

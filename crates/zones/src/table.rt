@@ -4,7 +4,7 @@
 ghost use Rattle.std.specs.Prelude.{◌≡◌, ◌≢◌, ◌==◌, if◌then◌else◌, ℕ, ◌<◌, pos, Some, None, length, get_or, IsTrue, ◌↔◌};
 ghost use Rattle.zones.specs.Bound.{IsKept, tighten, raise, lower};
 ghost use Rattle.zones.specs.Zone.{bound, Covers};
-ghost use Rattle.zones.specs.Steps.{any_bound, any_zone, after_guard, after_set, after_shift, after_forget, join_of, widening_of, after_put};
+ghost use Rattle.zones.specs.Steps.{any_zone, after_guard, after_set, after_shift, after_forget, join_of, widening_of, after_put};
 ghost use Rattle.zones.specs.Limits.{IsZone};
 
 use crate::entry::Entry;
@@ -18,29 +18,15 @@ pub(crate) type Table = [Entry; 1024];
 /// A bound for each name: a row or a column of a table.
 type Line = [Entry; 32];
 
-/// The table of the bounds that a function gives.
-fn filled<F: Fn(usize, usize) -> Entry>(bound_at: F) -> Table
-    requires total { (p q : ℕ) → p < 32 → q < 32 → F.pre bound_at p q }
-    ensures size { length result ≡ 1024 }
-    ensures each { (p q : ℕ) → p < 32 → q < 32 → F.post bound_at p q (bound result p q) }
-{
-    let mut table = [Entry::any(); 1024];
-    for place in 0..1024 {
-        table[place] = bound_at(place / 32, place % 32);
-    }
-    table
-}
-
 /// Any of each two names, and 0 of a name with itself.
 pub(crate) fn any_table() -> Table
     ensures exact { result ≡ any_zone }
 {
-    filled(
-        |p: usize, q: usize| -> Entry
-            requires { (p < 32) × (q < 32) }
-            ensures { result ≡ any_bound p q }
-        { Entry::of(if p == q { Some(0) } else { None }) },
-    )
+    let mut table = [Entry::any(); 1024];
+    for p in 0..32 {
+        table[32 * p + p] = Entry::of(Some(0));
+    }
+    table
 }
 
 /// The line of the bounds that a function gives.

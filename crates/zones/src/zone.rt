@@ -21,7 +21,7 @@ use std::marker::Model;
 /// of no numbers; no step looks for that.
 #[derive(Clone, Copy, PartialEq, Eq, Debug)]
 pub struct Zone {
-    table: Table,
+    pub(crate) table: Table,
 }
 
 impl Model for Zone {

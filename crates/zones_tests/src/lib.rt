@@ -2,6 +2,8 @@
 #![tactic(auto)]
 
 #[cfg(test)]
+mod kept_zones;
+#[cfg(test)]
 mod rows;
 #[cfg(test)]
 mod steps;
