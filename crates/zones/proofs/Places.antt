@@ -7,10 +7,10 @@ use Rattle.zones.specs.Zone.{Bounds, bound, zone_by}
 pub place-row_column : (place : ℕ) → 32 * (place / 32) + place % 32 ≡ place
 place-row_column place = omega arith
 
-row-place : (p q : ℕ) → q < 32 → (32 * p + q) / 32 ≡ p
+pub row-place : (p q : ℕ) → q < 32 → (32 * p + q) / 32 ≡ p
 row-place p q h = omega arith
 
-column-place : (p q : ℕ) → q < 32 → (32 * p + q) % 32 ≡ q
+pub column-place : (p q : ℕ) → q < 32 → (32 * p + q) % 32 ≡ q
 column-place p q h = omega arith
 
 -- the bound of a zone that is made by a formula is the formula

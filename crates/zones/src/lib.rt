@@ -3,6 +3,7 @@
 
 mod entry;
 mod kept_zone;
+mod known_place;
 mod laws;
 mod name;
 mod number;
