@@ -6,6 +6,7 @@ mod change;
 mod choices;
 mod files;
 mod globals;
+mod kept;
 mod laws;
 mod lines;
 mod marks;
@@ -19,6 +20,7 @@ mod undoing;
 
 pub use choices::Choices;
 pub use globals::{body_entry, loop_end, loop_start};
+pub use kept::KeptState;
 pub use laws::{
     commands_are_sound, globals_are_sound, states_stay_formed, weaker_states_stand_for_more,
 };
