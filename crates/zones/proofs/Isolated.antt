@@ -1,7 +1,7 @@
 -- Isolated names stay isolated.
 use Rattle.std.proofs.Common.{◌≡◌, ◌≢◌, ◌<◌, inl, inr, ℕ, ℤ, pos, Option, None, Some, refl, ◌∙◌, sym}
 use Rattle.std.proofs.lemmas.Bool.Decides.{eqb_tells}
-use Rattle.zones.specs.Bound.{sum_of, tighten, raise, lower, greater_of, widen_bound, widen_diagonal}
+use Rattle.zones.specs.Bound.{sum_of, tighten, widen_bound}
 use Rattle.zones.specs.Zone.{Bounds, bound}
 use Rattle.zones.specs.Steps.{any_zone, any_bound, after_guard, guard_bound, after_set, after_shift, after_forget, forget_bound, join_of, join_bound, widening_of, widening_bound}
 use Rattle.zones.specs.Isolated.{IsIsolated}

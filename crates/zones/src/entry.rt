@@ -1,7 +1,7 @@
 //! A bound in 8 bytes: half of what an `Option<i64>` takes, so that a zone takes half as well.
 
 ghost use Rattle.std.specs.Prelude.{◌≡◌, ◌↔◌, None, IsTrue};
-ghost use Rattle.zones.specs.Bound.{IsKept};
+ghost use Rattle.zones.specs.Bound.{IsKept, greater_of, widen_bound, widen_diagonal, covers_bound};
 
 use std::fmt;
 use std::marker::Model;
@@ -68,6 +68,48 @@ impl Entry {
     {
         self.number == other.number
     }
+}
+
+// Any is kept as the greatest number, so that which of two bounds is the weaker is read off the numbers alone.
+
+/// The weaker of two bounds.
+pub(crate) fn greater(one: Entry, other: Entry) -> Entry
+    ensures value { result ≡ greater_of one other }
+{
+    if one.number < other.number {
+        other
+    } else {
+        one
+    }
+}
+
+/// The old bound where the new one is not greater, else any.
+pub(crate) fn widen_bound(old: Entry, new: Entry) -> Entry
+    ensures value { result ≡ widen_bound old new }
+{
+    if old.number < new.number {
+        Entry::any()
+    } else {
+        old
+    }
+}
+
+/// The old bound of a diagonal where the new one is not greater, else the greater of 0 and the new one.
+pub(crate) fn widen_diagonal(old: Entry, new: Entry) -> Entry
+    ensures value { result ≡ widen_diagonal old new }
+{
+    if old.number < new.number {
+        greater(Entry { number: 0 }, new)
+    } else {
+        old
+    }
+}
+
+/// Whether the first bound is no less than the second.
+pub(crate) fn covers_bound(weak: Entry, strong: Entry) -> bool
+    ensures value { result ≡ covers_bound weak strong }
+{
+    strong.number <= weak.number
 }
 
 // What is said of `==` on zones is said of their bounds, and not of the numbers that stand for them.

@@ -2,7 +2,7 @@
 
 ghost use Rattle.std.specs.Prelude.{◌≡◌, ◌+ℤ◌, Some};
 ghost use Rattle.zones.specs.Limits.{clamp, clamp_side};
-ghost use Rattle.zones.specs.Bound.{clip, clip_bound, sum_of, lesser_of, greater_of, tighten, raise, lower, widen_bound, widen_diagonal, covers_bound};
+ghost use Rattle.zones.specs.Bound.{clip, clip_bound, sum_of, lesser_of, tighten, raise, lower};
 
 use crate::entry::Entry;
 
@@ -122,52 +122,5 @@ pub(crate) fn lower(bound: Entry, by: Option<i64>) -> Entry
     match (bound.get(), by) {
         (Some(number), Some(by)) => clip(i128::from(number) - i128::from(by)),
         _ => Entry::any(),
-    }
-}
-
-/// The weaker of two bounds.
-pub(crate) fn greater(one: Entry, other: Entry) -> Entry
-    ensures value { result ≡ greater_of one other }
-{
-    match (one.get(), other.get()) {
-        (Some(number), Some(other_number)) => { if number < other_number { other } else { one } }
-        _ => Entry::any(),
-    }
-}
-
-/// The old bound where the new one is not greater, else any.
-pub(crate) fn widen_bound(old: Entry, new: Entry) -> Entry
-    ensures value { result ≡ widen_bound old new }
-{
-    match (old.get(), new.get()) {
-        (Some(before), Some(after)) => { if before < after { Entry::any() } else { old } }
-        _ => Entry::any(),
-    }
-}
-
-/// The old bound of a diagonal where the new one is not greater, else the greater of 0 and the new one.
-pub(crate) fn widen_diagonal(old: Entry, new: Entry) -> Entry
-    ensures value { result ≡ widen_diagonal old new }
-{
-    match (old.get(), new.get()) {
-        (Some(before), Some(after)) => {
-            if before < after {
-                if 0 < after { new } else { Entry::of(Some(0)) }
-            } else {
-                old
-            }
-        }
-        _ => Entry::any(),
-    }
-}
-
-/// Whether the first bound is no less than the second.
-pub(crate) fn covers_bound(weak: Entry, strong: Entry) -> bool
-    ensures value { result ≡ covers_bound weak strong }
-{
-    match (weak.get(), strong.get()) {
-        (Some(weak), Some(strong)) => strong <= weak,
-        (Some(_), None) => false,
-        (None, _) => true,
     }
 }

@@ -7,10 +7,8 @@ ghost use Rattle.zones.specs.Zone.{bound, Covers};
 ghost use Rattle.zones.specs.Steps.{any_zone, after_guard, after_set, after_shift, after_forget, join_of, widening_of, after_put};
 ghost use Rattle.zones.specs.Limits.{IsZone};
 
-use crate::entry::Entry;
-use crate::number::{
-    clip_bound, covers_bound, greater, lower, raise, tighten, widen_bound, widen_diagonal,
-};
+use crate::entry::{Entry, covers_bound, greater, widen_bound, widen_diagonal};
+use crate::number::{clip_bound, lower, raise, tighten};
 
 /// The bound of the pair (p, q) lies at `32 * p + q`.
 pub(crate) type Table = [Entry; 1024];

@@ -1,6 +1,5 @@
-use Rattle.std.proofs.Common.{◌≡◌, ◌+◌, ◌*◌, ◌/◌, ◌%◌, None, get_or, arith, ◌∙◌, sym, ap}
+use Rattle.std.proofs.Common.{◌+◌, ◌*◌, arith}
 use Rattle.zones.specs.Zone.{bound}
-use Rattle.zones.specs.Steps.{any_bound}
 use Rattle.zones.proofs.Places.{row-place, column-place}
 use Rattle.zones.proofs.zone.Zone.next_known.Goals as goal
 
