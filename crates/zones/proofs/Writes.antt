@@ -1,7 +1,7 @@
 -- Writes into a table: which bounds are new after one, and which are as before.
 use Rattle.std.proofs.Common.{◌≡◌, ◌≢◌, ◌<◌, ◌≤◌, ◌/◌, ◌%◌, ◌+◌, ◌*◌, ◌==◌, if◌then◌else◌, ℕ, List, get_or, set, length, Option, None, Some, ℤ, arith, ◌∙◌, ap, sym, refl, inl, inr, below_more, get_or-set_other, get_or-set_same}
 use Rattle.std.proofs.lemmas.Bool.Decides.{eqb_tells}
-use Rattle.zones.specs.Bound.{IsKept, tighten, clip_bound, greater_of, widen_bound, widen_diagonal}
+use Rattle.zones.specs.Bound.{IsKept, tighten, clip_bound, raise, greater_of, widen_bound, widen_diagonal}
 use Rattle.zones.specs.Zone.{Bounds, bound}
 use Rattle.zones.specs.Steps.{guard_bound, join_bound, widening_bound, put_bound}
 use Rattle.zones.proofs.Places.{place-row_column}
@@ -19,6 +19,15 @@ bound-set_row table p q a b v hq hb n = get_or-set_other table (32 * p + q) (32 
 pub bound-set_column : (table : Bounds) (p q a b : ℕ) (v : Option ℤ) → q < 32 → b < 32 → b ≢ q → bound (set table (32 * p + q) v) a b ≡ bound table a b
 unfolding bound
 bound-set_column table p q a b v hq hb n = get_or-set_other table (32 * p + q) (32 * a + b) v None (omega arith)
+
+-- a write changes no other pair
+pub bound-set_elsewhere : (table : Bounds) (p q a b : ℕ) (v : Option ℤ) → q < 32 → b < 32 → (a ≡ p → b ≡ q → ⊥) →
+    bound (set table (32 * p + q) v) a b ≡ bound table a b
+bound-set_elsewhere table p q a b v hq hb n =
+    elim (eqb_tells a p) [
+      | inl t ↦ bound-set_column table p q a b v hq hb (n t.1)
+      | inr t ↦ bound-set_row table p q a b v hq hb t.1
+    ]
 
 -- a write on the diagonal changes nothing beside it
 pub bound-set_diagonal : (table : Bounds) (p a b : ℕ) (v : Option ℤ) → p < 32 → b < 32 → a ≢ b → bound (set table (32 * p + p) v) a b ≡ bound table a b
@@ -56,14 +65,24 @@ cross-cases x p q v in_row in_column elsewhere r c e =
       | inr t ↦ rw t.0 (elim (eqb_tells q x) [ inl u ↦ rw u.0 (c t.1 u.1) | inr u ↦ rw u.0 (e t.1 u.1) ])
     ]
 
--- a row and a column that formulas give
-pub cross-is : (old new row column : List (Option ℤ)) (x : ℕ) (row_at column_at : ℕ → Option ℤ) →
-    ((p q : ℕ) → p < 32 → q < 32 →
-    bound new p q ≡ (if p == x then get_or row q None else if q == x then get_or column p None else bound old p q)) →
-    ((q : ℕ) → q < 32 → get_or row q None ≡ row_at q) → ((p : ℕ) → p < 32 → get_or column p None ≡ column_at p) →
-    (p q : ℕ) → p < 32 → q < 32 → bound new p q ≡ (if p == x then row_at q else if q == x then column_at p else bound old p q)
-cross-is old new row column x row_at column_at each rows columns p q hp hq =
-    each p q hp hq ∙ rw (rows q hq, columns p hp) refl
+-- a row and a column that formulas give, once the bound where they meet is written too
+pub cross-is : (old new : Bounds) (x : ℕ) (v : Option ℤ) (row_at column_at : ℕ → Option ℤ) → x < 32 → length new ≡ 1024 →
+    ((q : ℕ) → q < 32 → q ≢ x → bound new x q ≡ row_at q) → ((p : ℕ) → p < 32 → p ≢ x → bound new p x ≡ column_at p) →
+    ((p q : ℕ) → p < 32 → q < 32 → p ≢ x → q ≢ x → bound new p q ≡ bound old p q) → (p q : ℕ) → p < 32 → q < 32 →
+    bound (set new (32 * x + x) v) p q ≡ (if p == x then (if q == x then v else row_at q) else if q == x then column_at p else bound old p q)
+cross-is old new x v row_at column_at hx size rows columns others p q hp hq =
+    cross-cases x p q _ _ _ _
+    (λ e. rw e (elim (eqb_tells q x) [
+      | inl t ↦ rw (t.0, t.1) (bound-set_same new x x v (omega arith))
+      | inr t ↦ rw t.0 (bound-set_column new x x x q v hx hq t.1 ∙ rows q hq t.1)
+    ]))
+    (λ n e. rw e (bound-set_row new x x p x v hx hx n ∙ columns p hp n))
+    (λ n m. bound-set_row new x x p q v hx hq n ∙ others p q hp hq n m)
+
+-- by an unbounded number each bound becomes any
+pub raise-unbounded : (b : Option ℤ) → raise b None ≡ None
+raise-unbounded None = refl
+raise-unbounded (Some n) = refl
 
 -- where no way leads, a kept bound stays
 pub tighten-no_way_to : (direct : Option ℤ) (c : ℤ) (from : Option ℤ) → IsKept direct → tighten direct None c from ≡ direct

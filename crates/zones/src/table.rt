@@ -1,7 +1,7 @@
 //! The bounds of a zone as an array, row by row. The steps write in place: a fresh table for each
 //! would cost far more than the few bounds that most steps change.
 
-ghost use Rattle.std.specs.Prelude.{◌≡◌, ◌≢◌, ◌==◌, if◌then◌else◌, ℕ, ◌<◌, pos, Some, None, length, get_or, IsTrue, ◌↔◌};
+ghost use Rattle.std.specs.Prelude.{◌≡◌, ◌≢◌, ℕ, ◌<◌, Some, None, length, get_or, IsTrue, ◌↔◌};
 ghost use Rattle.zones.specs.Bound.{IsKept, tighten, raise, lower};
 ghost use Rattle.zones.specs.Zone.{bound, Covers};
 ghost use Rattle.zones.specs.Steps.{any_zone, after_guard, after_set, after_shift, after_forget, join_of, widening_of, after_put};
@@ -39,20 +39,23 @@ fn line_of<F: Fn(usize) -> Entry>(bound_at: F) -> Line
     line
 }
 
-/// Writes the row and the column of the name at `x`. Where they meet the row's bound stands.
-fn write_cross(table: &mut Table, x: usize, row: &Line, column: &Line)
+/// Writes the row of the name at `x`, which is that at `y` raised by `high`, and its column, which is
+/// that at `y` lowered by `low`. What stands where they meet is left to the caller.
+fn write_cross(table: &mut Table, x: usize, y: usize, low: Option<i64>, high: Option<i64>)
     requires x_in_range { x < 32 }
+    requires y_in_range { y < 32 }
     ensures size { length table.new ≡ 1024 }
-    ensures each { (p q : ℕ) → p < 32 → q < 32 → bound table.new p q ≡
-        (if p == x then get_or row.now q None
-        else if q == x then get_or column.now p None
-        else bound table.old p q) }
+    ensures row { (q : ℕ) → q < 32 → q ≢ x →
+        bound table.new x q ≡ raise (bound table.old y q) high }
+    ensures column { (p : ℕ) → p < 32 → p ≢ x →
+        bound table.new p x ≡ lower (bound table.old p y) low }
+    ensures others { (p q : ℕ) → p < 32 → q < 32 → p ≢ x → q ≢ x →
+        bound table.new p q ≡ bound table.old p q }
 {
-    for p in 0..32 {
-        table[32 * p + x] = column[p];
-    }
-    for q in 0..32 {
-        table[32 * x + q] = row[q];
+    for k in 0..32 {
+        // Each bound is read before it is written, so that `x` and `y` may be one name.
+        table[32 * x + k] = raise(table[32 * y + k], high);
+        table[32 * k + x] = lower(table[32 * k + y], low);
     }
 }
 
@@ -106,85 +109,14 @@ pub(crate) fn guard_table(table: &mut Table, x: usize, y: usize, c: i64)
     }
 }
 
-/// The row of the name at `x` once it stands for `c` more than that at `y`.
-#[tactic(auto, unfolding(crate::specs::Zone::bound))]
-fn row_after_set(old: &Table, x: usize, y: usize, c: i64) -> Line
-    requires y_in_range { y < 32 }
-    ensures each { (q : ℕ) → q < 32 → get_or result q None ≡
-        (if q == x then Some (pos 0) else raise (bound old.now y q) (Some c)) }
-{
-    line_of(
-        |q: usize| -> Entry
-            requires { (y < 32) × (q < 32) }
-            ensures { result ≡
-                (if q == x then Some (pos 0) else raise (bound old.entry.now y q) (Some c)) }
-        {
-            if q == x {
-                Entry::of(Some(0))
-            } else {
-                raise(old[32 * y + q], Some(c))
-            }
-        },
-    )
-}
-
-/// The column of a name once it stands for `c` more than that at `y`.
-#[tactic(auto, unfolding(crate::specs::Zone::bound))]
-fn column_after_set(old: &Table, y: usize, c: i64) -> Line
-    requires y_in_range { y < 32 }
-    ensures each { (p : ℕ) → p < 32 →
-        get_or result p None ≡ lower (bound old.now p y) (Some c) }
-{
-    line_of(
-        |p: usize| -> Entry
-            requires { (y < 32) × (p < 32) }
-            ensures { result ≡ lower (bound old.entry.now p y) (Some c) }
-        { lower(old[32 * p + y], Some(c)) },
-    )
-}
-
 /// Sets the name at `x` to `c` more than that at `y`.
 pub(crate) fn set_table(table: &mut Table, x: usize, y: usize, c: i64)
     requires x_in_range { x < 32 }
     requires y_in_range { y < 32 }
     ensures exact { table.new ≡ after_set table.old x y c }
 {
-    let row = row_after_set(table, x, y, c);
-    let column = column_after_set(table, y, c);
-    write_cross(table, x, &row, &column);
-}
-
-/// The row of the name at `x` once it has grown by at most `high`.
-#[tactic(auto, unfolding(crate::specs::Zone::bound))]
-fn row_after_shift(old: &Table, x: usize, high: Option<i64>) -> Line
-    requires x_in_range { x < 32 }
-    ensures each { (q : ℕ) → q < 32 → get_or result q None ≡
-        (if q == x then bound old.now x x else raise (bound old.now x q) high) }
-{
-    line_of(
-        |q: usize| -> Entry
-            requires { (x < 32) × (q < 32) }
-            ensures { result ≡
-                (if q == x then bound old.entry.now x x else raise (bound old.entry.now x q) high) }
-        {
-            let direct = old[32 * x + q];
-            if q == x { direct } else { raise(direct, high) }
-        },
-    )
-}
-
-/// The column of the name at `x` once it has grown by at least `low`.
-#[tactic(auto, unfolding(crate::specs::Zone::bound))]
-fn column_after_shift(old: &Table, x: usize, low: Option<i64>) -> Line
-    requires x_in_range { x < 32 }
-    ensures each { (p : ℕ) → p < 32 → get_or result p None ≡ lower (bound old.now p x) low }
-{
-    line_of(
-        |p: usize| -> Entry
-            requires { (x < 32) × (p < 32) }
-            ensures { result ≡ lower (bound old.entry.now p x) low }
-        { lower(old[32 * p + x], low) },
-    )
+    write_cross(table, x, y, Some(c), Some(c));
+    table[32 * x + x] = Entry::of(Some(0));
 }
 
 /// Lets the name at `x` grow by a number from `low` to `high`.
@@ -192,9 +124,9 @@ pub(crate) fn shift_table(table: &mut Table, x: usize, low: Option<i64>, high: O
     requires x_in_range { x < 32 }
     ensures exact { table.new ≡ after_shift table.old x low high }
 {
-    let row = row_after_shift(table, x, high);
-    let column = column_after_shift(table, x, low);
-    write_cross(table, x, &row, &column);
+    let itself = table[32 * x + x];
+    write_cross(table, x, x, low, high);
+    table[32 * x + x] = itself;
 }
 
 /// Lets the name at `x` stand for any number.
@@ -202,12 +134,8 @@ pub(crate) fn forget_table(table: &mut Table, x: usize)
     requires x_in_range { x < 32 }
     ensures exact { table.new ≡ after_forget table.old x }
 {
-    let row = line_of(
-        |q: usize| -> Entry
-            ensures { result ≡ (if q == x then Some (pos 0) else None) }
-        { Entry::of(if q == x { Some(0) } else { None }) },
-    );
-    write_cross(table, x, &row, &[Entry::any(); 32]);
+    write_cross(table, x, x, None, None);
+    table[32 * x + x] = Entry::of(Some(0));
 }
 
 /// Keeps the greater bound of each pair.
