@@ -7,7 +7,7 @@ ghost use Rattle.analyser.specs.Walking.{IsRound, invariant_after, OldIsZone, Ha
 
 use cert_check::covering_is_decided;
 use ed_base::Fault;
-use ed_rules::{Old, State, body_entry, outcome};
+use ed_rules::{KeptState, Old, State, body_entry, outcome};
 use ed_syntax::Command;
 use std::alloc::{AllocError, Global};
 use zones::{Name, Zone};
@@ -16,7 +16,7 @@ use zones::{Name, Zone};
 #[derive(Drop)]
 pub(crate) struct Round {
     /// What is known before each command of the list, up to the first one with a need that fails.
-    pub inner: Vec<State>,
+    pub inner: Vec<KeptState>,
     /// The result of the last command, or the fault of the need that fails.
     pub end: Result<State, Fault>,
 }
@@ -37,7 +37,8 @@ fn go_round(alloc: Global, list: &[Command], entry: State) -> Result<Round, Allo
     let mut coming = entry;
     for command in list {
         let outcome = outcome(command, &coming)?;
-        inner.push(coming)?;
+        let known = coming.keep()?;
+        inner.push(known)?;
         match outcome {
             Ok(left) => coming = left,
             Err(why) => {

@@ -1,6 +1,6 @@
 //! The walk over the counted commands, from one state to the next.
 
-ghost use Rattle.std.specs.Prelude.{◌≡◌, true, None, Some, IfOk, option_map};
+ghost use Rattle.std.specs.Prelude.{◌≡◌, true, None, Some, Ok, IfOk, option_map};
 ghost use Rattle.ed_syntax.specs.PublicTypes.{verb_value, command_value, step_value, steps_value};
 ghost use Rattle.cert_check.specs.Certificates.{looped_value, note_value};
 ghost use Rattle.cert_check.specs.Valid.{quits, left_by};
@@ -12,7 +12,7 @@ use crate::paths::list_taken;
 use crate::rounds::{Settled, settle};
 use cert_check::{Looped, Note, Place};
 use ed_base::{Bytes, Fault};
-use ed_rules::{State, loop_end, loop_start, outcome};
+use ed_rules::{KeptState, State, loop_end, outcome};
 use ed_syntax::{Command, Verb};
 use std::alloc::{AllocError, Global};
 
@@ -108,18 +108,23 @@ fn end_of_list(command: &Command, state: &State, settled: &Settled) -> Result<En
     }
 }
 
-/// What a global command comes to whose own needs hold.
-fn take_global(alloc: Global, command: &Command, state: &State) -> Result<Taken, AllocError>
+/// What a global command comes to whose own needs hold, from the state before its list is run for any line.
+fn take_global(
+    alloc: Global,
+    command: &Command,
+    state: &State,
+    first: State,
+) -> Result<Taken, AllocError>
     requires global { is_global (command_value command.now).verb ≡ true }
-    requires needed { fault_of (step (command_value command.now) state.now) ≡ None }
+    requires start { step (command_value command.now) state.now ≡ Ok first }
     ensures value { IfOk result (λ taken. IsTaken (step_value command.now) state.now taken.looped taken.end) }
 {
-    let first = loop_start(command, state)?;
     let settled = settle(alloc, command, first)?;
     let end = end_of_list(command, state, &settled)?;
+    let invariant = settled.invariant.keep()?;
     Ok(Taken {
         looped: Some(Looped {
-            invariant: settled.invariant,
+            invariant,
             inner: settled.round.inner,
         }),
         end,
@@ -133,7 +138,7 @@ fn take(alloc: Global, command: &Command, state: &State) -> Result<Taken, AllocE
     match outcome(command, state)? {
         Ok(left) => {
             if is_global(&command.verb) {
-                return take_global(alloc, command, state);
+                return take_global(alloc, command, state, left);
             }
             Ok(Taken {
                 looped: None,
@@ -147,7 +152,7 @@ fn take(alloc: Global, command: &Command, state: &State) -> Result<Taken, AllocE
     }
 }
 
-fn note_of(state: State, looped: Option<Looped>) -> Note
+fn note_of(state: KeptState, looped: Option<Looped>) -> Note
     ensures value { note_value result ≡
         record { state = state; looped = option_map looped_value looped } }
 {
@@ -170,14 +175,16 @@ pub(crate) fn go_through(
         let Taken { looped, end } = taken;
         match end {
             End::Stops { inner, why } => {
-                notes.push(note_of(coming, looped))?;
+                let known = coming.keep()?;
+                notes.push(note_of(known, looped))?;
                 let place = place_of(index + 1, inner);
                 let outcome = Outcome::Fails { place, why };
                 return Ok(Walk::of(notes, writes, false, outcome));
             }
             End::Leaves(left) => {
-                list_taken(&mut writes, command, &coming, &looped)?;
-                notes.push(note_of(coming, looped))?;
+                let known = coming.keep()?;
+                list_taken(&mut writes, command, &known, &looped)?;
+                notes.push(note_of(known, looped))?;
                 coming = left;
             }
         }

@@ -1,21 +1,21 @@
 //! What a certificate says of a script.
 
 use ed_base::Bytes;
-use ed_rules::State;
+use ed_rules::{KeptState, State};
 
 /// What is known of a global command's list: at its start for each line, and before each of its commands.
 #[derive(Debug, Drop)]
 pub struct Looped {
     /// What is known at every turn: before the list is run for the first line, and after each run of it.
-    pub invariant: State,
+    pub invariant: KeptState,
     /// What is known before each command of the list, in their order.
-    pub inner: Vec<State>,
+    pub inner: Vec<KeptState>,
 }
 
 /// What is known of the editor before a command, and, where that is a global command, of its list.
 #[derive(Debug, Drop)]
 pub struct Note {
-    pub state: State,
+    pub state: KeptState,
     pub looped: Option<Looped>,
 }
 

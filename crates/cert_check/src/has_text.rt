@@ -10,7 +10,7 @@ ghost use Rattle.ed_rules.specs.Formed.{says_nothing};
 
 use crate::certificate::{Certificate, Looped, Note};
 use ed_base::Bytes;
-use ed_rules::{Changed, Marks, Old, Replacements, State, Undo};
+use ed_rules::{Changed, KeptState, Marks, Old, Replacements, State, Undo};
 use std::cmp::Ordering;
 use zones::{Name, Zone};
 
@@ -177,11 +177,37 @@ fn state_has_text(state: &State) -> bool
     old_has_text(&state.undo.was)
 }
 
-fn inner_have_text(states: &[State]) -> bool
+/// The same of a state that a note keeps. Its parts are asked for one by one, since the whole state would take memory.
+fn kept_has_text(kept: &KeptState) -> bool
+    ensures exact { IsTrue result ↔ StateIsFormed kept.now }
+{
+    if !zone_has_text(kept.marks(), &kept.zone()) {
+        return false;
+    }
+    if !set_has_text(kept.patterns().members()) {
+        return false;
+    }
+    if !some_replacement(kept.replacements()) {
+        return false;
+    }
+    if !set_has_text(kept.names().members()) {
+        return false;
+    }
+    if !some_changed(kept.changed()) {
+        return false;
+    }
+    let undo = kept.undo();
+    if !some_undo(&undo) {
+        return false;
+    }
+    old_has_text(&undo.was)
+}
+
+fn inner_have_text(states: &[KeptState]) -> bool
     ensures exact { IsTrue result ↔ All StateIsFormed states.now }
 {
     for state in states {
-        if !state_has_text(state) {
+        if !kept_has_text(state) {
             return false;
         }
     }
@@ -193,7 +219,7 @@ fn looped_has_text(looped: &Option<Looped>) -> bool
 {
     match looped {
         Some(looped) => {
-            let invariant = state_has_text(&looped.invariant);
+            let invariant = kept_has_text(&looped.invariant);
             let inner = inner_have_text(looped.inner.as_slice());
             invariant && inner
         }
@@ -204,7 +230,7 @@ fn looped_has_text(looped: &Option<Looped>) -> bool
 fn note_has_text(note: &Note) -> bool
     ensures exact { IsTrue result ↔ NoteHasText (note_value note.now) }
 {
-    let state = state_has_text(&note.state);
+    let state = kept_has_text(&note.state);
     let looped = looped_has_text(&note.looped);
     state && looped
 }

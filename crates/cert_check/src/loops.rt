@@ -10,7 +10,7 @@ use crate::certificate::Looped;
 use crate::passing::{Passage, is_covered, passed};
 use crate::verdict::Place;
 use ed_base::Bytes;
-use ed_rules::{State, body_entry, loop_end};
+use ed_rules::{KeptState, State, body_entry, loop_end};
 use ed_syntax::Command;
 use std::alloc::AllocError;
 
@@ -20,7 +20,7 @@ fn go_through_list(
     number: usize,
     writes: &[Bytes],
     list: &[Command],
-    states: &[State],
+    states: &[KeptState],
     entry: State,
 ) -> Result<Passage, AllocError>
     requires shape { length states.now ≡ length list.now }
@@ -28,7 +28,8 @@ fn go_through_list(
 {
     let mut coming = entry;
     for (index, known) in states.iter().enumerate() {
-        match passed(writes, &list[index], known, &coming)? {
+        let known = known.state()?;
+        match passed(writes, &list[index], &known, &coming)? {
             Some(left) => coming = left,
             None => {
                 return Ok(Passage::Fails(Place {
@@ -54,18 +55,19 @@ pub(crate) fn pass_loop(
     requires shape { length looped.now.inner.items ≡ length (step_value command.now).list }
     ensures value { IfOk result (λ passage. LoopGoesTo number writes.now (step_value command.now) (looped_value looped.now) known.now start.now passage) }
 {
-    if !is_covered(&looped.invariant, start) {
+    let invariant = looped.invariant.state()?;
+    if !is_covered(&invariant, start) {
         return Ok(Passage::Fails(Place {
             command: number,
             inner: None,
         }));
     }
     let list = command.list();
-    let entry = body_entry(&looped.invariant)?;
+    let entry = body_entry(&invariant)?;
     match go_through_list(number, writes, list, looped.inner.as_slice(), entry)? {
         Passage::Left(turned) => {
-            if is_covered(&looped.invariant, &turned) {
-                let end = loop_end(command, known, &looped.invariant)?;
+            if is_covered(&invariant, &turned) {
+                let end = loop_end(command, known, &invariant)?;
                 Ok(Passage::Left(end))
             } else {
                 Ok(Passage::Fails(Place {

@@ -179,14 +179,15 @@ fn pass(
     requires shape { fits (step_value command.now) (note_value note.now) ≡ true }
     ensures value { IfOk result (λ passage. StepGoesTo number writes.now (step_value command.now) (note_value note.now) coming.now passage) }
 {
-    match passed(writes, command, &note.state, coming)? {
+    let known = note.state.state()?;
+    match passed(writes, command, &known, coming)? {
         None => Ok(Passage::Fails(Place {
             command: number,
             inner: None,
         })),
         Some(left) => match &note.looped {
             None => Ok(Passage::Left(left)),
-            Some(looped) => pass_loop(number, writes, command, &note.state, &left, looped),
+            Some(looped) => pass_loop(number, writes, command, &known, &left, looped),
         },
     }
 }

@@ -9,7 +9,7 @@ use crate::fault::CertFault;
 use crate::readers::{
     read_changed, read_choices, read_found, read_marks, read_replacements, read_zone,
 };
-use ed_rules::{Old, State, Undo};
+use ed_rules::{KeptState, Old, State, Undo};
 use std::alloc::Global;
 
 /// A zone and the marks beside it.
@@ -65,4 +65,12 @@ pub(crate) fn read_state(alloc: Global, cursor: &mut Cursor<'_>) -> Result<State
         changed,
         undo,
     })
+}
+
+/// The same, as a note keeps it.
+pub(crate) fn read_kept(alloc: Global, cursor: &mut Cursor<'_>) -> Result<KeptState, CertFault>
+    ensures exact { Reads same state_lines StateIsFormed cursor.old cursor.new result }
+{
+    let state = read_state(alloc, cursor)?;
+    Ok(state.keep()?)
 }

@@ -8,7 +8,7 @@ ghost use Rattle.cert_check.specs.HasText.{HasText};
 use crate::certificate::{Certificate, Looped, Note};
 use crate::words::{push_choice, push_limit, push_marks, push_path, push_possible, push_zone};
 use ed_base::{Bytes, push_number};
-use ed_rules::{Changed, Choices, Marks, Old, Replacements, State, Undo};
+use ed_rules::{Changed, Choices, KeptState, Marks, Old, Replacements, State, Undo};
 use std::alloc::AllocError;
 use zones::Zone;
 
@@ -109,12 +109,20 @@ fn push_headed(out: &mut Bytes, head: &[u8], state: &State) -> Result<(), AllocE
     Ok(())
 }
 
-fn push_inner(out: &mut Bytes, states: &[State]) -> Result<(), AllocError>
+/// The same of a state that a note keeps.
+fn push_kept(out: &mut Bytes, head: &[u8], kept: &KeptState) -> Result<(), AllocError>
+    ensures appended { OnOk result (out.new ≡ out.old ++ lines_text (headed_lines head.now kept.now)) }
+{
+    let state = kept.state()?;
+    push_headed(out, head, &state)
+}
+
+fn push_inner(out: &mut Bytes, states: &[KeptState]) -> Result<(), AllocError>
     ensures appended { OnOk result
         (out.new ≡ out.old ++ lines_text (flat_map (headed_lines (codes "inner")) states.now)) }
 {
     for state in states {
-        push_headed(out, b"inner", state)?;
+        push_kept(out, b"inner", state)?;
     }
     Ok(())
 }
@@ -125,7 +133,7 @@ fn push_looped(out: &mut Bytes, looped: &Option<Looped>) -> Result<(), AllocErro
 {
     match looped {
         Some(looped) => {
-            push_headed(out, b"loop", &looped.invariant)?;
+            push_kept(out, b"loop", &looped.invariant)?;
             push_inner(out, looped.inner.as_slice())?;
             out.extend_from_slice(b"done\n")?;
             Ok(())
@@ -138,7 +146,7 @@ fn push_note(out: &mut Bytes, note: &Note) -> Result<(), AllocError>
     ensures appended { OnOk result
         (out.new ≡ out.old ++ lines_text (note_lines (note_value note.now))) }
 {
-    push_headed(out, b"note", &note.state)?;
+    push_kept(out, b"note", &note.state)?;
     push_looped(out, &note.looped)?;
     Ok(())
 }

@@ -3,7 +3,7 @@
 use crate::command_line::line_of_command;
 use analyser::Analysis;
 use cert_check::{Note, Place};
-use ed_rules::State;
+use ed_rules::KeptState;
 use std::alloc::{AllocError, Global};
 use zones::{Name, Zone};
 
@@ -39,11 +39,11 @@ fn noted_text(alloc: Global, line: &str, place: &Place, note: &Note) -> Result<S
     let number = place.command;
     let inner = last_inner(place, note);
     let zone = match inner {
-        Some((_, state)) => &state.zone,
-        None => &note.state.zone,
+        Some((_, state)) => state.zone(),
+        None => note.state.zone(),
     };
-    let last = lines_text(alloc, zone, Name::LAST_LINE)?;
-    let current = lines_text(alloc, zone, Name::CURRENT_LINE)?;
+    let last = lines_text(alloc, &zone, Name::LAST_LINE)?;
+    let current = lines_text(alloc, &zone, Name::CURRENT_LINE)?;
     match inner {
         Some((inner, _)) => Ok(format!(in alloc;
             "command {number}.{inner}: {line}: the last line is {last}, the current line {current}\n"
@@ -55,7 +55,7 @@ fn noted_text(alloc: Global, line: &str, place: &Place, note: &Note) -> Result<S
 }
 
 // Where a place stands in a global command's list, the last command of it that was noted.
-fn last_inner<'a>(place: &Place, note: &'a Note) -> Option<(usize, &'a State)> {
+fn last_inner<'a>(place: &Place, note: &'a Note) -> Option<(usize, &'a KeptState)> {
     place.inner?;
     let inner = note.looped.as_ref()?.inner.as_slice();
     Some((inner.len(), inner.last()?))

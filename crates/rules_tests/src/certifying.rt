@@ -51,7 +51,7 @@ pub(crate) fn certificate_of(
         }
         let next = after(command, &state)?;
         notes.push(Note {
-            state,
+            state: state.keep()?,
             looped: None,
         })?;
         state = next;

@@ -3,10 +3,10 @@
 use crate::certifying::{Final, Start, certificate_of};
 use crate::rules::SCRIPTS;
 use crate::text::DELETED;
-use cert_check::{Certificate, Place, Verdict, check};
+use cert_check::{Certificate, Note, Place, Verdict, check};
 use ed_rules::Changed;
 use ed_syntax::{Script, read_script};
-use std::alloc::Global;
+use std::alloc::{AllocError, Global};
 use std::test::Fail;
 use zones::Name;
 
@@ -101,7 +101,15 @@ enum Change {
     NoPathWritten,
 }
 
-fn make(change: Change, certificate: &mut Certificate) {
+/// Makes a note say another bound of a name.
+fn put_bound(note: &mut Note, name: Name, bound: i64) -> Result<(), AllocError> {
+    let mut state = note.state.state()?;
+    state.zone.put(name, Name::ZERO, Some(bound));
+    note.state = state.keep()?;
+    Ok(())
+}
+
+fn make(change: Change, certificate: &mut Certificate) -> Result<(), AllocError> {
     match change {
         Change::Nothing => {}
         Change::NoteTakenAway => {
@@ -111,17 +119,19 @@ fn make(change: Change, certificate: &mut Certificate) {
         Change::OtherPath => certificate.path = None,
         Change::ContradictoryNote => {
             for note in certificate.notes.iter_mut().take(1) {
-                note.state.zone.put(Name::ZERO, Name::ZERO, Some(-1));
+                put_bound(note, Name::ZERO, -1)?;
             }
         }
         Change::NarrowSecondNote => {
             for note in certificate.notes.iter_mut().skip(1) {
-                note.state.zone.put(Name::LAST_LINE, Name::ZERO, Some(1));
+                put_bound(note, Name::LAST_LINE, 1)?;
             }
         }
         Change::UnchangedAfterDeletion => {
             for note in certificate.notes.iter_mut().skip(1) {
-                note.state.changed = Changed::NO;
+                let mut state = note.state.state()?;
+                state.changed = Changed::NO;
+                note.state = state.keep()?;
             }
         }
         Change::NarrowEnd => certificate
@@ -132,6 +142,7 @@ fn make(change: Change, certificate: &mut Certificate) {
         Change::HighOfOne => certificate.high = Some(1),
         Change::NoPathWritten => certificate.writes.clear(),
     }
+    Ok(())
 }
 
 #[rattlefmt::skip]
@@ -150,7 +161,7 @@ fn a_changed_certificate_is_refused_at_its_place(rt: HostRuntime) -> Result<(), 
     ];
     for (changed, verdict) in &rows {
         let (script, mut certificate) = deletion(rt.alloc())?;
-        make(*changed, &mut certificate);
+        make(*changed, &mut certificate)?;
         assert_eq!(rt; check(&script, &certificate)?, *verdict, "{changed:?}");
     }
     Ok(())
@@ -170,7 +181,7 @@ fn the_written_certificate_gets_its_verdicts(rt: HostRuntime) -> Result<(), Fail
     let script = read_script(rt.alloc(), b"1d\nw\nq\n")?;
     for (changed, verdict) in &rows {
         let mut certificate = Certificate::read(rt.alloc(), DELETED)?;
-        make(*changed, &mut certificate);
+        make(*changed, &mut certificate)?;
         assert_eq!(rt; check(&script, &certificate)?, *verdict, "{changed:?}");
     }
     Ok(())

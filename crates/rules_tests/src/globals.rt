@@ -230,14 +230,17 @@ fn invariant_of(command: &Command, state: &State, told: Told) -> Result<State, F
 /// What a certificate tells of a global command's list of one command.
 fn looped(alloc: Global, command: &Command, state: &State, told: Told) -> Result<Looped, Fail> {
     let invariant = invariant_of(command, state, told)?;
-    let inner = vec![in alloc; body_entry(&invariant)?]?;
-    Ok(Looped { invariant, inner })
+    let entry = body_entry(&invariant)?;
+    Ok(Looped {
+        invariant: invariant.keep()?,
+        inner: vec![in alloc; entry.keep()?]?,
+    })
 }
 
 /// What is known after a command, of which `looped` tells what is known in its list.
 fn passed(command: &Command, state: &State, looped: &Option<Looped>) -> Result<State, Fail> {
     match looped {
-        Some(looped) => over(command, state, &looped.invariant),
+        Some(looped) => over(command, state, &looped.invariant.state()?),
         None => done(command, state),
     }
 }
@@ -257,7 +260,10 @@ fn certificate_with(
             _ => None,
         };
         let next = passed(command, &state, &looped)?;
-        notes.push(Note { state, looped })?;
+        notes.push(Note {
+            state: state.keep()?,
+            looped,
+        })?;
         state = next;
     }
     let writes = vec![in alloc; Bytes::from_slice(alloc, b"F")?]?;

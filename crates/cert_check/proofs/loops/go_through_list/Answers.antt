@@ -7,16 +7,18 @@ loop-index-init c = λ turned. refl
 
 pub loop-index-preserved : goal.loop-index-preserved
 loop-index-preserved c = λ turned.
+    let left = rw c.in_ok-known.ensures.value at c.in_ok-left.ensures.value in
     c.loop-index.invariant turned
     ∙ list-on c.args.number c.args.writes.now c.args.list.now c.args.states.now turned c.loop-index.index c.index-list-index.result c.index-states-index.result c.loop-index.coming c.in-Some.left
-    (omega arith) c.requires.shape c.index-list-index.is c.index-states-index.is (sym c.in_ok-left.ensures.value ∙ c.in-Some.is)
+    (omega arith) c.requires.shape c.index-list-index.is c.index-states-index.is (sym left ∙ c.in-Some.is)
 
 pub returns-in-None : goal.returns-in-None
 returns-in-None c = record {
   value = λ turned.
+      let left = rw c.in_ok-known.ensures.value at c.in_ok-left.ensures.value in
       c.loop-index.invariant turned
       ∙ list-off c.args.number c.args.writes.now c.args.list.now c.args.states.now turned c.loop-index.index c.index-list-index.result c.index-states-index.result c.loop-index.coming
-      (omega arith) c.requires.shape c.index-list-index.is c.index-states-index.is (sym c.in_ok-left.ensures.value ∙ c.in-None.is);
+      (omega arith) c.requires.shape c.index-list-index.is c.index-states-index.is (sym left ∙ c.in-None.is);
 }
 
 pub returns : goal.returns
