@@ -2,3 +2,4 @@ pub mod BufferRows
 pub mod LineLemmas
 pub mod Letters
 pub mod PartLemmas
+pub mod PieceLemmas

@@ -6,7 +6,10 @@ mod fault;
 mod letter;
 mod lines;
 mod numbers;
+mod part;
+mod pieces;
 mod text;
+mod walk;
 
 pub use bytes::Bytes;
 pub use fault::Fault;
@@ -16,4 +19,6 @@ pub use lines::{
     written_lines_are_read_back,
 };
 pub use numbers::push_number;
+pub use pieces::Pieces;
 pub use text::Text;
+pub use walk::Walk;
