@@ -5,7 +5,7 @@ ghost use Rattle.line_store.specs.Kept.{Unflagged, flag_count};
 
 use crate::marks::Marks;
 use crate::{BareLine, BareLines, Line, LineStore};
-use ed_base::Letter;
+use ed_base::{Letter, Pieces};
 use std::alloc::{AllocError, Global};
 use std::marker::Model;
 
@@ -140,6 +140,10 @@ impl<L: BareLines> LineStore for Store<L> {
 
     fn text(&self, i: usize) -> &[u8] {
         self.lines.line(i).as_slice()
+    }
+
+    fn push_line(&self, i: usize, output: &mut Pieces) -> Result<(), AllocError> {
+        self.lines.line(i).push_to(output)
     }
 
     fn reserve(&mut self, n: usize) -> Result<(), AllocError> {

@@ -1,10 +1,10 @@
 //! Lines without letters, which may share the block that their bytes stand in.
-ghost use Rattle.std.specs.Prelude.{◌≡◌, ◌↔◌, [], ◌∷◌, IsNone, IfOk, IfSome, OnErr};
-ghost use Rattle.ed_base.specs.Lines.{IsLine, lines_of};
+ghost use Rattle.std.specs.Prelude.{◌≡◌, ◌↔◌, [], ◌∷◌, ◌++◌, IsNone, IfOk, IfSome, OnOk, OnErr};
+ghost use Rattle.ed_base.specs.Lines.{newline, IsLine, lines_of};
 ghost use Rattle.ed_base.specs.Buffer.{plain_line, with_flag};
 
 use crate::Line;
-use ed_base::{Bytes, next_line};
+use ed_base::{Bytes, Pieces, next_line};
 use std::alloc::{AllocError, Global};
 use std::marker::Model;
 use std::rc::Rc;
@@ -51,6 +51,19 @@ impl BareLine {
         ensures line { IsLine result.now }
     {
         &self.block.as_slice()[self.start..self.end]
+    }
+
+    /// Appends its bytes and a newline, which share its block as far as they stand there.
+    pub(crate) fn push_to(&self, output: &mut Pieces) -> Result<(), AllocError>
+        ensures appended { OnOk result (output.new ≡ output.old ++ (self.now.bytes ++ newline ∷ [])) }
+        ensures line { IsLine self.now.bytes }
+    {
+        let block = self.block.as_slice();
+        if self.end < block.len() && block[self.end] == b'\n' {
+            return output.extend_from_block(&self.block, self.start, self.end + 1);
+        }
+        output.extend_from_block(&self.block, self.start, self.end)?;
+        output.extend_from_slice(b"\n")
     }
 
     pub(crate) fn flag(&self) -> bool

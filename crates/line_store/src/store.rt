@@ -1,11 +1,11 @@
 //! A list of lines, however it is kept.
-ghost use Rattle.std.specs.Prelude.{◌≡◌, ◌+◌, ◌<◌, ◌≤◌, ℕ, List, [], true, false, count_by, length, insert, remove, slice_index_or, slice_set, IfOk, IfErr, OnOk, OnErr, IsOk};
-ghost use Rattle.ed_base.specs.Lines.{IsLine};
+ghost use Rattle.std.specs.Prelude.{◌≡◌, ◌+◌, ◌<◌, ◌≤◌, ◌++◌, ℕ, List, [], ◌∷◌, true, false, count_by, length, insert, remove, slice_index_or, slice_set, IfOk, IfErr, OnOk, OnErr, IsOk};
+ghost use Rattle.ed_base.specs.Lines.{newline, IsLine};
 ghost use Rattle.ed_base.specs.Buffer.{Line, plain_line, marked_at, marked_place, flagged_at, flagged_place, AtMostOnce, KnowLetters, SharesNoLetter};
 ghost use Rattle.line_store.specs.Marks.{lettered};
 
 use crate::{Line, Marks};
-use ed_base::Letter;
+use ed_base::{Letter, Pieces};
 use std::alloc::{AllocError, Global};
 
 /// A list of lines, of which a letter marks one at most. Places count from 0.
@@ -29,6 +29,13 @@ pub trait LineStore: Drop {
         requires place { i < length (lines self.now) }
         ensures value { result.now ≡ (slice_index_or (lines self.now) i (plain_line [])).bytes }
         ensures line { IsLine result.now };
+
+    /// Appends a line's bytes and a newline. They are shared with the line as far as its block has them.
+    fn push_line(&self, i: usize, output: &mut Pieces) -> Result<(), AllocError>
+        requires place { i < length (lines self.now) }
+        ensures appended { OnOk result
+            (output.new ≡ output.old ++ ((slice_index_or (lines self.now) i (plain_line [])).bytes ++ newline ∷ [])) }
+        ensures line { IsLine (slice_index_or (lines self.now) i (plain_line [])).bytes };
 
     /// Makes room for `n` more lines.
     fn reserve(&mut self, n: usize) -> Result<(), AllocError>
