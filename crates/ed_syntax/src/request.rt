@@ -1,7 +1,7 @@
 //! What a run asks of the files outside, and what it is answered.
 ghost use Rattle.std.specs.Prelude.{◌≡◌, IfOk};
 
-use ed_base::Bytes;
+use ed_base::{Bytes, Pieces};
 use std::alloc::AllocError;
 
 /// What a run asks for. Paths are bytes.
@@ -10,7 +10,7 @@ pub enum Request {
     /// The bytes of the file at this path.
     Read(Bytes),
     /// That the file at this path has just these bytes.
-    Write(Bytes, Bytes),
+    Write(Bytes, Pieces),
 }
 
 /// What a request is answered. One that doesn't fit its request counts as `Refused`.
