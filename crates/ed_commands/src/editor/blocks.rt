@@ -9,7 +9,7 @@ ghost use Rattle.ed_commands.specs.Editors.{AreNew, place_beside, span_value};
 
 use crate::editor::addressing::Span;
 use crate::substitution::is_one_line;
-use ed_base::{Bytes, Text, join_lines};
+use ed_base::{Bytes, Pieces, Text, join_lines};
 use line_store::{FileLines, Line, LineStore};
 use std::alloc::{AllocError, Global};
 
@@ -20,23 +20,21 @@ pub fn new_lines(alloc: Global, texts: &Text) -> Result<Vec<Line>, AllocError>
     file_lines(alloc, join_lines(alloc, texts)?)
 }
 
-/// The bytes of a file that has the lines of a block. They are copied once.
+/// The bytes of a file that has the lines of a block. They are shared with the lines as far as these lie in blocks.
 pub fn file_of<S: LineStore>(
     alloc: Global,
     from: usize,
     to: usize,
     store: &S,
-) -> Result<Bytes, AllocError>
+) -> Result<Pieces, AllocError>
     requires order { from ≤ to }
     requires last { to ≤ length (S.lines store.now) }
     ensures value { IfOk result (λ bytes. bytes ≡ bytes_of (texts (block from to (S.lines store.now)))) }
     ensures lines { OnOk result (AreLines (texts (block from to (S.lines store.now)))) }
 {
-    let mut bytes = Bytes::new(alloc);
-    bytes.reserve(text_size(from, to, store).saturating_add(to - from))?;
+    let mut bytes = Pieces::new(alloc);
     for i in from..to {
-        bytes.extend_from_slice(store.text(i))?;
-        bytes.push(b'\n')?;
+        store.push_line(i, &mut bytes)?;
     }
     Ok(bytes)
 }
