@@ -5,13 +5,16 @@ ghost use Rattle.ed_session.specs.Seen.{log_seen};
 
 use crate::Outside;
 use crate::seen::{SeenAnswer, SeenBytes, SeenRequest};
-use ed_base::Bytes;
+use ed_base::{Bytes, Pieces};
 use ed_syntax::Answer;
 use std::alloc::{AllocError, Global};
 use std::fs::{File, OpenFile, OpenOptions};
 use std::io;
 use std::io::{ErrorKind, Read, Write};
 use std::rt::Files;
+
+// Pieces are gathered up to so many bytes, so that short ones don't cost a call of the system each.
+const GATHERED: usize = 1 << 16;
 
 /// An outside whose files are those of the system.
 ///
@@ -65,13 +68,13 @@ impl<R: Files<File = File> + Drop> Outside for DiskFiles<R> {
         Ok(answer)
     }
 
-    fn write(&mut self, path: &[u8], bytes: &[u8]) -> Result<Answer, AllocError> {
+    fn write(&mut self, path: &[u8], bytes: &Pieces) -> Result<Answer, AllocError> {
         self.log.reserve(1)?;
         let asked = SeenRequest::Write(
             SeenBytes::of(self.alloc, path)?,
-            SeenBytes::of(self.alloc, bytes)?,
+            SeenBytes::of_pieces(self.alloc, bytes)?,
         );
-        let answer = write_answer(&self.files, path, bytes)?;
+        let answer = write_answer(self.alloc, &self.files, path, bytes)?;
         let seen = SeenAnswer::of(self.alloc, &answer)?;
         self.log.push((asked, seen))?;
         if matches!(answer, Answer::Refused) {
@@ -109,21 +112,23 @@ fn read_file<R: Files>(alloc: Global, files: &R, path: &str) -> io::Result<Vec<u
 
 // What a write to a path is answered. Memory is asked for no later than by the opening, which changes no byte.
 fn write_answer<R: Files<File = File>>(
+    alloc: Global,
     files: &R,
     path: &[u8],
-    bytes: &[u8],
+    bytes: &Pieces,
 ) -> Result<Answer, AllocError>
     ensures done_or_refused { IfOk result (λ a. (a ≡ answer.Done) ⊎ (a ≡ answer.Refused)) }
 {
     let Ok(path) = str::from_utf8(path) else {
         return Ok(Answer::Refused);
     };
+    let gathered = Vec::with_capacity(alloc, bytes.len().min(GATHERED))?;
     match OpenOptions::new()
         .write(true)
         .create(true)
         .open(files, path)
     {
-        Ok(file) => match overwrite(file, bytes) {
+        Ok(file) => match overwrite(file, bytes, gathered) {
             Ok(()) => Ok(Answer::Done),
             Err(_) => Ok(Answer::Refused),
         },
@@ -134,11 +139,28 @@ fn write_answer<R: Files<File = File>>(
 
 // Gives an open file just these bytes. They are synced, since a disk that can't take them may say so only then, and closing a file
 // tells nothing. What isn't a file on a disk, as a pipe or a terminal, has nothing to be cut off or synced.
-fn overwrite(mut file: File, bytes: &[u8]) -> io::Result<()> {
-    file.write_all(bytes)?;
+fn overwrite(mut file: File, bytes: &Pieces, gathered: Vec<u8>) -> io::Result<()> {
+    write_pieces(&mut file, bytes, gathered)?;
     if file.metadata()?.is_file() {
         file.set_len(bytes.len() as u64)?;
         file.sync_all()?;
     }
     Ok(())
+}
+
+// Writes all bytes, the short pieces gathered in the room of a vector, and a piece that is longer than that by itself.
+fn write_pieces(file: &mut File, bytes: &Pieces, mut gathered: Vec<u8>) -> io::Result<()> {
+    let mut walk = bytes.walk();
+    'pieces: while let Some(piece) = walk.next_piece() {
+        if piece.len() > gathered.capacity() - gathered.len() {
+            file.write_all(gathered.as_slice())?;
+            gathered.clear();
+        }
+        if piece.len() > gathered.capacity() {
+            file.write_all(piece)?;
+        } else {
+            gathered.extend_from_slice(piece)?;
+        }
+    }
+    file.write_all(gathered.as_slice())
 }

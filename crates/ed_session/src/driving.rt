@@ -23,7 +23,7 @@ fn ask<O: Outside>(outside: &mut O, request: &Request) -> Result<Answer, AllocEr
 {
     match request {
         Request::Read(path) => outside.read(path.as_slice()),
-        Request::Write(path, bytes) => outside.write(path.as_slice(), bytes.as_slice()),
+        Request::Write(path, bytes) => outside.write(path.as_slice(), bytes),
     }
 }
 

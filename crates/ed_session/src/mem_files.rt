@@ -6,7 +6,7 @@ ghost use Rattle.ed_session.specs.KeptAnswers.{AllWithin, place_of, answer_of, f
 
 use crate::Outside;
 use crate::kept::KeptAnswer;
-use ed_base::Bytes;
+use ed_base::{Bytes, Pieces};
 use ed_syntax::{Answer, Request};
 use std::alloc::{AllocError, Global};
 
@@ -154,7 +154,7 @@ impl Outside for MemFiles {
         Ok(answer)
     }
 
-    fn write(&mut self, path: &[u8], bytes: &[u8]) -> Result<Answer, AllocError>
+    fn write(&mut self, path: &[u8], bytes: &Pieces) -> Result<Answer, AllocError>
         ensures logged { IfOk result (λ a.
             log_of self.new ≡ log_of self.old ++ (request.Write path.now bytes.now, a) ∷ []) }
         ensures unchanged { OnErr result
@@ -173,7 +173,7 @@ impl Outside for MemFiles {
         self.log.reserve(1)?;
         let asked = Request::Write(
             Bytes::from_slice(self.alloc, path)?,
-            Bytes::from_slice(self.alloc, bytes)?,
+            Pieces::from_bytes(self.alloc, bytes.to_bytes(self.alloc)?),
         );
         if self.refuses() {
             self.log.push((asked, KeptAnswer::Refused))?;
@@ -181,7 +181,7 @@ impl Outside for MemFiles {
             return Ok(Answer::Refused);
         }
         let name = Bytes::from_slice(self.alloc, path)?;
-        let held = Bytes::from_slice(self.alloc, bytes)?;
+        let held = bytes.to_bytes(self.alloc)?;
         self.files.insert(0, (name, held))?;
         self.log.push((asked, KeptAnswer::Done))?;
         Ok(Answer::Done)

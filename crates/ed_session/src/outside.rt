@@ -6,6 +6,7 @@ ghost use Rattle.ed_syntax.specs.declared.request.Request.{Request};
 ghost use Rattle.ed_syntax.specs.declared.request.Request.TheVariants as request;
 ghost use Rattle.ed_session.specs.Drives.{Log};
 
+use ed_base::Pieces;
 use ed_syntax::Answer;
 use std::alloc::AllocError;
 
@@ -33,7 +34,7 @@ pub trait Outside {
         ensures not_done { IfOk result (λ a. a ≢ answer.Done) };
 
     /// Gives the file at a path just these bytes, or says that it can't be written.
-    fn write(&mut self, path: &[u8], bytes: &[u8]) -> Result<Answer, AllocError>
+    fn write(&mut self, path: &[u8], bytes: &Pieces) -> Result<Answer, AllocError>
         ensures logged { IfOk result (λ a.
             log self.new ≡ log self.old ++ (request.Write path.now bytes.now, a) ∷ []) }
 

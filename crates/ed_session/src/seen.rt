@@ -1,6 +1,7 @@
 //! Requests and answers that only clauses see, for a log that keeps no copy of a file.
 ghost use Rattle.std.specs.Prelude.{◌≡◌, IfOk};
 
+use ed_base::Pieces;
 use ed_syntax::Answer;
 use std::alloc::{AllocError, Global};
 use std::marker::Model;
@@ -27,6 +28,18 @@ impl SeenBytes {
         let mut items = Vec::new(alloc);
         'bytes: for byte in bytes {
             items.push(Snapshot::of(byte))?;
+        }
+        Ok(SeenBytes { items })
+    }
+
+    pub(crate) fn of_pieces(alloc: Global, bytes: &Pieces) -> Result<SeenBytes, AllocError>
+        ensures value { IfOk result (λ seen. seen ≡ bytes.now) }
+    {
+        let mut items = Vec::new(alloc);
+        let mut walk = bytes.walk();
+        'pieces: while let Some(piece) = walk.next_piece() {
+            let SeenBytes { items: mut more } = SeenBytes::of(alloc, piece)?;
+            items.append(&mut more)?;
         }
         Ok(SeenBytes { items })
     }

@@ -12,7 +12,7 @@ use crate::counts::{length_counted, with_count};
 use crate::modes::Modes;
 use crate::phase::Phase;
 use crate::reports::Reports;
-use ed_base::{Bytes, Fault};
+use ed_base::{Bytes, Fault, Pieces};
 use ed_commands::{Editor, Reply};
 use ed_syntax::{Answer, Ending, Options, Request, Script};
 use line_store::LineStore;
@@ -26,7 +26,7 @@ pub enum Ask {
     /// It waits for the answer to a read of this path.
     Read(Bytes),
     /// It waits for the answer to a write of these bytes to this path.
-    Write(Bytes, Bytes),
+    Write(Bytes, Pieces),
     /// At least one byte of output.
     Output(Bytes),
     /// How the run ended.
