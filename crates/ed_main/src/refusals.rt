@@ -1,7 +1,7 @@
 //! What was refused outside, as a person reads it: a file, standard input, standard output. No clause speaks of these lines.
 ghost use Rattle.std.specs.Prelude.{◌≡◌};
 
-use ed_base::{Bytes, Fault};
+use ed_base::{Bytes, Fault, Pieces};
 use ed_session::Outside;
 use ed_syntax::Answer;
 use std::alloc::{AllocError, Global};
@@ -102,7 +102,7 @@ impl<O: Outside + Drop> Outside for Watched<O> {
         Ok(answer)
     }
 
-    fn write(&mut self, path: &[u8], bytes: &[u8]) -> Result<Answer, AllocError> {
+    fn write(&mut self, path: &[u8], bytes: &Pieces) -> Result<Answer, AllocError> {
         let answer = self.files.write(path, bytes)?;
         if matches!(answer, Answer::Refused) {
             self.refusal = Some(Refusal::new(self.alloc, path, Wrong::Unwritten));
