@@ -1,4 +1,6 @@
-//! Lines of a file, lines of their own bytes, and copies of stores: that calls succeed.
+//! Lines of a file, lines of their own bytes, lines that come into stores, and copies of stores: that calls succeed.
+ghost use Rattle.ed_base.specs.Lines.{IsLine};
+
 use crate::expected::{letter, texts};
 use ed_base::Bytes;
 use ed_commands::Editor;
@@ -87,4 +89,49 @@ fn a_copy_of_a_store_keeps_its_lines_and_letters(rt: HostRuntime) -> Result<(), 
     check_copy::<PlainStore>(&rt, rt.alloc())?;
     check_copy::<GapStore>(&rt, rt.alloc())?;
     check_copy::<ChunkStore>(&rt, rt.alloc())
+}
+
+// Puts a new line of these bytes before a place.
+fn put<S: LineStore>(alloc: Global, store: &mut S, place: usize, bytes: &[u8]) -> Result<(), Fail>
+    requires line { IsLine bytes.now }
+{
+    if place > store.len() {
+        return Err(Fail::new("no such place"));
+    }
+    match store.put(place, Line::new(alloc, bytes)?) {
+        Ok(()) => Ok(()),
+        Err(_) => Err(Fail::new("the line was handed back")),
+    }
+}
+
+// Lines come in before the first line, behind the last and between, and the first one goes.
+fn check_places<S: LineStore>(rt: &impl Abort, alloc: Global) -> Result<(), Fail> {
+    let mut store = S::empty(alloc)?;
+    put(alloc, &mut store, 0, b"a")?;
+    put(alloc, &mut store, 1, b"b")?;
+    put(alloc, &mut store, 2, b"c")?;
+    put(alloc, &mut store, 0, b"x")?;
+    put(alloc, &mut store, 4, b"y")?;
+    put(alloc, &mut store, 2, b"z")?;
+    assert_eq!(rt;
+        texts(alloc, &store)?.as_slice(),
+        b"x\na\nz\nb\nc\ny\n".as_slice()
+    );
+    if store.len() == 0 {
+        return Err(Fail::new("no line came in"));
+    }
+    let taken = store.take(0);
+    assert_eq!(rt; taken.bytes(), b"x".as_slice());
+    assert_eq!(rt;
+        texts(alloc, &store)?.as_slice(),
+        b"a\nz\nb\nc\ny\n".as_slice()
+    );
+    Ok(())
+}
+
+#[test]
+fn lines_come_in_at_either_end_and_between(rt: HostRuntime) -> Result<(), Fail> {
+    check_places::<PlainStore>(&rt, rt.alloc())?;
+    check_places::<GapStore>(&rt, rt.alloc())?;
+    check_places::<ChunkStore>(&rt, rt.alloc())
 }
