@@ -18,6 +18,7 @@ pub mod Chosen
 pub mod Unambiguous
 pub mod OneText
 pub mod Limited
+pub mod Skipped
 pub mod Cutting
 pub mod Codes
 pub mod ReadWords

@@ -237,3 +237,16 @@ unsaid-at built new place x y b l is_x is_y is h k low high =
 pub put-size : (built new : Bounds) (x y : ℕ) (b : Option ℤ) → new ≡ after_put built x y b → length new ≡ 1024
 unfolding after_put
 put-size built new x y b is = ap (λ (z : Bounds). length z) is ∙ length-zone_by (put_bound built x y b)
+
+-- where a text speaks of two names first, this is their place
+abbrev pub PlaceIsSaid : (said : ℕ) (text : List ℕ) → Type 0
+PlaceIsSaid said text =
+    (x y : ℕ) → x < 32 → y < 32 → IsNamed x → IsNamed y → (number : ℤ) (words : List Word) →
+    (space ∷ said_word x y number) ++ spaced words ≡ text → said ≡ 32 * x + y
+
+-- of each other place it says nothing first
+pub unsaid-here : (said place : ℕ) (text : List ℕ) → place < 1024 → place ≢ said → PlaceIsSaid said text →
+    Unsaid (place / 32) (place % 32) text
+unsaid-here said place text l apart h hx hy number words hs e =
+    let at = h (place / 32) (place % 32) (omega arith) (omega arith) hx hy number words e in
+    apart (sym (at ∙ row-column place))

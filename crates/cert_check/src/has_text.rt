@@ -2,6 +2,7 @@
 
 ghost use Rattle.std.specs.Prelude.{◌≡◌, ◌<◌, ◌↔◌, ◌&&◌, ◌||◌, is_some, true, Some, IsTrue, All, length, map, option_map};
 ghost use Rattle.std.specs.Ordering.{is_lt};
+ghost use Rattle.zones.specs.Limits.{IsZone};
 ghost use Rattle.ed_rules.specs.Choices.{order_of};
 ghost use Rattle.cert_check.specs.Certificates.{looped_value, note_value, certificate_value};
 ghost use Rattle.ed_rules.specs.Formed.{has_name, may_say, ZoneIsFormed, OldIsFormed, ChoiceIsBytes, is_rising, SetIsFormed, StateIsFormed};
@@ -40,16 +41,30 @@ pub(crate) fn letters_are_counted(marks: &Marks)
     let _first = marks.is_sure(0);
 }
 
+/// A zone has 1024 bounds, and keeps each.
+pub(crate) fn zone_is_formed(zone: &Zone)
+    ensures is_zone { IsZone zone.now }
+{
+    let _first = zone.bound(Name::ZERO, Name::ZERO);
+}
+
 pub(crate) fn zone_has_text(marks: &Marks, zone: &Zone) -> bool
     ensures exact { IsTrue result ↔ ZoneIsFormed marks.now zone.now }
 {
     letters_are_counted(marks);
+    zone_is_formed(zone);
+    // A bound that isn't known may be said.
+    let mut next = zone.next_known(0);
     for place in 0..1024 {
+        if place != next {
+            continue;
+        }
         let x = Name::from_place(place / 32);
         let y = Name::from_place(place % 32);
         if !may_say(marks, x, y, zone.bound(x, y)) {
             return false;
         }
+        next = zone.next_known(place + 1);
     }
     true
 }

@@ -4,6 +4,7 @@ ghost use Rattle.std.specs.Prelude.{◌≡◌, ◌++◌, ◌∷◌, ◌<◌, Som
 ghost use Rattle.std.specs.Fmt.{signed_decimal};
 ghost use Rattle.cert_check.specs.Text.{space, spaced, name_word, bound_words, bounds_words, letter_a, sure_letters, letters_words, hexadecimal, is_itself, byte_text, choice_word, possible, limit_word};
 
+use crate::has_text::zone_is_formed;
 use ed_base::{Bytes, push_number};
 use ed_rules::Marks;
 use std::alloc::AllocError;
@@ -63,10 +64,17 @@ fn push_bound(out: &mut Bytes, x: Name, y: Name, bound: Option<i64>) -> Result<(
 pub(crate) fn push_zone(out: &mut Bytes, zone: &Zone) -> Result<(), AllocError>
     ensures appended { OnOk result (out.new ≡ out.old ++ spaced (bounds_words 0 zone.now)) }
 {
+    zone_is_formed(zone);
+    // Of a bound that isn't known nothing is written.
+    let mut next = zone.next_known(0);
     for place in 0..1024 {
+        if place != next {
+            continue;
+        }
         let x = Name::from_place(place / 32);
         let y = Name::from_place(place % 32);
         push_bound(out, x, y, zone.bound(x, y))?;
+        next = zone.next_known(place + 1);
     }
     Ok(())
 }

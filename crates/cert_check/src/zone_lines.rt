@@ -1,6 +1,6 @@
 //! The lines of a zone and of its letters, as they are read.
 
-ghost use Rattle.std.specs.Prelude.{◌≡◌, ◌≢◌, ◌<◌, ◌++◌, ◌∷◌, ℕ, ℤ, List, Bool, [], true, IsTrue, ◌↔◌, MatchOption, IfOk, length};
+ghost use Rattle.std.specs.Prelude.{◌≡◌, ◌≢◌, ◌<◌, ◌≤◌, ◌+◌, ◌*◌, ◌++◌, ◌∷◌, ℕ, ℤ, List, Bool, [], true, IsTrue, ◌↔◌, MatchOption, IfOk, length};
 ghost use Rattle.zones.specs.Zone.{Bounds};
 ghost use Rattle.ed_rules.specs.Formed.{ZoneIsFormed};
 ghost use Rattle.cert_check.specs.Text.{Word, space, spaced, name_word, bounds_words, letter_a, sure_letters, letters_words, zone_line, marks_line};
@@ -127,6 +127,31 @@ fn bound_in(x: Name, y: Name, text: &[u8]) -> Option<(i64, &[u8])>
     Some((number, left))
 }
 
+/// The place of the name that a byte stands for, and 1024 of a byte that stands for none.
+fn name_said(byte: u8) -> usize
+    ensures named { (place : ℕ) → IsNamed place → place < 32 → name_word place ≡ byte ∷ [] → result ≡ place }
+    ensures few { result ≤ 1024 }
+{
+    match byte {
+        b'0' => 0,
+        b'.' => 1,
+        b'$' => 2,
+        b'a'..=b'z' => 6 + usize::from(byte - b'a'),
+        _ => 1024,
+    }
+}
+
+/// The place of the two names of which a text speaks first, and at least 1024 where it speaks of none.
+fn place_said(text: &[u8]) -> usize
+    ensures said { (x y : ℕ) → x < 32 → y < 32 → IsNamed x → IsNamed y → (number : ℤ) (words : List Word) →
+        (space ∷ said_word x y number) ++ spaced words ≡ text.now → result ≡ 32 * x + y }
+{
+    let [_, x, _, y, ..] = text else {
+        return 1024;
+    };
+    32 * name_said(*x) + name_said(*y)
+}
+
 /// The only zone that can be said by a text.
 fn zone_said(text: &[u8]) -> Zone
     ensures only { (zone : Bounds) → ZoneIsFormed all_marks zone → spaced (bounds_words 0 zone) ≡ text.now →
@@ -134,7 +159,11 @@ fn zone_said(text: &[u8]) -> Zone
 {
     let mut zone = Zone::any();
     let mut left = text;
+    let mut said = place_said(left);
     for place in 0..1024 {
+        if place != said {
+            continue;
+        }
         let x = Name::from_place(place / 32);
         let y = Name::from_place(place % 32);
         let Some((number, later)) = bound_in(x, y, left) else {
@@ -142,6 +171,7 @@ fn zone_said(text: &[u8]) -> Zone
         };
         zone.put(x, y, Some(number));
         left = later;
+        said = place_said(left);
     }
     zone
 }

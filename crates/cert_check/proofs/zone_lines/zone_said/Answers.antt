@@ -1,8 +1,8 @@
-use Rattle.std.proofs.Common.{◌≡◌, ℕ, ℤ, length, Some, arith, ◌∙◌, ap, subst, w64}
+use Rattle.std.proofs.Common.{◌≡◌, ◌/◌, ◌%◌, ℕ, ℤ, length, Some, arith, refl, ◌∙◌, ap, subst, w64}
 use Rattle.std.proofs.lemmas.Int.{to_z-of_z}
 use Rattle.zones.specs.Steps.{after_put}
 use Rattle.zones.specs.Zone.{Bounds}
-use Rattle.cert_check.proofs.ReadZone.{bound_at, SoFar, so-far-none, none-said, any-size, silent-at, spoken-at, unsaid-at, put-size, all-read}
+use Rattle.cert_check.proofs.ReadZone.{bound_at, SoFar, so-far-none, none-said, any-size, silent-at, spoken-at, unsaid-at, unsaid-here, put-size, all-read}
 use Rattle.cert_check.proofs.zone_lines.zone_said.Goals as goal
 
 pub loop-place-init : goal.loop-place-init
@@ -12,6 +12,21 @@ loop-place-init c =
       same = λ z h e. so-far-none z c.any-zone.result c.args.text.now e;
       unsaid = λ k l m. ap (λ (b : Bounds). bound_at b k) is ∙ none-said k m;
       size = ap (λ (b : Bounds). length b) is ∙ any-size;
+      said = c.place_said-said.ensures.said;
+    }
+
+pub loop-place-preserved-then-place-said : goal.loop-place-preserved-then-place-said
+loop-place-preserved-then-place-said c =
+    let before = c.loop-place.invariant in
+    let place = c.loop-place.place in
+    record {
+      same = λ z h e.
+          silent-at z c.loop-place.zone place c.loop-place.left.now (place / 32) (place % 32) (omega arith) h
+          (before.unsaid place (omega arith) (omega arith)) refl refl
+          (unsaid-here c.loop-place.said place c.loop-place.left.now (omega arith) c.if-place-said.true before.said) (before.same z h e);
+      unsaid = λ k l m. before.unsaid k (omega arith) m;
+      size = before.size;
+      said = before.said;
     }
 
 pub loop-place-preserved-in_default : goal.loop-place-preserved-in_default
@@ -24,6 +39,7 @@ loop-place-preserved-in_default c =
           c.from_place-x.ensures.value c.from_place-y.ensures.value c.in_default.ensures.exact (before.same z h e);
       unsaid = λ k l m. before.unsaid k (omega arith) m;
       size = before.size;
+      said = before.said;
     }
 
 pub loop-place-preserved : goal.loop-place-preserved
@@ -42,6 +58,7 @@ loop-place-preserved c =
           c.from_place-x.ensures.value c.from_place-y.ensures.value put c.in-Some.ensures.exact (before.same z h e);
       unsaid = unsaid-at built c.put.new.self place x y (Some number) (omega arith) c.from_place-x.ensures.value c.from_place-y.ensures.value put before.unsaid;
       size = put-size built c.put.new.self x y (Some number) put;
+      said = c.place_said-said-in-loop-place.ensures.said;
     }
 
 pub returns : goal.returns

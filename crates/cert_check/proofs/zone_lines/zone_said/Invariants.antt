@@ -5,7 +5,7 @@ use Rattle.zones.specs.Steps.{any_bound}
 use Rattle.ed_rules.specs.Formed.{ZoneIsFormed}
 use Rattle.cert_check.specs.Text.{spaced, bounds_words}
 use Rattle.cert_check.specs.Reading.{all_marks}
-use Rattle.cert_check.proofs.ReadZone.{SoFar}
+use Rattle.cert_check.proofs.ReadZone.{SoFar, PlaceIsSaid}
 use Rattle.cert_check.proofs.zone_lines.zone_said.Given as goal
 
 abbrev pub invariant-loop-place : goal.invariant-loop-place
@@ -13,4 +13,5 @@ invariant-loop-place l = record {
   same : (zone : Bounds) → ZoneIsFormed all_marks zone → spaced (bounds_words 0 zone) ≡ l.text → SoFar zone l.zone l.place l.left;
   unsaid : (k : ℕ) → l.place ≤ k → k < 1024 → bound l.zone (k / 32) (k % 32) ≡ any_bound (k / 32) (k % 32);
   size : length l.zone ≡ 1024;
+  said : PlaceIsSaid l.said l.left;
 }
