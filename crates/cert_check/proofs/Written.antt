@@ -44,6 +44,10 @@ replacements-written o p a b c q r is_p is_a is_b is_c is_q =
     key-line o p c q (codes "replacements") (none ++ plain ++ split) is_p
     (then-words p b c (none ++ plain) split (then-words p a b none plain is_a is_b) is_c) is_q
 
+-- what is written of a value is written of the same value
+pub same-written : {A : Type 0} (f : A → List Line) (o n : List ℕ) (x y : A) → x ≡ y → n ≡ o ++ lines_text (f x) → n ≡ o ++ lines_text (f y)
+same-written {A} f o n x y same is = is ∙ ap (λ (v : A). o ++ lines_text (f v)) same
+
 pub state-written : (o a b c d e f g h : List ℕ) (s : State) →
     a ≡ o ++ lines_text (zone_line (codes "zone") s.zone ∷ []) → b ≡ a ++ lines_text (marks_line (codes "marks") s.marks ∷ []) →
     c ≡ b ++ lines_text (choices_line (codes "patterns") s.patterns ∷ []) → d ≡ c ++ lines_text (replacements_line s.replacements ∷ []) →

@@ -109,12 +109,30 @@ fn push_headed(out: &mut Bytes, head: &[u8], state: &State) -> Result<(), AllocE
     Ok(())
 }
 
-/// The same of a state that a note keeps.
+/// A state that a note keeps. Its parts are asked for one by one, since the whole state would take memory.
+fn push_kept_state(out: &mut Bytes, kept: &KeptState) -> Result<(), AllocError>
+    ensures appended { OnOk result (out.new ≡ out.old ++ lines_text (state_lines kept.now)) }
+{
+    push_zone_line(out, b"zone", &kept.zone())?;
+    push_marks_line(out, b"marks", kept.marks())?;
+    push_choices_line(out, b"patterns", kept.patterns())?;
+    push_replacements_line(out, kept.replacements())?;
+    push_choices_line(out, b"names", kept.names())?;
+    push_changed_line(out, kept.changed())?;
+    let undo = kept.undo();
+    push_undo_line(out, &undo)?;
+    push_old(out, &undo.was)?;
+    Ok(())
+}
+
+/// The same after a line of one word.
 fn push_kept(out: &mut Bytes, head: &[u8], kept: &KeptState) -> Result<(), AllocError>
     ensures appended { OnOk result (out.new ≡ out.old ++ lines_text (headed_lines head.now kept.now)) }
 {
-    let state = kept.state()?;
-    push_headed(out, head, &state)
+    out.extend_from_slice(head)?;
+    out.push(b'\n')?;
+    push_kept_state(out, kept)?;
+    Ok(())
 }
 
 fn push_inner(out: &mut Bytes, states: &[KeptState]) -> Result<(), AllocError>

@@ -1,0 +1,31 @@
+use Rattle.std.proofs.Common.{◌∷◌, []}
+use Rattle.std.specs.Prelude.{codes}
+use Rattle.cert_check.specs.Text.{zone_line, marks_line, choices_line, replacements_line, changed_line, undo_line, old_lines}
+use Rattle.cert_check.proofs.Written.{same-written, state-written}
+use Rattle.cert_check.proofs.writing.push_kept_state.Goals as goal
+
+pub returns : goal.returns
+returns c =
+    let kept = c.args.kept.now in
+    record {
+      appended =
+          state-written c.args.out.now c.push_zone_line.new.out c.push_marks_line.new.out c.push_choices_line.new.out
+          c.push_replacements_line.new.out c.push_choices_line-2.new.out c.push_changed_line.new.out
+          c.push_undo_line.new.out c.push_old.new.out kept
+          (same-written (λ z. zone_line (codes "zone") z ∷ []) _ _ c.zone.result kept.zone c.zone.ensures.value
+          c.in_ok-push_zone_line.ensures.appended)
+          (same-written (λ m. marks_line (codes "marks") m ∷ []) _ _ c.marks.result.now kept.marks c.marks.ensures.value
+          c.in_ok-push_marks_line.ensures.appended)
+          (same-written (λ s. choices_line (codes "patterns") s ∷ []) _ _ c.patterns.result.now kept.patterns c.patterns.ensures.value
+          c.in_ok-push_choices_line.ensures.appended)
+          (same-written (λ r. replacements_line r ∷ []) _ _ c.replacements.result kept.replacements c.replacements.ensures.value
+          c.in_ok-push_replacements_line.ensures.appended)
+          (same-written (λ s. choices_line (codes "names") s ∷ []) _ _ c.names.result.now kept.names c.names.ensures.value
+          c.in_ok-push_choices_line-2.ensures.appended)
+          (same-written (λ d. changed_line d ∷ []) _ _ c.changed.result kept.changed c.changed.ensures.value
+          c.in_ok-push_changed_line.ensures.appended)
+          (same-written (λ u. undo_line u ∷ []) _ _ c.undo-undo.result kept.undo c.undo-undo.ensures.value
+          c.in_ok-push_undo_line.ensures.appended)
+          (same-written (λ u. old_lines u.was) _ _ c.undo-undo.result kept.undo c.undo-undo.ensures.value
+          c.in_ok-push_old.ensures.appended);
+    }
