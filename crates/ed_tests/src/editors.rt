@@ -1,6 +1,6 @@
 //! An editor between two commands: an address is evaluated, and a file is loaded.
 use crate::expected::texts;
-use ed_base::{Bytes, Fault};
+use ed_base::{Bytes, Fault, Pieces};
 use ed_commands::{Editor, Reply};
 use ed_syntax::{Address, Answer, Base, Command, Pattern, Request, read_script};
 use line_store::{LineStore, PlainStore};
@@ -60,7 +60,7 @@ fn loaded(alloc: Global) -> Result<Editor<PlainStore>, Fail> {
 fn writes(alloc: Global, path: &[u8], lines: &[u8]) -> Result<Reply, AllocError> {
     Ok(Reply::Wants(Request::Write(
         Bytes::from_slice(alloc, path)?,
-        Bytes::from_slice(alloc, lines)?,
+        Pieces::from_bytes(alloc, Bytes::from_slice(alloc, lines)?),
     )))
 }
 

@@ -10,6 +10,8 @@ mod editors;
 #[cfg(test)]
 mod expected;
 #[cfg(test)]
+mod pieces;
+#[cfg(test)]
 mod scripts;
 #[cfg(test)]
 mod stores;
