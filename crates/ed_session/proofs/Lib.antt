@@ -1,5 +1,6 @@
 mod KeptLemmas
 pub mod Taken
+mod Left
 mod Stepping
 mod Logs
 pub mod Leading

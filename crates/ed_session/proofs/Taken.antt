@@ -1,5 +1,5 @@
 -- Bytes that a sink took, one piece after another.
-use Rattle.std.proofs.Common.{◌≡◌, ℕ, ◌+◌, ◌-◌, ◌<◌, ◌≤◌, List, [], ◌∷◌, ◌++◌, Option, Some, None, take, drop, length, length-drop, ◌≢◌, sym, refl, ap, ◌∙◌, arith, append_assoc}
+use Rattle.std.proofs.Common.{◌≡◌, ℕ, ◌+◌, ◌-◌, ◌<◌, ◌≤◌, List, [], ◌∷◌, ◌++◌, Option, Some, None, take, drop, length, length-drop, ◌≢◌, sym, refl, ap, ◌∙◌, arith, append_assoc, append-nil, subst}
 use Rattle.std.specs.Io.KnownBytes.{Appends, Keeps}
 use Rattle.std.proofs.lemmas.Grind.{common_steps}
 use Rattle.std.proofs.lemmas.List.{take-take, drop-take, take-append-drop}
@@ -40,3 +40,38 @@ pub take-next : (bs : List ℕ) (i n : ℕ) → i ≤ length bs → n ≤ length
 take-next bs i n h k =
     sym (take-append-drop i (take (i + n) bs))
     ∙ rw (take-take i (i + n) bs (omega arith), drop-take i n bs, take-take n (length bs - i) (drop i bs) k) refl
+
+-- all bytes but those that are left were taken
+pub record TakenUpTo (old new : Option (List ℕ)) (bytes left : List ℕ) : Type 0 where
+  pub done : List ℕ
+  pub whole : bytes ≡ done ++ left
+  pub taken : Appends old new done
+
+-- nothing was taken yet
+pub up-to-none : (a : Option (List ℕ)) (bytes left : List ℕ) → left ≡ bytes → TakenUpTo a a bytes left
+up-to-none a bytes left e = record { done = []; whole = sym e; taken = Appends-none a }
+
+-- a chunk more was taken
+pub up-to-more : (a b c : Option (List ℕ)) (bytes left chunk rest : List ℕ) → TakenUpTo a b bytes left → left ≡ chunk ++ rest → Appends b c chunk →
+    TakenUpTo a c bytes rest
+up-to-more a b c bytes left chunk rest before e more = record {
+  done = before.done ++ chunk;
+  whole = before.whole ∙ ap (λ l. before.done ++ l) e ∙ sym (append_assoc before.done chunk rest);
+  taken = Appends-more a b c before.done chunk before.taken more;
+}
+
+-- all bytes were taken
+pub up-to-all : (a b : Option (List ℕ)) (bytes left : List ℕ) → TakenUpTo a b bytes left → left ≡ [] → Appends a b bytes
+up-to-all a b bytes left up e =
+    let all : up.done ≡ bytes = sym (append-nil up.done) ∙ ap (λ l. up.done ++ l) (sym e) ∙ sym up.whole in
+    subst (Appends a b) all up.taken
+
+-- a front of the next chunk was taken, and not all of it
+pub up-to-part : (a b c : Option (List ℕ)) (bytes left chunk rest : List ℕ) → TakenUpTo a b bytes left → left ≡ chunk ++ rest →
+    AppendsFront b c chunk → AppendsFront a c bytes
+up-to-part a b c bytes left chunk rest before e part =
+    let front = part.0 in
+    let more = part.1.0 in
+    let whole : bytes ≡ (before.done ++ front) ++ (more ++ rest) =
+    before.whole ∙ ap (λ l. before.done ++ l) (e ∙ ap (λ l. l ++ rest) part.1.1 ∙ append_assoc front more rest) ∙ sym (append_assoc before.done front (more ++ rest)) in
+    (before.done ++ front, (more ++ rest, whole, some-more more rest part.1.2), Appends-more a b c before.done front before.taken part.2)

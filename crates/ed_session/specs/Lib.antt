@@ -9,6 +9,7 @@ pub mod MemSinks
 pub mod KeptAnswers
 -- what serves clauses inside the crate
 pub mod Seen
+pub mod Chunks
 pub mod Agendas
 pub mod Insides
 pub mod Turns

@@ -1,9 +1,11 @@
 //! Files on a disk, whose calls are logged.
-ghost use Rattle.std.specs.Prelude.{◌≡◌, ◌≢◌, ◌≤◌, ◌⊎◌, [], length, IfOk};
+ghost use Rattle.std.specs.Prelude.{◌≡◌, ◌≢◌, ◌≤◌, ◌⊎◌, [], length, IfOk, OnOk};
+ghost use Rattle.std.specs.Io.KnownBytes.{Appends};
 ghost use Rattle.ed_syntax.specs.declared.request.Answer.TheVariants as answer;
 ghost use Rattle.ed_session.specs.Seen.{log_seen};
 
 use crate::Outside;
+use crate::chunks::{Chunks, ROOM};
 use crate::seen::{SeenAnswer, SeenBytes, SeenRequest};
 use ed_base::{Bytes, Pieces};
 use ed_syntax::Answer;
@@ -12,9 +14,6 @@ use std::fs::{File, OpenFile, OpenOptions};
 use std::io;
 use std::io::{ErrorKind, Read, Write};
 use std::rt::Files;
-
-// Pieces are gathered up to so many bytes, so that short ones don't cost a call of the system each.
-const GATHERED: usize = 1 << 16;
 
 /// An outside whose files are those of the system.
 ///
@@ -122,13 +121,13 @@ fn write_answer<R: Files<File = File>>(
     let Ok(path) = str::from_utf8(path) else {
         return Ok(Answer::Refused);
     };
-    let gathered = Vec::with_capacity(alloc, bytes.len().min(GATHERED))?;
+    let room = Vec::with_capacity(alloc, bytes.len().min(ROOM))?;
     match OpenOptions::new()
         .write(true)
         .create(true)
         .open(files, path)
     {
-        Ok(file) => match overwrite(file, bytes, gathered) {
+        Ok(file) => match overwrite(file, bytes, room) {
             Ok(()) => Ok(Answer::Done),
             Err(_) => Ok(Answer::Refused),
         },
@@ -139,8 +138,8 @@ fn write_answer<R: Files<File = File>>(
 
 // Gives an open file just these bytes. They are synced, since a disk that can't take them may say so only then, and closing a file
 // tells nothing. What isn't a file on a disk, as a pipe or a terminal, has nothing to be cut off or synced.
-fn overwrite(mut file: File, bytes: &Pieces, gathered: Vec<u8>) -> io::Result<()> {
-    write_pieces(&mut file, bytes, gathered)?;
+fn overwrite(mut file: File, bytes: &Pieces, room: Vec<u8>) -> io::Result<()> {
+    write_pieces(&mut file, bytes, room)?;
     if file.metadata()?.is_file() {
         file.set_len(bytes.len() as u64)?;
         file.sync_all()?;
@@ -148,19 +147,13 @@ fn overwrite(mut file: File, bytes: &Pieces, gathered: Vec<u8>) -> io::Result<()
     Ok(())
 }
 
-// Writes all bytes, the short pieces gathered in the room of a vector, and a piece that is longer than that by itself.
-fn write_pieces(file: &mut File, bytes: &Pieces, mut gathered: Vec<u8>) -> io::Result<()> {
-    let mut walk = bytes.walk();
-    'pieces: while let Some(piece) = walk.next_piece() {
-        if piece.len() > gathered.capacity() - gathered.len() {
-            file.write_all(gathered.as_slice())?;
-            gathered.clear();
-        }
-        if piece.len() > gathered.capacity() {
-            file.write_all(piece)?;
-        } else {
-            gathered.extend_from_slice(piece)?;
-        }
+// Writes all bytes, short pieces gathered in the capacity of a vector.
+fn write_pieces<W: Write>(writer: &mut W, bytes: &Pieces, room: Vec<u8>) -> io::Result<()>
+    ensures written { OnOk result (Appends (W.contents writer.old) (W.contents writer.new) bytes.now) }
+{
+    let mut chunks = Chunks::new(bytes, room);
+    'chunks: while let Some(chunk) = chunks.next_chunk() {
+        writer.write_all(chunk)?;
     }
-    file.write_all(gathered.as_slice())
+    Ok(())
 }

@@ -2,6 +2,7 @@
 #![tactic(auto)]
 
 mod agenda;
+mod chunks;
 mod counts;
 mod disk_files;
 mod driving;
