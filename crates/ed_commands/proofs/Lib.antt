@@ -11,5 +11,6 @@ pub mod Ranges
 pub mod Rewritten
 pub mod Searching
 pub mod Scanning
+pub mod Substituting
 pub mod Texts
 pub mod Undoing

@@ -24,7 +24,7 @@ mod searching;
 mod substituting;
 mod undoing;
 
-use ed_base::{Bytes, Fault};
+use ed_base::{Bytes, Fault, Pieces};
 use ed_syntax::{Answer, Command, Pattern, Replacement, Request};
 use files::asks;
 pub use globals::Begun;
@@ -38,7 +38,7 @@ use std::marker::Model;
 #[derive(Debug, PartialEq, Eq, Drop)]
 pub enum Reply {
     /// What it wrote.
-    Done(Bytes),
+    Done(Pieces),
     /// The file that it needs first.
     Wants(Request),
 }
@@ -179,7 +179,7 @@ impl<S: LineStore> Editor<S> {
     }
 
     // The lines that a command is applied to, its effect there, and its suffix.
-    fn carry_out(&mut self, command: &Command, answer: Answer) -> Result<Bytes, Fault>
+    fn carry_out(&mut self, command: &Command, answer: Answer) -> Result<Pieces, Fault>
         ensures exact { let effect = applied.command self.old.state (command_value command.now) (Some answer) in
             MatchResult result (λ output. IsOkAnd effect (Replies self.old.state self.new.state (reply.Done output)))
             (λ fault. fault ≢ Memory → effect ≡ Err fault) }

@@ -6,7 +6,7 @@ ghost use Rattle.ed_session.specs.Drives.{added, fits, Drove, Closed, FileRefuse
 ghost use Rattle.ed_session.specs.Turns.{Performs};
 ghost use Rattle.ed_session.specs.Work.{work};
 
-use crate::sink::give;
+use crate::sink::give_pieces;
 use crate::{Ask, Outside, Session, Sink};
 use ed_base::Fault;
 use ed_syntax::{Answer, Ending, Request};
@@ -100,7 +100,7 @@ pub fn drive<S: LineStore, O: Outside, W: Sink>(
     'turns: loop {
         match session.step() {
             Ask::Output(bytes) => {
-                if !give(sink, bytes.as_slice()) {
+                if !give_pieces(sink, session.allocator(), &bytes) {
                     session.fail_output();
                     return Err(Fault::Output);
                 }

@@ -23,4 +23,4 @@ pub use mem_files::MemFiles;
 pub use mem_sink::MemSink;
 pub use outside::Outside;
 pub use session::{Ask, Session};
-pub use sink::{Out, Sink, SinkFault, give};
+pub use sink::{Out, Sink, SinkFault, give, give_pieces};

@@ -4,7 +4,7 @@ ghost use Rattle.ed_syntax.specs.Progress.{report};
 ghost use Rattle.ed_base.specs.declared.fault.Fault.TheVariants.{Memory};
 ghost use Rattle.ed_session.specs.Insides.{AreReady, Reported};
 
-use ed_base::{Bytes, Fault};
+use ed_base::{Bytes, Fault, Pieces};
 use std::alloc::{AllocError, Global};
 use std::mem;
 
@@ -42,20 +42,21 @@ impl Reports {
     }
 
     /// The report that memory ran out. It takes none.
-    pub(crate) fn of_memory(&mut self, help: bool) -> Bytes
+    pub(crate) fn of_memory(&mut self, help: bool) -> Pieces
         requires ready { AreReady self.old.brief self.old.full }
         ensures value { result ≡ report help Memory }
     {
         let none = Bytes::new(self.alloc);
-        if help {
+        let written = if help {
             mem::replace(&mut self.full, none)
         } else {
             mem::replace(&mut self.brief, none)
-        }
+        };
+        Pieces::from_bytes(self.alloc, written)
     }
 
     /// The report of a fault that ends a run, and that fault; where there is no memory for it, those of `Fault::Memory`.
-    pub(crate) fn ending(&mut self, help: bool, fault: Fault) -> (Fault, Bytes)
+    pub(crate) fn ending(&mut self, help: bool, fault: Fault) -> (Fault, Pieces)
         requires ready { AreReady self.old.brief self.old.full }
         ensures value { Reported help fault result.0 result.1 }
     {
@@ -63,7 +64,7 @@ impl Reports {
             Fault::Memory => (Fault::Memory, self.of_memory(help)),
             _ if !help => (fault, self.of_memory(false)),
             _ => match report_of(self.alloc, true, fault) {
-                Ok(written) => (fault, written),
+                Ok(written) => (fault, Pieces::from_bytes(self.alloc, written)),
                 Err(_) => (Fault::Memory, self.of_memory(true)),
             },
         }

@@ -28,7 +28,7 @@ pub enum Ask {
     /// It waits for the answer to a write of these bytes to this path.
     Write(Bytes, Pieces),
     /// At least one byte of output.
-    Output(Bytes),
+    Output(Pieces),
     /// How the run ended.
     Ended(Result<Ending, Fault>),
 }
@@ -50,7 +50,7 @@ pub struct Session<S: LineStore> {
     // What is written before a command while prompting is on.
     prompt: Bytes,
     // Output that wasn't handed out.
-    pending: Bytes,
+    pending: Pieces,
     reports: Reports,
     phase: Phase,
     told: bool,
@@ -84,14 +84,19 @@ fn load<S: LineStore>(
     silent: bool,
     answer: Answer,
     path: Bytes,
-) -> Result<Bytes, Fault>
+) -> Result<Pieces, Fault>
     requires opening { editor.old ≡ opening_value }
     ensures loaded { OnOk result (state_loaded path answer ≡ Some editor.new.state) }
     ensures count { IfOk result (λ count. count ≡ counted silent (length_counted None answer)) }
     ensures fault { IfErr result (λ fault. fault ≢ Memory → (fault ≡ File) × (state_loaded path answer ≡ None)) }
     ensures failed { OnOk result (editor.new.failed ≡ None) }
 {
-    let count = with_count(Bytes::new(alloc), silent, length_counted(None, &answer))?;
+    let count = with_count(
+        alloc,
+        Pieces::new(alloc),
+        silent,
+        length_counted(None, &answer),
+    )?;
     match answer {
         Answer::Bytes(bytes) => editor.load_bytes(bytes, path)?,
         Answer::Missing => editor.load(b"", path)?,
@@ -141,7 +146,7 @@ impl<S: LineStore> Session<S> {
             silent,
             writes: None,
             prompt,
-            pending: Bytes::new(alloc),
+            pending: Pieces::new(alloc),
             reports,
             phase: Phase::Fresh(path),
             told: false,
@@ -172,6 +177,10 @@ impl<S: LineStore> Session<S> {
             Phase::Fresh(Some(path)) => Some(path.as_slice()),
             _ => None,
         }
+    }
+
+    pub(crate) fn allocator(&self) -> Global {
+        self.alloc
     }
 
     /// Starts the run with the answer to the read of its start file, whose bytes are counted in the output unless the run is
@@ -208,8 +217,8 @@ impl<S: LineStore> Session<S> {
         ensures work { Works self.old result self.new }
     {
         'steps: loop {
-            if !self.pending.is_empty() {
-                return Ask::Output(mem::replace(&mut self.pending, Bytes::new(self.alloc)));
+            if self.pending.len() > 0 {
+                return Ask::Output(mem::replace(&mut self.pending, Pieces::new(self.alloc)));
             }
             if let Phase::Over(result) = &self.phase {
                 let result = *result;
@@ -255,7 +264,7 @@ impl<S: LineStore> Session<S> {
         let length = length_counted(self.writes, &answer);
         let command = self.agenda.next();
         match self.editor.apply(command, Some(answer)) {
-            Ok(Reply::Done(output)) => match with_count(output, self.silent, length) {
+            Ok(Reply::Done(output)) => match with_count(self.alloc, output, self.silent, length) {
                 Ok(written) => {
                     self.modes = self.modes.after(&command.verb);
                     self.agenda.pass();
@@ -301,6 +310,6 @@ impl<S: LineStore> Session<S> {
             return;
         }
         self.phase = Phase::Over(Err(Fault::Output));
-        self.pending = Bytes::new(self.alloc);
+        self.pending = Pieces::new(self.alloc);
     }
 }

@@ -3,6 +3,9 @@ ghost use Rattle.std.specs.Prelude.{◌≡◌, ◌<◌, ◌≤◌, ◌+◌, ◌-
 ghost use Rattle.std.specs.Io.KnownBytes.{Appends, WriteAppends};
 ghost use Rattle.ed_session.specs.Sinks.{failures_of_write, AppendsFront};
 
+use crate::chunks::{Chunks, ROOM};
+use ed_base::Pieces;
+use std::alloc::Global;
 use std::io;
 use std::marker::Model;
 
@@ -96,6 +99,26 @@ pub fn give<W: Sink>(sink: &mut W, bytes: &[u8]) -> bool
                 done += n;
             }
             Err(_) => return false,
+        }
+    }
+    true
+}
+
+/// Gives all bytes in pieces to a sink, short ones gathered, and says whether it took them all.
+pub fn give_pieces<W: Sink>(sink: &mut W, alloc: Global, bytes: &Pieces) -> bool
+    requires count { W.failures sink.old < 2 ^ 64 - 1 }
+
+    ensures all { IsTrue result → Appends (W.taken sink.old) (W.taken sink.new) bytes.now
+        × (W.failures sink.new ≡ W.failures sink.old) }
+    ensures part { result ≡ false → AppendsFront (W.taken sink.old) (W.taken sink.new) bytes.now
+        × (W.failures sink.old < W.failures sink.new) }
+{
+    // Without memory to gather them in, each piece goes by itself.
+    let room = Vec::with_capacity(alloc, bytes.len().min(ROOM)).unwrap_or(Vec::new(alloc));
+    let mut chunks = Chunks::new(bytes, room);
+    'chunks: while let Some(chunk) = chunks.next_chunk() {
+        if !give(sink, chunk) {
+            return false;
         }
     }
     true

@@ -69,7 +69,8 @@ fn reads(alloc: Global, path: &[u8]) -> Result<Reply, AllocError> {
 }
 
 fn gives(alloc: Global, output: &[u8]) -> Result<Reply, AllocError> {
-    Ok(Reply::Done(Bytes::from_slice(alloc, output)?))
+    let output = Bytes::from_slice(alloc, output)?;
+    Ok(Reply::Done(Pieces::from_bytes(alloc, output)))
 }
 
 // A write asks first, and leaves nothing to be saved once it is done.

@@ -1,6 +1,6 @@
 //! What a run writes where files, output or memory are refused, and how it ends then.
 use crate::driving::{ABC, ARROW, Case, UNREFUSED, lines, run, session_of};
-use ed_base::{Bytes, Fault};
+use ed_base::{Bytes, Fault, Pieces};
 use ed_session::{Ask, MemFiles, Out, drive};
 use ed_syntax::{Answer, Options};
 use line_store::PlainStore;
@@ -117,10 +117,9 @@ fn a_session_without_a_path_is_stepped_to_its_end(rt: HostRuntime) -> Result<(),
     session.start(Answer::Refused);
     for output in ["x\n", "?\n"] {
         assert!(rt; session.started() && !session.waits());
-        assert_eq!(rt;
-            session.step(),
-            Ask::Output(Bytes::from_slice(rt.alloc(), output.as_bytes())?)
-        );
+        let bytes = Bytes::from_slice(rt.alloc(), output.as_bytes())?;
+        let output = Pieces::from_bytes(rt.alloc(), bytes);
+        assert_eq!(rt; session.step(), Ask::Output(output));
     }
     for _ in 0..2 {
         assert!(rt; session.started() && !session.waits());

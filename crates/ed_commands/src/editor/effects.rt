@@ -12,7 +12,7 @@ use crate::editor::Editor;
 use crate::editor::addressing::{Addressed, Span};
 use crate::editor::lines::write_lines;
 use crate::editor::past::Before;
-use ed_base::{Bytes, Fault, Letter, Text, join_lines, push_number};
+use ed_base::{Bytes, Fault, Letter, Pieces, Text, join_lines, push_number};
 use ed_syntax::{Answer, Form, Verb};
 use line_store::LineStore;
 use std::alloc::AllocError;
@@ -26,7 +26,7 @@ impl<S: LineStore> Editor<S> {
         named: Addressed,
         before: Before,
         answer: Answer,
-    ) -> Result<Bytes, Fault>
+    ) -> Result<Pieces, Fault>
         requires fits { Fits (takes (verb_value verb.now)).taking named.span (last self.old.state) }
         requires target { named.target ≤ last self.old.state }
         ensures exact { let effect = effect_of (verb_value verb.now) before.listed (span_value named.span) named.target self.old.state (Some answer) in
@@ -63,7 +63,7 @@ impl<S: LineStore> Editor<S> {
             Verb::Undo => self.undo()?,
             Verb::Help | Verb::HelpMode | Verb::PromptMode | Verb::QuitAnyway => {}
         }
-        Ok(Bytes::new(self.alloc))
+        Ok(Pieces::new(self.alloc))
     }
 
     // `a`: the text goes behind the first line of the span.
@@ -102,17 +102,17 @@ impl<S: LineStore> Editor<S> {
     }
 
     // `=`: the number of the last line of the span.
-    fn line_number(&self, span: Span) -> Result<Bytes, AllocError>
+    fn line_number(&self, span: Span) -> Result<Pieces, AllocError>
         ensures value { IfOk result (λ output. output ≡ (effect.line_number (span_value span) self.now.state).output) }
     {
         let mut output = Bytes::new(self.alloc);
         push_number(&mut output, span.last as u64)?;
         output.push(b'\n')?;
-        Ok(output)
+        Ok(Pieces::from_bytes(self.alloc, output))
     }
 
     // `p`, and the null command: the last line written is current.
-    fn write(&mut self, form: Form, span: Span) -> Result<Bytes, AllocError>
+    fn write(&mut self, form: Form, span: Span) -> Result<Pieces, AllocError>
         requires first { 1 ≤ span.first }
         requires order { span.first ≤ span.last }
         requires last { span.last ≤ last self.old.state }
@@ -120,8 +120,8 @@ impl<S: LineStore> Editor<S> {
             (self.new.state ≡ outcome.state) × (output ≡ outcome.output)) }
         ensures failed { self.new.failed ≡ self.old.failed }
     {
-        let mut output = Bytes::new(self.alloc);
-        write_lines(&mut output, form, span, &self.store)?;
+        let mut output = Pieces::new(self.alloc);
+        write_lines(self.alloc, &mut output, form, span, &self.store)?;
         self.current = span.last;
         Ok(output)
     }
@@ -130,8 +130,8 @@ impl<S: LineStore> Editor<S> {
     pub(crate) fn write_suffix(
         &self,
         suffix: Option<Form>,
-        mut output: Bytes,
-    ) -> Result<Bytes, Fault>
+        mut output: Pieces,
+    ) -> Result<Pieces, Fault>
         ensures exact { let expected = suffixed output (suffix_value suffix) self.now.state in
             MatchResult result (λ all. expected ≡ Ok all) (λ fault. fault ≢ Memory → expected ≡ Err fault) }
     {
@@ -145,7 +145,7 @@ impl<S: LineStore> Editor<S> {
             first: self.current,
             last: self.current,
         };
-        write_lines(&mut output, form, here, &self.store)?;
+        write_lines(self.alloc, &mut output, form, here, &self.store)?;
         Ok(output)
     }
 }

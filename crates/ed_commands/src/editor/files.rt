@@ -15,7 +15,7 @@ use crate::editor::Editor;
 use crate::editor::addressing::Span;
 use crate::editor::blocks::file_of;
 use crate::editor::past::Before;
-use ed_base::{Bytes, Fault};
+use ed_base::{Bytes, Fault, Pieces};
 use ed_syntax::{Answer, Command, Pattern, Request, Verb};
 use line_store::LineStore;
 use std::alloc::AllocError;
@@ -198,7 +198,7 @@ impl<S: LineStore> Editor<S> {
     }
 
     /// `f`: the given path is remembered, and the remembered one is written.
-    pub(crate) fn file_name(&mut self, path: &Option<Bytes>) -> Result<Bytes, Fault>
+    pub(crate) fn file_name(&mut self, path: &Option<Bytes>) -> Result<Pieces, Fault>
         ensures exact { Tells (λ output. only self.new.state output) (file.file_name path.now self.old.state) result }
         ensures failed { self.new.failed ≡ self.old.failed }
     {
@@ -207,7 +207,7 @@ impl<S: LineStore> Editor<S> {
         output.extend_from_slice(path.as_slice())?;
         output.push(b'\n')?;
         self.name = Some(path);
-        Ok(output)
+        Ok(Pieces::from_bytes(self.alloc, output))
     }
 
     /// `q`, and before `e`: changes that weren't saved are not lost.

@@ -12,7 +12,7 @@ ghost use Rattle.ed_commands.specs.Editors.{Begins, Tells, failure_of, is_global
 use crate::editor::Editor;
 use crate::editor::addressing::Span;
 use bre_match::matches;
-use ed_base::{Bytes, Fault};
+use ed_base::{Fault, Pieces};
 use ed_syntax::{Answer, Command, Pattern, Sense};
 use line_store::{LineStore, Marks};
 use std::alloc::{AllocError, Global};
@@ -23,7 +23,7 @@ pub struct Begun {
     /// How many lines have the flag.
     pub lines: usize,
     /// What it wrote: nothing, but for what its suffix writes where it has one.
-    pub output: Bytes,
+    pub output: Pieces,
 }
 
 // Whether a line is taken, of which it is known whether it matches.

@@ -1,5 +1,5 @@
 //! Lines of a store: written, and put from a file.
-ghost use Rattle.std.specs.Prelude.{◌≡◌, ◌-◌, ◌^◌, ◌≤◌, ◌++◌, length, map, min, IfOk, OnOk};
+ghost use Rattle.std.specs.Prelude.{◌≡◌, ◌≤◌, ◌++◌, length, map, IfOk, OnOk};
 ghost use Rattle.ed_base.specs.Lines.{lines_of};
 ghost use Rattle.ed_base.specs.Buffer.{plain_line};
 ghost use Rattle.ed_base.specs.Parts.{inserted};
@@ -8,14 +8,15 @@ ghost use Rattle.ed_syntax.specs.Forms.{lines_written};
 
 use crate::editor::addressing::Span;
 use crate::editor::forms::push_line;
-use ed_base::Bytes;
+use ed_base::{Bytes, Pieces};
 use ed_syntax::Form;
 use line_store::{FileLines, LineStore};
 use std::alloc::{AllocError, Global};
 
-/// Appends the lines of a span, as the form writes them. No form writes less than the plain one, for which room is made.
+/// Appends the lines of a span, as the form writes them. As plain lines they share their bytes with the store.
 pub fn write_lines<S: LineStore>(
-    output: &mut Bytes,
+    alloc: Global,
+    output: &mut Pieces,
     form: Form,
     span: Span,
     store: &S,
@@ -26,26 +27,47 @@ pub fn write_lines<S: LineStore>(
     ensures appended { OnOk result
         (output.new ≡ output.old ++ lines_written (form_value form) span.first span.last (S.lines store.now)) }
 {
-    output.reserve(plain_size(span, store))?;
+    match form {
+        Form::Plain => write_plain(output, span, store),
+        Form::Numbered | Form::Unambiguous => write_formed(alloc, output, form, span, store),
+    }
+}
+
+// Appends the lines of a span as they are.
+fn write_plain<S: LineStore>(output: &mut Pieces, span: Span, store: &S) -> Result<(), AllocError>
+    requires first { 1 ≤ span.first }
+    requires order { span.first ≤ span.last }
+    requires last { span.last ≤ length (S.lines store.now) }
+    ensures appended { OnOk result
+        (output.new ≡ output.old ++ lines_written (form_value Form.Plain) span.first span.last (S.lines store.now)) }
+{
     for i in span.first - 1..span.last {
-        push_line(output, form, i + 1, store.text(i))?;
+        store.push_line(i, output)?;
     }
     Ok(())
 }
 
-// How many bytes the lines of a span have with their newlines, or the greatest `usize` where that is more.
-fn plain_size<S: LineStore>(span: Span, store: &S) -> usize
+// Appends the lines of a span, each made in the form before it is copied.
+fn write_formed<S: LineStore>(
+    alloc: Global,
+    output: &mut Pieces,
+    form: Form,
+    span: Span,
+    store: &S,
+) -> Result<(), AllocError>
     requires first { 1 ≤ span.first }
     requires order { span.first ≤ span.last }
     requires last { span.last ≤ length (S.lines store.now) }
-    ensures value { result
-        ≡ min (length (lines_written (form_value Form.Plain) span.first span.last (S.lines store.now))) (2 ^ 64 - 1) }
+    ensures appended { OnOk result
+        (output.new ≡ output.old ++ lines_written (form_value form) span.first span.last (S.lines store.now)) }
 {
-    let mut size: usize = 0;
+    let mut line = Bytes::new(alloc);
     for i in span.first - 1..span.last {
-        size = size.saturating_add(store.text(i).len()).saturating_add(1);
+        line.clear();
+        push_line(&mut line, form, i + 1, store.text(i))?;
+        output.extend_from_slice(line.as_slice())?;
     }
-    size
+    Ok(())
 }
 
 /// A store of the lines of a file's bytes, which they share.

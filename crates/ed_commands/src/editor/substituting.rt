@@ -1,11 +1,11 @@
 //! `s`: matches are replaced, line by line (XCU ed, "Substitute Command").
-ghost use Rattle.std.specs.Prelude.{◌≡◌, ◌≢◌, ◌≤◌, Some, IsTrue, IsOkAnd, MatchResult, OnErr};
+ghost use Rattle.std.specs.Prelude.{◌≡◌, ◌≢◌, ◌≤◌, length, Some, IfOk, IsTrue, IsOkAnd, MatchResult, OnErr};
 ghost use Rattle.std.specs.List.{list_any};
 ghost use Rattle.ed_base.specs.declared.fault.Fault.TheVariants.{Memory};
 ghost use Rattle.ed_syntax.specs.PublicTypes.{suffix_value};
 ghost use Rattle.ed_syntax.specs.States.{last};
 ghost use Rattle.ed_syntax.specs.Verbs.{is_split};
-ghost use Rattle.ed_syntax.specs.SubstitutedLines.{substitute};
+ghost use Rattle.ed_syntax.specs.SubstitutedLines.{flag_written, substitute};
 ghost use Rattle.ed_commands.specs.Editors.{Tells, left_by, span_value};
 ghost use Rattle.ed_commands.specs.Rewriting.{remembering};
 
@@ -14,9 +14,10 @@ use crate::editor::addressing::Span;
 use crate::editor::lines::write_lines;
 use crate::editor::past::Before;
 use crate::editor::rewriting::rewrite_lines;
-use ed_base::{Bytes, Fault};
+use ed_base::{Fault, Pieces};
 use ed_syntax::{Form, Part, Pattern, Replacement, Which};
 use line_store::LineStore;
+use std::alloc::{AllocError, Global};
 
 // Whether a line may be split by the replacement.
 fn splits(replacement: &Replacement) -> bool
@@ -73,6 +74,28 @@ fn is_remembered(remembered: &Option<Replacement>, own: &Replacement) -> bool
     }
 }
 
+// What the flag writes of the line of this number.
+fn flag_written<S: LineStore>(
+    alloc: Global,
+    flag: Option<Form>,
+    number: usize,
+    store: &S,
+) -> Result<Pieces, AllocError>
+    requires first { 1 ≤ number }
+    requires last { number ≤ length (S.lines store.now) }
+    ensures value { IfOk result (λ output. output ≡ flag_written (suffix_value flag) number (S.lines store.now)) }
+{
+    let mut output = Pieces::new(alloc);
+    if let Some(form) = flag {
+        let here = Span {
+            first: number,
+            last: number,
+        };
+        write_lines(alloc, &mut output, form, here, store)?;
+    }
+    Ok(output)
+}
+
 impl<S: LineStore> Editor<S> {
     /// `s`: the last line that came of it is current, and is written in the form of the flag. In a list it isn't a fault that no
     /// line matched (our choice).
@@ -84,7 +107,7 @@ impl<S: LineStore> Editor<S> {
         flag: Option<Form>,
         span: Span,
         before: Before,
-    ) -> Result<Bytes, Fault>
+    ) -> Result<Pieces, Fault>
         requires first { 1 ≤ span.first }
         requires order { span.first ≤ span.last }
         requires last { span.last ≤ last self.old.state }
@@ -109,21 +132,13 @@ impl<S: LineStore> Editor<S> {
         )?;
         let Some(line) = made else {
             if before.listed {
-                return Ok(Bytes::new(self.alloc));
+                return Ok(Pieces::new(self.alloc));
             }
             return Err(Fault::NoMatch);
         };
         self.current = line;
         self.changed = true;
-        let mut output = Bytes::new(self.alloc);
-        if let Some(form) = flag {
-            let here = Span {
-                first: line,
-                last: line,
-            };
-            write_lines(&mut output, form, here, &self.store)?;
-        }
-        Ok(output)
+        Ok(flag_written(self.alloc, flag, line, &self.store)?)
     }
 
     // The command's own pattern and replacement are remembered, once it is known that there are both to use.

@@ -15,7 +15,7 @@ ghost use Rattle.ed_session.specs.Work.{work};
 
 use crate::phase::Phase;
 use crate::session::{Ask, Session};
-use ed_base::{Bytes, Fault};
+use ed_base::{Fault, Pieces};
 use ed_commands::Reply;
 use ed_syntax::{Ending, Request, Verb};
 use line_store::LineStore;
@@ -42,10 +42,10 @@ fn is_global(verb: &Verb) -> bool
 }
 
 // Some output, if there is any.
-pub(crate) fn output(bytes: Bytes) -> Option<Ask>
+pub(crate) fn output(bytes: Pieces) -> Option<Ask>
     ensures value { result ≡ ask_of_output bytes }
 {
-    if bytes.is_empty() {
+    if bytes.len() == 0 {
         None
     } else {
         Some(Ask::Output(bytes))
@@ -112,7 +112,7 @@ impl<S: LineStore> Session<S> {
         match self.prompt.try_copy() {
             Ok(prompt) => {
                 self.phase = Phase::Prompted;
-                output(prompt)
+                output(Pieces::from_bytes(self.alloc, prompt))
             }
             Err(_) => Some(self.report(Fault::Memory)),
         }

@@ -4,11 +4,26 @@ use Rattle.ed_session.proofs.Causes.{rest_by_file, rest_no_output}
 use Rattle.ed_session.proofs.Turning.{driven_output, driven_performs, performed_log, performed_raises, driven_ends, driven_cut_off}
 use Rattle.ed_session.proofs.driving.drive.Goals as goal
 
-pub turns-preserved-in-Output : goal.turns-preserved-in-Output
-turns-preserved-in-Output g c =
+pub turns-preserved-else-not-give_pieces : goal.turns-preserved-else-not-give_pieces
+turns-preserved-else-not-give_pieces g c =
     let i = c.turns.invariant in
     let e = c.in-Output.ensures in
-    let gave = rw c.as_slice.ensures.value at c.if-not-give.ensures.all refl in
+    let gave = c.if-not-give_pieces.ensures.all refl in
+    record {
+      log = i.log;
+      driven = driven_output _ _ _ _ c.in-Output.bytes _ _ _ i.driven e.given gave.0;
+      raises = i.raises;
+      rises = i.rises;
+      idle = e.given.idle;
+      started = e.started;
+      count = gave.1 ∙ i.count;
+    }
+
+pub turns-preserved-else-not-give_pieces-2 : goal.turns-preserved-else-not-give_pieces-2
+turns-preserved-else-not-give_pieces-2 g c =
+    let i = c.turns.invariant in
+    let e = c.in-Output.ensures in
+    let gave = c.if-not-give_pieces.ensures.all refl in
     record {
       log = i.log;
       driven = driven_output _ _ _ _ c.in-Output.bytes _ _ _ i.driven e.given gave.0;
@@ -47,10 +62,10 @@ turns-preserved g c =
       count = i.count;
     }
 
-pub returns-then-not-give-clause-run : goal.returns-then-not-give-clause-run
-returns-then-not-give-clause-run g c =
+pub returns-then-not-give_pieces-clause-run : goal.returns-then-not-give_pieces-clause-run
+returns-then-not-give_pieces-clause-run g c =
     let i = c.turns.invariant in
-    let gave = rw c.as_slice.ensures.value at c.if-not-give.ensures.part refl in
+    let gave = c.if-not-give_pieces.ensures.part refl in
     inr (inr (refl, omega (arith, gave.1, i.count), driven_cut_off _ _ _ _ c.in-Output.bytes _ _ _ i.driven c.in-Output.ensures.given gave.0))
 
 pub returns-in-Ended-clause-run : goal.returns-in-Ended-clause-run

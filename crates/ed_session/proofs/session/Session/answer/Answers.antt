@@ -1,4 +1,4 @@
-use Rattle.std.proofs.Common.{◌≡◌, ◌≢◌, ◌≤◌, ◌+◌, ◌∙◌, ◌++◌, ap, refl, subst, inl, inr, Some, Err}
+use Rattle.std.proofs.Common.{rules, ◌≡◌, ◌≢◌, ◌≤◌, ◌+◌, ◌∙◌, ◌++◌, ap, refl, subst, inl, inr, Some, Err}
 use Rattle.ed_base.specs.declared.fault.Fault.TheVariants.{File, Memory}
 use Rattle.ed_syntax.specs.Applied.{command}
 use Rattle.ed_syntax.specs.PublicTypes.{command_value}
@@ -33,7 +33,8 @@ returns-in-Ok-clause-given g c =
 pub returns-in-Ok-Done-clause-given : goal.returns-in-Ok-Done-clause-given
 returns-in-Ok-Done-clause-given g c =
     let w = awaiting _ _ _ _ c.self.view_is c.requires.waiting c.self.invariant.keeps c.next-command.ensures.value in
-    fails_answer w c.args.answer _ Memory Memory _ (record { which = inr refl; wrote = c.of_memory.ensures.value }) (λ h. absurd (h refl)) refl refl refl
+    fails_answer w c.args.answer c.match-self-of_memory.self Memory Memory _ (record { which = inr refl; wrote = c.of_memory.ensures.value }) (λ h. absurd (h refl))
+    (search rules) (search rules) (search rules)
 
 -- it was a fault
 pub returns-clause-given : goal.returns-clause-given
@@ -41,7 +42,8 @@ returns-clause-given g c =
     let w = awaiting _ _ _ _ c.self.view_is c.requires.waiting c.self.invariant.keeps c.next-command.ensures.value in
     let is : c.in-Err.fault ≢ Memory → command c.self.inside.editor.state (command_value c.next-command.result.now) (Some c.args.answer) ≡ Err c.in-Err.fault
     = c.in-Err.ensures.exact (c.self.invariant.works (ap is_over w.at)) in
-    fails_answer w c.args.answer _ c.in-Err.fault _ _ c.ending-fault-in-Err.ensures.value (λ h. inl (is h)) refl refl refl
+    fails_answer w c.args.answer c.match-self-report-2.self c.in-Err.fault _ _ c.ending-fault-in-Err.ensures.value (λ h. inl (is h))
+    (search rules) (search rules) (search rules)
 
 pub returns-in-Ok-clause-awaited : goal.returns-in-Ok-clause-awaited
 returns-in-Ok-clause-awaited g c = awaits_something (awaiting _ _ _ _ c.self.view_is c.requires.waiting c.self.invariant.keeps c.next-command.ensures.value)

@@ -2,7 +2,7 @@
 use Rattle.std.proofs.Common.{◌≡◌, ◌+◌, ◌++◌, drop, take}
 use Rattle.ed_syntax.specs.PublicTypes.{form_value}
 use Rattle.ed_syntax.specs.Forms.{all_written, lines_written}
-use Rattle.ed_commands.proofs.editor.lines.write_lines.Given as goal
+use Rattle.ed_commands.proofs.editor.lines.write_formed.Given as goal
 
 abbrev pub invariant-loop-i : goal.invariant-loop-i
 invariant-loop-i g l =
