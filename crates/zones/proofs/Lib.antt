@@ -12,3 +12,9 @@ pub mod Known
 pub mod Isolated
 pub mod Writes
 pub mod Keeping
+pub mod Listing
+pub mod Covering
+pub mod Rising
+pub mod ReachLemmas
+pub mod RowWrites
+pub mod ReachSteps

@@ -1,10 +1,9 @@
 -- Writes into a table: which bounds are new after one, and which are as before.
-use Rattle.std.proofs.Common.{◌≡◌, ◌≢◌, ◌<◌, ◌≤◌, ◌/◌, ◌%◌, ◌+◌, ◌*◌, ◌==◌, if◌then◌else◌, ℕ, List, get_or, set, length, Option, None, Some, ℤ, arith, ◌∙◌, ap, sym, refl, inl, inr, below_more, get_or-set_other, get_or-set_same}
+use Rattle.std.proofs.Common.{◌≡◌, ◌≢◌, ◌<◌, ◌+◌, ◌*◌, ◌==◌, if◌then◌else◌, ℕ, List, get_or, set, length, Option, None, Some, ℤ, arith, ◌∙◌, ap, sym, refl, inl, inr, below_more, get_or-set_other, get_or-set_same}
 use Rattle.std.proofs.lemmas.Bool.Decides.{eqb_tells}
-use Rattle.zones.specs.Bound.{IsKept, tighten, clip_bound, raise, greater_of, widen_bound, widen_diagonal}
+use Rattle.zones.specs.Bound.{IsKept, tighten, clip_bound, raise}
 use Rattle.zones.specs.Zone.{Bounds, bound}
-use Rattle.zones.specs.Steps.{guard_bound, join_bound, widening_bound, put_bound}
-use Rattle.zones.proofs.Places.{place-row_column}
+use Rattle.zones.specs.Steps.{guard_bound, put_bound}
 use Rattle.zones.proofs.Kept.{clip-is}
 
 pub bound-set_same : (table : Bounds) (p q : ℕ) (v : Option ℤ) → 32 * p + q < length table → bound (set table (32 * p + q) v) p q ≡ v
@@ -19,15 +18,6 @@ bound-set_row table p q a b v hq hb n = get_or-set_other table (32 * p + q) (32 
 pub bound-set_column : (table : Bounds) (p q a b : ℕ) (v : Option ℤ) → q < 32 → b < 32 → b ≢ q → bound (set table (32 * p + q) v) a b ≡ bound table a b
 unfolding bound
 bound-set_column table p q a b v hq hb n = get_or-set_other table (32 * p + q) (32 * a + b) v None (omega arith)
-
--- a write changes no other pair
-pub bound-set_elsewhere : (table : Bounds) (p q a b : ℕ) (v : Option ℤ) → q < 32 → b < 32 → (a ≡ p → b ≡ q → ⊥) →
-    bound (set table (32 * p + q) v) a b ≡ bound table a b
-bound-set_elsewhere table p q a b v hq hb n =
-    elim (eqb_tells a p) [
-      | inl t ↦ bound-set_column table p q a b v hq hb (n t.1)
-      | inr t ↦ bound-set_row table p q a b v hq hb t.1
-    ]
 
 -- a write on the diagonal changes nothing beside it
 pub bound-set_diagonal : (table : Bounds) (p a b : ℕ) (v : Option ℤ) → p < 32 → b < 32 → a ≢ b → bound (set table (32 * p + p) v) a b ≡ bound table a b
@@ -50,11 +40,6 @@ row-set table row_at x q v hq h e below =
     below_more (λ b. bound (set table (32 * x + q) v) x b ≡ row_at b) q
     (λ b l. bound-set_column table x q x b v hq (omega arith) (omega arith) ∙ below b l)
     (bound-set_same table x q v h ∙ e)
-
--- the places that are still to be written are as before
-pub rest-set : (table old : Bounds) (i : ℕ) (v : Option ℤ) → ((k : ℕ) → i ≤ k → get_or table k None ≡ get_or old k None) →
-    (k : ℕ) → i + 1 ≤ k → get_or (set table i v) k None ≡ get_or old k None
-rest-set table old i v rest k l = get_or-set_other table i k v None (omega arith) ∙ rest k (omega arith)
 
 -- a bound of which it is known in which row and in which column it lies
 pub cross-cases : (x p q : ℕ) (v in_row in_column elsewhere : Option ℤ) → (p ≡ x → v ≡ in_row) → (p ≢ x → q ≡ x → v ≡ in_column) →
@@ -93,6 +78,10 @@ pub tighten-no_way_from : (direct : Option ℤ) (to c : ℤ) → IsKept direct �
 tighten-no_way_from None to c h = refl
 tighten-no_way_from (Some d) to c h = clip-is d d refl h
 
+pub tighten-no_way : (direct to : Option ℤ) (c : ℤ) → IsKept direct → tighten direct to c None ≡ direct
+tighten-no_way direct None c h = tighten-no_way_to direct c None h
+tighten-no_way direct (Some to) c h = tighten-no_way_from direct to c h
+
 -- offsets that are equal tighten alike
 pub tighten-same : (direct from : Option ℤ) (to to_too c c_too : ℤ) → to ≡ to_too → c ≡ c_too → tighten direct (Some to) c from ≡ tighten direct (Some to_too) c_too from
 tighten-same direct from to to_too c c_too e h = ap (λ t. tighten direct (Some t) c from) e ∙ ap (λ n. tighten direct (Some to_too) n from) h
@@ -116,30 +105,6 @@ unfolding guard_bound
 guard_row-left old table x y p c hx kept same at b hb =
     same b hb ∙ sym (tighten-no_way_to (bound old p b) c (bound old y b) (kept b))
     ∙ ap (λ t. tighten (bound old p b) t c (bound old y b)) (sym at ∙ same x hx)
-
--- the formulas at a place
-
-pub join_bound-place : (one other : Bounds) (k : ℕ) → join_bound one other (k / 32) (k % 32) ≡ greater_of (get_or one k None) (get_or other k None)
-unfolding join_bound bound
-join_bound-place one other k = ap (λ i. greater_of (get_or one i None) (get_or other i None)) (place-row_column k)
-
-pub widening_bound-place_on : (old new : Bounds) (k : ℕ) → k / 32 ≡ k % 32 →
-    widening_bound old new (k / 32) (k % 32) ≡ widen_diagonal (get_or old k None) (get_or new k None)
-unfolding widening_bound bound
-widening_bound-place_on old new k h =
-    elim (eqb_tells (k / 32) (k % 32)) [
-      | inl t ↦ rw t.0 (ap (λ i. widen_diagonal (get_or old i None) (get_or new i None)) (place-row_column k))
-      | inr t ↦ absurd (t.1 h)
-    ]
-
-pub widening_bound-place_off : (old new : Bounds) (k : ℕ) → k / 32 ≢ k % 32 →
-    widening_bound old new (k / 32) (k % 32) ≡ widen_bound (get_or old k None) (get_or new k None)
-unfolding widening_bound bound
-widening_bound-place_off old new k h =
-    elim (eqb_tells (k / 32) (k % 32)) [
-      | inl t ↦ absurd (h t.1)
-      | inr t ↦ rw t.0 (ap (λ i. widen_bound (get_or old i None) (get_or new i None)) (place-row_column k))
-    ]
 
 -- one bound is replaced
 pub put_bound-set : (table : Bounds) (x y : ℕ) (number : Option ℤ) → x < 32 → y < 32 → length table ≡ 1024 →

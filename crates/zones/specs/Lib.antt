@@ -9,7 +9,11 @@ pub mod Limits
 pub mod Differences
 pub mod Isolated
 pub mod Room
+-- the known bounds of a zone one by one
+pub mod KnownBounds
 -- how a bound is kept as one number
 pub mod Entry
--- how a kept zone is read
+-- how far the known names of a zone reach, how tables are written, and how a kept zone is read
+pub mod Reach
+pub mod RowWrites
 pub mod Written

@@ -1,20 +1,43 @@
--- How a kept zone is read: its entries, written one after another into a zone. No public contract speaks of it.
-use Rattle.std.specs.Prelude.{◌<◌, List, [], ◌∷◌, set, All}
+-- How a kept zone is read: its known bounds, written one after another into a zone. No public contract speaks of it.
+use Rattle.std.specs.Prelude.{◌≡◌, ◌≢◌, ℕ, suc, ℤ, ◌/◌, ◌%◌, ◌<◌, ◌≤◌, List, [], ◌∷◌, map, drop, set, Option, All}
 use Rattle.zones.specs.Zone.{Bounds}
 use Rattle.zones.specs.Limits.{IsZone}
-use Rattle.zones.specs.Steps.{any_zone}
-use Rattle.zones.specs.declared.kept_zone.KeptEntry.{KeptEntry}
+use Rattle.zones.specs.Steps.{any_zone, any_bound}
+use Rattle.zones.specs.KnownBounds.{PlacedBound, known_from, known_bounds}
 
--- the bounds once each entry stands at its place
-abbrev pub written : List KeptEntry → Bounds → Bounds
+-- the bounds once each of these stands at its place
+abbrev pub written : List PlacedBound → Bounds → Bounds
 written [] bounds = bounds
-written (kept ∷ rest) bounds = written rest (set bounds kept.place kept.entry)
+written (b ∷ rest) bounds = written rest (set bounds b.place b.bound)
 
--- the place of an entry lies in a zone
-abbrev pub IsPlaced : KeptEntry → Type 0
-IsPlaced kept = kept.place < 1024
-
--- the entries give a zone, and lie in it
-pub record IsKeptZone (entries : List KeptEntry) : Type 0 where
+-- these give a zone, of which they are the known bounds
+pub record IsKeptZone (entries : List PlacedBound) : Type 0 where
   pub zone : IsZone (written entries any_zone)
-  pub placed : All IsPlaced entries
+  pub known : known_bounds (written entries any_zone) ≡ entries
+
+-- the bound at a place of the zone in which nothing is known
+abbrev pub any_at : (place : ℕ) → Option ℤ
+any_at place = any_bound (place / 32) (place % 32)
+
+-- the places of a zone's known bounds, from a place on
+unfoldable pub places_from : (place : ℕ) → Bounds → List ℕ
+places_from place zone = map (λ b. b.place) (known_from place (drop place zone))
+
+-- places rise, from one on
+abbrev pub Rise : (place : ℕ) → List PlacedBound → Type 0
+Rise place [] = Unit {0}
+Rise place (b ∷ rest) = (place ≤ b.place) × Rise (suc b.place) rest
+
+-- a bound at a place says more than that nothing is known
+pub record IsKnownBound (b : PlacedBound) : Type 0 where
+  pub placed : b.place < 1024
+  pub known : b.bound ≢ any_at b.place
+
+-- bounds that a table can have as its known ones
+pub record AreKnownBounds (entries : List PlacedBound) : Type 0 where
+  pub rise : Rise 0 entries
+  pub each : All IsKnownBound entries
+
+-- both names of a bound stand before a place
+abbrev pub IsWithin : (reach : ℕ) → PlacedBound → Type 0
+IsWithin reach b = (b.place / 32 < reach) × (b.place % 32 < reach)

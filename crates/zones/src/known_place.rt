@@ -9,7 +9,7 @@ use crate::table::Table;
 use crate::zone::Zone;
 
 /// The bound at a place of the table in which nothing is known.
-fn any_entry(place: usize) -> Entry
+pub(crate) fn any_entry(place: usize) -> Entry
     ensures value { result ≡ any_bound (place / 32) (place % 32) }
 {
     if place / 32 == place % 32 {

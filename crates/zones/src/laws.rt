@@ -1,12 +1,13 @@
 //! Laws about the definitions of zones, for the proofs of other crates: contracts of functions that
 //! do nothing.
 
-ghost use Rattle.std.specs.Prelude.{◌≡◌, ◌≢◌, ℕ, ◌<◌, ◌≤◌, ℤ, ◌+ℤ◌, ◌-ℤ◌, ◌≤ℤ◌, neg_ℤ, Bool, true, false, Option, Some, length};
+ghost use Rattle.std.specs.Prelude.{◌≡◌, ◌≢◌, ℕ, ◌<◌, ◌≤◌, ℤ, ◌+ℤ◌, ◌-ℤ◌, ◌≤ℤ◌, neg_ℤ, Bool, true, false, Option, Some, None, length, get_or, All};
 ghost use Rattle.zones.specs.Bound.{Obeys, IsKept, sum_of, negative_of, covers_bound};
 ghost use Rattle.zones.specs.Zone.{Bounds, Numbers, bound, zone_by, Holds, ChangesOnly, updated, Covers};
 ghost use Rattle.zones.specs.Steps.{any_bound, any_zone, guard_bound, after_guard, set_bound, after_set, shift_bound, after_shift, forget_bound, after_forget, join_bound, join_of, widening_bound, widening_of, put_bound, after_put};
 ghost use Rattle.zones.specs.Limits.{IsZone, HasLowDiagonal, clamp, clamp_side};
 ghost use Rattle.zones.specs.Known.{known, least, greatest};
+ghost use Rattle.zones.specs.KnownBounds.{known_bounds};
 ghost use Rattle.zones.specs.Differences.{IsDifference, Fixes, with_name};
 ghost use Rattle.zones.specs.Isolated.{IsIsolated};
 ghost use Rattle.zones.specs.Room.{total_room};
@@ -18,6 +19,14 @@ pub fn bounds_are_formulas()
         bound (zone_by f) p q ≡ f p q }
     ensures only { (f : ℕ → ℕ → Option ℤ) (zone : Bounds) → length zone ≡ 1024 →
         ((p q : ℕ) → p < 32 → q < 32 → bound zone p q ≡ f p q) → zone ≡ zone_by f }
+{}
+
+/// A zone is known by its known bounds too. Each of them is the bound at its place.
+pub fn known_bounds_are_the_zone()
+    ensures only { (one other : Bounds) → length one ≡ 1024 → length other ≡ 1024 →
+        known_bounds one ≡ known_bounds other → one ≡ other }
+    ensures each { (zone : Bounds) →
+        All (λ b. (b.place < length zone) × (b.bound ≡ get_or zone b.place None)) (known_bounds zone) }
 {}
 
 /// Each bound after a step is the step's formula over the bounds before it.

@@ -7,10 +7,11 @@ ghost use Rattle.zones.specs.Steps.{any_zone, after_guard, after_set, after_shif
 ghost use Rattle.zones.specs.Limits.{IsZone};
 
 use crate::name::Name;
+use crate::reach::{reach_with, reach_within};
 use crate::table::{
-    Table, any_table, forget_table, guard_table, join_table, put_table, set_table, shift_table,
-    table_covers, widen_table,
+    Table, any_table, forget_table, guard_table, put_table, set_table, shift_table,
 };
+use crate::two_tables::{copy_table, join_table, table_covers, widen_table};
 use std::marker::Model;
 
 /// To each ordered pair (x, y) of names a number c, meaning that x - y is at most c, or any.
@@ -22,19 +23,24 @@ use std::marker::Model;
 #[derive(Clone, Copy, PartialEq, Eq, Debug)]
 pub struct Zone {
     pub(crate) table: Table,
+    /// Nothing is known of the names from this place on, which are passed over.
+    pub(crate) reach: usize,
 }
 
 impl Model for Zone {
     ghost use Rattle.zones.specs.Zone.{Bounds};
-    ghost use Rattle.zones.specs.Limits.{IsZone};
+    ghost use Rattle.zones.specs.Reach.{IsZoneOfReach, reach_of};
+    ghost use Rattle.std.proofs.Common.{sym};
 
     ghost Value = { Bounds };
 
     ghost view = { λ zone. zone.table };
 
-    ghost invariant = { λ zone. IsZone zone.table };
+    ghost invariant = { λ zone. IsZoneOfReach zone.table zone.reach };
 
-    ghost inverse = { λ bounds. record { table = bounds } };
+    ghost inverse = { λ bounds. record { table = bounds; reach = reach_of bounds } };
+
+    ghost inverse_ok = { λ zone h i. record { table = zone.table; reach = sym h.known i } };
 }
 
 impl Zone {
@@ -45,7 +51,18 @@ impl Zone {
         // It holds of all numbers.
         ensures sound { (number : Numbers) → Holds result number }
     {
-        Zone { table: any_table() }
+        Zone {
+            table: any_table(),
+            reach: 0,
+        }
+    }
+
+    /// Becomes an equal zone, in place. It is quicker than a copy where little is known.
+    pub fn copy_from(&mut self, other: &Zone)
+        ensures value { self.new ≡ other.now }
+    {
+        copy_table(&mut self.table, &other.table, self.reach.max(other.reach));
+        self.reach = other.reach;
     }
 
     /// The number that `x - y` is at most, if there is one.
@@ -69,7 +86,11 @@ impl Zone {
         ensures sound { (number : Numbers) → Holds self.old number → (number x -ℤ number y) ≤ℤ c →
             Holds self.new number }
     {
-        guard_table(&mut self.table, x.place(), y.place(), c);
+        let p = x.place();
+        let q = y.place();
+        let most = reach_with(self.reach, p, q);
+        guard_table(&mut self.table, most, p, q, c);
+        self.reach = reach_within(&self.table, most);
     }
 
     /// Sets `x` to `y + c`. A name that is set from itself moves by `c`.
@@ -78,7 +99,11 @@ impl Zone {
         ensures sound { (before after : Numbers) → Holds self.old before →
             ChangesOnly x before after → after x ≡ before y +ℤ c → Holds self.new after }
     {
-        set_table(&mut self.table, x.place(), y.place(), c);
+        let p = x.place();
+        let q = y.place();
+        let most = reach_with(self.reach, p, q);
+        set_table(&mut self.table, most, p, q, c);
+        self.reach = reach_within(&self.table, most);
     }
 
     /// Lets `x` grow by some number from `low` to `high`; a side that is `None` has no limit.
@@ -88,7 +113,10 @@ impl Zone {
             ChangesOnly x before after → Obeys (after x -ℤ before x) high →
             Obeys (before x -ℤ after x) (negative_of low) → Holds self.new after }
     {
-        shift_table(&mut self.table, x.place(), low, high);
+        let p = x.place();
+        let most = reach_with(self.reach, p, p);
+        shift_table(&mut self.table, most, p, low, high);
+        self.reach = reach_within(&self.table, most);
     }
 
     /// Lets `x` become any number.
@@ -97,7 +125,10 @@ impl Zone {
         ensures sound { (before after : Numbers) → Holds self.old before →
             ChangesOnly x before after → Holds self.new after }
     {
-        forget_table(&mut self.table, x.place());
+        let p = x.place();
+        let most = reach_with(self.reach, p, p);
+        forget_table(&mut self.table, most, p);
+        self.reach = reach_within(&self.table, most);
     }
 
     /// Keeps what both zones say.
@@ -109,7 +140,9 @@ impl Zone {
         ensures covers { Covers self.new self.old }
         ensures covers_other { Covers self.new other.now }
     {
-        join_table(&mut self.table, &other.table);
+        let most = self.reach.max(other.reach);
+        join_table(&mut self.table, &other.table, most);
+        self.reach = reach_within(&self.table, most);
     }
 
     /// Keeps what of this zone did not rise in a newer one.
@@ -120,7 +153,9 @@ impl Zone {
         ensures covers { Covers self.new self.old }
         ensures covers_other { Covers self.new new.now }
     {
-        widen_table(&mut self.table, &new.table);
+        let most = self.reach.max(new.reach);
+        widen_table(&mut self.table, &new.table, most);
+        self.reach = reach_within(&self.table, most);
     }
 
     /// Whether this zone is the weaker: no bound of it is less than the other's.
@@ -130,7 +165,7 @@ impl Zone {
             Holds self.now number }
         ensures well_formed { IsZone self.now × IsZone other.now }
     {
-        table_covers(&self.table, &other.table)
+        table_covers(&self.table, &other.table, self.reach.max(other.reach))
     }
 
     /// Replaces the bound of `x - y`, clipped as ever. This builds a zone and is no step: what it
@@ -140,6 +175,10 @@ impl Zone {
         ensures sound { (numbers : Numbers) → Holds self.old numbers →
             Obeys (numbers x -ℤ numbers y) number → Holds self.new numbers }
     {
-        put_table(&mut self.table, x.place(), y.place(), number);
+        let p = x.place();
+        let q = y.place();
+        let most = reach_with(self.reach, p, q);
+        put_table(&mut self.table, p, q, number);
+        self.reach = reach_within(&self.table, most);
     }
 }

@@ -33,9 +33,20 @@ fn report<F: Fn(&mut Zone) + Drop>(rt: &(impl Clock + Print), step: &str, take: 
     println!(rt; "{step}: {nanoseconds} ns a step (digest {left})")
 }
 
+/// What it costs to keep a zone, which has to be given up each time.
+fn report_keeping(rt: &(impl Clock + Print + AllocGlobal), zone: &Zone) -> io::Result<()> {
+    let start = Instant::now(rt)?;
+    for _ in 0..ROUNDS {
+        let _kept = zone.try_keep(rt.alloc())?;
+    }
+    let nanoseconds = start.elapsed(rt)?.as_nanos() / u128::from(ROUNDS);
+    println!(rt; "try_keep: {nanoseconds} ns a step")
+}
+
 /// Prints what each step costs on the average, and a zone's size.
-pub fn measure(rt: &(impl Clock + Print)) -> io::Result<()> {
+pub fn measure(rt: &(impl Clock + Print + AllocGlobal)) -> io::Result<()> {
     let other = usual_zone();
+    let kept = other.try_keep(rt.alloc())?;
     println!(rt; "size of a zone: {} bytes", size_of::<Zone>())?;
     report(rt, "any", |zone: &mut Zone| *zone = Zone::any())?;
     report(
@@ -64,5 +75,14 @@ pub fn measure(rt: &(impl Clock + Print)) -> io::Result<()> {
         rt,
         "put",
         |zone: &mut Zone| zone.put(Name::CURRENT_LINE, Name::ZERO, Some(7)),
+    )?;
+    report_keeping(rt, &other)?;
+    report(rt, "restore", |zone: &mut Zone| kept.restore(zone))?;
+    report(
+        rt,
+        "covers",
+        |zone: &mut Zone| if !kept.covers(zone) {
+            zone.forget(Name::ZERO)
+        },
     )
 }

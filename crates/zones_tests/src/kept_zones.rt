@@ -2,13 +2,16 @@
 //! is the zone, or want of memory.
 
 use std::alloc::{AllocError, Global};
-use zones::{LIMIT, Name, Zone};
+use zones::{KeptEntry, KeptZone, LIMIT, Name, Zone};
 
-// Whether a zone is given back as it was, also by a copy of what is kept of it.
+// Whether a zone is given back as it was, also by a copy of what is kept of it, and into another zone.
 fn is_given_back(alloc: Global, zone: &Zone) -> Result<bool, AllocError> {
     let kept = zone.try_keep(alloc)?;
     let copy = kept.try_copy()?;
-    Ok(kept.zone() == *zone && copy.zone() == *zone)
+    let mut restored = Zone::any();
+    restored.guard(Name::CURRENT_LINE, Name::mark(b'q'), -7);
+    kept.restore(&mut restored);
+    Ok(kept.zone() == *zone && copy.zone() == *zone && restored == *zone)
 }
 
 #[test]
@@ -54,5 +57,45 @@ fn bounds_at_the_limit_are_given_back(rt: HostRuntime) -> Result<(), AllocError>
     zone.put(Name::ZERO, Name::mark(b'z'), Some(-LIMIT));
     zone.put(Name::mark(b'z'), Name::ZERO, Some(0));
     assert!(rt; is_given_back(rt.alloc(), &zone)?);
+    Ok(())
+}
+
+#[test]
+fn a_kept_zone_covers_what_the_zone_does(rt: HostRuntime) -> Result<(), AllocError> {
+    let mut weak = Zone::any();
+    weak.guard(Name::LAST_LINE, Name::ZERO, 5);
+    let mut strong = Zone::any();
+    strong.guard(Name::LAST_LINE, Name::ZERO, 4);
+    let kept = weak.try_keep(rt.alloc())?;
+    assert!(rt; kept.covers(&weak) && kept.covers(&strong));
+    assert!(rt; !strong.try_keep(rt.alloc())?.covers(&weak));
+    // Of a name with itself it is kept that the difference is at most 0, where nothing else is said.
+    strong.put(Name::mark(b'z'), Name::mark(b'z'), Some(1));
+    assert!(rt; !kept.covers(&strong));
+    weak.put(Name::mark(b'z'), Name::mark(b'z'), None);
+    assert!(rt; weak.try_keep(rt.alloc())?.covers(&strong));
+    Ok(())
+}
+
+#[test]
+fn known_bounds_stand_in_rising_places(rt: HostRuntime) -> Result<(), AllocError> {
+    let known = KeptEntry::new(Name::LAST_LINE, Name::ZERO, Some(5));
+    let later = KeptEntry::new(Name::mark(b'z'), Name::ZERO, Some(3));
+    let unknown = KeptEntry::new(Name::mark(b'a'), Name::mark(b'a'), Some(0));
+    let alloc = rt.alloc();
+    assert!(rt; KeptZone::from_entries(vec![in alloc; later, known]?).is_none());
+    assert!(rt; KeptZone::from_entries(vec![in alloc; known, known]?).is_none());
+    assert!(rt; KeptZone::from_entries(vec![in alloc; known, unknown]?).is_none());
+    let Some(kept) = KeptZone::from_entries(vec![in alloc; known, later]?) else {
+        return Err(AllocError);
+    };
+    let mut zone = Zone::any();
+    zone.put(Name::LAST_LINE, Name::ZERO, Some(5));
+    zone.put(Name::mark(b'z'), Name::ZERO, Some(3));
+    assert!(rt; kept.zone() == zone);
+    assert_eq!(rt; kept.entries().len(), 2);
+    assert_eq!(rt; kept.entries()[1].x(), Name::mark(b'z'));
+    assert_eq!(rt; kept.entries()[1].y(), Name::ZERO);
+    assert_eq!(rt; kept.entries()[1].bound(), Some(3));
     Ok(())
 }

@@ -1,34 +1,47 @@
-use Rattle.std.proofs.Common.{get_or, None, IsTrue, arith, ◌∙◌, ap, sym}
-use Rattle.std.proofs.lemmas.List.{get_or_default}
-use Rattle.std.proofs.lemmas.List.Elements.{All-push}
-use Rattle.zones.specs.Written.{IsPlaced}
-use Rattle.zones.proofs.Keeping.{below-kept, below-same, rest-kept, written-is}
+use Rattle.std.proofs.Common.{◌++◌, [], ◌∷◌, List, None, get_or, take, ◌∙◌, ap, sym, arith}
+use Rattle.std.proofs.lemmas.List.{get_or_default, take_all, take_more}
+use Rattle.zones.specs.KnownBounds.{PlacedBound, known_bounds}
+use Rattle.zones.proofs.Listing.{listed-at, placed-at, length-places}
 use Rattle.zones.proofs.kept_zone.known_entries.Goals as goal
-use Rattle.zones.proofs.kept_zone.known_entries.Goals.{then-not-is+in_ok-push, else-not-is}
+
+pub listed : goal.listed
+listed c =
+    placed-at c.args.table.now c.as_slice-places.result.now c.loop-place.place-index c.from-place.result
+    (c.as_slice-places.ensures.value ∙ c.known-known.ensures.value) c.loop-place-test.true c.from-place.ensures
+
+pub bounds-table-place : goal.bounds-table-place
+bounds-table-place c =
+    omega (
+      arith,
+      placed-at c.args.table.now c.as_slice-places.result.now c.loop-place.place-index c.from-place.result
+          (c.as_slice-places.ensures.value ∙ c.known-known.ensures.value) c.loop-place-test.true c.from-place.ensures,
+    )
+
+pub at-requires : goal.at-requires
+at-requires c = record {
+  in_table = omega (
+    arith,
+    placed-at c.args.table.now c.as_slice-places.result.now c.loop-place.place-index c.from-place.result
+        (c.as_slice-places.ensures.value ∙ c.known-known.ensures.value) c.loop-place-test.true c.from-place.ensures,
+  );
+}
 
 pub loop-place-preserved : goal.loop-place-preserved
 loop-place-preserved c =
     let table = c.args.table.now in
-    let place = c.loop-place.place in
-    let so_far = c.loop-place.entries.items in
-    let any = c.any_table-any.result in
-    let here = get_or_default table place c.index-table-place.result None (omega arith) in
-    let same = λ (t : IsTrue c.is.result). sym here ∙ c.is.ensures.exact.0 t ∙ get_or_default any place c.index-any-place.result None (omega arith)
-    ∙ ap (λ zone. get_or zone place None) c.any_table-any.ensures.exact in
-    elim c.if-not-is.branch [
-      | then-not-is+in_ok-push w ↦
-          rw (ap (λ e. e.items) w.entries-is ∙ w.in_ok-push.ensures.items) (record {
-            done = below-kept so_far _ table place (omega arith) (omega arith) here c.loop-place.invariant.done;
-            rest = rest-kept so_far _ place (omega arith) c.loop-place.invariant.rest;
-            placed = All-push IsPlaced so_far _ c.loop-place.invariant.placed (omega arith);
-          })
-      | else-not-is w ↦
-          rw (ap (λ e. e.items) w.entries-is) (record {
-            done = below-same so_far table place (same w.if-not-is.false) c.loop-place.invariant.done c.loop-place.invariant.rest;
-            rest = λ k h. c.loop-place.invariant.rest k (omega arith);
-            placed = c.loop-place.invariant.placed;
-          })
-    ]
+    let i = c.loop-place.place-index in
+    let is = c.as_slice-places.ensures.value ∙ c.known-known.ensures.value in
+    let placed = placed-at table c.as_slice-places.result.now i c.from-place.result is c.loop-place-test.true c.from-place.ensures in
+    let here = listed-at table c.as_slice-places.result.now i c.from-place.result (get_or table c.from-place.result c.index-table-place.result)
+    is c.loop-place-test.true c.from-place.ensures (get_or_default table c.from-place.result c.index-table-place.result None placed) in
+    c.in_ok-push.ensures.items
+    ∙ ap (λ (es : List PlacedBound). es ++ c.at.result ∷ []) c.loop-place.invariant
+    ∙ ap (λ (e : PlacedBound). take i (known_bounds table) ++ e ∷ []) (c.at.ensures.value ∙ here.listed)
+    ∙ sym (take_more (known_bounds table) i _ here.counted)
 
-pub returns-clause-value : goal.returns-clause-value
-returns-clause-value c = written-is c.loop-place.entries.items c.args.table.now (omega arith) (λ k h. c.loop-place.invariant.done k (omega arith))
+pub returns : goal.returns
+returns c = record {
+  value = c.loop-place.invariant
+      ∙ take_all c.loop-place.place-index (known_bounds c.args.table.now)
+      (omega (arith, length-places c.args.table.now c.as_slice-places.result.now (c.as_slice-places.ensures.value ∙ c.known-known.ensures.value)));
+}

@@ -1,4 +1,4 @@
-use Rattle.std.proofs.Common.{pos, Some, length-set, ◌∙◌}
+use Rattle.std.proofs.Common.{pos, Some, length-set, arith, ◌∙◌}
 use Rattle.std.proofs.lemmas.Int.{to_z-of_z}
 use Rattle.zones.specs.Bound.{raise, lower}
 use Rattle.zones.specs.Zone.{bound}
@@ -17,7 +17,7 @@ returns c =
     record {
       exact = rw c.of.ensures.value (zone_by-each (set_bound old x y number) _ (length-set _ _ _ ∙ c.write_cross.ensures.size)
           (cross-is old _ x (Some (pos 0)) (λ q. raise (bound old y q) (Some number)) (λ p. lower (bound old p y) (Some number))
-          c.requires.x_in_range c.write_cross.ensures.size
+          (omega arith) c.write_cross.ensures.size
           (simp (to_z-of_z _ _ c.ranges.c) at c.write_cross.ensures.row)
           (simp (to_z-of_z _ _ c.ranges.c) at c.write_cross.ensures.column)
           c.write_cross.ensures.others));

@@ -18,5 +18,5 @@ returns c =
       exact = rw (get_or_default old (32 * x + x) c.index-table-x.result None (omega arith))
           (zone_by-each (shift_bound old x low high) _ (length-set _ _ _ ∙ c.write_cross.ensures.size)
           (cross-is old _ x (bound old x x) (λ q. raise (bound old x q) high) (λ p. lower (bound old p x) low)
-          c.requires.x_in_range c.write_cross.ensures.size c.write_cross.ensures.row c.write_cross.ensures.column c.write_cross.ensures.others));
+          (omega arith) c.write_cross.ensures.size c.write_cross.ensures.row c.write_cross.ensures.column c.write_cross.ensures.others));
     }
