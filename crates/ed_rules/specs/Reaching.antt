@@ -1,5 +1,5 @@
 -- What the calls of this crate answer that go over from one state to another.
-use Rattle.std.specs.Prelude.{◌≡◌, ◌≢◌, Result, Ok, Err}
+use Rattle.std.specs.Prelude.{◌≡◌, ◌≢◌, Option, Some, None, Result, Ok, Err}
 use Rattle.ed_base.specs.declared.fault.Fault.{Fault}
 use Rattle.ed_base.specs.declared.fault.Fault.TheVariants.{Memory}
 use Rattle.ed_rules.specs.declared.state.State.{State}
@@ -9,7 +9,7 @@ abbrev pub Reaches : Result (Unit {0}) Fault → State → Result State Fault �
 Reaches (Ok u) t should = should ≡ Ok t
 Reaches (Err f) t should = f ≢ Memory → should ≡ Err f
 
--- the same of a call that gives the state
-abbrev pub Steps : Result State Fault → Result State Fault → Type 0
-Steps (Ok t) should = should ≡ Ok t
-Steps (Err f) should = f ≢ Memory → should ≡ Err f
+-- a call comes to the state, where no need fails, or tells the fault
+abbrev pub Comes : (failed : Option Fault) → State → Result State Fault → Type 0
+Comes None t should = should ≡ Ok t
+Comes (Some f) t should = should ≡ Err f

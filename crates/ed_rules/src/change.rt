@@ -7,7 +7,7 @@ ghost use Rattle.ed_rules.specs.States.{old_of};
 
 use crate::marks::Marks;
 use crate::pieces::{mark, move_mark, set_current_replaced, set_left_over};
-use crate::state::{Changed, Old, State, Undo};
+use crate::state::{Changed, State, find_old};
 use zones::Name;
 
 impl State {
@@ -17,11 +17,9 @@ impl State {
     {
         self.changed = Changed::YES;
         if !listed {
-            self.undo = Undo {
-                nothing: false,
-                same: false,
-                was: Some(before.old()),
-            };
+            self.undo.nothing = false;
+            self.undo.same = false;
+            find_old(&mut self.undo.was, &before.zone, &before.marks);
         }
     }
 

@@ -1,44 +1,16 @@
 //! What is known of an editor's state, as it is kept between commands.
 
-ghost use Rattle.std.specs.Prelude.{◌≡◌, IfOk};
+ghost use Rattle.std.specs.Prelude.{◌≡◌, ◌↔◌, IsTrue, IfOk, OnOk};
+ghost use Rattle.ed_rules.specs.Order.{Covers};
 
 use crate::choices::Choices;
+use crate::kept_undo::{KeptUndo, kept_old_covers};
 use crate::marks::Marks;
-use crate::state::{Changed, Old, Replacements, State, Undo};
-use std::alloc::{AllocError, Global};
+use crate::order::allows;
+use crate::state::{Changed, Replacements, State};
+use std::alloc::AllocError;
 use std::marker::Model;
 use zones::{KeptZone, Zone};
-
-/// What is known of an earlier buffer, as it is kept. A contract sees what was kept.
-#[derive(Debug, Drop)]
-struct KeptOld {
-    zone: KeptZone,
-    marks: Marks,
-}
-
-impl Model for KeptOld {
-    ghost use Rattle.ed_rules.specs.declared.state.Old.{Old};
-
-    ghost Value = { Old };
-
-    ghost view = { λ kept. record { zone = kept.zone; marks = kept.marks } };
-}
-
-/// What undo may find, as it is kept. A contract sees what was kept.
-#[derive(Debug, Drop)]
-struct KeptUndo {
-    nothing: bool,
-    same: bool,
-    was: Option<KeptOld>,
-}
-
-impl Model for KeptUndo {
-    ghost use Rattle.ed_rules.specs.declared.state.Undo.{Undo};
-
-    ghost Value = { Undo };
-
-    ghost view = { λ kept. record { nothing = kept.nothing; same = kept.same; was = kept.was } };
-}
 
 /// A state as it is kept between commands: its zones take memory only for what is known. A contract sees the state that was
 /// kept.
@@ -69,85 +41,56 @@ impl Model for KeptState {
     } };
 }
 
-impl KeptOld {
-    fn of(old: &Old, alloc: Global) -> Result<KeptOld, AllocError>
-        ensures value { IfOk result (λ kept. kept ≡ old.now) }
-    {
-        Ok(KeptOld {
-            zone: old.zone.try_keep(alloc)?,
-            marks: old.marks,
-        })
-    }
-
-    fn old(&self) -> Old
-        ensures value { result ≡ self.now }
-    {
-        Old {
-            zone: self.zone.zone(),
-            marks: self.marks,
-        }
-    }
-}
-
-fn keep_old(old: &Option<Old>, alloc: Global) -> Result<Option<KeptOld>, AllocError>
-    ensures value { IfOk result (λ kept. kept ≡ old.now) }
-{
-    match old {
-        Some(old) => Ok(Some(KeptOld::of(old, alloc)?)),
-        None => Ok(None),
-    }
-}
-
-fn kept_old(kept: &Option<KeptOld>) -> Option<Old>
-    ensures value { result ≡ kept.now }
-{
-    match kept {
-        Some(kept) => Some(kept.old()),
-        None => None,
-    }
-}
-
-impl KeptUndo {
-    fn of(undo: &Undo, alloc: Global) -> Result<KeptUndo, AllocError>
-        ensures value { IfOk result (λ kept. kept ≡ undo.now) }
-    {
-        Ok(KeptUndo {
-            nothing: undo.nothing,
-            same: undo.same,
-            was: keep_old(&undo.was, alloc)?,
-        })
-    }
-
-    fn undo(&self) -> Undo
-        ensures value { result ≡ self.now }
-    {
-        Undo {
-            nothing: self.nothing,
-            same: self.same,
-            was: kept_old(&self.was),
-        }
-    }
-}
-
 impl State {
-    /// The state as it is kept, by the allocator of its sets, which move.
-    pub fn keep(self) -> Result<KeptState, AllocError>
-        ensures value { IfOk result (λ kept. kept ≡ self) }
+    /// The state as it is kept, with equal sets by the same allocators.
+    pub fn try_keep(&self) -> Result<KeptState, AllocError>
+        ensures value { IfOk result (λ kept. kept ≡ self.now) }
     {
         let alloc = self.patterns.allocator();
         Ok(KeptState {
             zone: self.zone.try_keep(alloc)?,
             marks: self.marks,
-            undo: KeptUndo::of(&self.undo, alloc)?,
-            patterns: self.patterns,
+            patterns: self.patterns.try_copy()?,
             replacements: self.replacements,
-            names: self.names,
+            names: self.names.try_copy()?,
             changed: self.changed,
+            undo: KeptUndo::of(&self.undo, alloc)?,
         })
     }
 }
 
 impl KeptState {
+    /// The state with these parts. It takes no memory.
+    pub fn new(
+        zone: KeptZone,
+        marks: Marks,
+        patterns: Choices,
+        replacements: Replacements,
+        names: Choices,
+        changed: Changed,
+        undo: KeptUndo,
+    ) -> KeptState
+        ensures value { result ≡ record {
+          zone = zone;
+          marks = marks;
+          patterns = patterns;
+          replacements = replacements;
+          names = names;
+          changed = changed;
+          undo = undo;
+        } }
+    {
+        KeptState {
+            zone,
+            marks,
+            patterns,
+            replacements,
+            names,
+            changed,
+            undo,
+        }
+    }
+
     /// The state that was kept, with equal sets by the same allocator.
     pub fn state(&self) -> Result<State, AllocError>
         ensures value { IfOk result (λ state. state ≡ self.now) }
@@ -163,11 +106,51 @@ impl KeptState {
         })
     }
 
+    /// Has a state become the one that is kept, in place, and asks for memory only where a set differs. After an `Err` it is some
+    /// state.
+    pub fn restore(&self, state: &mut State) -> Result<(), AllocError>
+        ensures value { OnOk result (state.new ≡ self.now) }
+    {
+        state.patterns.try_copy_from(&self.patterns)?;
+        state.names.try_copy_from(&self.names)?;
+        self.zone.restore(&mut state.zone);
+        state.marks = self.marks;
+        state.replacements = self.replacements;
+        state.changed = self.changed;
+        self.undo.restore(&mut state.undo);
+        Ok(())
+    }
+
+    /// Whether the state that is kept is the weaker: the other one says all that it says. It takes no memory.
+    pub fn covers(&self, other: &State) -> bool
+        ensures exact { IsTrue result ↔ Covers self.now other.now }
+    {
+        self.zone.covers(&other.zone)
+            && self.marks.are_among(&other.marks)
+            && other.patterns.are_among(&self.patterns)
+            && allows(self.replacements.none, other.replacements.none)
+            && allows(self.replacements.plain, other.replacements.plain)
+            && allows(self.replacements.split, other.replacements.split)
+            && other.names.are_among(&self.names)
+            && allows(self.changed.no, other.changed.no)
+            && allows(self.changed.yes, other.changed.yes)
+            && allows(self.undo.nothing(), other.undo.nothing)
+            && allows(self.undo.same(), other.undo.same)
+            && kept_old_covers(self.undo.was(), &other.undo.was)
+    }
+
     /// The bounds on lines. Like each part that is asked for alone, they take no memory.
     pub fn zone(&self) -> Zone
         ensures value { result ≡ self.now.zone }
     {
         self.zone.zone()
+    }
+
+    /// The bounds on lines, as they are kept.
+    pub fn kept_zone(&self) -> &KeptZone
+        ensures value { result.now ≡ self.now.zone }
+    {
+        &self.zone
     }
 
     /// The letters that surely mark a line.
@@ -205,10 +188,10 @@ impl KeptState {
         self.changed
     }
 
-    /// What undo may find.
-    pub fn undo(&self) -> Undo
-        ensures value { result ≡ self.now.undo }
+    /// What undo may find, as it is kept.
+    pub fn kept_undo(&self) -> &KeptUndo
+        ensures value { result.now ≡ self.now.undo }
     {
-        self.undo.undo()
+        &self.undo
     }
 }

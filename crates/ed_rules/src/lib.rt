@@ -7,6 +7,7 @@ mod choices;
 mod files;
 mod globals;
 mod kept;
+mod kept_undo;
 mod laws;
 mod lines;
 mod marks;
@@ -21,9 +22,10 @@ mod undoing;
 pub use choices::Choices;
 pub use globals::{body_entry, loop_end, loop_start};
 pub use kept::KeptState;
+pub use kept_undo::{KeptOld, KeptUndo};
 pub use laws::{
     commands_are_sound, globals_are_sound, states_stay_formed, weaker_states_stand_for_more,
 };
 pub use marks::Marks;
-pub use rules::{after, needs, outcome};
+pub use rules::{after, needs, outcome_into};
 pub use state::{Changed, Old, Replacements, State, Undo};

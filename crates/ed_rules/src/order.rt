@@ -77,7 +77,7 @@ impl State {
 }
 
 /// Whether the weak side allows what the strong one does.
-fn allows(weak: bool, strong: bool) -> bool
+pub(crate) fn allows(weak: bool, strong: bool) -> bool
     ensures exact { IsTrue result ↔ Allows weak strong }
 {
     weak || !strong

@@ -7,7 +7,7 @@ ghost use Rattle.ed_syntax.specs.Applied as editing;
 ghost use Rattle.ed_syntax.specs.declared.request.Answer.{Answer};
 ghost use Rattle.ed_rules.specs.Pieces.{with_zone, ended};
 ghost use Rattle.ed_rules.specs.Rules.{taken, effect, suffixed, are_lines, enters_lines, step_at, step, fault_of};
-ghost use Rattle.ed_rules.specs.Reaching.{Reaches, Steps};
+ghost use Rattle.ed_rules.specs.Reaching.{Reaches, Comes};
 ghost use Rattle.ed_rules.specs.StandsFor.{StandsFor};
 ghost use Rattle.ed_rules.specs.Soundness.{IsUnserved, IsDone};
 ghost use Rattle.ed_rules.specs.declared.state.State.{State};
@@ -162,32 +162,35 @@ impl State {
         self.finish(&command.suffix)
     }
 
-    /// The state after a command, or the need that fails.
-    fn step(&self, command: &Command) -> Result<State, Fault>
-        ensures exact { Steps result (step (command_value command.now) self.now) }
+    /// Becomes the state after a command in `before`.
+    fn step_from(&mut self, before: &State, command: &Command) -> Result<(), Fault>
+        ensures exact { Reaches result self.new (step (command_value command.now) before.now) }
     {
         texts_are_lines(&command.verb);
-        let mut after = self.try_copy()?;
+        self.try_copy_from(before)?;
         match &command.addresses {
             Addresses::Without => {
                 let own = standing(command.verb.takes().default);
-                after.step_at(&own, command, self)?;
+                self.step_at(&own, command, before)
             }
-            given => after.step_at(given, command, self)?,
+            given => self.step_at(given, command, before),
         }
-        Ok(after)
     }
 }
 
-/// What a command comes to in a state: the state after it, or the first of its needs that fails. It is what `needs` and `after`
-/// tell one by one, and carries the rule out once.
-pub fn outcome(command: &Command, state: &State) -> Result<Result<State, Fault>, AllocError>
-    ensures exact { IfOk result (λ outcome. outcome ≡ step (command_value command.now) state.now) }
+/// Carries out the rule of a command in `before`: where none of its needs fails, `after` becomes the state after it; else it is
+/// some state, and the first need that fails is told. It is what `needs` and `after` tell one by one.
+pub fn outcome_into(
+    command: &Command,
+    before: &State,
+    after: &mut State,
+) -> Result<Option<Fault>, AllocError>
+    ensures exact { IfOk result (λ failed. Comes failed after.new (step (command_value command.now) before.now)) }
 {
-    match state.step(command) {
-        Ok(after) => Ok(Ok(after)),
+    match after.step_from(before, command) {
+        Ok(()) => Ok(None),
         Err(Fault::Memory) => Err(AllocError),
-        Err(fault) => Ok(Err(fault)),
+        Err(fault) => Ok(Some(fault)),
     }
 }
 
@@ -201,11 +204,8 @@ pub fn needs(command: &Command, state: &State) -> Result<Option<Fault>, AllocErr
         StandsFor state.now e →
         IfErr (editing.command e (command_value command.now) given) (IsUnserved (command_value command.now) e given)) }
 {
-    match state.step(command) {
-        Ok(_) => Ok(None),
-        Err(Fault::Memory) => Err(AllocError),
-        Err(fault) => Ok(Some(fault)),
-    }
+    let mut after = state.try_copy()?;
+    outcome_into(command, state, &mut after)
 }
 
 /// The state after a command whose needs hold.
@@ -218,8 +218,9 @@ pub fn after(command: &Command, state: &State) -> Result<State, AllocError>
     ensures sound { IfOk result (λ after. (e : editor.State) (given : Option Answer) → StandsFor state.now e →
         IsDone (command_value command.now) state.now after e given (editing.command e (command_value command.now) given)) }
 {
-    match state.step(command) {
-        Ok(after) => Ok(after),
+    let mut after = state.try_copy()?;
+    match after.step_from(state, command) {
+        Ok(()) => Ok(after),
         Err(_) => Err(AllocError),
     }
 }

@@ -1,6 +1,6 @@
 //! What is known of an editor's state.
 
-ghost use Rattle.std.specs.Prelude.{◌≡◌, IfOk};
+ghost use Rattle.std.specs.Prelude.{◌≡◌, IfOk, OnOk};
 ghost use Rattle.ed_rules.specs.States.{old_of, unchanged, changed, no_replacement, nothing_to_undo, start};
 ghost use Rattle.ed_rules.specs.declared.state.State.{State};
 
@@ -53,6 +53,40 @@ pub struct State {
     pub names: Choices,
     pub changed: Changed,
     pub undo: Undo,
+}
+
+impl Old {
+    /// Becomes an equal one, in place.
+    fn copy_from(&mut self, zone: &Zone, marks: &Marks)
+        ensures value { self.new ≡ record { zone = zone.now; marks = marks.now } }
+    {
+        self.zone.copy_from(zone);
+        self.marks = *marks;
+    }
+}
+
+/// What undo finds becomes a buffer with these bounds and sure marks, in place where it finds an earlier one already.
+pub(crate) fn find_old(found: &mut Option<Old>, zone: &Zone, marks: &Marks)
+    ensures value { found.new ≡ Some (record { zone = zone.now; marks = marks.now }) }
+{
+    match found {
+        Some(old) => old.copy_from(zone, marks),
+        None => {
+            *found = Some(Old {
+                zone: *zone,
+                marks: *marks,
+            })
+        }
+    }
+}
+
+fn copy_found(found: &mut Option<Old>, other: &Option<Old>)
+    ensures value { found.new ≡ other.now }
+{
+    match other {
+        Some(old) => find_old(found, &old.zone, &old.marks),
+        None => *found = None,
+    }
 }
 
 impl Changed {
@@ -127,5 +161,21 @@ impl State {
             changed: self.changed,
             undo: self.undo,
         })
+    }
+
+    /// Becomes an equal state, in place, and asks for memory only where a set differs. After an `Err` it is some state.
+    pub fn try_copy_from(&mut self, other: &State) -> Result<(), AllocError>
+        ensures value { OnOk result (self.new ≡ other.now) }
+    {
+        self.patterns.try_copy_from(&other.patterns)?;
+        self.names.try_copy_from(&other.names)?;
+        self.zone.copy_from(&other.zone);
+        self.marks = other.marks;
+        self.replacements = other.replacements;
+        self.changed = other.changed;
+        self.undo.nothing = other.undo.nothing;
+        self.undo.same = other.undo.same;
+        copy_found(&mut self.undo.was, &other.undo.was);
+        Ok(())
     }
 }

@@ -51,7 +51,7 @@ pub(crate) fn certificate_of(
         }
         let next = after(command, &state)?;
         notes.push(Note {
-            state: state.keep()?,
+            state: state.try_keep()?,
             looped: None,
         })?;
         state = next;
@@ -64,7 +64,7 @@ pub(crate) fn certificate_of(
         min: start.min,
         max: start.max,
         notes,
-        last: state,
+        last: state.try_keep()?,
         low: bounds.low,
         high: bounds.high,
         writes: Vec::new(alloc),

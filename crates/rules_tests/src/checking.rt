@@ -3,8 +3,8 @@
 use crate::certifying::{Final, Start, certificate_of};
 use crate::rules::SCRIPTS;
 use crate::text::DELETED;
-use cert_check::{Certificate, Note, Place, Verdict, check};
-use ed_rules::Changed;
+use cert_check::{Certificate, Place, Verdict, check};
+use ed_rules::{Changed, KeptState};
 use ed_syntax::{Script, read_script};
 use std::alloc::{AllocError, Global};
 use std::test::Fail;
@@ -101,11 +101,11 @@ enum Change {
     NoPathWritten,
 }
 
-/// Makes a note say another bound of a name.
-fn put_bound(note: &mut Note, name: Name, bound: i64) -> Result<(), AllocError> {
-    let mut state = note.state.state()?;
+/// Has another bound of a name be known.
+fn put_bound(known: &mut KeptState, name: Name, bound: i64) -> Result<(), AllocError> {
+    let mut state = known.state()?;
     state.zone.put(name, Name::ZERO, Some(bound));
-    note.state = state.keep()?;
+    *known = state.try_keep()?;
     Ok(())
 }
 
@@ -119,25 +119,22 @@ fn make(change: Change, certificate: &mut Certificate) -> Result<(), AllocError>
         Change::OtherPath => certificate.path = None,
         Change::ContradictoryNote => {
             for note in certificate.notes.iter_mut().take(1) {
-                put_bound(note, Name::ZERO, -1)?;
+                put_bound(&mut note.state, Name::ZERO, -1)?;
             }
         }
         Change::NarrowSecondNote => {
             for note in certificate.notes.iter_mut().skip(1) {
-                put_bound(note, Name::LAST_LINE, 1)?;
+                put_bound(&mut note.state, Name::LAST_LINE, 1)?;
             }
         }
         Change::UnchangedAfterDeletion => {
             for note in certificate.notes.iter_mut().skip(1) {
                 let mut state = note.state.state()?;
                 state.changed = Changed::NO;
-                note.state = state.keep()?;
+                note.state = state.try_keep()?;
             }
         }
-        Change::NarrowEnd => certificate
-            .last
-            .zone
-            .put(Name::LAST_LINE, Name::ZERO, Some(1)),
+        Change::NarrowEnd => put_bound(&mut certificate.last, Name::LAST_LINE, 1)?,
         Change::LowAboveHigh => certificate.low = 3,
         Change::HighOfOne => certificate.high = Some(1),
         Change::NoPathWritten => certificate.writes.clear(),

@@ -232,8 +232,8 @@ fn looped(alloc: Global, command: &Command, state: &State, told: Told) -> Result
     let invariant = invariant_of(command, state, told)?;
     let entry = body_entry(&invariant)?;
     Ok(Looped {
-        invariant: invariant.keep()?,
-        inner: vec![in alloc; entry.keep()?]?,
+        invariant: invariant.try_keep()?,
+        inner: vec![in alloc; entry.try_keep()?]?,
     })
 }
 
@@ -261,7 +261,7 @@ fn certificate_with(
         };
         let next = passed(command, &state, &looped)?;
         notes.push(Note {
-            state: state.keep()?,
+            state: state.try_keep()?,
             looped,
         })?;
         state = next;
@@ -272,7 +272,7 @@ fn certificate_with(
         min: start.min,
         max: start.max,
         notes,
-        last: state,
+        last: state.try_keep()?,
         low: 0,
         high: None,
         writes,

@@ -2,7 +2,7 @@
 
 use crate::certifying::{Start, state_of};
 use ed_base::Fault;
-use ed_rules::{State, after, needs};
+use ed_rules::{State, outcome_into};
 use ed_syntax::read_script;
 use std::alloc::{AllocError, Global};
 use std::test::Fail;
@@ -16,11 +16,12 @@ pub(crate) fn walked(
 ) -> Result<Result<State, (usize, Fault)>, AllocError> {
     let script = read_script(alloc, script)?;
     let mut state = state_of(alloc, start)?;
+    let mut left = state.try_copy()?;
     for (index, command) in script.commands.iter().enumerate() {
-        if let Some(fault) = needs(command, &state)? {
+        if let Some(fault) = outcome_into(command, &state, &mut left)? {
             return Ok(Err((index + 1, fault)));
         }
-        state = after(command, &state)?;
+        state.try_copy_from(&left)?;
     }
     Ok(Ok(state))
 }
@@ -120,5 +121,26 @@ fn joined_and_widened_states_cover_both(rt: HostRuntime) -> Result<(), Fail> {
             "{script:?}"
         );
     }
+    Ok(())
+}
+
+#[test]
+fn a_kept_state_comes_back_and_covers_what_the_state_does(rt: HostRuntime) -> Result<(), Fail> {
+    let wide = state_of(rt.alloc(), lines(1, Some(9)))?;
+    let Ok(near) = walked(rt.alloc(), b"1d\n2ka\n", lines(4, Some(5)))? else {
+        return Err(Fail::from("a need failed"));
+    };
+    let (kept_wide, kept_near) = (wide.try_keep()?, near.try_keep()?);
+    assert!(rt; kept_wide.covers(&wide) && kept_near.covers(&near));
+    assert!(rt; !kept_wide.covers(&near) && !kept_near.covers(&wide));
+    let joined = wide.join(&near)?.try_keep()?;
+    assert!(rt; joined.covers(&wide) && joined.covers(&near));
+    let mut state = wide.try_copy()?;
+    kept_near.restore(&mut state)?;
+    assert_eq!(rt; state.zone.bound(Name::LAST_LINE, Name::ZERO), Some(4));
+    assert!(rt; state.marks.is_sure(0) && state.undo.was.is_some());
+    kept_wide.restore(&mut state)?;
+    assert_eq!(rt; state.zone.bound(Name::LAST_LINE, Name::ZERO), Some(9));
+    assert!(rt; !state.marks.is_sure(0) && state.undo.was.is_none());
     Ok(())
 }

@@ -103,24 +103,21 @@ enum Change {
 }
 
 fn make_change(alloc: Global, certificate: &mut Certificate, change: Change) -> Result<(), Fail> {
+    let mut last = certificate.last.state()?;
     match change {
         Change::FewestAboveMost => certificate.min = 4,
         Change::HighAboveLimit => certificate.high = Some(1_000_000_000_001),
-        Change::NoPatterns => certificate.last.patterns = Choices::from_rising(Vec::new(alloc)),
+        Change::NoPatterns => last.patterns = Choices::from_rising(Vec::new(alloc)),
         Change::NoneAfterText => {
             let mut members = Vec::new(alloc);
             members.push(Some(Bytes::new(alloc)))?;
             members.push(None)?;
-            certificate.last.patterns = Choices::from_rising(members);
+            last.patterns = Choices::from_rising(members);
         }
-        Change::UnsureLetter => {
-            certificate
-                .last
-                .zone
-                .put(Name::mark(b'a'), Name::ZERO, Some(1));
-        }
+        Change::UnsureLetter => last.zone.put(Name::mark(b'a'), Name::ZERO, Some(1)),
         Change::SameWriteTwice => certificate.writes.push(Bytes::from_slice(alloc, b"F")?)?,
     }
+    certificate.last = last.try_keep()?;
     Ok(())
 }
 
@@ -146,15 +143,14 @@ fn a_certificate_that_is_no_text_says_so(rt: HostRuntime) -> Result<(), Fail> {
 #[test]
 fn letters_and_bytes_are_spelled(rt: HostRuntime) -> Result<(), Fail> {
     let mut certificate = deleted(rt.alloc())?;
-    certificate.last.marks.add(25);
-    certificate
-        .last
-        .zone
-        .put(Name::mark(b'z'), Name::LAST_LINE, Some(0));
+    let mut last = certificate.last.state()?;
+    last.marks.add(25);
+    last.zone.put(Name::mark(b'z'), Name::LAST_LINE, Some(0));
     let mut members = Vec::new(rt.alloc());
     members.push(None)?;
     members.push(Some(Bytes::from_slice(rt.alloc(), b"a b%\xff")?))?;
-    certificate.last.patterns = Choices::from_rising(members);
+    last.patterns = Choices::from_rising(members);
+    certificate.last = last.try_keep()?;
     assert!(rt; certificate.has_text());
     let text = certificate.write()?;
     let end =

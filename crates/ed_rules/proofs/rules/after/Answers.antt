@@ -4,4 +4,4 @@ use Rattle.ed_rules.proofs.rules.after.Goals as goal
 
 pub returns-in-Ok-clause-sound : goal.returns-in-Ok-clause-sound
 returns-in-Ok-clause-sound c e given st =
-    command_sound (command_value c.args.command.now) c.args.state.now c.in-Ok.after e given st c.in-Ok.ensures.exact
+    command_sound (command_value c.args.command.now) c.args.state.now c.step_from.new.self e given st c.in-Ok.ensures.exact

@@ -1,13 +1,19 @@
-use Rattle.std.proofs.Common.{ap}
+use Rattle.std.proofs.Common.{◌≡◌, ◌∙◌, ap, None, Some, Option, Result}
+use Rattle.std.proofs.lemmas.Result.{IfOk-weaker}
+use Rattle.ed_base.specs.declared.fault.Fault.{Fault}
 use Rattle.ed_syntax.specs.PublicTypes.{command_value}
+use Rattle.ed_rules.specs.declared.state.State.{State}
+use Rattle.ed_rules.specs.Reaching.{Comes}
 use Rattle.ed_rules.specs.Rules.{fault_of}
 use Rattle.ed_rules.proofs.Sound.{needs-met}
 use Rattle.ed_rules.proofs.rules.needs.Goals as goal
-use Rattle.ed_rules.proofs.rules.needs.Goals.{in-Ok, in-Err-Memory, in-Err}
+
+fault_of-Comes : (failed : Option Fault) (t : State) (should : Result State Fault) → Comes failed t should → fault_of should ≡ failed
+fault_of-Comes None t should h = ap fault_of h
+fault_of-Comes (Some f) t should h = ap fault_of h
 
 pub returns-clause-sound : goal.returns-clause-sound
-returns-clause-sound c = elim c.match-step.branch [
-  | in-Ok w ↦ rw w.result-is (λ none e given st. needs-met (command_value c.args.command.now) c.args.state.now e given (ap fault_of w.in-Ok.ensures.exact) st)
-  | in-Err-Memory w ↦ rw w.result-is tt
-  | in-Err w ↦ rw w.result-is (λ none e given st. absurd cc)
-]
+returns-clause-sound c =
+    IfOk-weaker c.outcome_into.result _ _
+    (λ failed comes none e given st. needs-met (command_value c.args.command.now) c.args.state.now e given (fault_of-Comes failed _ _ comes ∙ none) st)
+    c.outcome_into.ensures.exact

@@ -1,0 +1,195 @@
+//! What undo may find, as it is kept between commands.
+
+ghost use Rattle.std.specs.Prelude.{◌≡◌, ◌↔◌, IsTrue, IfOk};
+ghost use Rattle.ed_rules.specs.Order.{CoversOld};
+
+use crate::marks::Marks;
+use crate::state::{Old, Undo};
+use std::alloc::{AllocError, Global};
+use std::marker::Model;
+use zones::KeptZone;
+
+/// What is known of an earlier buffer, as it is kept. A contract sees what was kept.
+#[derive(Debug, Drop)]
+pub struct KeptOld {
+    zone: KeptZone,
+    marks: Marks,
+}
+
+impl Model for KeptOld {
+    ghost use Rattle.ed_rules.specs.declared.state.Old.{Old};
+
+    ghost Value = { Old };
+
+    ghost view = { λ kept. record { zone = kept.zone; marks = kept.marks } };
+}
+
+/// What undo may find, as it is kept. A contract sees what was kept.
+#[derive(Debug, Drop)]
+pub struct KeptUndo {
+    nothing: bool,
+    same: bool,
+    was: Option<KeptOld>,
+}
+
+impl Model for KeptUndo {
+    ghost use Rattle.ed_rules.specs.declared.state.Undo.{Undo};
+
+    ghost Value = { Undo };
+
+    ghost view = { λ kept. record { nothing = kept.nothing; same = kept.same; was = kept.was } };
+}
+
+impl KeptOld {
+    /// The buffer with these bounds and sure marks. It takes no memory.
+    pub fn new(zone: KeptZone, marks: Marks) -> KeptOld
+        ensures value { result ≡ record { zone = zone; marks = marks } }
+    {
+        KeptOld { zone, marks }
+    }
+
+    /// The bounds on lines, as they are kept.
+    pub fn zone(&self) -> &KeptZone
+        ensures value { result.now ≡ self.now.zone }
+    {
+        &self.zone
+    }
+
+    /// The letters that surely mark a line.
+    pub fn marks(&self) -> &Marks
+        ensures value { result.now ≡ self.now.marks }
+    {
+        &self.marks
+    }
+
+    fn of(old: &Old, alloc: Global) -> Result<KeptOld, AllocError>
+        ensures value { IfOk result (λ kept. kept ≡ old.now) }
+    {
+        Ok(KeptOld {
+            zone: old.zone.try_keep(alloc)?,
+            marks: old.marks,
+        })
+    }
+
+    fn old(&self) -> Old
+        ensures value { result ≡ self.now }
+    {
+        Old {
+            zone: self.zone.zone(),
+            marks: self.marks,
+        }
+    }
+
+    fn restore(&self, old: &mut Old)
+        ensures value { old.new ≡ self.now }
+    {
+        self.zone.restore(&mut old.zone);
+        old.marks = self.marks;
+    }
+
+    fn restore_into(&self, old: &mut Option<Old>)
+        ensures value { old.new ≡ Some self.now }
+    {
+        match old {
+            Some(old) => self.restore(old),
+            None => *old = Some(self.old()),
+        }
+    }
+}
+
+fn keep_old(old: &Option<Old>, alloc: Global) -> Result<Option<KeptOld>, AllocError>
+    ensures value { IfOk result (λ kept. kept ≡ old.now) }
+{
+    match old {
+        Some(old) => Ok(Some(KeptOld::of(old, alloc)?)),
+        None => Ok(None),
+    }
+}
+
+fn kept_old(kept: &Option<KeptOld>) -> Option<Old>
+    ensures value { result ≡ kept.now }
+{
+    match kept {
+        Some(kept) => Some(kept.old()),
+        None => None,
+    }
+}
+
+fn restore_old(kept: &Option<KeptOld>, old: &mut Option<Old>)
+    ensures value { old.new ≡ kept.now }
+{
+    match kept {
+        Some(kept) => kept.restore_into(old),
+        None => *old = None,
+    }
+}
+
+pub(crate) fn kept_old_covers(weak: &Option<KeptOld>, strong: &Option<Old>) -> bool
+    ensures exact { IsTrue result ↔ CoversOld weak.now strong.now }
+{
+    match (weak, strong) {
+        (_, None) => true,
+        (None, Some(_)) => false,
+        (Some(weak), Some(strong)) => {
+            weak.zone.covers(&strong.zone) && weak.marks.are_among(&strong.marks)
+        }
+    }
+}
+
+impl KeptUndo {
+    /// That undo may find these. It takes no memory.
+    pub fn new(nothing: bool, same: bool, was: Option<KeptOld>) -> KeptUndo
+        ensures value { result ≡ record { nothing = nothing; same = same; was = was } }
+    {
+        KeptUndo { nothing, same, was }
+    }
+
+    /// Whether undo may find nothing.
+    pub fn nothing(&self) -> bool
+        ensures value { result ≡ self.now.nothing }
+    {
+        self.nothing
+    }
+
+    /// Whether undo may find the buffer as it is.
+    pub fn same(&self) -> bool
+        ensures value { result ≡ self.now.same }
+    {
+        self.same
+    }
+
+    /// The earlier buffer that undo may find.
+    pub fn was(&self) -> &Option<KeptOld>
+        ensures value { result.now ≡ self.now.was }
+    {
+        &self.was
+    }
+
+    pub(crate) fn of(undo: &Undo, alloc: Global) -> Result<KeptUndo, AllocError>
+        ensures value { IfOk result (λ kept. kept ≡ undo.now) }
+    {
+        Ok(KeptUndo {
+            nothing: undo.nothing,
+            same: undo.same,
+            was: keep_old(&undo.was, alloc)?,
+        })
+    }
+
+    pub(crate) fn undo(&self) -> Undo
+        ensures value { result ≡ self.now }
+    {
+        Undo {
+            nothing: self.nothing,
+            same: self.same,
+            was: kept_old(&self.was),
+        }
+    }
+
+    pub(crate) fn restore(&self, undo: &mut Undo)
+        ensures value { undo.new ≡ self.now }
+    {
+        undo.nothing = self.nothing;
+        undo.same = self.same;
+        restore_old(&self.was, &mut undo.was);
+    }
+}
