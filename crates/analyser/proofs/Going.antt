@@ -159,30 +159,30 @@ pushed-length : (notes : List public.Note) (n : public.Note) → length (notes +
 pushed-length [] n = refl
 pushed-length (m ∷ notes) n = let q = pushed-length notes n in omega arith
 
--- a command whose needs hold
-pub walk-on : (commands : List Command) (start : State) (i : ℕ) (d : Command) (notes more : List public.Note) (n : public.Note) (l : Option looped.Looped) (writes listed : List (List ℕ)) (s t : State) (end : End) →
+-- a command whose needs hold, whose result comes in at the next one
+pub walk-on : (commands : List Command) (start : State) (i : ℕ) (d : Command) (notes more : List public.Note) (n : public.Note) (l : Option looped.Looped) (writes listed : List (List ℕ)) (s t next : State) (end : End) →
     i < length commands → d ≡ get_or commands i d → note_value n ≡ noted s (known_of l) → more ≡ notes ++ n ∷ [] →
-    listed ≡ with_paths (taken_paths (step_value d) s (known_of l)) writes → IsTaken (step_value d) s l end → end ≡ Leaves t →
+    listed ≡ with_paths (taken_paths (step_value d) s (known_of l)) writes → IsTaken (step_value d) s l end t → end ≡ Leaves → next ≡ t →
     Going (counted_from commands 0) start i (map note_value notes) writes s (counted_from commands i) →
-    Going (counted_from commands 0) start (i + 1) (map note_value more) listed t (later commands i d)
-walk-on commands start i d notes more n l writes listed s t end bound is v pushed put taken e g =
+    Going (counted_from commands 0) start (i + 1) (map note_value more) listed next (later commands i d)
+walk-on commands start i d notes more n l writes listed s t next end bound is v pushed put taken e same g =
     let all : List Step = counted_from commands 0 in
     let here = subst (λ (xs : List Step). Going all start i (map note_value notes) writes s xs) (counted-here commands i d bound is) g in
-    let left = subst (λ (r : End). IsTaken (step_value d) s l r) e taken in
-    let next = going-on all start i (map note_value notes) writes s t (known_of l) (step_value d) (later commands i d) left.0 left.1 here in
-    let by_notes = subst (λ (ns : List Note). Going all start (i + 1) ns (with_paths (taken_paths (step_value d) s (known_of l)) writes) t (later commands i d)) (sym (noted-more notes more n _ pushed v)) next in
-    subst (λ (ws : List (List ℕ)). Going all start (i + 1) (map note_value more) ws t (later commands i d)) (sym put) by_notes
+    let left = subst (λ (r : End). IsTaken (step_value d) s l r t) e taken in
+    let going = going-on all start i (map note_value notes) writes s next (known_of l) (step_value d) (later commands i d) left.0 (same ∙ left.1) here in
+    let by_notes = subst (λ (ns : List Note). Going all start (i + 1) ns (with_paths (taken_paths (step_value d) s (known_of l)) writes) next (later commands i d)) (sym (noted-more notes more n _ pushed v)) going in
+    subst (λ (ws : List (List ℕ)). Going all start (i + 1) (map note_value more) ws next (later commands i d)) (sym put) by_notes
 
 -- one with a need that fails
-pub walk-off : (commands : List Command) (start : State) (i : ℕ) (d : Command) (notes more : List public.Note) (n : public.Note) (l : Option looped.Looped) (writes : List (List ℕ)) (s : State) (end : End)
+pub walk-off : (commands : List Command) (start : State) (i : ℕ) (d : Command) (notes more : List public.Note) (n : public.Note) (l : Option looped.Looped) (writes : List (List ℕ)) (s t : State) (end : End)
     (inner : Option ℕ) (why : Fault) (place : Place) (w : Walk) →
-    i < length commands → d ≡ get_or commands i d → note_value n ≡ noted s (known_of l) → more ≡ notes ++ n ∷ [] → IsTaken (step_value d) s l end → end ≡ Stops inner why →
+    i < length commands → d ≡ get_or commands i d → note_value n ≡ noted s (known_of l) → more ≡ notes ++ n ∷ [] → IsTaken (step_value d) s l end t → end ≡ Stops inner why →
     Going (counted_from commands 0) start i (map note_value notes) writes s (counted_from commands i) →
     place ≡ record { command = i + 1; inner = inner } → w.outcome ≡ Fails place why → w.notes.items ≡ more → IsWalk (steps_value commands) start w
-walk-off commands start i d notes more n l writes s end inner why place w bound is v pushed taken e g at outcome written =
+walk-off commands start i d notes more n l writes s t end inner why place w bound is v pushed taken e g at outcome written =
     let all : List Step = counted_from commands 0 in
     let here = subst (λ (xs : List Step). Going all start i (map note_value notes) writes s xs) (counted-here commands i d bound is) g in
-    let fails = subst (λ (r : End). IsTaken (step_value d) s l r) e taken in
+    let fails = subst (λ (r : End). IsTaken (step_value d) s l r t) e taken in
     let off = going-off all start i (map note_value notes) writes s (known_of l) inner why (step_value d) (later commands i d) fails here in
     let by_notes : NotesFail inner why all start (map note_value w.notes.items) =
     subst (λ (ns : List Note). NotesFail inner why all start ns) (sym (ap (map note_value) written ∙ noted-more notes more n _ pushed v)) off in

@@ -1,6 +1,6 @@
 -- The rounds of a list, one further.
 use Rattle.std.proofs.Common.{◌≡◌, ◌<◌, ◌+◌, ℕ, suc, min, Bool, true, false, not, List, [], ◌∷◌, ◌++◌, length, get_or, map, drop, Option, None, Some, is_none, option_map, Result, Ok, Err, inl, inr, refl, sym, ap, subst, ◌∙◌, arith}
-use Rattle.std.specs.Prelude.{nat_lt, if◌then◌else◌, IfOk, IfSome}
+use Rattle.std.specs.Prelude.{nat_lt, if◌then◌else◌, IfSome}
 use Rattle.std.proofs.lemmas.Bool.{cases_lt, le-ltb}
 use Rattle.ed_base.specs.declared.fault.Fault.{Fault}
 use Rattle.ed_syntax.specs.declared.command.Command as memory
@@ -15,12 +15,12 @@ use Rattle.cert_check.specs.Covering.{covers}
 use Rattle.cert_check.specs.declared.certificate.Looped as looped
 use Rattle.cert_check.specs.Certificates.{Looped, Note, looped_value}
 use Rattle.cert_check.specs.Valid.{are_met, left_by}
-use Rattle.analyser.specs.declared.rounds.Settled.{Settled}
+use Rattle.analyser.specs.declared.rounds.Round.{Round}
 use Rattle.analyser.specs.declared.walk.End.{End}
 use Rattle.analyser.specs.declared.walk.End.TheVariants.{Leaves}
 use Rattle.analyser.specs.Rounds.{all_met, left_by_list, AreInner, InnerFail, turned, next_invariant, round_invariant, ends, IsSettled}
 use Rattle.analyser.specs.Following.{IsKnownOfList, IsNote, ListFails}
-use Rattle.analyser.specs.Walking.{IsRound, invariant_after, HasZones, IsLastRound, IsTaken}
+use Rattle.analyser.specs.Walking.{AreKnown, IsRound, invariant_after, HasZones, IsLastRound, IsTaken}
 use Rattle.analyser.proofs.Going.{at-place, counted-none}
 use Rattle.analyser.proofs.Keeping.{OfResult}
 use Rattle.analyser.proofs.Sets.{append-all, are-front, are-back, are-same}
@@ -135,10 +135,10 @@ goes-if list before invariant next t inner h e false c n =
       goes = rw met uncovered;
     }
 
-pub goes-on : (list : List Command) (before : ℕ) (invariant next : State) (inner : List State) (end : Result State Fault) → IsRound list (body_entry invariant) inner end →
-    invariant_after before invariant end ≡ Some next → Goes list before invariant next
-goes-on list before invariant next inner (Err why) h e = absurd cc
-goes-on list before invariant next inner (Ok t) h e = goes-if list before invariant next t inner h.0 h.1 (covers invariant t) refl e
+pub goes-on : (list : List Command) (before : ℕ) (invariant next : State) (inner : List State) (failed : Option Fault) (t : State) → IsRound list (body_entry invariant) inner failed t →
+    invariant_after before invariant failed t ≡ Some next → Goes list before invariant next
+goes-on list before invariant next inner (Some why) t h e = absurd cc
+goes-on list before invariant next inner None t h e = goes-if list before invariant next t inner h.0 h.1 (covers invariant t) refl e
 
 ends-if : (list : List Command) (before : ℕ) (invariant t : State) → t ≡ turned list invariant → (covered : Bool) → covers invariant t ≡ covered →
     (if covered then None else Some (next_invariant before invariant t)) ≡ None → ends list invariant ≡ true
@@ -146,10 +146,10 @@ ends-if list before invariant t e true c n =
     or-right (not (all_met list (body_entry invariant))) (covers invariant (turned list invariant)) (subst (λ (u : State). covers invariant u ≡ true) e c)
 ends-if list before invariant t e false c n = absurd cc
 
-pub ends-here : (list : List Command) (before : ℕ) (invariant : State) (inner : List State) (end : Result State Fault) → IsRound list (body_entry invariant) inner end →
-    invariant_after before invariant end ≡ None → ends list invariant ≡ true
-ends-here list before invariant inner (Err why) h e = let unmet : all_met list (body_entry invariant) ≡ false = inner-unmet why list (body_entry invariant) inner h in rw unmet refl
-ends-here list before invariant inner (Ok t) h e = ends-if list before invariant t h.1 (covers invariant t) refl e
+pub ends-here : (list : List Command) (before : ℕ) (invariant : State) (inner : List State) (failed : Option Fault) (t : State) → IsRound list (body_entry invariant) inner failed t →
+    invariant_after before invariant failed t ≡ None → ends list invariant ≡ true
+ends-here list before invariant inner (Some why) t h e = let unmet : all_met list (body_entry invariant) ≡ false = inner-unmet why list (body_entry invariant) inner h in rw unmet refl
+ends-here list before invariant inner None t h e = ends-if list before invariant t h.1 (covers invariant t) refl e
 
 -- ALL ROUNDS SO FAR
 
@@ -262,36 +262,46 @@ passing-over list entry i inner s e p =
 
 -- THE ROUNDS, by what the calls of one answer
 
-goes-by : (all list : List Command) (invariant next entry : State) (counted : ℕ) (inner : List State) (end : Result State Fault) (o : Option State) → all ≡ list → entry ≡ body_entry invariant →
-    IsRound all entry inner end → o ≡ invariant_after counted invariant end → o ≡ Some next → Goes list counted invariant next
-goes-by all list invariant next entry counted inner end o same begins round after some =
-    let here : IsRound list (body_entry invariant) inner end = subst (λ (cs : List Command). IsRound cs (body_entry invariant) inner end) same (subst (λ (u : State). IsRound all u inner end) begins round) in
-    goes-on list counted invariant next inner end here (sym after ∙ some)
+round-of : (all list : List Command) (invariant entry : State) (inner : List State) (failed : Option Fault) (t : State) → all ≡ list → entry ≡ body_entry invariant → IsRound all entry inner failed t →
+    IsRound list (body_entry invariant) inner failed t
+round-of all list invariant entry inner failed t same begins round =
+    subst (λ (cs : List Command). IsRound cs (body_entry invariant) inner failed t) same (subst (λ (u : State). IsRound all u inner failed t) begins round)
 
-pub rounds-next : (all list : List Command) (first invariant next entry : State) (counted more : ℕ) (inner : List State) (end : Result State Fault) (o : Option State) → all ≡ list → entry ≡ body_entry invariant →
-    IsRound all entry inner end → o ≡ invariant_after counted invariant end → o ≡ Some next → more ≡ min (counted + 1) 2 → Rounds list first counted invariant → Rounds list first more next
-rounds-next all list first invariant next entry counted more inner end o same begins round after some count r =
-    rounds-on list first invariant next counted more r (goes-by all list invariant next entry counted inner end o same begins round after some) count
+goes-by : (all list : List Command) (invariant next entry : State) (counted : ℕ) (inner : List State) (failed : Option Fault) (t : State) (o : Option State) → all ≡ list → entry ≡ body_entry invariant →
+    IsRound all entry inner failed t → o ≡ invariant_after counted invariant failed t → o ≡ Some next → Goes list counted invariant next
+goes-by all list invariant next entry counted inner failed t o same begins round after some =
+    goes-on list counted invariant next inner failed t (round-of all list invariant entry inner failed t same begins round) (sym after ∙ some)
 
-zones-turned : (list : List Command) (invariant next : State) (counted : ℕ) (inner : List State) (end : Result State Fault) → IsRound list (body_entry invariant) inner end → invariant_after counted invariant end ≡ Some next →
-    IfOk end HasZones → HasZones (turned list invariant)
-zones-turned list invariant next counted inner (Err why) round after h = absurd cc
-zones-turned list invariant next counted inner (Ok t) round after h = subst (λ (u : State). HasZones u) round.1 h
+pub rounds-next : (all list : List Command) (first invariant next entry : State) (counted more : ℕ) (inner : List State) (failed : Option Fault) (t : State) (o : Option State) → all ≡ list → entry ≡ body_entry invariant →
+    IsRound all entry inner failed t → o ≡ invariant_after counted invariant failed t → o ≡ Some next → more ≡ min (counted + 1) 2 → Rounds list first counted invariant → Rounds list first more next
+rounds-next all list first invariant next entry counted more inner failed t o same begins round after some count r =
+    rounds-on list first invariant next counted more r (goes-by all list invariant next entry counted inner failed t o same begins round after some) count
 
-pub rounds-smaller : (all list : List Command) (first invariant next entry : State) (counted : ℕ) (inner : List State) (end : Result State Fault) (o : Option State) → all ≡ list → entry ≡ body_entry invariant →
-    IsRound all entry inner end → o ≡ invariant_after counted invariant end → o ≡ Some next → HasZones invariant → IfOk end HasZones → Rounds list first counted invariant →
+zones-turned : (list : List Command) (invariant next : State) (counted : ℕ) (inner : List State) (failed : Option Fault) (t : State) → IsRound list (body_entry invariant) inner failed t →
+    invariant_after counted invariant failed t ≡ Some next → HasZones t → HasZones (turned list invariant)
+zones-turned list invariant next counted inner (Some why) t round after h = absurd cc
+zones-turned list invariant next counted inner None t round after h = subst (λ (u : State). HasZones u) round.1 h
+
+pub rounds-smaller : (all list : List Command) (first invariant next entry : State) (counted : ℕ) (inner : List State) (failed : Option Fault) (t : State) (o : Option State) → all ≡ list → entry ≡ body_entry invariant →
+    IsRound all entry inner failed t → o ≡ invariant_after counted invariant failed t → o ≡ Some next → HasZones invariant → HasZones t → Rounds list first counted invariant →
     state_room (patterns_of list first) (names_of list first) next < state_room (patterns_of list first) (names_of list first) invariant
-rounds-smaller all list first invariant next entry counted inner end o same begins round after some h k r =
-    let here : IsRound list (body_entry invariant) inner end = subst (λ (cs : List Command). IsRound cs (body_entry invariant) inner end) same (subst (λ (u : State). IsRound all u inner end) begins round) in
-    rounds-fall list first invariant next counted h (zones-turned list invariant next counted inner end here (sym after ∙ some) k) r
-    (goes-by all list invariant next entry counted inner end o same begins round after some)
+rounds-smaller all list first invariant next entry counted inner failed t o same begins round after some h k r =
+    rounds-fall list first invariant next counted h
+    (zones-turned list invariant next counted inner failed t (round-of all list invariant entry inner failed t same begins round) (sym after ∙ some) k) r
+    (goes-by all list invariant next entry counted inner failed t o same begins round after some)
 
-pub rounds-last : (all list : List Command) (first entry : State) (counted : ℕ) (s : Settled) (o : Option State) → all ≡ list → entry ≡ body_entry s.invariant →
-    IsRound all entry s.round.inner.items s.round.end → o ≡ invariant_after counted s.invariant s.round.end → o ≡ None → Rounds list first counted s.invariant → IsLastRound list first s
-rounds-last all list first entry counted s o same begins round after none r =
-    let here : IsRound list (body_entry s.invariant) s.round.inner.items s.round.end =
-    subst (λ (cs : List Command). IsRound cs (body_entry s.invariant) s.round.inner.items s.round.end) same (subst (λ (u : State). IsRound all u s.round.inner.items s.round.end) begins round) in
-    record { settled = rounds-end list first s.invariant counted r (ends-here list counted s.invariant s.round.inner.items s.round.end here (sym after ∙ none)); round = here }
+known-of_round : (list : List Command) (s : State) (inner : List State) (failed : Option Fault) (t : State) → IsRound list s inner failed t → AreKnown list s inner failed
+known-of_round list s inner None t h = h.0
+known-of_round list s inner (Some why) t h = h
+
+pub rounds-last : (all list : List Command) (first invariant entry : State) (counted : ℕ) (r : Round) (t : State) (o : Option State) → all ≡ list → entry ≡ body_entry invariant →
+    IsRound all entry r.inner.items r.failed t → o ≡ invariant_after counted invariant r.failed t → o ≡ None → Rounds list first counted invariant → IsLastRound list first invariant r
+rounds-last all list first invariant entry counted r t o same begins round after none so_far =
+    let here = round-of all list invariant entry r.inner.items r.failed t same begins round in
+    record {
+      settled = rounds-end list first invariant counted so_far (ends-here list counted invariant r.inner.items r.failed t here (sym after ∙ none));
+      known = known-of_round list (body_entry invariant) r.inner.items r.failed t here;
+    }
 
 -- ONE COMMAND WITH ITS LIST
 
@@ -301,30 +311,29 @@ noted s l = record { state = s; looped = l }
 known-of : (x : Step) (s : State) (l : Option Looped) (global : Bool) → is_global x.command.verb ≡ global → IsKnownOfList global x s l → IsKnownOfList (is_global x.command.verb) x s l
 known-of x s l global e h = subst (λ (b : Bool). IsKnownOfList b x s l) (sym e) h
 
-pub global-leaves : (x : Step) (s t u : State) (settled : Settled) → is_global x.command.verb ≡ true → fault_of (step x.command s) ≡ None → IsLastRound x.list (left_by x.command s) settled →
-    settled.round.end ≡ Ok u → t ≡ loop_end x s settled.invariant →
-    IsNote x s (noted s (Some (record { invariant = settled.invariant; inner = settled.round.inner.items }))) × (t ≡ loop_end x s settled.invariant)
-global-leaves x s t u settled global none last end is =
-    let round = subst (λ (e : Result State Fault). IsRound x.list (body_entry settled.invariant) settled.round.inner.items e) end last.round in (
-      record { state = refl; met = met-none x.command s none; list = known-of x s _ true global (last.settled, round.0) },
+pub global-leaves : (x : Step) (s t invariant : State) (r : Round) → is_global x.command.verb ≡ true → fault_of (step x.command s) ≡ None → IsLastRound x.list (left_by x.command s) invariant r →
+    r.failed ≡ None → t ≡ loop_end x s invariant →
+    IsNote x s (noted s (Some (record { invariant = invariant; inner = r.inner.items }))) × (t ≡ loop_end x s invariant)
+global-leaves x s t invariant r global none last end is =
+    let known = subst (λ (f : Option Fault). AreKnown x.list (body_entry invariant) r.inner.items f) end last.known in (
+      record { state = refl; met = met-none x.command s none; list = known-of x s _ true global (last.settled, known) },
       is,
     )
 
-pub global-stops : (x : Step) (s : State) (number : ℕ) (why : Fault) (settled : Settled) → is_global x.command.verb ≡ true → fault_of (step x.command s) ≡ None → IsLastRound x.list (left_by x.command s) settled →
-    settled.round.end ≡ Err why → number ≡ length settled.round.inner.items →
-    ListFails number why x s (record { invariant = settled.invariant; inner = settled.round.inner.items })
-global-stops x s number why settled global none last end count =
-    let round = subst (λ (e : Result State Fault). IsRound x.list (body_entry settled.invariant) settled.round.inner.items e) end last.round in
+pub global-stops : (x : Step) (s invariant : State) (number : ℕ) (why : Fault) (r : Round) → is_global x.command.verb ≡ true → fault_of (step x.command s) ≡ None → IsLastRound x.list (left_by x.command s) invariant r →
+    r.failed ≡ Some why → number ≡ length r.inner.items → ListFails number why x s (record { invariant = invariant; inner = r.inner.items })
+global-stops x s invariant number why r global none last end count =
+    let known = subst (λ (f : Option Fault). AreKnown x.list (body_entry invariant) r.inner.items f) end last.known in
     record {
       met = met-none x.command s none;
       global = global;
       settled = last.settled;
-      states = round;
+      states = known;
       number = count;
     }
 
-pub last-begun : (x : Step) (s first : State) (settled : Settled) → step x.command s ≡ Ok first → IsLastRound x.list first settled → IsLastRound x.list (left_by x.command s) settled
-last-begun x s first settled begins last = subst (λ (u : State). IsLastRound x.list u settled) (sym (left-is x.command s first begins)) last
+pub last-begun : (x : Step) (s first invariant : State) (r : Round) → step x.command s ≡ Ok first → IsLastRound x.list first invariant r → IsLastRound x.list (left_by x.command s) invariant r
+last-begun x s first invariant r begins last = subst (λ (u : State). IsLastRound x.list u invariant r) (sym (left-is x.command s first begins)) last
 
 pub plain-leaves : (x : Step) (s t : State) → is_global x.command.verb ≡ false → fault_of (step x.command s) ≡ None → step x.command s ≡ Ok t → IsNote x s (noted s None) × (t ≡ left_by x.command s)
 plain-leaves x s t global none after = (
@@ -337,7 +346,7 @@ shape-if global x s None h = tt
 shape-if false x s (Some l) h = absurd h
 shape-if true x s (Some l) h = inner-length x.list (body_entry l.invariant) l.inner.items h.1
 
-pub taken-shape : (x : Step) (s t : State) (l : Option looped.Looped) (end : End) → IsTaken x s l end → end ≡ Leaves t → IfSome l (λ m. length m.inner.items ≡ length x.list)
+pub taken-shape : (x : Step) (s t : State) (l : Option looped.Looped) (end : End) → IsTaken x s l end t → end ≡ Leaves → IfSome l (λ m. length m.inner.items ≡ length x.list)
 taken-shape x s t l end h e =
-    let leaves = subst (λ (r : End). IsTaken x s l r) e h in
+    let leaves = subst (λ (r : End). IsTaken x s l r t) e h in
     shape-if (is_global x.command.verb) x s l leaves.0.list

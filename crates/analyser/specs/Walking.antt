@@ -1,5 +1,5 @@
 -- How the analyser goes through the commands: what its own functions answer.
-use Rattle.std.specs.Prelude.{◌≡◌, ℕ, List, [], ◌∷◌, map, length, Option, Some, None, option_map, Result, Ok, Err, if◌then◌else◌}
+use Rattle.std.specs.Prelude.{◌≡◌, ℕ, List, [], ◌∷◌, map, length, Option, Some, None, option_map, if◌then◌else◌}
 use Rattle.std.specs.List.{All}
 use Rattle.std.specs.Ordering.{nat_cmp}
 use Rattle.std.specs.Cmp.Lexicographic.{slice_cmp}
@@ -16,7 +16,7 @@ use Rattle.cert_check.specs.Covering.{covers}
 use Rattle.cert_check.specs.declared.certificate.Looped.{Looped}
 use Rattle.cert_check.specs.Certificates.{looped_value, note_value}
 use Rattle.cert_check.specs.Valid.{counted, has_quit, left_after}
-use Rattle.analyser.specs.declared.rounds.Settled.{Settled}
+use Rattle.analyser.specs.declared.rounds.Round.{Round}
 use Rattle.analyser.specs.declared.walk.End.{End}
 use Rattle.analyser.specs.declared.walk.End.TheVariants.{Leaves, Stops}
 use Rattle.analyser.specs.declared.walk.Walk.{Walk}
@@ -37,15 +37,20 @@ with_paths [] paths = paths
 with_paths (None ∷ choices) paths = with_paths choices paths
 with_paths (Some path ∷ choices) paths = with_paths choices (with_path path paths)
 
--- what a round of a list comes to, from a state on
-abbrev pub IsRound : List Command → State → List State → Result State Fault → Type 0
-IsRound list s inner (Ok t) = AreInner list s inner × (t ≡ left_by_list list s)
-IsRound list s inner (Err why) = InnerFail why list s inner
+-- what is known before each command of a list, from a state on, up to the first one with a need that fails
+abbrev pub AreKnown : List Command → State → List State → (failed : Option Fault) → Type 0
+AreKnown list s inner None = AreInner list s inner
+AreKnown list s inner (Some why) = InnerFail why list s inner
+
+-- what a round of a list comes to, from a state on, and what it leaves where no need fails
+abbrev pub IsRound : List Command → State → List State → (failed : Option Fault) → (left : State) → Type 0
+IsRound list s inner None t = AreInner list s inner × (t ≡ left_by_list list s)
+IsRound list s inner (Some why) t = InnerFail why list s inner
 
 -- the invariant of the round after one that comes to this; there is none after the last round
-abbrev pub invariant_after : (before : ℕ) → State → Result State Fault → Option State
-invariant_after n invariant (Err why) = None
-invariant_after n invariant (Ok t) = if covers invariant t then None else Some (next_invariant n invariant t)
+abbrev pub invariant_after : (before : ℕ) → State → (failed : Option Fault) → (left : State) → Option State
+invariant_after n invariant (Some why) t = None
+invariant_after n invariant None t = if covers invariant t then None else Some (next_invariant n invariant t)
 
 -- the zones of a state are zones, also the one that undo may bring back
 abbrev pub OldIsZone : Option Old → Type 0
@@ -57,18 +62,18 @@ pub record HasZones (s : State) : Type 0 where
   pub old : OldIsZone s.undo.was
 
 -- what the last round of a list comes to
-pub record IsLastRound (list : List Command) (first : State) (s : Settled) : Type 0 where
-  pub settled : IsSettled list first s.invariant
-  pub round : IsRound list (body_entry s.invariant) s.round.inner.items s.round.end
+pub record IsLastRound (list : List Command) (first invariant : State) (r : Round) : Type 0 where
+  pub settled : IsSettled list first invariant
+  pub known : AreKnown list (body_entry invariant) r.inner.items r.failed
 
 -- what is told of a list by its last round
-abbrev pub looped_of : Settled → Looped
-looped_of s = record { invariant = s.invariant; inner = s.round.inner }
+abbrev pub looped_of : (invariant : State) → Round → Looped
+looped_of invariant r = record { invariant = invariant; inner = r.inner }
 
--- what a command comes to, its list included
-abbrev pub IsTaken : Step → State → Option Looped → End → Type 0
-IsTaken x s l (Leaves t) = IsNote x s (record { state = s; looped = option_map looped_value l }) × (t ≡ left_after (option_map looped_value l) x s)
-IsTaken x s l (Stops inner why) = NeedFails inner why x s (option_map looped_value l)
+-- what a command comes to, its list included, and its result where no need fails
+abbrev pub IsTaken : Step → State → Option Looped → End → (left : State) → Type 0
+IsTaken x s l Leaves t = IsNote x s (record { state = s; looped = option_map looped_value l }) × (t ≡ left_after (option_map looped_value l) x s)
+IsTaken x s l (Stops inner why) t = NeedFails inner why x s (option_map looped_value l)
 
 -- what the counted ones of these commands come to, from a state on
 abbrev pub IsOutcome : List Step → State → Walk → Outcome → Type 0

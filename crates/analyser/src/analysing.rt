@@ -14,20 +14,20 @@ use crate::texts::{path_is_bytes, paths_are_bytes, steps_are_bytes};
 use crate::walk::{Outcome, Walk, go_through, place_of};
 use cert_check::{Certificate, covering_is_decided};
 use ed_base::Fault;
-use ed_rules::{State, states_stay_formed};
+use ed_rules::{KeptState, State, states_stay_formed};
 use ed_syntax::Script;
 use std::alloc::AllocError;
 use zones::{covering_is_an_order, steps_are_formulas, steps_keep_diagonals_low};
 
 /// The fault that may come at the end of a script.
-fn end_fault(quit: bool, fault: Option<usize>, last: &State) -> Option<Fault>
+fn end_fault(quit: bool, fault: Option<usize>, last: &KeptState) -> Option<Fault>
     ensures value { result ≡ end_fault quit fault last.now }
 {
     if quit {
         None
     } else if fault.is_some() {
         Some(Fault::Syntax)
-    } else if last.changed.yes {
+    } else if last.changed().yes {
         Some(Fault::Unsaved)
     } else {
         None
@@ -71,8 +71,8 @@ fn answer(script: &Script, start: Start, walk: Walk) -> Analysis
                 min: start.min,
                 max: start.max,
                 notes,
-                low: low_of(&last.zone),
-                high: high_of(&last.zone),
+                low: low_of(&last.zone()),
+                high: high_of(&last.zone()),
                 last,
                 writes,
             }),

@@ -7,7 +7,7 @@ ghost use Rattle.analyser.specs.Walking.{IsRound, invariant_after, OldIsZone, Ha
 
 use cert_check::covering_is_decided;
 use ed_base::Fault;
-use ed_rules::{KeptState, Old, State, body_entry, outcome};
+use ed_rules::{KeptState, Old, State, body_entry, outcome_into};
 use ed_syntax::Command;
 use std::alloc::{AllocError, Global};
 use zones::{Name, Zone};
@@ -17,64 +17,55 @@ use zones::{Name, Zone};
 pub(crate) struct Round {
     /// What is known before each command of the list, up to the first one with a need that fails.
     pub inner: Vec<KeptState>,
-    /// The result of the last command, or the fault of the need that fails.
-    pub end: Result<State, Fault>,
+    /// The fault of the need that fails.
+    pub failed: Option<Fault>,
 }
 
-/// The last round of a list.
-#[derive(Drop)]
-pub(crate) struct Settled {
-    /// What is known before each line is taken.
-    pub invariant: State,
-    pub round: Round,
-}
-
-/// A round: goes through a list, from the state in which it is run for a line.
-fn go_round(alloc: Global, list: &[Command], entry: State) -> Result<Round, AllocError>
-    ensures value { IfOk result (λ round. IsRound (map command_value list.now) entry round.inner.items round.end) }
+/// A round: goes through a list, from the state in which it is run for a line. Where no need fails, `coming` becomes the result of
+/// the last command. `left` is used again for the result of each.
+fn go_round(
+    alloc: Global,
+    list: &[Command],
+    coming: &mut State,
+    left: &mut State,
+) -> Result<Round, AllocError>
+    ensures value { IfOk result (λ round. IsRound (map command_value list.now) coming.old round.inner.items round.failed coming.new) }
 {
     let mut inner = Vec::new(alloc);
-    let mut coming = entry;
     for command in list {
-        let outcome = outcome(command, &coming)?;
-        let known = coming.keep()?;
-        inner.push(known)?;
-        match outcome {
-            Ok(left) => coming = left,
-            Err(why) => {
+        inner.push(coming.try_keep()?)?;
+        match outcome_into(command, coming, left)? {
+            None => coming.try_copy_from(left)?,
+            Some(why) => {
                 return Ok(Round {
                     inner,
-                    end: Err(why),
+                    failed: Some(why),
                 });
             }
         }
     }
     Ok(Round {
         inner,
-        end: Ok(coming),
+        failed: None,
     })
 }
 
-/// The invariant of the next round, by how many rounds came before this one; none where this one is the last.
+/// The invariant of the next round, by how many rounds came before this one and what this one comes to; none where it is the last.
 fn invariant_after(
     before: u8,
     invariant: &State,
-    end: &Result<State, Fault>,
+    failed: Option<Fault>,
+    left: &State,
 ) -> Result<Option<State>, AllocError>
-    ensures value { IfOk result (λ next. next ≡ invariant_after before invariant.now end.now) }
+    ensures value { IfOk result (λ next. next ≡ invariant_after before invariant.now failed left.now) }
 {
     covering_is_decided();
-    match end {
-        Err(_) => Ok(None),
-        Ok(left) => {
-            if invariant.covers(left) {
-                Ok(None)
-            } else if before < 2 {
-                Ok(Some(invariant.join(left)?))
-            } else {
-                Ok(Some(invariant.widen(left)?))
-            }
-        }
+    if failed.is_some() || invariant.covers(left) {
+        Ok(None)
+    } else if before < 2 {
+        Ok(Some(invariant.join(left)?))
+    } else {
+        Ok(Some(invariant.widen(left)?))
     }
 }
 
@@ -108,35 +99,26 @@ fn zones_are_kept(state: &State)
     old_is_kept(&state.undo.was);
 }
 
-fn end_is_kept(end: &Result<State, Fault>)
-    ensures kept { IfOk end.now HasZones }
-{
-    match end {
-        Ok(left) => zones_are_kept(left),
-        Err(_) => {}
-    }
-}
-
-/// Goes through the rounds of a global command's list, from the state before the first line is taken, up to the last one.
-pub(crate) fn settle(alloc: Global, command: &Command, first: State) -> Result<Settled, AllocError>
-    ensures value { IfOk result (λ settled. IsLastRound (step_value command.now).list first settled) }
+/// Goes through the rounds of a global command's list, from the state before the first line is taken, up to the last one, which is
+/// told. `known` becomes the invariant, what is known before each line is taken.
+pub(crate) fn settle(
+    alloc: Global,
+    command: &Command,
+    known: &mut State,
+) -> Result<Round, AllocError>
+    ensures value { IfOk result (λ round. IsLastRound (step_value command.now).list known.old known.new round) }
 {
     let list = command.list();
-    let mut known = first;
+    let mut left = known.try_copy()?;
     let mut before = 0;
-    loop {
-        let entry = body_entry(&known)?;
-        let round = go_round(alloc, list, entry)?;
-        zones_are_kept(&known);
-        end_is_kept(&round.end);
-        match invariant_after(before, &known, &round.end)? {
-            None => {
-                return Ok(Settled {
-                    invariant: known,
-                    round,
-                });
-            }
-            Some(next) => known = next,
+    'settling: loop {
+        let mut coming = body_entry(known)?;
+        let round = go_round(alloc, list, &mut coming, &mut left)?;
+        zones_are_kept(known);
+        zones_are_kept(&coming);
+        match invariant_after(before, known, round.failed, &coming)? {
+            None => return Ok(round),
+            Some(next) => *known = next,
         }
         before = one_more(before);
     }

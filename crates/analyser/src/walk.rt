@@ -9,17 +9,17 @@ ghost use Rattle.ed_rules.specs.Globals.{is_global};
 ghost use Rattle.analyser.specs.Walking.{IsLastRound, looped_of, IsTaken, IsWalk};
 
 use crate::paths::list_taken;
-use crate::rounds::{Settled, settle};
+use crate::rounds::{Round, settle};
 use cert_check::{Looped, Note, Place};
 use ed_base::{Bytes, Fault};
-use ed_rules::{KeptState, State, loop_end, outcome};
+use ed_rules::{KeptState, State, loop_end, outcome_into};
 use ed_syntax::{Command, Verb};
 use std::alloc::{AllocError, Global};
 
-/// What a command comes to: its result, or the first need that fails.
+/// What a command comes to: it leaves its result, or its first need that fails.
 #[derive(Drop)]
 pub(crate) enum End {
-    Leaves(State),
+    Leaves,
     Stops {
         /// The number of the list's command whose need it is, which counts from 1; with none it is one of the command's own.
         inner: Option<usize>,
@@ -38,7 +38,7 @@ struct Taken {
 /// What the counted commands come to: the result of the last one, or the first need that fails.
 #[derive(Drop)]
 pub(crate) enum Outcome {
-    Left(State),
+    Left(KeptState),
     Fails { place: Place, why: Fault },
 }
 
@@ -92,60 +92,75 @@ fn is_global(verb: &Verb) -> bool
     }
 }
 
-/// What a global command comes to whose own needs hold, by the last round of its list.
-fn end_of_list(command: &Command, state: &State, settled: &Settled) -> Result<End, AllocError>
+/// What a global command comes to whose own needs hold, by the last round of its list. From the invariant of that round, `left`
+/// becomes the command's result.
+fn end_of_list(
+    command: &Command,
+    state: &State,
+    round: &Round,
+    left: &mut State,
+) -> Result<End, AllocError>
     requires global { is_global (command_value command.now).verb ≡ true }
     requires needed { fault_of (step (command_value command.now) state.now) ≡ None }
-    requires last { IsLastRound (step_value command.now).list (left_by (command_value command.now) state.now) settled.now }
-    ensures value { IfOk result (λ end. IsTaken (step_value command.now) state.now (Some (looped_of settled.now)) end) }
+    requires last { IsLastRound (step_value command.now).list (left_by (command_value command.now) state.now) left.old round.now }
+    ensures value { IfOk result (λ end. IsTaken (step_value command.now) state.now (Some (looped_of left.old round.now)) end left.new) }
 {
-    match &settled.round.end {
-        Ok(_) => Ok(End::Leaves(loop_end(command, state, &settled.invariant)?)),
-        Err(why) => Ok(End::Stops {
-            inner: Some(settled.round.inner.len()),
-            why: *why,
+    match round.failed {
+        None => {
+            *left = loop_end(command, state, left)?;
+            Ok(End::Leaves)
+        }
+        Some(why) => Ok(End::Stops {
+            inner: Some(round.inner.len()),
+            why,
         }),
     }
 }
 
-/// What a global command comes to whose own needs hold, from the state before its list is run for any line.
+/// What a global command comes to whose own needs hold. From the state before its list is run for any line, `left` becomes the
+/// command's result.
 fn take_global(
     alloc: Global,
     command: &Command,
     state: &State,
-    first: State,
+    left: &mut State,
 ) -> Result<Taken, AllocError>
     requires global { is_global (command_value command.now).verb ≡ true }
-    requires start { step (command_value command.now) state.now ≡ Ok first }
-    ensures value { IfOk result (λ taken. IsTaken (step_value command.now) state.now taken.looped taken.end) }
+    requires start { step (command_value command.now) state.now ≡ Ok left.old }
+    ensures value { IfOk result (λ taken. IsTaken (step_value command.now) state.now taken.looped taken.end left.new) }
 {
-    let settled = settle(alloc, command, first)?;
-    let end = end_of_list(command, state, &settled)?;
-    let invariant = settled.invariant.keep()?;
+    let round = settle(alloc, command, left)?;
+    let invariant = left.try_keep()?;
+    let end = end_of_list(command, state, &round, left)?;
     Ok(Taken {
         looped: Some(Looped {
             invariant,
-            inner: settled.round.inner,
+            inner: round.inner,
         }),
         end,
     })
 }
 
-/// What a command comes to.
-fn take(alloc: Global, command: &Command, state: &State) -> Result<Taken, AllocError>
-    ensures value { IfOk result (λ taken. IsTaken (step_value command.now) state.now taken.looped taken.end) }
+/// What a command comes to. Where no need fails, `left` becomes its result.
+fn take(
+    alloc: Global,
+    command: &Command,
+    state: &State,
+    left: &mut State,
+) -> Result<Taken, AllocError>
+    ensures value { IfOk result (λ taken. IsTaken (step_value command.now) state.now taken.looped taken.end left.new) }
 {
-    match outcome(command, state)? {
-        Ok(left) => {
+    match outcome_into(command, state, left)? {
+        None => {
             if is_global(&command.verb) {
                 return take_global(alloc, command, state, left);
             }
             Ok(Taken {
                 looped: None,
-                end: End::Leaves(left),
+                end: End::Leaves,
             })
         }
-        Err(why) => Ok(Taken {
+        Some(why) => Ok(Taken {
             looped: None,
             end: End::Stops { inner: None, why },
         }),
@@ -170,27 +185,29 @@ pub(crate) fn go_through(
     let mut notes = Vec::new(alloc);
     let mut writes = Vec::new(alloc);
     let mut coming = start;
+    // It is used again for the result of each command.
+    let mut left = coming.try_copy()?;
     for (index, command) in commands.iter().enumerate() {
-        let taken = take(alloc, command, &coming)?;
-        let Taken { looped, end } = taken;
+        let Taken { looped, end } = take(alloc, command, &coming, &mut left)?;
+        let known = coming.try_keep()?;
         match end {
             End::Stops { inner, why } => {
-                let known = coming.keep()?;
                 notes.push(note_of(known, looped))?;
                 let place = place_of(index + 1, inner);
                 let outcome = Outcome::Fails { place, why };
                 return Ok(Walk::of(notes, writes, false, outcome));
             }
-            End::Leaves(left) => {
-                let known = coming.keep()?;
+            End::Leaves => {
                 list_taken(&mut writes, command, &known, &looped)?;
                 notes.push(note_of(known, looped))?;
-                coming = left;
+                coming.try_copy_from(&left)?;
             }
         }
         if quits(&command.verb) {
-            return Ok(Walk::of(notes, writes, true, Outcome::Left(coming)));
+            let outcome = Outcome::Left(coming.try_keep()?);
+            return Ok(Walk::of(notes, writes, true, outcome));
         }
     }
-    Ok(Walk::of(notes, writes, false, Outcome::Left(coming)))
+    let outcome = Outcome::Left(coming.try_keep()?);
+    Ok(Walk::of(notes, writes, false, outcome))
 }

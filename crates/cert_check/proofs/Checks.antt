@@ -1,16 +1,17 @@
 -- What an accepted row of checks says, one check after another.
-use Rattle.std.proofs.Common.{◌≡◌, ℕ, Bool, true, false, not, ◌&&◌, ◌||◌, Option, None, Some, is_none, is_some, cond, Result, Ok, Err, refl, sym, subst}
+use Rattle.std.proofs.Common.{◌≡◌, ℕ, Bool, true, false, not, ◌&&◌, ◌||◌, Option, None, Some, is_none, is_some, cond, Result, Ok, Err, refl, ap}
 use Rattle.ed_base.specs.declared.fault.Fault.{Fault}
 use Rattle.ed_syntax.specs.Commands.{Command}
 use Rattle.ed_rules.specs.declared.state.State.{State}
 use Rattle.cert_check.specs.Covering.{covers}
 use Rattle.ed_rules.specs.Rules.{step, fault_of}
+use Rattle.ed_rules.specs.Reaching.{Comes}
 use Rattle.cert_check.specs.declared.verdict.Place.{Place}
 use Rattle.cert_check.specs.declared.verdict.Verdict.{Verdict}
 use Rattle.cert_check.specs.declared.verdict.Verdict.TheVariants.{Accepted, Refused}
 use Rattle.cert_check.specs.Certificates.{Certificate}
 use Rattle.cert_check.specs.Valid.{verdict_of, are_met, left_by, knows_least, knows_most, end_checks}
-use Rattle.cert_check.specs.Passing.{left_where_met}
+use Rattle.cert_check.specs.Passing.{Passes, left_where_met}
 
 pub and-first : (a b : Bool) → a && b ≡ true → a ≡ true
 and-first true b h = refl
@@ -62,10 +63,15 @@ unmet-by (Ok u) s e = absurd cc
 unmet-by (Err f) s e = refl
 
 -- the rule's state is left where there is one
-pub met-left : (c : Command) (s t : State) → step c s ≡ Ok t → Some t ≡ left_where_met c s
+met-left : (c : Command) (s t : State) → step c s ≡ Ok t → left_where_met c s ≡ Some t
 unfolding are_met left_by
-met-left c s t e = sym (met-by (step c s) s t e)
+met-left c s t e = met-by (step c s) s t e
 
-pub unmet-none : (c : Command) (s : State) (need : Option Fault) → need ≡ fault_of (step c s) → is_some need ≡ true → None ≡ left_where_met c s
+unmet-none : (c : Command) (s : State) (f : Fault) → step c s ≡ Err f → left_where_met c s ≡ None
 unfolding are_met left_by
-unmet-none c s need e some = sym (unmet-by (step c s) s (subst (λ (n : Option Fault). is_some n ≡ true) e some))
+unmet-none c s f e = unmet-by (step c s) s (ap (λ (r : Result State Fault). is_some (fault_of r)) e)
+
+-- what a command comes to is left where its needs hold
+pub comes-left : (c : Command) (s t : State) (failed : Option Fault) → Comes failed t (step c s) → Passes (is_none failed) t (left_where_met c s)
+comes-left c s t None h = met-left c s t h
+comes-left c s t (Some f) h = unmet-none c s f h

@@ -8,18 +8,15 @@ use Rattle.ed_rules.specs.declared.state.State.{State}
 use Rattle.ed_rules.specs.States.{start}
 use Rattle.cert_check.specs.Covering.{covers}
 use Rattle.cert_check.specs.declared.certificate.Note as public
-use Rattle.cert_check.specs.declared.passing.Passage.{Passage}
-use Rattle.cert_check.specs.declared.passing.Passage.TheVariants.{Left, Fails}
 use Rattle.cert_check.specs.declared.verdict.Place.{Place}
 use Rattle.cert_check.specs.declared.verdict.Verdict.{Verdict}
 use Rattle.cert_check.specs.declared.verdict.Verdict.TheVariants.{Accepted, Refused}
-use Rattle.cert_check.specs.Certificates.{Looped, Note, note_value, Certificate}
-use Rattle.cert_check.specs.Valid.{Check, at_place, command_at, inner_at, at, verdict_of, counted, has_quit, are_met, left_by, are_listed, knows_least, knows_most, end_checks, command_checks, list_checks, loop_checks, looped_checks, left_after, checks_from, fits, are_shaped, judged}
-use Rattle.cert_check.specs.Passing.{verdict_at, passed, ends_well, ListGoesTo, LoopGoesTo, StepGoesTo, GoesTo, verdict_after}
+use Rattle.cert_check.specs.Certificates.{Note, note_value, Certificate}
+use Rattle.cert_check.specs.Valid.{Check, at_place, command_at, inner_at, at, verdict_of, counted, has_quit, are_met, left_by, are_listed, knows_least, knows_most, end_checks, command_checks, list_checks, left_after, checks_from, fits, are_shaped, judged}
+use Rattle.cert_check.specs.Passing.{verdict_at, passed, ends_well, StepGoesTo, GoesTo, verdict_after}
 use Rattle.cert_check.specs.Sound.{CannotFail}
 use Rattle.ed_syntax.specs.Verbs.{is_step}
 use Rattle.std.specs.List.{list_all}
-use Rattle.ed_rules.specs.Globals.{body_entry, loop_end}
 use Rattle.cert_check.proofs.Checks.{and-first, and-second}
 use Rattle.cert_check.proofs.Counting.{counted-next}
 
@@ -159,70 +156,6 @@ module _ (number : ℕ) (writes : List (List ℕ)) (list : List public_command.C
       ap (λ (cs : List Command). verdict_of (list_checks number (index + 1) writes coming cs (drop index states) turned)) none
       ∙ ap (λ n. verdict_of (turned (n + 1) coming)) last
 
--- WHAT IS KNOWN OF A LIST
-
-module _ (number : ℕ) (writes : List (List ℕ)) (x : Step) (l : Looped) (known start : State) where
-  -- the invariant says more than the state before the first line
-  pub loop-uncovered : covers l.invariant start ≡ false → LoopGoesTo number writes x l known start (Fails (command_at number))
-  loop-uncovered e = λ later.
-      fails-at (covers l.invariant start) (command_at number)
-      (list_checks number 1 writes (body_entry l.invariant) x.list l.inner (λ inner turned. at_place (inner_at number inner) (covers l.invariant turned) ∷ later)) e
-
-  abbrev turned_checks : List Check → ℕ → State → List Check
-  turned_checks later = λ inner turned. at_place (inner_at number inner) (covers l.invariant turned) ∷ later
-
-  begun : (later : List Check) → covers l.invariant start ≡ true →
-      verdict_of (loop_checks number writes x.list l start later) ≡ verdict_of (list_checks number 1 writes (body_entry l.invariant) x.list l.inner (turned_checks later))
-  begun later e =
-      holds-at (covers l.invariant start) (command_at number) (list_checks number 1 writes (body_entry l.invariant) x.list l.inner (turned_checks later)) e
-
-  module _ (covered : covers l.invariant start ≡ true) where
-    -- a check of the list fails
-    pub loop-fails : (place : Place) → ListGoesTo number writes x.list l.inner (body_entry l.invariant) (Fails place) → LoopGoesTo number writes x l known start (Fails place)
-    loop-fails place goes = λ later. begun later covered ∙ goes (turned_checks later)
-
-    -- the invariant says more than what the list leaves
-    pub loop-unturned : (t : State) → ListGoesTo number writes x.list l.inner (body_entry l.invariant) (Left t) → covers l.invariant t ≡ false →
-        LoopGoesTo number writes x l known start (Fails (inner_at number (length x.list + 1)))
-    loop-unturned t goes e = λ later.
-        begun later covered ∙ goes (turned_checks later) ∙ fails-at (covers l.invariant t) (inner_at number (length x.list + 1)) later e
-
-    pub loop-turned : (t end : State) → ListGoesTo number writes x.list l.inner (body_entry l.invariant) (Left t) → covers l.invariant t ≡ true → end ≡ loop_end x known l.invariant →
-        LoopGoesTo number writes x l known start (Left end)
-    loop-turned t end goes e is = (
-      is,
-      λ later.
-          begun later covered ∙ goes (turned_checks later) ∙ holds-at (covers l.invariant t) (inner_at number (length x.list + 1)) later e,
-    )
-
--- A STEP
-
-module _ (number : ℕ) (writes : List (List ℕ)) (x : Step) (coming : State) where
-  pub step-off : (n : Note) → passed writes x.command n.state coming ≡ None → StepGoesTo number writes x n coming (Fails (command_at number))
-  step-off n e = λ later. command-off (command_at number) writes x.command n.state coming (looped_checks n.looped number writes x n.state later) e
-
-  pub step-plain : (known left : State) → passed writes x.command known coming ≡ Some left → StepGoesTo number writes x (record { state = known; looped = None }) coming (Left left)
-  step-plain known left e =
-      let on = command-on (command_at number) writes x.command known coming left e in
-      (sym on.1, λ later. on.0 later)
-
-  pub step-looped : (known left : State) (l : Looped) (p : Passage) → passed writes x.command known coming ≡ Some left → LoopGoesTo number writes x l known left p →
-      StepGoesTo number writes x (record { state = known; looped = Some l }) coming p
-  step-looped known left l (Left t) e goes =
-      let on = command-on (command_at number) writes x.command known coming left e in (
-        goes.0,
-        λ later.
-            on.0 (loop_checks number writes x.list l (left_by x.command known) later)
-            ∙ ap (λ (u : State). verdict_of (loop_checks number writes x.list l u later)) on.1
-            ∙ goes.1 later,
-      )
-  step-looped known left l (Fails place) e goes =
-      let on = command-on (command_at number) writes x.command known coming left e in
-      λ later.
-      on.0 (loop_checks number writes x.list l (left_by x.command known) later)
-      ∙ ap (λ (u : State). verdict_of (loop_checks number writes x.list l u later)) on.1
-      ∙ goes later
-
 -- THE STEPS
 
 -- the commands and notes from a place on
@@ -254,17 +187,17 @@ module _ (writes : List (List ℕ)) (end : ℕ → State → List Check) (comman
 
   pub go-on : (index : ℕ) (d : public_command.Command) (n : public.Note) (s t : State) → index < length notes →
       length notes ≡ length (counted (steps_value commands)) → d ≡ get_or commands index d → n ≡ get_or notes index n →
-      StepGoesTo (index + 1) writes (step_value d) (note_value n) s (Left t) →
+      StepGoesTo (index + 1) writes (step_value d) (note_value n) s None t →
       verdict_from writes end commands notes index s ≡ verdict_from writes end commands notes (index + 1) t
   go-on index d n s t h size is_d is_n goes =
       from-here index d n s h size is_d is_n
       ∙ goes.1 (later_checks index d n)
       ∙ ap (λ (u : State). verdict_of (checks_from writes end (index + 1 + 1) u (drop (index + 1) (counted (steps_value commands))) (drop (index + 1) (map note_value notes)))) (sym goes.0)
 
-  pub stop-here : (index : ℕ) (d : public_command.Command) (n : public.Note) (s : State) (place : Place) → index < length notes →
+  pub stop-here : (index : ℕ) (d : public_command.Command) (n : public.Note) (s t : State) (place : Place) → index < length notes →
       length notes ≡ length (counted (steps_value commands)) → d ≡ get_or commands index d → n ≡ get_or notes index n →
-      StepGoesTo (index + 1) writes (step_value d) (note_value n) s (Fails place) → verdict_from writes end commands notes index s ≡ Refused place
-  stop-here index d n s place h size is_d is_n goes = from-here index d n s h size is_d is_n ∙ goes (later_checks index d n)
+      StepGoesTo (index + 1) writes (step_value d) (note_value n) s (Some place) t → verdict_from writes end commands notes index s ≡ Refused place
+  stop-here index d n s t place h size is_d is_n goes = from-here index d n s h size is_d is_n ∙ goes (later_checks index d n)
 
   -- after the last note come the checks of the end
   pub gone-through : (index : ℕ) (s : State) → index ≡ length notes →
@@ -348,37 +281,37 @@ judged-shape script c e =
     fails-at (are_shaped (counted script.steps) c.notes) (command_at 0)
     (checks_from c.writes (end_checks (has_quit script.steps) script.fault c) 1 (start c.path c.min c.max) (counted script.steps) c.notes) e
 
-judged-fails : (script : Script) (c : Certificate) (place : Place) → are_shaped (counted script.steps) c.notes ≡ true →
-    GoesTo c.writes (counted script.steps) c.notes (start c.path c.min c.max) (Fails place) → judged script c ≡ Refused place
-judged-fails script c place shaped goes =
+judged-fails : (script : Script) (c : Certificate) (place : Place) (t : State) → are_shaped (counted script.steps) c.notes ≡ true →
+    GoesTo c.writes (counted script.steps) c.notes (start c.path c.min c.max) (Some place) t → judged script c ≡ Refused place
+judged-fails script c place t shaped goes =
     let end : ℕ → State → List Check = end_checks (has_quit script.steps) script.fault c in
     holds-at (are_shaped (counted script.steps) c.notes) (command_at 0) (checks_from c.writes end 1 (start c.path c.min c.max) (counted script.steps) c.notes) shaped
     ∙ goes end
 
 judged-left : (script : Script) (c : Certificate) (t : State) → are_shaped (counted script.steps) c.notes ≡ true →
-    GoesTo c.writes (counted script.steps) c.notes (start c.path c.min c.max) (Left t) →
+    GoesTo c.writes (counted script.steps) c.notes (start c.path c.min c.max) None t →
     judged script c ≡ verdict_at (length c.notes + 1) (ends_well (has_quit script.steps) script.fault c t)
 judged-left script c t shaped goes =
     let end : ℕ → State → List Check = end_checks (has_quit script.steps) script.fault c in
     holds-at (are_shaped (counted script.steps) c.notes) (command_at 0) (checks_from c.writes end 1 (start c.path c.min c.max) (counted script.steps) c.notes) shaped
     ∙ goes end ∙ end-verdict (has_quit script.steps) script.fault c (length c.notes + 1) t
 
-judged-passage : (script : Script) (c : Certificate) (p : Passage) → are_shaped (counted script.steps) c.notes ≡ true →
-    GoesTo c.writes (counted script.steps) c.notes (start c.path c.min c.max) p → judged script c ≡ verdict_after p (has_quit script.steps) script.fault c
-judged-passage script c (Left t) shaped goes = judged-left script c t shaped goes
-judged-passage script c (Fails place) shaped goes = judged-fails script c place shaped goes
+judged-passage : (script : Script) (c : Certificate) (failed : Option Place) (t : State) → are_shaped (counted script.steps) c.notes ≡ true →
+    GoesTo c.writes (counted script.steps) c.notes (start c.path c.min c.max) failed t → judged script c ≡ verdict_after failed t (has_quit script.steps) script.fault c
+judged-passage script c None t shaped goes = judged-left script c t shaped goes
+judged-passage script c (Some place) t shaped goes = judged-fails script c place t shaped goes
 
-pub judged-by : (script : Script) (c : Certificate) (writes : List (List ℕ)) (xs : List Step) (notes : List Note) (s : State) (quit : Bool) (p : Passage) → writes ≡ c.writes → xs ≡ counted script.steps →
-    notes ≡ c.notes → s ≡ start c.path c.min c.max → quit ≡ has_quit script.steps → are_shaped xs notes ≡ true → GoesTo writes xs notes s p →
-    verdict_after p quit script.fault c ≡ judged script c
-judged-by script c writes xs notes s quit p same_writes same_steps same_notes same_start same_quit shaped goes =
+pub judged-by : (script : Script) (c : Certificate) (writes : List (List ℕ)) (xs : List Step) (notes : List Note) (s : State) (quit : Bool) (failed : Option Place) (t : State) → writes ≡ c.writes → xs ≡ counted script.steps →
+    notes ≡ c.notes → s ≡ start c.path c.min c.max → quit ≡ has_quit script.steps → are_shaped xs notes ≡ true → GoesTo writes xs notes s failed t →
+    verdict_after failed t quit script.fault c ≡ judged script c
+judged-by script c writes xs notes s quit failed t same_writes same_steps same_notes same_start same_quit shaped goes =
     let shape : are_shaped (counted script.steps) c.notes ≡ true =
     subst (λ (ns : List Note). are_shaped (counted script.steps) ns ≡ true) same_notes (subst (λ (ys : List Step). are_shaped ys notes ≡ true) same_steps shaped) in
-    let by_writes = subst (λ (ws : List (List ℕ)). GoesTo ws xs notes s p) same_writes goes in
-    let by_steps = subst (λ (ys : List Step). GoesTo c.writes ys notes s p) same_steps by_writes in
-    let by_notes = subst (λ (ns : List Note). GoesTo c.writes (counted script.steps) ns s p) same_notes by_steps in
-    let by_start = subst (λ (t : State). GoesTo c.writes (counted script.steps) c.notes t p) same_start by_notes in
-    ap (λ (q : Bool). verdict_after p q script.fault c) same_quit ∙ sym (judged-passage script c p shape by_start)
+    let by_writes = subst (λ (ws : List (List ℕ)). GoesTo ws xs notes s failed t) same_writes goes in
+    let by_steps = subst (λ (ys : List Step). GoesTo c.writes ys notes s failed t) same_steps by_writes in
+    let by_notes = subst (λ (ns : List Note). GoesTo c.writes (counted script.steps) ns s failed t) same_notes by_steps in
+    let by_start = subst (λ (u : State). GoesTo c.writes (counted script.steps) c.notes u failed t) same_start by_notes in
+    ap (λ (q : Bool). verdict_after failed t q script.fault c) same_quit ∙ sym (judged-passage script c failed t shape by_start)
 
 pub judged-by_shape : (script : Script) (c : Certificate) (xs : List Step) (notes : List Note) → xs ≡ counted script.steps → notes ≡ c.notes →
     are_shaped xs notes ≡ false → judged script c ≡ verdict_at 0 false

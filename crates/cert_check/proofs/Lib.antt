@@ -9,7 +9,6 @@ pub mod Judging
 pub mod Covering
 pub mod Opening
 mod TextRows
-pub mod Spoken
 pub mod Written
 pub mod Separated
 pub mod Worded
@@ -18,7 +17,7 @@ pub mod Chosen
 pub mod Unambiguous
 pub mod OneText
 pub mod Limited
-pub mod Skipped
+pub mod Known
 pub mod Cutting
 pub mod Codes
 pub mod ReadWords
@@ -26,6 +25,7 @@ pub mod ReadSets
 pub mod ReadLines
 pub mod ReadLetters
 pub mod ReadZone
+pub mod SpokenBounds
 pub mod Pieces
 pub mod Plainest
 pub mod Stated

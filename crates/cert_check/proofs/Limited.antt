@@ -1,11 +1,11 @@
 -- Which certificates have a text, test by test.
-use Rattle.std.proofs.Common.{◌≡◌, ◌<◌, ◌≤◌, ◌+◌, ◌-◌, ◌*◌, ◌/◌, ◌%◌, ◌∷◌, [], ℕ, zero, suc, Bool, true, false, List, length, get_or, map, take, drop, None, Some, arith, refl, ◌∙◌, sym, ap, subst, drop-cons, below_more}
+use Rattle.std.proofs.Common.{◌≡◌, ◌<◌, ◌≤◌, ◌+◌, ◌-◌, ◌*◌, ◌/◌, ◌%◌, ◌∷◌, [], ℕ, zero, suc, Bool, true, List, length, get_or, map, take, drop, None, Some, arith, refl, ◌∙◌, sym, ap, subst, drop-cons}
 use Rattle.std.specs.List.{All}
 use Rattle.std.proofs.lemmas.List.{take_more, length-map, get_or-map}
 use Rattle.std.proofs.lemmas.List.Elements.{All-nil, All-cons, All-append}
 use Rattle.zones.specs.Zone.{Bounds, bound}
 use Rattle.ed_rules.specs.Choices.{Choice}
-use Rattle.ed_rules.specs.Formed.{may_say, ZoneIsFormed, is_rising}
+use Rattle.ed_rules.specs.Formed.{may_say, is_rising}
 
 -- the test at a place
 pub at-place : (marks : List Bool) (zone : Bounds) (place : ℕ) →
@@ -14,16 +14,6 @@ unfolding bound
 at-place marks zone place =
     let at : 32 * (place / 32) + place % 32 ≡ place = omega arith in
     ap (λ k. may_say marks (place / 32) (place % 32) (get_or zone k None)) at
-
-pub said-more : (marks : List Bool) (zone : Bounds) (place : ℕ) → ((k : ℕ) → k < place → may_say marks (k / 32) (k % 32) (get_or zone k None) ≡ true) →
-    may_say marks (place / 32) (place % 32) (bound zone (place / 32) (place % 32)) ≡ true →
-    (k : ℕ) → k < place + 1 → may_say marks (k / 32) (k % 32) (get_or zone k None) ≡ true
-said-more marks zone place before here =
-    below_more (λ k. may_say marks (k / 32) (k % 32) (get_or zone k None) ≡ true) place before (sym (at-place marks zone place) ∙ here)
-
-pub not-said : (marks : List Bool) (zone : Bounds) (place : ℕ) → place < 1024 →
-    may_say marks (place / 32) (place % 32) (bound zone (place / 32) (place % 32)) ≡ false → ZoneIsFormed marks zone → ⊥
-not-said marks zone place l e h = let said = sym e ∙ at-place marks zone place ∙ h.says place l in absurd cc
 
 none-left : {A : Type 0} (n : ℕ) → drop {A = A} n [] ≡ []
 none-left zero = refl

@@ -1,6 +1,6 @@
 -- Letters, one by one, as they are read.
 use Rattle.std.proofs.Common.{◌≡◌, ◌≢◌, ◌<◌, ◌≤◌, ◌+◌, ◌++◌, ◌∷◌, [], ℕ, zero, suc, Bool, true, false, List, length, get_or, set, drop, replicate, arith, refl, ◌∙◌, sym, ap, append-nil, drop-cons}
-use Rattle.std.proofs.lemmas.List.{same_lists, get_or_default, get_or-replicate}
+use Rattle.std.proofs.lemmas.List.{get_or-replicate}
 use Rattle.cert_check.specs.Text.{spaced, sure_letters, letters_words}
 use Rattle.cert_check.specs.Reading.{all_marks}
 use Rattle.cert_check.proofs.Separated.{tail-same}
@@ -74,12 +74,8 @@ letters-word-same [] (y ∷ b) e = absurd cc
 letters-word-same (x ∷ a) [] e = absurd cc
 letters-word-same (x ∷ a) (y ∷ b) e = sym (append-nil (x ∷ a)) ∙ tail-same e ∙ append-nil (y ∷ b)
 
-get_or-all : (k : ℕ) (d : Bool) → k < 26 → get_or all_marks k d ≡ true
+pub get_or-all : (k : ℕ) (d : Bool) → k < 26 → get_or all_marks k d ≡ true
 get_or-all k d l = get_or-replicate 26 k true d l
-
-pub each-sure : (marks : List Bool) → length marks ≡ 26 → ((k : ℕ) → k < 26 → get_or marks k false ≡ true) → marks ≡ all_marks
-each-sure marks size h =
-    same_lists marks all_marks size (λ k d l. sym (get_or_default marks k false d l) ∙ h k (omega arith) ∙ sym (get_or-all k d (omega arith)))
 
 pub none-sure : (n k : ℕ) → get_or (replicate n false) k false ≡ false
 none-sure zero k = refl

@@ -14,14 +14,14 @@ use Rattle.ed_rules.specs.Formed.{SetIsFormed, ZoneIsFormed, StateIsFormed, OldI
 use Rattle.ed_rules.specs.Marks.{is_sure}
 use Rattle.cert_check.specs.declared.lines.Found.{Found}
 use Rattle.cert_check.specs.Text.{Word, spaced, bounds_words, line_text, possible, zone_line, marks_line, choices_line, replacements_line, changed_line, undo_line, old_lines, state_lines}
-use Rattle.cert_check.specs.Pieces.{found_line, texts, IsOf, alone, marked_lines, MarkedIsFormed, undo_lines, UndoIsFormed, IsSomeReplacement, IsSomeChange, IsFound}
+use Rattle.cert_check.specs.Pieces.{Left, Took, found_line, texts, IsOf, alone, marked_lines, MarkedIsFormed, undo_lines, UndoIsFormed, IsSomeReplacement, IsSomeChange, IsFound}
 use Rattle.cert_check.specs.Reading.{all_marks}
 use Rattle.cert_check.proofs.Separated.{Above-from_test, AreWords, IsLineOfWords, and-both, tail-same, words-same, line-same}
 use Rattle.cert_check.proofs.Zoned.{zone-said, bounds-are-words}
 use Rattle.cert_check.proofs.Chosen.{three-words, three-same}
 use Rattle.cert_check.proofs.Unambiguous.{state-same, zone-same, later-words}
 use Rattle.cert_check.proofs.OneText.{state-words}
-use Rattle.cert_check.proofs.Pieces.{first-of, Continued, GoesOn, Expects, Determined}
+use Rattle.cert_check.proofs.Pieces.{took-more, first-of, Continued, GoesOn, Expects, Determined}
 use Rattle.cert_check.proofs.Plainest.{plain_old, plain_set, plain-set, plain_replacements, plain_change, plain_undo, plain-old, state_of, state-formed}
 
 pub state-determined : Determined state_lines StateIsFormed
@@ -365,3 +365,17 @@ undo-old f h was = record {
       let found = three-same (codes "nothing") (codes "same") (codes "was") refl refl refl k.value.nothing k.value.same (is_some k.value.was) f.nothing f.same f.was (later-words words) in
       was-follows k.value.was back after (found.third ∙ was) k.has.1 (below lines);
 }
+
+abbrev pub undo_with : Found → Old → Undo
+undo_with f old = record { nothing = f.nothing; same = f.same; was = Some old }
+
+-- what undo may find, and the earlier buffer, were read
+pub undo-read : (f : Found) (old : Old) (before mid new : Left) → IsFound f → f.was ≡ true → MarkedIsFormed old → Took (texts (found_line f ∷ [])) before mid →
+    Took (texts (marked_lines (codes "old-zone") (codes "old-marks") old)) mid new → UndoIsFormed (undo_with f old) × Took (texts (undo_lines (undo_with f old))) before new
+undo-read f old before mid new h was k found marked = (
+  (ap (λ (b : Bool). f.nothing || f.same || b) (sym was) ∙ h, k),
+  subst
+      (λ (b : Bool).
+      Took (line_text (codes "undo" ∷ possible f.nothing (codes "nothing") ++ possible f.same (codes "same") ++ possible b (codes "was")) ∷ texts (old_lines (Some old))) before new)
+      was (took-more found marked),
+)

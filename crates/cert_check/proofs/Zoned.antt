@@ -29,12 +29,12 @@ named marks x e = elim (or-cases (nat_lt x 3) (nat_le 6 x && is_sure marks (x - 
   | inr h ↦ inr (let six = and-both (nat_le 6 x) (is_sure marks (x - 6)) h in leb-true 6 x six.0)
 ]
 
-nothing : (x y : ℕ) (c : ℤ) → says_nothing x y c ≡ true → Some c ≡ any_bound x y
+pub nothing : (x y : ℕ) (c : ℤ) → says_nothing x y c ≡ true → Some c ≡ any_bound x y
 nothing x y (pos zero) e = sym (cond-true (x == y) (Some (pos 0)) None e)
 nothing x y (pos (suc n)) e = absurd cc
 nothing x y (negsuc n) e = absurd cc
 
-small : (c : ℤ) → IsKept (Some c) → mag c < 2 ^ 63
+pub small : (c : ℤ) → IsKept (Some c) → mag c < 2 ^ 63
 small (pos n) k = let high = k.1 in omega (arith, ints)
 small (negsuc n) k = let low = k.0 in omega (arith, ints)
 

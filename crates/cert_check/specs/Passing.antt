@@ -3,8 +3,7 @@ use Rattle.std.specs.Prelude.{◌≡◌, ℕ, ◌+◌, Bool, true, false, not, �
 use Rattle.ed_syntax.specs.Commands.{Command, Step}
 use Rattle.ed_rules.specs.declared.state.State.{State}
 use Rattle.cert_check.specs.Covering.{covers}
-use Rattle.cert_check.specs.declared.passing.Passage.{Passage}
-use Rattle.cert_check.specs.declared.passing.Passage.TheVariants.{Left, Fails}
+use Rattle.cert_check.specs.declared.verdict.Place.{Place}
 use Rattle.cert_check.specs.declared.verdict.Verdict.{Verdict}
 use Rattle.cert_check.specs.declared.verdict.Verdict.TheVariants.{Accepted, Refused}
 use Rattle.ed_rules.specs.Globals.{loop_end}
@@ -24,36 +23,41 @@ left_where_met c note = if are_met c note then Some (left_by c note) else None
 abbrev pub passed : (writes : List (List ℕ)) → Command → (known coming : State) → Option State
 passed writes c known coming = if covers known coming then (if are_listed writes c known then left_where_met c known else None) else None
 
+-- all checks of a command hold and it leaves this state, or some check fails, as it should be
+abbrev pub Passes : (holds : Bool) → (left : State) → Option State → Type 0
+Passes true t should = should ≡ Some t
+Passes false t should = should ≡ None
+
 -- all checks of the end hold
 abbrev pub ends_well : (quit : Bool) → (fault : Option ℕ) → Certificate → (coming : State) → Bool
 ends_well quit fault c coming =
     (quit || is_none fault) && (covers c.last coming && ((quit || not c.last.changed.yes) && (knows_least c.last.zone c.low && knows_most c.last.zone c.high)))
 
--- what the checks of a list come to, whatever those of what it leaves are
-abbrev pub ListGoesTo : (number : ℕ) → (writes : List (List ℕ)) → List Command → List State → (entry : State) → Passage → Type 0
-ListGoesTo number writes list states entry (Left t) =
+-- what the checks of a list come to, whatever those of what it leaves are: the place of the first that fails, or the state that is left
+abbrev pub ListGoesTo : (number : ℕ) → (writes : List (List ℕ)) → List Command → List State → (entry : State) → (failed : Option Place) → (left : State) → Type 0
+ListGoesTo number writes list states entry None t =
     (turned : ℕ → State → List Check) → verdict_of (list_checks number 1 writes entry list states turned) ≡ verdict_of (turned (length list + 1) t)
-ListGoesTo number writes list states entry (Fails place) =
+ListGoesTo number writes list states entry (Some place) t =
     (turned : ℕ → State → List Check) → verdict_of (list_checks number 1 writes entry list states turned) ≡ Refused place
 
 -- what the checks of what is known of a list come to, whatever those after it are
-abbrev pub LoopGoesTo : (number : ℕ) → (writes : List (List ℕ)) → Step → Looped → (known start : State) → Passage → Type 0
-LoopGoesTo number writes x l known start (Left t) =
+abbrev pub LoopGoesTo : (number : ℕ) → (writes : List (List ℕ)) → Step → Looped → (known start : State) → (failed : Option Place) → (left : State) → Type 0
+LoopGoesTo number writes x l known start None t =
     (t ≡ loop_end x known l.invariant) × ((later : List Check) → verdict_of (loop_checks number writes x.list l start later) ≡ verdict_of later)
-LoopGoesTo number writes x l known start (Fails place) = (later : List Check) → verdict_of (loop_checks number writes x.list l start later) ≡ Refused place
+LoopGoesTo number writes x l known start (Some place) t = (later : List Check) → verdict_of (loop_checks number writes x.list l start later) ≡ Refused place
 
 -- what the checks of a step come to
-abbrev pub StepGoesTo : (number : ℕ) → (writes : List (List ℕ)) → Step → Note → (coming : State) → Passage → Type 0
-StepGoesTo number writes x n coming (Left t) =
+abbrev pub StepGoesTo : (number : ℕ) → (writes : List (List ℕ)) → Step → Note → (coming : State) → (failed : Option Place) → (left : State) → Type 0
+StepGoesTo number writes x n coming None t =
     (t ≡ left_after n.looped x n.state) × ((later : List Check) → verdict_of (step_checks number writes x n coming later) ≡ verdict_of later)
-StepGoesTo number writes x n coming (Fails place) = (later : List Check) → verdict_of (step_checks number writes x n coming later) ≡ Refused place
+StepGoesTo number writes x n coming (Some place) t = (later : List Check) → verdict_of (step_checks number writes x n coming later) ≡ Refused place
 
 -- what the checks of these steps come to, whatever those of the end are
-abbrev pub GoesTo : (writes : List (List ℕ)) → List Step → List Note → (start : State) → Passage → Type 0
-GoesTo writes xs notes s (Left t) = (end : ℕ → State → List Check) → verdict_of (checks_from writes end 1 s xs notes) ≡ verdict_of (end (length notes + 1) t)
-GoesTo writes xs notes s (Fails place) = (end : ℕ → State → List Check) → verdict_of (checks_from writes end 1 s xs notes) ≡ Refused place
+abbrev pub GoesTo : (writes : List (List ℕ)) → List Step → List Note → (start : State) → (failed : Option Place) → (left : State) → Type 0
+GoesTo writes xs notes s None t = (end : ℕ → State → List Check) → verdict_of (checks_from writes end 1 s xs notes) ≡ verdict_of (end (length notes + 1) t)
+GoesTo writes xs notes s (Some place) t = (end : ℕ → State → List Check) → verdict_of (checks_from writes end 1 s xs notes) ≡ Refused place
 
 -- the verdict where the checks of the commands came to this
-abbrev pub verdict_after : Passage → (quit : Bool) → (fault : Option ℕ) → Certificate → Verdict
-verdict_after (Left t) quit fault c = verdict_at (length c.notes + 1) (ends_well quit fault c t)
-verdict_after (Fails place) quit fault c = Refused place
+abbrev pub verdict_after : (failed : Option Place) → (left : State) → (quit : Bool) → (fault : Option ℕ) → Certificate → Verdict
+verdict_after None t quit fault c = verdict_at (length c.notes + 1) (ends_well quit fault c t)
+verdict_after (Some place) t quit fault c = Refused place

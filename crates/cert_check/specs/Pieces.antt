@@ -13,6 +13,7 @@ use Rattle.cert_check.specs.declared.cursor.Head.TheVariants.{AnotherNote, Loop,
 use Rattle.cert_check.specs.declared.fault.CertFault.{CertFault}
 use Rattle.cert_check.specs.declared.fault.CertFault.TheVariants.{Version, Line, Size, Memory}
 use Rattle.cert_check.specs.declared.lines.Found.{Found}
+use Rattle.cert_check.specs.declared.states.Marked.{Marked}
 use Rattle.cert_check.specs.declared.certificate.Note as note
 use Rattle.cert_check.specs.Certificates.{Looped, Note, Certificate, note_value}
 use Rattle.cert_check.specs.Text as text
@@ -130,6 +131,10 @@ head_line End = codes "end" ∷ []
 -- a zone and its marks
 abbrev pub marked_lines : (zone_key marks_key : Word) → Old → List text.Line
 marked_lines zone_key marks_key old = zone_line zone_key old.zone ∷ marks_line marks_key old.marks ∷ []
+
+-- the same as a buffer's
+abbrev pub marked_value : Marked → Old
+marked_value m = record { zone = m.zone; marks = m.marks }
 
 abbrev pub MarkedIsFormed : Old → Type 0
 MarkedIsFormed old = ZoneIsFormed old.marks old.zone

@@ -1,7 +1,9 @@
 -- How a text is read: what the functions that read it answer.
-use Rattle.std.specs.Prelude.{◌≡◌, ◌≢◌, ℕ, ◌<◌, ◌≤◌, ◌^◌, ◌⊎◌, ℤ, Bool, true, not, ◌==◌, List, [], ◌∷◌, ◌++◌, Option, Some, None, codes, replicate}
+use Rattle.std.specs.Prelude.{◌≡◌, ◌≢◌, ℕ, ◌<◌, ◌≤◌, ◌^◌, ◌/◌, ◌%◌, ◌⊎◌, ℤ, Bool, true, not, ◌==◌, List, [], ◌∷◌, ◌++◌, Option, Some, None, codes, replicate}
 use Rattle.std.specs.Fmt.{signed_decimal}
 use lib.Signed.{mag}
+use Rattle.zones.specs.Bound.{IsKept}
+use Rattle.zones.specs.KnownBounds.{PlacedBound}
 use Rattle.cert_check.specs.Text.{Word, Line, space, line_text, name_word, possible}
 
 -- what a line is read as: the value whose line it is, or that there is none
@@ -62,3 +64,21 @@ pub record IsSaid (x y : ℕ) (number : ℤ) (left text : List ℕ) : Type 0 whe
   pub signed : IsSigned number
   pub is : (space ∷ said_word x y number) ++ left ≡ text
   pub ends : EndsWord left
+
+-- the word of a bound of x - y that is a number
+abbrev pub number_word : (x y : ℕ) → Option ℤ → Word
+number_word x y None = []
+number_word x y (Some number) = said_word x y number
+
+-- the same of a bound with its place
+abbrev pub spoken_word : PlacedBound → Word
+spoken_word b = number_word (b.place / 32) (b.place % 32) b.bound
+
+-- a bound that a text may say: a number that zones keep, of two names that texts have
+pub record IsSpoken (b : PlacedBound) : Type 0 where
+  pub placed : b.place < 1024
+  pub number : ℤ
+  pub is : b.bound ≡ Some number
+  pub kept : IsKept b.bound
+  pub row : IsNamed (b.place / 32)
+  pub column : IsNamed (b.place % 32)

@@ -1,7 +1,7 @@
 //! What a certificate says of a script.
 
 use ed_base::Bytes;
-use ed_rules::{KeptState, State};
+use ed_rules::KeptState;
 
 /// What is known of a global command's list: at its start for each line, and before each of its commands.
 #[derive(Debug, Drop)]
@@ -32,7 +32,7 @@ pub struct Certificate {
     /// One for each counted command, in their order.
     pub notes: Vec<Note>,
     /// What is known at the end.
-    pub last: State,
+    pub last: KeptState,
     /// The fewest lines at the end.
     pub low: u64,
     /// The most lines at the end; with none there is no limit.

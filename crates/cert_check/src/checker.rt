@@ -9,7 +9,7 @@ ghost use Rattle.cert_check.specs.Sound.{CannotFail};
 
 use crate::certificate::Certificate;
 use crate::laws::accepted_scripts_cannot_fail;
-use crate::passing::{Passage, are_shaped, count, ends_well, go_through};
+use crate::passing::{are_shaped, count, ends_well, go_through};
 use crate::verdict::{Place, Verdict};
 use ed_rules::State;
 use ed_syntax::Script;
@@ -28,21 +28,22 @@ fn verdict_at(number: usize, holds: bool) -> Verdict
     }
 }
 
-/// The verdict where the checks of the commands came to `passage`.
+/// The verdict where the checks of the commands came to this, and left `coming` where none failed.
 fn verdict_after(
-    passage: Passage,
+    failed: Option<Place>,
+    coming: &State,
     quit: bool,
     fault: Option<usize>,
     certificate: &Certificate,
 ) -> Verdict
-    ensures value { result ≡ verdict_after passage quit fault (certificate_value certificate.now) }
+    ensures value { result ≡ verdict_after failed coming.now quit fault (certificate_value certificate.now) }
 {
-    match passage {
-        Passage::Left(coming) => {
-            let holds = ends_well(quit, fault, certificate, &coming);
+    match failed {
+        None => {
+            let holds = ends_well(quit, fault, certificate, coming);
             verdict_at(certificate.notes.len() + 1, holds)
         }
-        Passage::Fails(place) => Verdict::Refused(place),
+        Some(place) => Verdict::Refused(place),
     }
 }
 
@@ -56,15 +57,16 @@ fn judge(script: &Script, certificate: &Certificate) -> Result<Verdict, AllocErr
     if !are_shaped(commands, counted.number, notes) {
         return Ok(verdict_at(0, false));
     }
-    let start = State::start(
+    let mut coming = State::start(
         *script.commands.allocator(),
         &certificate.path,
         certificate.min,
         certificate.max,
     )?;
+    let mut before = coming.try_copy()?;
     let writes = certificate.writes.as_slice();
-    let passage = go_through(writes, commands, notes, start)?;
-    let verdict = verdict_after(passage, counted.quit, script.fault, certificate);
+    let failed = go_through(writes, commands, notes, &mut before, &mut coming)?;
+    let verdict = verdict_after(failed, &coming, counted.quit, script.fault, certificate);
     Ok(verdict)
 }
 

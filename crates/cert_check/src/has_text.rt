@@ -11,9 +11,9 @@ ghost use Rattle.ed_rules.specs.Formed.{says_nothing};
 
 use crate::certificate::{Certificate, Looped, Note};
 use ed_base::Bytes;
-use ed_rules::{Changed, KeptState, Marks, Old, Replacements, State, Undo};
+use ed_rules::{Changed, KeptOld, KeptState, KeptUndo, Marks, Replacements};
 use std::cmp::Ordering;
-use zones::{Name, Zone};
+use zones::{KeptZone, Name};
 
 /// The most lines that a text may speak of.
 const MOST_LINES: u64 = 1_000_000_000_000;
@@ -42,38 +42,30 @@ pub(crate) fn letters_are_counted(marks: &Marks)
 }
 
 /// A zone has 1024 bounds, and keeps each.
-pub(crate) fn zone_is_formed(zone: &Zone)
+pub(crate) fn zone_is_formed(zone: &KeptZone)
     ensures is_zone { IsZone zone.now }
 {
-    let _first = zone.bound(Name::ZERO, Name::ZERO);
+    let _entries = zone.entries();
 }
 
-pub(crate) fn zone_has_text(marks: &Marks, zone: &Zone) -> bool
+/// A zone that speaks of the lines and of the letters that are sure beside it. A bound that isn't known may be said.
+pub(crate) fn zone_has_text(marks: &Marks, zone: &KeptZone) -> bool
     ensures exact { IsTrue result ↔ ZoneIsFormed marks.now zone.now }
 {
     letters_are_counted(marks);
-    zone_is_formed(zone);
-    // A bound that isn't known may be said.
-    let mut next = zone.next_known(0);
-    for place in 0..1024 {
-        if place != next {
-            continue;
-        }
-        let x = Name::from_place(place / 32);
-        let y = Name::from_place(place % 32);
-        if !may_say(marks, x, y, zone.bound(x, y)) {
+    for entry in zone.entries() {
+        if !may_say(marks, entry.x(), entry.y(), entry.bound()) {
             return false;
         }
-        next = zone.next_known(place + 1);
     }
     true
 }
 
-fn old_has_text(old: &Option<Old>) -> bool
+fn old_has_text(old: &Option<KeptOld>) -> bool
     ensures exact { IsTrue result ↔ OldIsFormed old.now }
 {
     match old {
-        Some(old) => zone_has_text(&old.marks, &old.zone),
+        Some(old) => zone_has_text(old.marks(), old.zone()),
         None => true,
     }
 }
@@ -156,10 +148,10 @@ pub(crate) fn some_replacement(replacements: Replacements) -> bool
     replacements.none || replacements.plain || replacements.split
 }
 
-fn some_undo(undo: &Undo) -> bool
+fn some_undo(undo: &KeptUndo) -> bool
     ensures value { result ≡ (undo.now.nothing || undo.now.same || is_some undo.now.was) }
 {
-    undo.nothing || undo.same || undo.was.is_some()
+    undo.nothing() || undo.same() || undo.was().is_some()
 }
 
 pub(crate) fn some_changed(changed: Changed) -> bool
@@ -168,61 +160,36 @@ pub(crate) fn some_changed(changed: Changed) -> bool
     changed.no || changed.yes
 }
 
-fn state_has_text(state: &State) -> bool
+fn state_has_text(state: &KeptState) -> bool
     ensures exact { IsTrue result ↔ StateIsFormed state.now }
 {
-    if !zone_has_text(&state.marks, &state.zone) {
+    if !zone_has_text(state.marks(), state.kept_zone()) {
         return false;
     }
-    if !set_has_text(state.patterns.members()) {
+    if !set_has_text(state.patterns().members()) {
         return false;
     }
-    if !some_replacement(state.replacements) {
+    if !some_replacement(state.replacements()) {
         return false;
     }
-    if !set_has_text(state.names.members()) {
+    if !set_has_text(state.names().members()) {
         return false;
     }
-    if !some_changed(state.changed) {
+    if !some_changed(state.changed()) {
         return false;
     }
-    if !some_undo(&state.undo) {
+    let undo = state.kept_undo();
+    if !some_undo(undo) {
         return false;
     }
-    old_has_text(&state.undo.was)
-}
-
-/// The same of a state that a note keeps. Its parts are asked for one by one, since the whole state would take memory.
-fn kept_has_text(kept: &KeptState) -> bool
-    ensures exact { IsTrue result ↔ StateIsFormed kept.now }
-{
-    if !zone_has_text(kept.marks(), &kept.zone()) {
-        return false;
-    }
-    if !set_has_text(kept.patterns().members()) {
-        return false;
-    }
-    if !some_replacement(kept.replacements()) {
-        return false;
-    }
-    if !set_has_text(kept.names().members()) {
-        return false;
-    }
-    if !some_changed(kept.changed()) {
-        return false;
-    }
-    let undo = kept.undo();
-    if !some_undo(&undo) {
-        return false;
-    }
-    old_has_text(&undo.was)
+    old_has_text(undo.was())
 }
 
 fn inner_have_text(states: &[KeptState]) -> bool
     ensures exact { IsTrue result ↔ All StateIsFormed states.now }
 {
     for state in states {
-        if !kept_has_text(state) {
+        if !state_has_text(state) {
             return false;
         }
     }
@@ -234,7 +201,7 @@ fn looped_has_text(looped: &Option<Looped>) -> bool
 {
     match looped {
         Some(looped) => {
-            let invariant = kept_has_text(&looped.invariant);
+            let invariant = state_has_text(&looped.invariant);
             let inner = inner_have_text(looped.inner.as_slice());
             invariant && inner
         }
@@ -245,7 +212,7 @@ fn looped_has_text(looped: &Option<Looped>) -> bool
 fn note_has_text(note: &Note) -> bool
     ensures exact { IsTrue result ↔ NoteHasText (note_value note.now) }
 {
-    let state = kept_has_text(&note.state);
+    let state = state_has_text(&note.state);
     let looped = looped_has_text(&note.looped);
     state && looped
 }

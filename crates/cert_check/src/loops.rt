@@ -7,7 +7,7 @@ ghost use Rattle.cert_check.specs.Certificates.{looped_value};
 ghost use Rattle.cert_check.specs.Passing.{ListGoesTo, LoopGoesTo};
 
 use crate::certificate::Looped;
-use crate::passing::{Passage, is_covered, passed};
+use crate::passing::{is_covered, passes};
 use crate::verdict::Place;
 use ed_base::Bytes;
 use ed_rules::{KeptState, State, body_entry, loop_end};
@@ -15,67 +15,66 @@ use ed_syntax::Command;
 use std::alloc::AllocError;
 
 /// Goes through the commands of a list, with what is known before each, from the state in which the list is run for a line. The
-/// global command has this number.
+/// global command has this number. Where no check fails, `coming` becomes what the list leaves.
 fn go_through_list(
     number: usize,
     writes: &[Bytes],
     list: &[Command],
     states: &[KeptState],
-    entry: State,
-) -> Result<Passage, AllocError>
+    before: &mut State,
+    coming: &mut State,
+) -> Result<Option<Place>, AllocError>
     requires shape { length states.now ≡ length list.now }
-    ensures value { IfOk result (λ passage. ListGoesTo number writes.now (map command_value list.now) states.now entry passage) }
+    ensures value { IfOk result (λ failed. ListGoesTo number writes.now (map command_value list.now) states.now coming.old failed coming.new) }
 {
-    let mut coming = entry;
     for (index, known) in states.iter().enumerate() {
-        let known = known.state()?;
-        match passed(writes, &list[index], &known, &coming)? {
-            Some(left) => coming = left,
-            None => {
-                return Ok(Passage::Fails(Place {
-                    command: number,
-                    inner: Some(index + 1),
-                }));
-            }
+        let holds = passes(writes, &list[index], known, before, coming)?;
+        if !holds {
+            return Ok(Some(Place {
+                command: number,
+                inner: Some(index + 1),
+            }));
         }
     }
-    Ok(Passage::Left(coming))
+    Ok(None)
 }
 
-/// Goes through the list of a global command, of which `known` is known before it and `start` before its first line.
+/// Goes through the list of a global command, of which `known` is known before it. From the state before its first line, `coming`
+/// becomes the state after the command, where no check fails.
 pub(crate) fn pass_loop(
     number: usize,
     writes: &[Bytes],
     command: &Command,
     known: &State,
-    start: &State,
+    coming: &mut State,
     looped: &Looped,
-) -> Result<Passage, AllocError>
+) -> Result<Option<Place>, AllocError>
     requires global { is_global (command_value command.now).verb ≡ true }
     requires shape { length looped.now.inner.items ≡ length (step_value command.now).list }
-    ensures value { IfOk result (λ passage. LoopGoesTo number writes.now (step_value command.now) (looped_value looped.now) known.now start.now passage) }
+    ensures value { IfOk result (λ failed. LoopGoesTo number writes.now (step_value command.now) (looped_value looped.now) known.now coming.old failed coming.new) }
 {
-    let invariant = looped.invariant.state()?;
-    if !is_covered(&invariant, start) {
-        return Ok(Passage::Fails(Place {
+    let holds_at_first = is_covered(&looped.invariant, coming);
+    if !holds_at_first {
+        return Ok(Some(Place {
             command: number,
             inner: None,
         }));
     }
     let list = command.list();
-    let entry = body_entry(&invariant)?;
-    match go_through_list(number, writes, list, looped.inner.as_slice(), entry)? {
-        Passage::Left(turned) => {
-            if is_covered(&invariant, &turned) {
-                let end = loop_end(command, known, &invariant)?;
-                Ok(Passage::Left(end))
-            } else {
-                Ok(Passage::Fails(Place {
-                    command: number,
-                    inner: Some(list.len() + 1),
-                }))
-            }
-        }
-        Passage::Fails(place) => Ok(Passage::Fails(place)),
+    let mut before = looped.invariant.state()?;
+    *coming = body_entry(&before)?;
+    let inner = looped.inner.as_slice();
+    if let Some(place) = go_through_list(number, writes, list, inner, &mut before, coming)? {
+        return Ok(Some(place));
     }
+    let holds_again = is_covered(&looped.invariant, coming);
+    if !holds_again {
+        return Ok(Some(Place {
+            command: number,
+            inner: Some(list.len() + 1),
+        }));
+    }
+    looped.invariant.restore(&mut before)?;
+    *coming = loop_end(command, known, &before)?;
+    Ok(None)
 }

@@ -10,7 +10,7 @@ use crate::certificate::{Looped, Note};
 use crate::cursor::{Cursor, Head};
 use crate::fault::CertFault;
 use crate::readers::{read_either, read_head};
-use crate::states::read_kept;
+use crate::states::read_state;
 use ed_rules::KeptState;
 use std::alloc::Global;
 
@@ -20,7 +20,7 @@ fn read_inner(alloc: Global, cursor: &mut Cursor<'_>) -> Result<Vec<KeptState>, 
 {
     let mut states = Vec::new(alloc);
     'states: while read_either(b"inner", b"done", cursor)? {
-        states.push(read_kept(alloc, cursor)?)?;
+        states.push(read_state(alloc, cursor)?)?;
     }
     Ok(states)
 }
@@ -29,7 +29,7 @@ fn read_inner(alloc: Global, cursor: &mut Cursor<'_>) -> Result<Vec<KeptState>, 
 fn read_list(alloc: Global, cursor: &mut Cursor<'_>) -> Result<Looped, CertFault>
     ensures exact { Reads looped_value list_lines ListIsFormed cursor.old cursor.new result }
 {
-    let invariant = read_kept(alloc, cursor)?;
+    let invariant = read_state(alloc, cursor)?;
     let inner = read_inner(alloc, cursor)?;
     Ok(Looped { invariant, inner })
 }
@@ -38,7 +38,7 @@ fn read_list(alloc: Global, cursor: &mut Cursor<'_>) -> Result<Looped, CertFault
 fn read_note(alloc: Global, cursor: &mut Cursor<'_>) -> Result<(Note, bool), CertFault>
     ensures exact { Reads noted_value noted_lines NotedIsFormed cursor.old cursor.new result }
 {
-    let state = read_kept(alloc, cursor)?;
+    let state = read_state(alloc, cursor)?;
     match read_head(cursor)? {
         Head::AnotherNote => Ok((
             Note {

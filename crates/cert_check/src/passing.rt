@@ -7,14 +7,14 @@ ghost use Rattle.ed_rules.specs.Globals.{is_global};
 ghost use Rattle.cert_check.specs.Covering.{covers};
 ghost use Rattle.cert_check.specs.Certificates.{note_value, certificate_value};
 ghost use Rattle.cert_check.specs.Valid.{quits, is_listed, are_listed, counted, has_quit, fits, are_shaped, knows_least, knows_most};
-ghost use Rattle.cert_check.specs.Passing.{left_where_met, passed, ends_well, StepGoesTo, GoesTo};
+ghost use Rattle.cert_check.specs.Passing.{Passes, left_where_met, passed, ends_well, StepGoesTo, GoesTo};
 
 use crate::certificate::{Certificate, Note};
 use crate::laws::covering_is_decided;
 use crate::loops::pass_loop;
 use crate::verdict::Place;
 use ed_base::Bytes;
-use ed_rules::{State, outcome};
+use ed_rules::{KeptState, State, outcome_into};
 use ed_syntax::{Command, Verb};
 use std::alloc::AllocError;
 use zones::{Name, Zone};
@@ -24,13 +24,6 @@ use zones::{Name, Zone};
 pub(crate) struct Counted {
     pub number: usize,
     pub quit: bool,
-}
-
-/// What checks come to: the state after the last of their commands, or the place of the first that fails.
-#[derive(Drop)]
-pub(crate) enum Passage {
-    Left(State),
-    Fails(Place),
 }
 
 fn quits(verb: &Verb) -> bool
@@ -60,20 +53,22 @@ pub(crate) fn count(commands: &[Command]) -> Counted
     }
 }
 
-pub(crate) fn is_covered(weak: &State, strong: &State) -> bool
-    ensures value { result ≡ covers weak.now strong.now }
+/// What is known says no more than a state.
+pub(crate) fn is_covered(known: &KeptState, strong: &State) -> bool
+    ensures value { result ≡ covers known.now strong.now }
 {
     covering_is_decided();
-    weak.covers(strong)
+    known.covers(strong)
 }
 
-/// The state after a command, where all its needs hold.
-fn left_by(command: &Command, note: &State) -> Result<Option<State>, AllocError>
-    ensures value { IfOk result (λ left. left ≡ left_where_met (command_value command.now) note.now) }
+/// Goes over to the state after a command, where all its needs hold.
+fn leave(command: &Command, known: &State, coming: &mut State) -> Result<bool, AllocError>
+    ensures value { IfOk result (λ holds.
+        Passes holds coming.new (left_where_met (command_value command.now) known.now)) }
 {
-    match outcome(command, note)? {
-        Ok(left) => Ok(Some(left)),
-        Err(_) => Ok(None),
+    match outcome_into(command, known, coming)? {
+        None => Ok(true),
+        Some(_) => Ok(false),
     }
 }
 
@@ -100,33 +95,36 @@ fn are_all_listed(writes: &[Bytes], paths: &[Option<Bytes>]) -> bool
 }
 
 /// Each path that a command may write is listed.
-fn are_listed(writes: &[Bytes], command: &Command, note: &State) -> bool
-    ensures value { result ≡ are_listed writes.now (command_value command.now) note.now }
+fn are_listed(writes: &[Bytes], command: &Command, known: &KeptState) -> bool
+    ensures value { result ≡ are_listed writes.now (command_value command.now) known.now }
 {
     match &command.verb {
         Verb::WriteFile(path) => match path {
             Some(_) => is_listed(writes, path),
-            None => are_all_listed(writes, note.names.members()),
+            None => are_all_listed(writes, known.names().members()),
         },
         _ => true,
     }
 }
 
-/// The same, where what is known before it also says no more than what comes in, and the paths that may be written are listed.
-pub(crate) fn passed(
+/// Whether all checks of a command hold: what is known before it says no more than what comes in, its needs hold, and the paths
+/// that it may write are listed. Then `before` becomes what is known, and `coming` the state after the command.
+pub(crate) fn passes(
     writes: &[Bytes],
     command: &Command,
-    known: &State,
-    coming: &State,
-) -> Result<Option<State>, AllocError>
-    ensures value { IfOk result (λ left. left ≡
-        passed writes.now (command_value command.now) known.now coming.now) }
+    known: &KeptState,
+    before: &mut State,
+    coming: &mut State,
+) -> Result<bool, AllocError>
+    ensures value { IfOk result (λ holds. Passes holds coming.new
+        (passed writes.now (command_value command.now) known.now coming.old)) }
+    ensures before { IfOk result (λ holds. holds ≡ true → before.new ≡ known.now) }
 {
-    if is_covered(known, coming) && are_listed(writes, command, known) {
-        left_by(command, known)
-    } else {
-        Ok(None)
+    if !is_covered(known, coming) || !are_listed(writes, command, known) {
+        return Ok(false);
     }
+    known.restore(before)?;
+    leave(command, before, coming)
 }
 
 /// Something is known of a list just where the command is global, and before each command of it.
@@ -168,48 +166,53 @@ pub(crate) fn are_shaped(commands: &[Command], number: usize, notes: &[Note]) ->
     true
 }
 
-/// The checks of one command with its note.
+/// The checks of one command with its note: the place of the first that fails. Where none does, `coming` becomes the state after
+/// the command. `before` is used again for each state that is known.
 fn pass(
     number: usize,
     writes: &[Bytes],
     command: &Command,
     note: &Note,
-    coming: &State,
-) -> Result<Passage, AllocError>
+    before: &mut State,
+    coming: &mut State,
+) -> Result<Option<Place>, AllocError>
     requires shape { fits (step_value command.now) (note_value note.now) ≡ true }
-    ensures value { IfOk result (λ passage. StepGoesTo number writes.now (step_value command.now) (note_value note.now) coming.now passage) }
+    ensures value { IfOk result (λ failed. StepGoesTo number writes.now (step_value command.now)
+        (note_value note.now) coming.old failed coming.new) }
 {
-    let known = note.state.state()?;
-    match passed(writes, command, &known, coming)? {
-        None => Ok(Passage::Fails(Place {
+    let holds = passes(writes, command, &note.state, before, coming)?;
+    if !holds {
+        return Ok(Some(Place {
             command: number,
             inner: None,
-        })),
-        Some(left) => match &note.looped {
-            None => Ok(Passage::Left(left)),
-            Some(looped) => pass_loop(number, writes, command, &known, &left, looped),
-        },
+        }));
+    }
+    match &note.looped {
+        None => Ok(None),
+        Some(looped) => pass_loop(number, writes, command, before, coming, looped),
     }
 }
 
-/// Goes through the counted commands with their notes, from the state at the start.
+/// Goes through the counted commands with their notes, from the state at the start on: the place of the first check that fails.
+/// Where none does, `coming` becomes the state after the last command.
 pub(crate) fn go_through(
     writes: &[Bytes],
     commands: &[Command],
     notes: &[Note],
-    start: State,
-) -> Result<Passage, AllocError>
+    before: &mut State,
+    coming: &mut State,
+) -> Result<Option<Place>, AllocError>
     requires shape { are_shaped (counted (steps_value commands.now)) (map note_value notes.now) ≡ true }
-    ensures value { IfOk result (λ passage. GoesTo writes.now (counted (steps_value commands.now)) (map note_value notes.now) start passage) }
+    ensures value { IfOk result (λ failed. GoesTo writes.now (counted (steps_value commands.now))
+        (map note_value notes.now) coming.old failed coming.new) }
 {
-    let mut coming = start;
     for (index, note) in notes.iter().enumerate() {
-        match pass(index + 1, writes, &commands[index], note, &coming)? {
-            Passage::Left(state) => coming = state,
-            Passage::Fails(place) => return Ok(Passage::Fails(place)),
+        match pass(index + 1, writes, &commands[index], note, before, coming)? {
+            None => {}
+            Some(place) => return Ok(Some(place)),
         }
     }
-    Ok(Passage::Left(coming))
+    Ok(None)
 }
 
 #[tactic(auto, unfolding(crate::specs::Valid::knows_least, zones::specs::Known::known))]
@@ -243,9 +246,10 @@ pub(crate) fn ends_well(
     ensures value { result ≡ ends_well quit fault (certificate_value certificate.now) coming.now }
 {
     let last = &certificate.last;
+    let zone = last.zone();
     (quit || fault.is_none())
         && is_covered(last, coming)
-        && (quit || !last.changed.yes)
-        && knows_least(&last.zone, certificate.low)
-        && knows_most(&last.zone, certificate.high)
+        && (quit || !last.changed().yes)
+        && knows_least(&zone, certificate.low)
+        && knows_most(&zone, certificate.high)
 }

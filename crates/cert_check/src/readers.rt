@@ -15,7 +15,7 @@ use crate::zone_lines::{marks_in, zone_in};
 use ed_base::Bytes;
 use ed_rules::{Changed, Choices, Marks, Replacements};
 use std::alloc::Global;
-use zones::Zone;
+use zones::KeptZone;
 
 /// The path of the start file.
 pub(crate) fn read_path(alloc: Global, cursor: &mut Cursor<'_>) -> Result<Option<Bytes>, CertFault>
@@ -74,7 +74,7 @@ pub(crate) fn read_zone(
     alloc: Global,
     key: &[u8],
     cursor: &mut Cursor<'_>,
-) -> Result<Zone, CertFault>
+) -> Result<KeptZone, CertFault>
     ensures exact { Reads same (alone (zone_line key.now)) (ZoneIsFormed all_marks) cursor.old cursor.new result }
 {
     let Some(line) = cursor.next() else {
@@ -89,7 +89,7 @@ pub(crate) fn read_zone(
 /// The marks beside a zone.
 pub(crate) fn read_marks(
     key: &[u8],
-    zone: &Zone,
+    zone: &KeptZone,
     cursor: &mut Cursor<'_>,
 ) -> Result<Marks, CertFault>
     requires formed { ZoneIsFormed all_marks zone.now }

@@ -4,11 +4,10 @@ ghost use Rattle.std.specs.Prelude.{◌≡◌, ◌++◌, ◌∷◌, ◌<◌, Som
 ghost use Rattle.std.specs.Fmt.{signed_decimal};
 ghost use Rattle.cert_check.specs.Text.{space, spaced, name_word, bound_words, bounds_words, letter_a, sure_letters, letters_words, hexadecimal, is_itself, byte_text, choice_word, possible, limit_word};
 
-use crate::has_text::zone_is_formed;
 use ed_base::{Bytes, push_number};
 use ed_rules::Marks;
 use std::alloc::AllocError;
-use zones::{Name, Zone};
+use zones::{KeptZone, Name};
 
 /// A number of lines, or `any` where there is no limit.
 pub(crate) fn push_limit(out: &mut Bytes, limit: Option<u64>) -> Result<(), AllocError>
@@ -60,21 +59,12 @@ fn push_bound(out: &mut Bytes, x: Name, y: Name, bound: Option<i64>) -> Result<(
     push_signed(out, number)
 }
 
-/// All that a zone says.
-pub(crate) fn push_zone(out: &mut Bytes, zone: &Zone) -> Result<(), AllocError>
+/// All that a zone says. Of a bound that isn't known nothing is written.
+pub(crate) fn push_zone(out: &mut Bytes, zone: &KeptZone) -> Result<(), AllocError>
     ensures appended { OnOk result (out.new ≡ out.old ++ spaced (bounds_words 0 zone.now)) }
 {
-    zone_is_formed(zone);
-    // Of a bound that isn't known nothing is written.
-    let mut next = zone.next_known(0);
-    for place in 0..1024 {
-        if place != next {
-            continue;
-        }
-        let x = Name::from_place(place / 32);
-        let y = Name::from_place(place % 32);
-        push_bound(out, x, y, zone.bound(x, y))?;
-        next = zone.next_known(place + 1);
+    for entry in zone.entries() {
+        push_bound(out, entry.x(), entry.y(), entry.bound())?;
     }
     Ok(())
 }

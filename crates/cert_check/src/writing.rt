@@ -8,11 +8,11 @@ ghost use Rattle.cert_check.specs.HasText.{HasText};
 use crate::certificate::{Certificate, Looped, Note};
 use crate::words::{push_choice, push_limit, push_marks, push_path, push_possible, push_zone};
 use ed_base::{Bytes, push_number};
-use ed_rules::{Changed, Choices, KeptState, Marks, Old, Replacements, State, Undo};
+use ed_rules::{Changed, Choices, KeptOld, KeptState, KeptUndo, Marks, Replacements};
 use std::alloc::AllocError;
-use zones::Zone;
+use zones::KeptZone;
 
-fn push_zone_line(out: &mut Bytes, key: &[u8], zone: &Zone) -> Result<(), AllocError>
+fn push_zone_line(out: &mut Bytes, key: &[u8], zone: &KeptZone) -> Result<(), AllocError>
     ensures appended { OnOk result
         (out.new ≡ out.old ++ lines_text (zone_line key.now zone.now ∷ [])) }
 {
@@ -62,45 +62,46 @@ fn push_changed_line(out: &mut Bytes, changed: Changed) -> Result<(), AllocError
     out.push(b'\n')
 }
 
-fn push_undo_line(out: &mut Bytes, undo: &Undo) -> Result<(), AllocError>
+fn push_undo_line(out: &mut Bytes, undo: &KeptUndo) -> Result<(), AllocError>
     ensures appended { OnOk result (out.new ≡ out.old ++ lines_text (undo_line undo.now ∷ [])) }
 {
     out.extend_from_slice(b"undo")?;
-    push_possible(out, undo.nothing, b"nothing")?;
-    push_possible(out, undo.same, b"same")?;
-    push_possible(out, undo.was.is_some(), b"was")?;
+    push_possible(out, undo.nothing(), b"nothing")?;
+    push_possible(out, undo.same(), b"same")?;
+    push_possible(out, undo.was().is_some(), b"was")?;
     out.push(b'\n')
 }
 
-fn push_old(out: &mut Bytes, old: &Option<Old>) -> Result<(), AllocError>
+fn push_old(out: &mut Bytes, old: &Option<KeptOld>) -> Result<(), AllocError>
     ensures appended { OnOk result (out.new ≡ out.old ++ lines_text (old_lines old.now)) }
 {
     match old {
         Some(old) => {
-            push_zone_line(out, b"old-zone", &old.zone)?;
-            push_marks_line(out, b"old-marks", &old.marks)?;
+            push_zone_line(out, b"old-zone", old.zone())?;
+            push_marks_line(out, b"old-marks", old.marks())?;
             Ok(())
         }
         None => Ok(()),
     }
 }
 
-fn push_state(out: &mut Bytes, state: &State) -> Result<(), AllocError>
+fn push_state(out: &mut Bytes, state: &KeptState) -> Result<(), AllocError>
     ensures appended { OnOk result (out.new ≡ out.old ++ lines_text (state_lines state.now)) }
 {
-    push_zone_line(out, b"zone", &state.zone)?;
-    push_marks_line(out, b"marks", &state.marks)?;
-    push_choices_line(out, b"patterns", &state.patterns)?;
-    push_replacements_line(out, state.replacements)?;
-    push_choices_line(out, b"names", &state.names)?;
-    push_changed_line(out, state.changed)?;
-    push_undo_line(out, &state.undo)?;
-    push_old(out, &state.undo.was)?;
+    push_zone_line(out, b"zone", state.kept_zone())?;
+    push_marks_line(out, b"marks", state.marks())?;
+    push_choices_line(out, b"patterns", state.patterns())?;
+    push_replacements_line(out, state.replacements())?;
+    push_choices_line(out, b"names", state.names())?;
+    push_changed_line(out, state.changed())?;
+    let undo = state.kept_undo();
+    push_undo_line(out, undo)?;
+    push_old(out, undo.was())?;
     Ok(())
 }
 
 /// A state after a line of one word.
-fn push_headed(out: &mut Bytes, head: &[u8], state: &State) -> Result<(), AllocError>
+fn push_headed(out: &mut Bytes, head: &[u8], state: &KeptState) -> Result<(), AllocError>
     ensures appended { OnOk result (out.new ≡ out.old ++ lines_text (headed_lines head.now state.now)) }
 {
     out.extend_from_slice(head)?;
@@ -109,38 +110,12 @@ fn push_headed(out: &mut Bytes, head: &[u8], state: &State) -> Result<(), AllocE
     Ok(())
 }
 
-/// A state that a note keeps. Its parts are asked for one by one, since the whole state would take memory.
-fn push_kept_state(out: &mut Bytes, kept: &KeptState) -> Result<(), AllocError>
-    ensures appended { OnOk result (out.new ≡ out.old ++ lines_text (state_lines kept.now)) }
-{
-    push_zone_line(out, b"zone", &kept.zone())?;
-    push_marks_line(out, b"marks", kept.marks())?;
-    push_choices_line(out, b"patterns", kept.patterns())?;
-    push_replacements_line(out, kept.replacements())?;
-    push_choices_line(out, b"names", kept.names())?;
-    push_changed_line(out, kept.changed())?;
-    let undo = kept.undo();
-    push_undo_line(out, &undo)?;
-    push_old(out, &undo.was)?;
-    Ok(())
-}
-
-/// The same after a line of one word.
-fn push_kept(out: &mut Bytes, head: &[u8], kept: &KeptState) -> Result<(), AllocError>
-    ensures appended { OnOk result (out.new ≡ out.old ++ lines_text (headed_lines head.now kept.now)) }
-{
-    out.extend_from_slice(head)?;
-    out.push(b'\n')?;
-    push_kept_state(out, kept)?;
-    Ok(())
-}
-
 fn push_inner(out: &mut Bytes, states: &[KeptState]) -> Result<(), AllocError>
     ensures appended { OnOk result
         (out.new ≡ out.old ++ lines_text (flat_map (headed_lines (codes "inner")) states.now)) }
 {
     for state in states {
-        push_kept(out, b"inner", state)?;
+        push_headed(out, b"inner", state)?;
     }
     Ok(())
 }
@@ -151,7 +126,7 @@ fn push_looped(out: &mut Bytes, looped: &Option<Looped>) -> Result<(), AllocErro
 {
     match looped {
         Some(looped) => {
-            push_kept(out, b"loop", &looped.invariant)?;
+            push_headed(out, b"loop", &looped.invariant)?;
             push_inner(out, looped.inner.as_slice())?;
             out.extend_from_slice(b"done\n")?;
             Ok(())
@@ -164,7 +139,7 @@ fn push_note(out: &mut Bytes, note: &Note) -> Result<(), AllocError>
     ensures appended { OnOk result
         (out.new ≡ out.old ++ lines_text (note_lines (note_value note.now))) }
 {
-    push_kept(out, b"note", &note.state)?;
+    push_headed(out, b"note", &note.state)?;
     push_looped(out, &note.looped)?;
     Ok(())
 }

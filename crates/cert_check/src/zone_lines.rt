@@ -1,18 +1,16 @@
 //! The lines of a zone and of its letters, as they are read.
 
-ghost use Rattle.std.specs.Prelude.{◌≡◌, ◌≢◌, ◌<◌, ◌≤◌, ◌+◌, ◌*◌, ◌++◌, ◌∷◌, ℕ, ℤ, List, Bool, [], true, IsTrue, ◌↔◌, MatchOption, IfOk, length};
-ghost use Rattle.zones.specs.Zone.{Bounds};
+ghost use Rattle.std.specs.Prelude.{◌≡◌, ◌≢◌, ◌<◌, ◌≤◌, ◌+◌, ◌*◌, ◌++◌, ◌∷◌, ℕ, ℤ, List, Bool, [], IsTrue, ◌↔◌, MatchOption, IfOk, All, length, map};
+ghost use Rattle.zones.specs.KnownBounds.{PlacedBound};
 ghost use Rattle.ed_rules.specs.Formed.{ZoneIsFormed};
-ghost use Rattle.cert_check.specs.Text.{Word, space, spaced, name_word, bounds_words, letter_a, sure_letters, letters_words, zone_line, marks_line};
-ghost use Rattle.cert_check.specs.Reading.{ReadsAs, all_marks, IsNamed, IsSigned, said_word, IsSaid};
+ghost use Rattle.cert_check.specs.Text.{Word, space, spaced, name_word, letter_a, sure_letters, letters_words, zone_line, marks_line};
+ghost use Rattle.cert_check.specs.Reading.{ReadsAs, all_marks, IsFirstWord, IsNamed, IsSigned, said_word, IsSaid, spoken_word, IsSpoken};
 
-use crate::has_text::{letters_are_counted, zone_has_text};
-use crate::words::push_zone;
+use crate::has_text::{zone_has_text, zone_is_formed};
 use crate::words_in::{after_key, signed_in, word_len};
-use ed_base::Bytes;
 use ed_rules::Marks;
 use std::alloc::{AllocError, Global};
-use zones::{Name, Zone};
+use zones::{KeptEntry, KeptZone, Name};
 
 /// The letters of a word.
 fn letters_in(word: &[u8]) -> Option<Marks>
@@ -53,7 +51,7 @@ fn letters_word_in(text: &[u8]) -> Option<&[u8]>
 }
 
 /// The letters that are sure beside a zone, each that the zone speaks of among them.
-pub(crate) fn marks_in(key: &[u8], line: &[u8], zone: &Zone) -> Option<Marks>
+pub(crate) fn marks_in(key: &[u8], line: &[u8], zone: &KeptZone) -> Option<Marks>
     ensures exact { ReadsAs (marks_line key.now) (λ marks. ZoneIsFormed marks zone.now) line.now result }
 {
     let Some(left) = after_key(key, line) else {
@@ -69,18 +67,6 @@ pub(crate) fn marks_in(key: &[u8], line: &[u8], zone: &Zone) -> Option<Marks>
         return None;
     }
     Some(marks)
-}
-
-/// All letters, sure.
-fn all_marks() -> Marks
-    ensures value { result ≡ all_marks }
-{
-    let mut marks = Marks::none();
-    for letter in 0..26 {
-        marks.add(letter);
-    }
-    letters_are_counted(&marks);
-    marks
 }
 
 /// Whether texts have the name: the addresses of one command have no text.
@@ -152,45 +138,65 @@ fn place_said(text: &[u8]) -> usize
     32 * name_said(*x) + name_said(*y)
 }
 
-/// The only zone that can be said by a text.
-fn zone_said(text: &[u8]) -> Zone
-    ensures only { (zone : Bounds) → ZoneIsFormed all_marks zone → spaced (bounds_words 0 zone) ≡ text.now →
-        zone ≡ result }
+/// The bound that a text says first, after a space in front, and what is left after it.
+fn first_bound(text: &[u8]) -> Option<(KeptEntry, &[u8])>
+    ensures exact { MatchOption result
+        ((b : PlacedBound) (words : List Word) → IsSpoken b → (space ∷ spoken_word b) ++ spaced words ≢ text.now)
+        (λ (entry, left). IsSpoken entry × IsFirstWord text.now (spoken_word entry) left.now) }
 {
-    let mut zone = Zone::any();
-    let mut left = text;
-    let mut said = place_said(left);
-    for place in 0..1024 {
-        if place != said {
-            continue;
-        }
-        let x = Name::from_place(place / 32);
-        let y = Name::from_place(place % 32);
-        let Some((number, later)) = bound_in(x, y, left) else {
-            continue;
-        };
-        zone.put(x, y, Some(number));
-        left = later;
-        said = place_said(left);
+    let place = place_said(text);
+    if place >= 1024 {
+        return None;
     }
-    zone
+    let x = Name::from_place(place / 32);
+    let y = Name::from_place(place % 32);
+    let Some((number, left)) = bound_in(x, y, text) else {
+        return None;
+    };
+    let entry = KeptEntry::new(x, y, Some(number));
+    // No zone keeps a number that is clipped.
+    if entry.bound() == Some(number) {
+        return Some((entry, left));
+    }
+    None
+}
+
+/// The bounds that a text says, one after another.
+fn bounds_said(alloc: Global, text: &[u8]) -> Result<Option<Vec<KeptEntry>>, AllocError>
+    ensures exact { IfOk result (λ bounds. MatchOption bounds
+        ((others : List PlacedBound) → All IsSpoken others → spaced (map spoken_word others) ≢ text.now)
+        (λ bounds. All IsSpoken bounds.items × (spaced (map spoken_word bounds.items) ≡ text.now))) }
+{
+    let mut bounds = Vec::new(alloc);
+    let mut left = text;
+    'words: while !left.is_empty() {
+        let Some(first) = first_bound(left) else {
+            return Ok(None);
+        };
+        let (bound, later) = first;
+        bounds.push(bound)?;
+        left = later;
+    }
+    Ok(Some(bounds))
 }
 
 /// The zone of a line, whatever letters it speaks of.
-pub(crate) fn zone_in(alloc: Global, key: &[u8], line: &[u8]) -> Result<Option<Zone>, AllocError>
+pub(crate) fn zone_in(
+    alloc: Global,
+    key: &[u8],
+    line: &[u8],
+) -> Result<Option<KeptZone>, AllocError>
     ensures exact { IfOk result (λ zone. ReadsAs (zone_line key.now) (ZoneIsFormed all_marks) line.now zone) }
 {
     let Some(left) = after_key(key, line) else {
         return Ok(None);
     };
-    let zone = zone_said(left);
-    let mut said = Bytes::new(alloc);
-    push_zone(&mut said, &zone)?;
-    if !zone_has_text(&all_marks(), &zone) {
+    let Some(bounds) = bounds_said(alloc, left)? else {
         return Ok(None);
-    }
-    if said.as_slice() == left {
-        return Ok(Some(zone));
-    }
-    Ok(None)
+    };
+    let Some(zone) = KeptZone::from_entries(bounds) else {
+        return Ok(None);
+    };
+    zone_is_formed(&zone);
+    Ok(Some(zone))
 }

@@ -43,8 +43,8 @@ returns-in-None-clause-exact c =
       notes = left.0;
       last = left.1;
       end = ends;
-      low = c.low_of.ensures.value;
-      high = c.high_of.ensures.value;
+      low = rw c.zone.ensures.value at c.low_of.ensures.value;
+      high = rw c.zone-in-None.ensures.value at c.high_of.ensures.value;
       writes = listed-by (paths_from (counted script.steps) (map note_value c.args.walk.notes.items)) c.args.walk.writes.items left.2;
     }
 

@@ -4,9 +4,9 @@ use Rattle.analyser.proofs.Rounding.{Rounds, patterns_of, names_of}
 use Rattle.analyser.proofs.rounds.settle.Given as goal
 
 -- the rounds before this one don't end
-abbrev pub invariant-loop-known : goal.invariant-loop-known
-invariant-loop-known l = Rounds (step_value l.command).list l.fn.first l.before l.known
+abbrev pub invariant-settling : goal.invariant-settling
+invariant-settling l = Rounds (step_value l.command).list l.fn.known l.before l.known
 
 -- each round leaves fewer ways to weaken the invariant
-abbrev pub decreases-loop-known : goal.decreases-loop-known
-decreases-loop-known l = state_room (patterns_of (step_value l.command).list l.fn.first) (names_of (step_value l.command).list l.fn.first) l.known
+abbrev pub decreases-settling : goal.decreases-settling
+decreases-settling l = state_room (patterns_of (step_value l.command).list l.fn.known) (names_of (step_value l.command).list l.fn.known) l.known

@@ -3,7 +3,9 @@ use Rattle.ed_syntax.specs.PublicTypes.{step_value, steps_value}
 use Rattle.ed_syntax.specs.Commands.{Step}
 use Rattle.cert_check.specs.Certificates.{note_value}
 use Rattle.cert_check.specs.Valid.{has_quit, counted}
+use Rattle.ed_rules.specs.declared.state.State.{State}
 use Rattle.analyser.specs.declared.walk.Walk.{Walk}
+use Rattle.analyser.specs.declared.walk.Outcome.TheVariants.{Left}
 use Rattle.analyser.proofs.Going.{Going, going-start, counted_from, walk-on, walk-off, walk-end, later-on, later-off, quit-on, quit-off, counted-none}
 use Rattle.analyser.proofs.Rounding.{taken-shape}
 use Rattle.analyser.proofs.walk.go_through.Goals as goal
@@ -18,40 +20,40 @@ loop-index-init c = record {
 pub returns-in-Stops : goal.returns-in-Stops
 returns-in-Stops c = record {
   value =
-      walk-off c.args.commands.now c.args.start c.loop-index.index c.index-commands-index.result c.loop-index.notes.items c.push.new.self.items c.note_of.result c.in_ok-taken.taken.looped c.loop-index.writes.items c.loop-index.coming
-      c.in_ok-taken.taken.end c.in-Stops.inner c.in-Stops.why c.place_of-place.result c.of.result
-      (omega arith) c.index-commands-index.is (rw c.in_ok-known-in-Stops.ensures.value at c.note_of.ensures.value) c.in_ok-push-in-Stops.ensures.items c.in_ok-taken.ensures.value c.in-Stops.is c.loop-index.invariant.going
+      walk-off c.args.commands.now c.args.start c.loop-index.index c.index-commands-index.result c.loop-index.notes.items c.push.new.self.items c.note_of.result c.in_ok-looped.field-0.looped c.loop-index.writes.items c.loop-index.coming c.take.new.left
+      c.in_ok-looped.field-0.end c.in-Stops.inner c.in-Stops.why c.place_of-place.result c.of.result
+      (omega arith) c.index-commands-index.is (rw c.in_ok-known.ensures.value at c.note_of.ensures.value) c.in_ok-push-in-Stops.ensures.items c.in_ok-looped.ensures.value c.in-Stops.is c.loop-index.invariant.going
       c.place_of-place.ensures.value (ap (λ (w : Walk). w.outcome) c.of.ensures.value) (ap (λ (w : Walk). w.notes.items) c.of.ensures.value);
 }
 
 pub list_taken-requires : goal.list_taken-requires
 list_taken-requires c = record {
-  shape = taken-shape (step_value c.index-commands-index.result) c.loop-index.coming c.in-Leaves.left c.in_ok-taken.taken.looped c.in_ok-taken.taken.end c.in_ok-taken.ensures.value c.in-Leaves.is;
+  shape = taken-shape (step_value c.index-commands-index.result) c.loop-index.coming c.take.new.left c.in_ok-looped.field-0.looped c.in_ok-looped.field-0.end c.in_ok-looped.ensures.value c.in-Leaves.is;
 }
 
 pub returns-then-quits : goal.returns-then-quits
 returns-then-quits c =
-    let on = walk-on c.args.commands.now c.args.start c.loop-index.index c.index-commands-index.result c.loop-index.notes.items c.push-in-Leaves.new.self.items c.note_of-in-Leaves.result c.in_ok-taken.taken.looped c.loop-index.writes.items c.list_taken.new.paths.items
-    c.loop-index.coming c.in-Leaves.left c.in_ok-taken.taken.end
-    (omega arith) c.index-commands-index.is (rw c.in_ok-known-in-Leaves.ensures.value at c.note_of-in-Leaves.ensures.value) c.in_ok-push-in-Leaves.ensures.items (rw c.in_ok-known-in-Leaves.ensures.value at c.in_ok-list_taken-in-Leaves.ensures.value) c.in_ok-taken.ensures.value c.in-Leaves.is c.loop-index.invariant.going in
+    let on = walk-on c.args.commands.now c.args.start c.loop-index.index c.index-commands-index.result c.loop-index.notes.items c.push-in-Leaves.new.self.items c.note_of-in-Leaves.result c.in_ok-looped.field-0.looped c.loop-index.writes.items c.list_taken.new.paths.items
+    c.loop-index.coming c.take.new.left c.try_copy_from.new.self c.in_ok-looped.field-0.end
+    (omega arith) c.index-commands-index.is (rw c.in_ok-known.ensures.value at c.note_of-in-Leaves.ensures.value) c.in_ok-push-in-Leaves.ensures.items (rw c.in_ok-known.ensures.value at c.in_ok-list_taken-in-Leaves.ensures.value) c.in_ok-looped.ensures.value c.in-Leaves.is c.in_ok-try_copy_from-in-Leaves.ensures.value c.loop-index.invariant.going in
     let ends = sym c.quits.ensures.value ∙ c.if-quits.true in
     let quit = quit-off c.args.commands.now c.loop-index.index c.index-commands-index.result (omega arith) c.index-commands-index.is ends c.loop-index.invariant.quit in
     record {
       value =
-          walk-end c.args.commands.now c.args.start (c.loop-index.index + 1) c.push-in-Leaves.new.self.items c.list_taken.new.paths.items c.in-Leaves.left _ c.of-then-quits.result
+          walk-end c.args.commands.now c.args.start (c.loop-index.index + 1) c.push-in-Leaves.new.self.items c.list_taken.new.paths.items c.try_copy_from.new.self _ c.of-then-quits.result
           on (later-off c.args.commands.now c.loop-index.index c.index-commands-index.result ends)
-          (ap (λ (w : Walk). w.outcome) c.of-then-quits.ensures.value) (ap (λ (w : Walk). w.notes.items) c.of-then-quits.ensures.value) (ap (λ (w : Walk). w.writes.items) c.of-then-quits.ensures.value)
+          (ap (λ (w : Walk). w.outcome) c.of-then-quits.ensures.value ∙ ap (λ (s : State). Left s) c.in_ok-try_keep.ensures.value) (ap (λ (w : Walk). w.notes.items) c.of-then-quits.ensures.value) (ap (λ (w : Walk). w.writes.items) c.of-then-quits.ensures.value)
           (ap (λ (w : Walk). w.quit) c.of-then-quits.ensures.value ∙ sym quit);
     }
 
 pub loop-index-preserved : goal.loop-index-preserved
 loop-index-preserved c =
-    let on = walk-on c.args.commands.now c.args.start c.loop-index.index c.index-commands-index.result c.loop-index.notes.items c.push-in-Leaves.new.self.items c.note_of-in-Leaves.result c.in_ok-taken.taken.looped c.loop-index.writes.items c.list_taken.new.paths.items
-    c.loop-index.coming c.in-Leaves.left c.in_ok-taken.taken.end
-    (omega arith) c.index-commands-index.is (rw c.in_ok-known-in-Leaves.ensures.value at c.note_of-in-Leaves.ensures.value) c.in_ok-push-in-Leaves.ensures.items (rw c.in_ok-known-in-Leaves.ensures.value at c.in_ok-list_taken-in-Leaves.ensures.value) c.in_ok-taken.ensures.value c.in-Leaves.is c.loop-index.invariant.going in
+    let on = walk-on c.args.commands.now c.args.start c.loop-index.index c.index-commands-index.result c.loop-index.notes.items c.push-in-Leaves.new.self.items c.note_of-in-Leaves.result c.in_ok-looped.field-0.looped c.loop-index.writes.items c.list_taken.new.paths.items
+    c.loop-index.coming c.take.new.left c.try_copy_from.new.self c.in_ok-looped.field-0.end
+    (omega arith) c.index-commands-index.is (rw c.in_ok-known.ensures.value at c.note_of-in-Leaves.ensures.value) c.in_ok-push-in-Leaves.ensures.items (rw c.in_ok-known.ensures.value at c.in_ok-list_taken-in-Leaves.ensures.value) c.in_ok-looped.ensures.value c.in-Leaves.is c.in_ok-try_copy_from-in-Leaves.ensures.value c.loop-index.invariant.going in
     let stays = sym c.quits.ensures.value ∙ c.if-quits.false in
     record {
-      going = subst (λ (xs : List Step). Going (counted_from c.args.commands.now 0) c.args.start (c.loop-index.index + 1) (map note_value c.push-in-Leaves.new.self.items) c.list_taken.new.paths.items c.in-Leaves.left xs)
+      going = subst (λ (xs : List Step). Going (counted_from c.args.commands.now 0) c.args.start (c.loop-index.index + 1) (map note_value c.push-in-Leaves.new.self.items) c.list_taken.new.paths.items c.try_copy_from.new.self xs)
           (later-on c.args.commands.now c.loop-index.index c.index-commands-index.result stays) on;
       quit = quit-on c.args.commands.now c.loop-index.index c.index-commands-index.result (omega arith) c.index-commands-index.is stays c.loop-index.invariant.quit;
     }
@@ -63,6 +65,6 @@ returns c =
       value =
           walk-end c.args.commands.now c.args.start c.loop-index.index c.loop-index.notes.items c.loop-index.writes.items c.loop-index.coming _ c.of-2.result
           c.loop-index.invariant.going (ap (λ l. counted (steps_value l)) none)
-          (ap (λ (w : Walk). w.outcome) c.of-2.ensures.value) (ap (λ (w : Walk). w.notes.items) c.of-2.ensures.value) (ap (λ (w : Walk). w.writes.items) c.of-2.ensures.value)
+          (ap (λ (w : Walk). w.outcome) c.of-2.ensures.value ∙ ap (λ (s : State). Left s) c.in_ok-try_keep-2.ensures.value) (ap (λ (w : Walk). w.notes.items) c.of-2.ensures.value) (ap (λ (w : Walk). w.writes.items) c.of-2.ensures.value)
           (ap (λ (w : Walk). w.quit) c.of-2.ensures.value ∙ sym (c.loop-index.invariant.quit ∙ ap (λ l. has_quit (steps_value l)) none));
     }

@@ -8,5 +8,5 @@ pub end_of_list-requires : goal.end_of_list-requires
 end_of_list-requires c = record {
   global = c.requires.global;
   needed = ap fault_of c.requires.start;
-  last = last-begun (step_value c.args.command.now) c.args.state.now c.args.first c.in_ok-settled.settled c.requires.start c.in_ok-settled.ensures.value;
+  last = last-begun (step_value c.args.command.now) c.args.state.now c.args.left.now c.settle.new.known c.in_ok-round.round c.requires.start c.in_ok-round.ensures.value;
 }

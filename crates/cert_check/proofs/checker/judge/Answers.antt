@@ -20,7 +20,7 @@ returns c = record {
   exact =
       c.verdict_after-verdict.ensures.value
       ∙ judged-by (script_value c.args.script.now) (certificate_value c.args.certificate.now) c.as_slice-writes.result.now (counted (steps_value c.as_slice-commands.result.now)) (map note_value c.as_slice-notes.result.now)
-      c.in_ok-start.start c.count-counted.result.quit c.in_ok-passage.passage
-      c.as_slice-writes.ensures.value (ap (λ l. counted (steps_value l)) c.as_slice-commands.ensures.value) (ap (λ l. map note_value l) c.as_slice-notes.ensures.value) c.in_ok-start.ensures.value
-      (c.count-counted.ensures.quit ∙ ap (λ l. has_quit (steps_value l)) c.as_slice-commands.ensures.value) (sym c.are_shaped.ensures.value ∙ c.if-not-are_shaped.false) c.in_ok-passage.ensures.value;
+      c.in_ok-coming.coming c.count-counted.result.quit c.in_ok-failed.failed c.go_through.new.coming
+      c.as_slice-writes.ensures.value (ap (λ l. counted (steps_value l)) c.as_slice-commands.ensures.value) (ap (λ l. map note_value l) c.as_slice-notes.ensures.value) c.in_ok-coming.ensures.value
+      (c.count-counted.ensures.quit ∙ ap (λ l. has_quit (steps_value l)) c.as_slice-commands.ensures.value) (sym c.are_shaped.ensures.value ∙ c.if-not-are_shaped.false) c.in_ok-failed.ensures.value;
 }

@@ -5,14 +5,14 @@ use Rattle.cert_check.proofs.has_text.inner_have_text.Goals as goal
 
 pub loop-state-preserved : goal.loop-state-preserved
 loop-state-preserved c =
-    all-more StateIsFormed c.args.states.now c.loop-state.state-index c.state-item.result (omega arith) c.state-item.is c.loop-state.invariant (c.kept_has_text.ensures.exact.0 c.if-not-kept_has_text.false)
+    all-more StateIsFormed c.args.states.now c.loop-state.state-index c.state-item.result (omega arith) c.state-item.is c.loop-state.invariant (c.state_has_text.ensures.exact.0 c.if-not-state_has_text.false)
 
-pub returns-then-not-kept_has_text : goal.returns-then-not-kept_has_text
-returns-then-not-kept_has_text c = record {
+pub returns-then-not-state_has_text : goal.returns-then-not-state_has_text
+returns-then-not-state_has_text c = record {
   exact = (
     λ t. absurd cc,
     λ all. absurd (all-fails StateIsFormed c.args.states.now c.loop-state.state-index c.state-item.result (omega arith) c.state-item.is
-        (λ h. let yes = c.kept_has_text.ensures.exact.1 h in let is = c.if-not-kept_has_text.true in absurd cc) all),
+        (λ h. let yes = c.state_has_text.ensures.exact.1 h in let is = c.if-not-state_has_text.true in absurd cc) all),
   );
 }
 

@@ -9,7 +9,7 @@ use Rattle.cert_check.proofs.notes.read_list.Goals as goal
 pub returns-in_err-invariant : goal.returns-in_err-invariant
 returns-in_err-invariant c = record {
   exact =
-      exits looped_value c.read_kept.new.cursor c.from_residual.result c.in_err-invariant.field-0.0 c.from_residual.ensures.1
+      exits looped_value c.read_state.new.cursor c.from_residual.result c.in_err-invariant.field-0.0 c.from_residual.ensures.1
       list-state (took-none c.args.cursor.now) c.in_err-invariant.ensures.exact;
 }
 

@@ -8,7 +8,7 @@ use Rattle.cert_check.proofs.notes.read_note.Goals as goal
 pub returns-in_err-state : goal.returns-in_err-state
 returns-in_err-state c = record {
   exact =
-      exits noted_value c.read_kept.new.cursor c.from_residual.result c.in_err-state.field-0.0 c.from_residual.ensures.1
+      exits noted_value c.read_state.new.cursor c.from_residual.result c.in_err-state.field-0.0 c.from_residual.ensures.1
       noted-state (took-none c.args.cursor.now) c.in_err-state.ensures.exact;
 }
 

@@ -18,7 +18,7 @@ pass-requires c = record {
 pub loop-index-preserved : goal.loop-index-preserved
 loop-index-preserved c =
     let size = noted-length c.args.commands.now c.args.notes.now c.requires.shape in
-    let goes = rw c.in-Left.is at c.in_ok-state.ensures.value in
+    let goes = rw c.in-None.is at c.in_ok-pass.ensures.value in
     let fit = shape-fits c.args.commands.now c.args.notes.now c.loop-index.index c.index-commands-index.result c.index-notes-index.result (omega arith) c.index-commands-index.is c.index-notes-index.is
     c.requires.shape c.loop-index.invariant.shape in
     record {
@@ -27,18 +27,18 @@ loop-index-preserved c =
           ∙ c.loop-index.invariant.shape;
       checks = λ end.
           c.loop-index.invariant.checks end
-          ∙ go-on c.args.writes.now end c.args.commands.now c.args.notes.now c.loop-index.index c.index-commands-index.result c.index-notes-index.result c.loop-index.coming c.in-Left.state
+          ∙ go-on c.args.writes.now end c.args.commands.now c.args.notes.now c.loop-index.index c.index-commands-index.result c.index-notes-index.result c.loop-index.coming c.pass.new.coming
           (omega arith) size c.index-commands-index.is c.index-notes-index.is goes;
     }
 
-pub returns-in-Fails : goal.returns-in-Fails
-returns-in-Fails c =
+pub returns-in-Some : goal.returns-in-Some
+returns-in-Some c =
     let size = noted-length c.args.commands.now c.args.notes.now c.requires.shape in
-    let goes = rw c.in-Fails.is at c.in_ok-state.ensures.value in
+    let goes = rw c.in-Some.is at c.in_ok-pass.ensures.value in
     record {
       value = λ end.
           c.loop-index.invariant.checks end
-          ∙ stop-here c.args.writes.now end c.args.commands.now c.args.notes.now c.loop-index.index c.index-commands-index.result c.index-notes-index.result c.loop-index.coming c.in-Fails.place
+          ∙ stop-here c.args.writes.now end c.args.commands.now c.args.notes.now c.loop-index.index c.index-commands-index.result c.index-notes-index.result c.loop-index.coming c.pass.new.coming c.in-Some.place
           (omega arith) size c.index-commands-index.is c.index-notes-index.is goes;
     }
 

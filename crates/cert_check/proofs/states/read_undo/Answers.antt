@@ -1,6 +1,9 @@
-use Rattle.cert_check.specs.Pieces.{same}
+use Rattle.std.proofs.Common.{◌≡◌, ◌∙◌, sym, ap, subst}
+use Rattle.ed_rules.specs.declared.state.Old.{Old}
+use Rattle.ed_rules.specs.declared.state.Undo.{Undo}
+use Rattle.cert_check.specs.Pieces.{same, Took, texts, marked_value, undo_lines, UndoIsFormed}
 use Rattle.cert_check.proofs.Pieces.{took-none, exits}
-use Rattle.cert_check.proofs.Stated.{was-true, undo-found, undo-old}
+use Rattle.cert_check.proofs.Stated.{was-true, undo-found, undo-old, undo_with, undo-read}
 use Rattle.cert_check.proofs.states.read_undo.Goals as goal
 
 pub returns-in_err-found : goal.returns-in_err-found
@@ -16,3 +19,14 @@ returns-in_err-old c = record {
       exits same c.read_marked.new.cursor c.from_residual-in_err-old.result c.in_err-old.field-0.0 c.from_residual-in_err-old.ensures.1
       (undo-old c.in_ok-found.found c.in_ok-found.ensures.exact.0 (was-true c.in_ok-found.found.was c.if-not-found.false)) c.in_ok-found.ensures.exact.1 c.in_err-old.ensures.exact;
 }
+
+pub returns : goal.returns
+returns c =
+    let found = c.in_ok-found.found in
+    let old = c.in_ok-old.old in
+    let is : c.new-2.result ≡ undo_with found (marked_value old) = c.new-2.ensures.value ∙ ap (λ (o : Old). undo_with found o) c.new-was.ensures.value in
+    record {
+      exact = subst (λ (u : Undo). UndoIsFormed u × Took (texts (undo_lines u)) c.args.cursor.now c.read_marked.new.cursor) (sym is)
+          (undo-read found (marked_value old) c.args.cursor.now c.read_found.new.cursor c.read_marked.new.cursor c.in_ok-found.ensures.exact.0 (was-true found.was c.if-not-found.false)
+          c.in_ok-old.ensures.exact.0 c.in_ok-found.ensures.exact.1 c.in_ok-old.ensures.exact.1);
+    }

@@ -1,36 +1,21 @@
-use Rattle.std.proofs.Common.{◌∙◌, arith, rules}
-use Rattle.cert_check.proofs.Skipped.{skipped-here, skipped-later, write-none}
-use Rattle.cert_check.proofs.Spoken.{write-bound}
+use Rattle.std.proofs.Common.{◌++◌, List, arith, ◌∙◌, ap, sym}
+use Rattle.std.specs.List.{flat_map}
+use Rattle.std.proofs.lemmas.List.{take_all}
+use Rattle.zones.specs.KnownBounds.{PlacedBound}
+use Rattle.cert_check.specs.Text.{Word, spaced}
+use Rattle.cert_check.proofs.Known.{placed_words, words-placed, zone-words, one-bound-more}
 use Rattle.cert_check.proofs.words.push_zone.Goals as goal
 
-pub loop-place-preserved-then-place-next : goal.loop-place-preserved-then-place-next
-loop-place-preserved-then-place-next c =
-    let before = c.loop-place.invariant in
-    let zone = c.args.zone.now in
-    let place = c.loop-place.place in
-    let size = before.is_zone.size in
-    let apart = c.if-place-next.true in
-    record {
-      written =
-          write-none c.loop-place.out zone place (omega (arith, size))
-          (skipped-here zone place c.loop-place.next (omega arith) (omega (arith, apart, before.next)) before.skipped)
-          ∙ before.written;
-      next = omega (arith, apart, before.next);
-      skipped = skipped-later zone place c.loop-place.next before.skipped;
-      is_zone = before.is_zone;
-    }
+pub loop-entry-preserved : goal.loop-entry-preserved
+loop-entry-preserved c =
+    one-bound-more c.entries-entry-items.result.now c.loop-entry.entry-index c.entry-item.result c.args.out.now c.loop-entry.out c.push_bound.new.out (omega arith) c.entry-item.is c.loop-entry.invariant
+    (c.in_ok-push_bound.ensures.appended
+    ∙ ap (λ (ws : List Word). c.loop-entry.out ++ spaced ws) (words-placed c.x.result c.y.result c.bound.result c.entry-item.result c.x.ensures.value c.y.ensures.value c.bound.ensures.value))
 
-pub loop-place-preserved : goal.loop-place-preserved
-loop-place-preserved c =
-    let before = c.loop-place.invariant in
-    let size = before.is_zone.size in
-    let next = c.next_known-next-in-loop-place.ensures in
-    record {
-      written =
-          write-bound c.loop-place.out c.push_bound.new.out c.args.zone.now c.loop-place.place (omega (arith, size))
-          (search (rules))
-          ∙ before.written;
-      next = next.within.0 (omega arith);
-      skipped = next.skipped;
-      is_zone = before.is_zone;
-    }
+pub returns : goal.returns
+returns c = record {
+  appended =
+      c.loop-entry.invariant
+      ∙ ap (λ (bs : List PlacedBound). c.args.out.now ++ spaced (flat_map placed_words bs)) (take_all c.loop-entry.entry-index c.entries-entry-items.result.now (omega arith) ∙ c.entries-entry-items.ensures.value)
+      ∙ ap (λ (ws : List Word). c.args.out.now ++ spaced ws) (sym (zone-words c.args.zone.now));
+}

@@ -1,14 +1,9 @@
-use Rattle.std.proofs.Common.{◌≡◌, ◌≤◌, ◌++◌, drop}
-use Rattle.zones.specs.Limits.{IsZone}
-use Rattle.cert_check.specs.Text.{spaced, bounds_words}
-use Rattle.cert_check.proofs.Skipped.{Skipped}
+use Rattle.std.proofs.Common.{◌≡◌, ◌++◌, take}
+use Rattle.std.specs.List.{flat_map}
+use Rattle.cert_check.specs.Text.{spaced}
+use Rattle.cert_check.proofs.Known.{placed_words}
 use Rattle.cert_check.proofs.words.push_zone.Given as goal
 
--- what is written so far, with what is still to be written
-abbrev pub invariant-loop-place : goal.invariant-loop-place
-invariant-loop-place l = record {
-  written : l.out ++ spaced (bounds_words l.place (drop l.place l.zone)) ≡ l.initial.out ++ spaced (bounds_words 0 l.zone);
-  next : l.place ≤ l.next;
-  skipped : Skipped l.zone l.place l.next;
-  is_zone : IsZone l.zone;
-}
+-- what is written of the bounds before this one
+abbrev pub invariant-loop-entry : goal.invariant-loop-entry
+invariant-loop-entry l = l.out ≡ l.initial.out ++ spaced (flat_map placed_words (take l.entry-index l.entry-items))

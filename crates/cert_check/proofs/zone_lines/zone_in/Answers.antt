@@ -1,30 +1,42 @@
-use Rattle.std.proofs.Common.{◌≡◌, ◌++◌, ℕ, Bool, true, false, List, ◌∙◌, sym, ap, subst}
-use Rattle.std.proofs.lemmas.Bool.Decides.{Decides-eqb}
-use Rattle.std.proofs.lemmas.Slice.Eq.{slice_eq-Decides}
-use Rattle.zones.specs.Zone.{Bounds}
-use Rattle.ed_rules.specs.Formed.{ZoneIsFormed}
-use Rattle.cert_check.specs.Text.{spaced, bounds_words}
+use Rattle.std.proofs.Common.{◌++◌, ℕ, List, map, ◌∙◌, sym, ap, subst}
+use Rattle.std.specs.List.{All}
+use Rattle.zones.specs.KnownBounds.{PlacedBound, known_bounds}
+use Rattle.cert_check.specs.Text.{Word, spaced, bounds_words}
+use Rattle.cert_check.specs.Reading.{spoken_word, IsSpoken}
 use Rattle.cert_check.proofs.ReadSets.{after-its-key}
+use Rattle.cert_check.proofs.SpokenBounds.{bounds-same, spoken-zone, formed-spoken, spoken-formed}
 use Rattle.cert_check.proofs.zone_lines.zone_in.Goals as goal
 
-pub returns-then-not-zone_has_text : goal.returns-then-not-zone_has_text
-returns-then-not-zone_has_text c = record {
+pub returns-in_default-2 : goal.returns-in_default-2
+returns-in_default-2 c = record {
   exact = λ v h e.
       let says = after-its-key c.args.key.now c.args.line.now c.in-Some.left.now (bounds_words 0 v) c.in-Some.ensures.cases e in
-      let same : v ≡ c.zone_said-zone.result = c.zone_said-zone.ensures.only v h says in
-      let formed = subst (λ (z : Bounds). ZoneIsFormed c.all_marks.result z) same (subst (λ (m : List Bool). ZoneIsFormed m v) (sym c.all_marks.ensures.value) h) in
-      let refused : false ≡ true = c.if-not-zone_has_text.ensures.exact.1 formed in
-      absurd cc;
+      let spoken = formed-spoken v h in
+      let none = rw c.in_default-2.is at c.in_ok-bounds.ensures.exact in
+      none (known_bounds v) spoken (ap (λ (ws : List Word). spaced ws) (sym (spoken-zone v spoken)) ∙ says);
+}
+
+pub returns-in_default-from_entries : goal.returns-in_default-from_entries
+returns-in_default-from_entries c = record {
+  exact = λ v h e.
+      let says = after-its-key c.args.key.now c.args.line.now c.in-Some.left.now (bounds_words 0 v) c.in-Some.ensures.cases e in
+      let spoken = formed-spoken v h in
+      let read = rw c.in-Some-2.is at c.in_ok-bounds.ensures.exact in
+      c.in_default-from_entries.ensures.exact v h.is_zone.size
+      (bounds-same (known_bounds v) c.in-Some-2.bounds.items spoken read.0 (ap (λ (ws : List Word). spaced ws) (sym (spoken-zone v spoken)) ∙ says ∙ sym read.1));
 }
 
 pub returns : goal.returns
-returns c = record {
-  exact = λ v h e.
-      let says = after-its-key c.args.key.now c.args.line.now c.in-Some.left.now (bounds_words 0 v) c.in-Some.ensures.cases e in
-      let same : v ≡ c.zone_said-zone.result = c.zone_said-zone.ensures.only v h says in
-      let written : c.as_slice.result.now ≡ c.in-Some.left.now =
-      c.as_slice.ensures.value ∙ c.in_ok-push_zone.ensures.appended ∙ ap (λ (t : List ℕ). t ++ spaced (bounds_words 0 c.zone_said-zone.result)) c.new-said.ensures.value
-      ∙ ap (λ (z : Bounds). spaced (bounds_words 0 z)) (sym same) ∙ says in
-      let equal = (slice_eq-Decides Decides-eqb c.as_slice.result.now c.in-Some.left.now c.eq.result c.eq.ensures).1 written in
-      absurd cc;
-}
+returns c =
+    let zone = c.in-Some-from_entries.zone in
+    let read = rw c.in-Some-2.is at c.in_ok-bounds.ensures.exact in
+    let known = c.in-Some-from_entries.ensures.exact in
+    let spoken = subst (λ (bs : List PlacedBound). All IsSpoken bs) (sym known) read.0 in
+    record {
+      exact = (
+        ap (λ (t : List ℕ). c.args.key.now ++ t)
+            (ap (λ (ws : List Word). spaced ws) (spoken-zone zone spoken) ∙ ap (λ (bs : List PlacedBound). spaced (map spoken_word bs)) known ∙ read.1)
+            ∙ sym c.in-Some.ensures.cases,
+        spoken-formed zone c.zone_is_formed.ensures.is_zone spoken,
+      );
+    }
