@@ -2,9 +2,10 @@
 
     measure.py PROGRAM
 
-Straight scripts change lines one after another from the last to the first, as `diff -e` writes them; the others are of globals, whose
-lists the verifier goes through until an invariant is found. The file of the straight scripts has 100,000 lines, that of the globals 1,000,
-and that of the small scripts ten: there `edit` over no command is the start of the program. Each figure is the best of three runs, that
+Straight scripts change lines one after another from the last to the first; an update, as `diff -e` writes it, changes, deletes and adds
+lines by turns, at places that are spread over its file; the others are of globals, whose lists the verifier goes through until an
+invariant is found. The file of the straight scripts has 100,000 lines, that of the update 300,000, that of the globals 1,000, and that of
+the small scripts ten: there `edit` over no command is the start of the program. Each figure is the best of three runs, that
 of a small script the best of a hundred. For large straight scripts the times, and the peak of `check`, are given for each command too. A
 peak of some 10 MiB is that of this script, from which the program is started.
 """
@@ -32,6 +33,14 @@ def small(count):
         yield f'{number}c\nchanged\n.\n'
     if count:
         yield 'w\n'
+
+
+def update(count):
+    """So many hunks from the last line of 300,000 to the first, and then a `w`."""
+    for number in range(count, 0, -1):
+        line = number * (300_000 // count) - 7
+        yield (f'{line}c\nx\n.\n', f'{line}d\n', f'{line}a\nx\ny\n.\n')[number % 3]
+    yield 'w\nq\n'
 
 
 def globals_of(count):
@@ -69,7 +78,7 @@ def each(count, figures):
 def table(title, kind, lines, counts, runs=3):
     """One row for each number of commands. Times are in milliseconds where there are many runs."""
     unit, factor, digits = ('s', 1, 3) if runs == 3 else ('ms', 1000, 2)
-    by_command = '  a command of vouch, check, run' if kind == straight else ''
+    by_command = '  a command of vouch, check, run' if kind in (straight, update) else ''
     print(f'\n{title}')
     print(f'{"commands":>9} {"vouch":>17} {"check":>17} {"run":>17} {"edit":>17} {"certificate":>12}{by_command}')
     with tempfile.TemporaryDirectory() as folder:
@@ -97,6 +106,7 @@ def main():
     resource.setrlimit(resource.RLIMIT_CORE, (0, 0))
     table('Small scripts, over a file of 10 lines', small, 10, [0, 1, 10], 100)
     table('Straight scripts, over a file of 100,000 lines', straight, 100000, [10, 1000, 10000, 20000, 100000])
+    table('Updates as diff -e writes them, over a file of 300,000 lines', update, 300000, [5000, 10000, 20000])
     table('Globals, over a file of 1,000 lines', globals_of, 1000, [10, 100, 1000])
 
 
