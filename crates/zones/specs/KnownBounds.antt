@@ -10,11 +10,11 @@ pub record PlacedBound : Type 0 where
   pub place : ℕ
   pub bound : Option ℤ
 
--- nothing is known by the bound at a place
+-- the bound at a place is that of the zone in which nothing is known
 abbrev pub is_unknown : (place : ℕ) → Option ℤ → Bool
 is_unknown place b = option_eq int_eq b (any_bound (place / 32) (place % 32))
 
--- the known bounds of all places from one on
+-- the known bounds from this place on
 abbrev pub known_from : (place : ℕ) → Bounds → List PlacedBound
 known_from place [] = []
 known_from place (b ∷ bounds) =

@@ -11,7 +11,7 @@ pub record AreUnknown (zone : Bounds) (from : ℕ) : Type 0 where
   pub row : (p q : ℕ) → from ≤ p → p < 32 → q < 32 → bound zone p q ≡ any_bound p q
   pub column : (p q : ℕ) → from ≤ q → p < 32 → q < 32 → bound zone p q ≡ any_bound p q
 
--- the bound of two names says something
+-- the bound of two names is not that of the zone in which nothing is known
 abbrev pub is_known_pair : Bounds → (p q : ℕ) → Bool
 is_known_pair zone p q = not (option_eq int_eq (bound zone p q) (any_bound p q))
 
@@ -20,7 +20,8 @@ unfoldable pub is_known_with : Bounds → (p names : ℕ) → Bool
 is_known_with zone p zero = false
 is_known_with zone p (suc q) = is_known_with zone p q || (is_known_pair zone p q || is_known_pair zone q p)
 
--- Of the first names, how many there are up to the last of which something is known. It may be known of it and an earlier one alone.
+-- Of the first names, how many there are up to the last of which something is known. Its bounds with itself and earlier names
+-- suffice to tell.
 unfoldable pub reach_below : Bounds → (names : ℕ) → ℕ
 reach_below zone zero = zero
 reach_below zone (suc p) = if is_known_with zone p (suc p) then suc p else reach_below zone p

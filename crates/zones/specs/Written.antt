@@ -28,7 +28,7 @@ abbrev pub Rise : (place : ℕ) → List PlacedBound → Type 0
 Rise place [] = Unit {0}
 Rise place (b ∷ rest) = (place ≤ b.place) × Rise (suc b.place) rest
 
--- a bound at a place says more than that nothing is known
+-- a bound at a place is not that of the zone in which nothing is known
 pub record IsKnownBound (b : PlacedBound) : Type 0 where
   pub placed : b.place < 1024
   pub known : b.bound ≢ any_at b.place

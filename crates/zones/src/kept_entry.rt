@@ -77,8 +77,8 @@ impl KeptEntry {
         Name::from_place(self.place() % 32)
     }
 
-    /// The number that `x - y` is at most. There is none where a zone says nothing of a name with itself, which is less than
-    /// what is known of each.
+    /// The number that `x - y` is at most, if there is one. Among the known bounds of a zone it is missing only for a name with
+    /// itself, of which the zone then says less than that of nothing known.
     pub fn bound(self) -> Option<i64>
         ensures value { result ≡ self.bound }
         ensures kept { IsKept result }

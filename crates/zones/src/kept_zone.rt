@@ -1,6 +1,6 @@
 //! Zones as they are kept, in a form that takes memory only for what is known.
 
-ghost use Rattle.std.specs.Prelude.{◌≡◌, ◌≢◌, ◌↔◌, ◌≤◌, length, IfOk, IsTrue, MatchOption, All, Any};
+ghost use Rattle.std.specs.Prelude.{◌≡◌, ◌≢◌, ◌↔◌, ◌≤◌, length, ⊤, IfOk, IsTrue, MatchOption, All, Any};
 ghost use Rattle.zones.specs.Bound.{IsKept};
 ghost use Rattle.zones.specs.Zone.{Bounds, Numbers, Holds, Covers};
 ghost use Rattle.zones.specs.Steps.{any_zone};
@@ -11,9 +11,8 @@ ghost use Rattle.zones.specs.Written.{written, IsWithin, AreKnownBounds};
 
 use crate::entry::{Entry, covers_bound};
 use crate::kept_entry::KeptEntry;
-use crate::known_place::any_entry;
 use crate::known_places::KnownPlaces;
-use crate::reach::{reach_with, reach_within};
+use crate::reach::{any_of, reach_with, reach_within};
 use crate::table::{Table, clear_table};
 use crate::zone::Zone;
 use std::alloc::{AllocError, Global};
@@ -101,7 +100,7 @@ fn entries_cover(entries: &[KeptEntry], strong: &Table, reach: usize) -> bool
     true
 }
 
-/// Whether these are the known bounds of a zone: their places rise, and each says more than that nothing is known.
+/// Whether these are the known bounds of a zone: their places rise, and none is the bound of the zone in which nothing is known.
 fn are_known(entries: &[KeptEntry]) -> bool
     ensures exact { IsTrue result ↔ AreKnownBounds entries.now }
     ensures kept { IsTrue result → All (λ kept. IsKept kept.bound) entries.now }
@@ -110,7 +109,7 @@ fn are_known(entries: &[KeptEntry]) -> bool
     for kept in entries {
         let place = kept.place();
         let _kept = kept.bound();
-        if place < from || kept.entry().is(any_entry(place)) {
+        if place < from || kept.entry().is(any_of(place / 32, place % 32)) {
             return false;
         }
         from = place + 1;
@@ -158,12 +157,13 @@ impl KeptZone {
         entries_cover(self.entries.as_slice(), &other.table, other.reach)
     }
 
-    /// The zone of which these are the known bounds, where there is one: their places have to rise, and each has to say more
-    /// than that nothing is known. It takes no memory.
+    /// The zone of which these are the known bounds, where there is one: their places have to rise, and none may be the bound of
+    /// the zone in which nothing is known. It takes no memory.
     pub fn from_entries(entries: Vec<KeptEntry>) -> Option<KeptZone>
         ensures exact { MatchOption result
             ((zone : Bounds) → length zone ≡ 1024 → known_bounds zone ≢ entries.items)
             (λ kept. known_bounds kept ≡ entries.items) }
+        ensures well_formed { MatchOption result ⊤ (λ kept. IsZone kept) }
     {
         if !are_known(entries.as_slice()) {
             return None;

@@ -44,7 +44,7 @@ impl KnownPlaces {
         self.count += 1;
     }
 
-    /// Takes up a place whose bound isn't that of the table in which nothing is known.
+    /// Takes up a place, if its bound isn't that of the table in which nothing is known.
     fn look_at(&mut self, table: &Table, place: usize, any: Entry)
         requires place { place < 1024 }
         requires room { length self.old ≤ place }
@@ -57,7 +57,7 @@ impl KnownPlaces {
         }
     }
 
-    /// Takes up the places of a row, which ends before `reach`.
+    /// Takes up the known places of a row, which end before `reach`.
     fn look_at_row(&mut self, table: &Table, reach: usize, p: usize)
         requires reach { reach ≤ 32 }
         requires row { p < reach }
@@ -75,7 +75,7 @@ impl KnownPlaces {
         }
     }
 
-    /// The places at which something is known of a table.
+    /// The places of a table at which something is known.
     pub(crate) fn known(table: &Table, reach: usize) -> Self
         requires reach { reach ≤ 32 }
         requires unknown { AreUnknown table.now reach }

@@ -4,7 +4,6 @@
 mod entry;
 mod kept_entry;
 mod kept_zone;
-mod known_place;
 mod known_places;
 mod laws;
 mod name;

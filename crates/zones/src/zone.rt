@@ -20,7 +20,7 @@ use std::marker::Model;
 /// stronger (`weak.covers(&strong)`). A result above [`LIMIT`](crate::LIMIT) becomes any, one below
 /// `-LIMIT` becomes `-LIMIT`: always the weaker side. A zone may contradict itself, and then holds
 /// of no numbers; no step looks for that.
-#[derive(Clone, Copy, PartialEq, Eq, Debug)]
+#[derive(Clone, Copy, Debug)]
 pub struct Zone {
     pub(crate) table: Table,
     /// Nothing is known of the names from this place on, which are passed over.
@@ -41,6 +41,29 @@ impl Model for Zone {
     ghost inverse = { λ bounds. record { table = bounds; reach = reach_of bounds } };
 
     ghost inverse_ok = { λ zone h i. record { table = zone.table; reach = sym h.known i } };
+}
+
+// What is said of `==` is said of the bounds alone, from which it follows how far they reach.
+impl PartialEq for Zone {
+    ghost use Rattle.std.specs.Option.{option_eq};
+    ghost use Rattle.std.specs.Ordering.{int_eq};
+    ghost use Rattle.std.specs.Cmp.{partial_equiv_from_equiv, int_eq_equiv};
+    ghost use Rattle.std.specs.Cmp.Lexicographic.{pointwise, options_equiv, lists_per};
+
+    ghost eq = { pointwise (option_eq int_eq) };
+
+    ghost laws = { lists_per (partial_equiv_from_equiv (options_equiv int_eq_equiv)) };
+
+    fn eq(&self, other: &Zone) -> bool {
+        self.table == other.table
+    }
+}
+
+impl Eq for Zone {
+    ghost use Rattle.std.specs.Cmp.{int_eq_equiv};
+    ghost use Rattle.std.specs.Cmp.Lexicographic.{options_equiv, lists_equiv};
+
+    ghost laws = { lists_equiv (options_equiv int_eq_equiv) };
 }
 
 impl Zone {

@@ -141,22 +141,3 @@ fn names_go_in_their_order(rt: HostRuntime) {
         assert_eq!(rt; Name::mark(letter).letter(), Some(letter));
     }
 }
-
-#[test]
-fn bounds_that_are_known_are_found_in_their_order(rt: HostRuntime) {
-    let mut zone = Zone::any();
-    assert_eq!(rt; zone.next_known(0), 1024);
-    zone.guard(Name::LAST_LINE, Name::ZERO, 3);
-    zone.guard(Name::ZERO, Name::mark(b'z'), -1);
-    assert_eq!(rt; zone.next_known(0), 31);
-    assert_eq!(rt; zone.next_known(31), 31);
-    assert_eq!(rt; zone.next_known(32), 64);
-    // The last line is no greater than the mark by way of zero.
-    assert_eq!(rt; zone.next_known(65), 95);
-    assert_eq!(rt; zone.next_known(96), 1024);
-    // Of a name with itself 0 is what is known of each, and any is not.
-    zone.put(Name::mark(b'z'), Name::mark(b'z'), None);
-    assert_eq!(rt; zone.next_known(96), 1023);
-    assert_eq!(rt; zone.next_known(1024), 1024);
-    assert_eq!(rt; zone.next_known(5000), 1024);
-}

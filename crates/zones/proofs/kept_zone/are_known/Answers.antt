@@ -15,7 +15,7 @@ loop-kept-preserved c =
     let at = c.kept-item.is in
     let place = c.place-place.ensures.value in
     let known : b.bound ≢ any_at b.place =
-    λ e. let is = c.is.ensures.exact.1 (c.entry.ensures.value ∙ e ∙ sym (ap any_at place) ∙ sym c.any_entry.ensures.value) in
+    λ e. let is = c.is.ensures.exact.1 (c.entry.ensures.value ∙ e ∙ sym (ap any_at place) ∙ sym c.any_of.ensures.value) in
     let not : c.is.result ≡ false = c.if-is.false in cc in
     record {
       each = All-more IsKnownBound entries i b h c.loop-kept.invariant.each (rw (← at) (record { placed = rw (← place) c.place-place.ensures.in_table; known = known }));

@@ -8,6 +8,7 @@ returns-then-not-are_known c = record {
       let bad = c.are_known.ensures.exact.1 (AreKnownBounds-known zone c.as_slice.result.now size (is ∙ sym c.as_slice.ensures.value)) in
       let not : c.are_known.result ≡ false = c.if-not-are_known.true in
       cc;
+  well_formed = tt;
 }
 
 pub invariant_of-result : goal.invariant_of-result
@@ -18,4 +19,7 @@ invariant_of-result c =
 pub returns : goal.returns
 returns c = record {
   exact = rw (← c.as_slice.ensures.value) (known_bounds-written c.as_slice.result.now (c.are_known.ensures.exact.0 c.if-not-are_known.false));
+  well_formed =
+      let kept = IsKeptZone-known c.as_slice.result.now (c.are_known.ensures.exact.0 c.if-not-are_known.false) (c.are_known.ensures.kept c.if-not-are_known.false) in
+      rw (← c.as_slice.ensures.value) kept.zone;
 }
