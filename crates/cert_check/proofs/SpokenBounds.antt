@@ -1,5 +1,5 @@
 -- The bounds that a text says, one after another, and the zone that they give.
-use Rattle.std.proofs.Common.{◌≡◌, ◌≢◌, ◌<◌, ◌+◌, ◌-◌, ◌*◌, ◌/◌, ◌%◌, ◌^◌, ◌++◌, ◌∷◌, [], ℕ, ℤ, Bool, true, false, ◌&&◌, ◌||◌, List, get_or, map, Option, None, Some, inl, inr, arith, refl, ◌∙◌, sym, ap, subst, append_assoc, append-nil}
+use Rattle.std.proofs.Common.{◌≡◌, ◌≢◌, ◌<◌, ◌≤◌, suc, ◌+◌, ◌-◌, ◌*◌, ◌/◌, ◌%◌, ◌^◌, ◌++◌, ◌∷◌, [], ℕ, ℤ, Bool, true, false, ◌&&◌, ◌||◌, List, get_or, map, Option, None, Some, inl, inr, arith, refl, ◌∙◌, sym, ap, subst, append_assoc, append-nil}
 use Rattle.std.specs.Prelude.{nat_lt, nat_le}
 use Rattle.std.specs.List.{All, flat_map}
 use Rattle.std.proofs.lemmas.Bool.{lt-ltb, le-leb}
@@ -11,6 +11,7 @@ use Rattle.zones.specs.Bound.{IsKept}
 use Rattle.zones.specs.Zone.{Bounds}
 use Rattle.zones.specs.Limits.{IsZone}
 use Rattle.zones.specs.KnownBounds.{PlacedBound, known_bounds}
+use Rattle.zones.specs.Written.{Rise}
 use Rattle.ed_rules.specs.Marks.{is_sure}
 use Rattle.ed_rules.specs.Formed.{says_nothing, has_name, may_say, ZoneIsFormed}
 use Rattle.cert_check.specs.Text.{Word, space, spaced, bound_words, bounds_words}
@@ -77,31 +78,39 @@ first-spoken text left x y number b said hx hy at is kept =
 
 -- BOUND AFTER BOUND
 
--- what is left of a text says spoken bounds
-pub record SaysRest (left : List ℕ) : Type 0 where
+-- what is left of a text says spoken bounds, which rise
+pub record SaysRest (from : ℕ) (left : List ℕ) : Type 0 where
   pub later : List PlacedBound
   pub spoken : All IsSpoken later
+  pub rises : Rise from later
   pub says : spaced (map spoken_word later) ≡ left
 
-says-next : (bounds : List PlacedBound) (left later : List ℕ) (d : PlacedBound) → All IsSpoken bounds → spaced (map spoken_word bounds) ≡ left → IsSpoken d → IsFirstWord left (spoken_word d) later →
-    SaysRest later
-says-next [] left later d all e s first = let none : [] ≡ space ∷ (spoken_word d ++ later) = e ∙ first.0 in absurd cc
-says-next (b ∷ bounds) left later d all e s first = record {
-  later = bounds;
-  spoken = All-tail IsSpoken b bounds all;
-  says = (first-same b d (map spoken_word bounds) left later (All-head IsSpoken b bounds all) s e first).1;
-}
+-- the first of them, where a bound is read first
+says-first : (bounds : List PlacedBound) (from : ℕ) (left later : List ℕ) (d : PlacedBound) → All IsSpoken bounds → Rise from bounds → spaced (map spoken_word bounds) ≡ left →
+    IsSpoken d → IsFirstWord left (spoken_word d) later → (from ≤ d.place) × SaysRest (suc d.place) later
+says-first [] from left later d all rises e s first = let none : [] ≡ space ∷ (spoken_word d ++ later) = e ∙ first.0 in absurd cc
+says-first (b ∷ bounds) from left later d all rises e s first =
+    let both = first-same b d (map spoken_word bounds) left later (All-head IsSpoken b bounds all) s e first in (
+      subst (λ (k : PlacedBound). from ≤ k.place) both.0 rises.0,
+      record {
+        later = bounds;
+        spoken = All-tail IsSpoken b bounds all;
+        rises = subst (λ (k : PlacedBound). Rise (suc k.place) bounds) both.0 rises.1;
+        says = both.1;
+      },
+    )
 
-pub rest-next : (left later : List ℕ) (d : PlacedBound) → IsSpoken d → IsFirstWord left (spoken_word d) later → SaysRest left → SaysRest later
-rest-next left later d s first r = says-next r.later left later d r.spoken r.says s first
+pub rest-first : (from : ℕ) (left later : List ℕ) (d : PlacedBound) → IsSpoken d → IsFirstWord left (spoken_word d) later → SaysRest from left →
+    (from ≤ d.place) × SaysRest (suc d.place) later
+rest-first from left later d s first r = says-first r.later from left later d r.spoken r.rises r.says s first
 
 says-none : (bounds : List PlacedBound) (left : List ℕ) → All IsSpoken bounds → spaced (map spoken_word bounds) ≡ left → left ≢ [] →
     ((b : PlacedBound) (words : List Word) → IsSpoken b → (space ∷ spoken_word b) ++ spaced words ≢ left) → ⊥
 says-none [] left all e some absent = some (sym e)
 says-none (b ∷ bounds) left all e some absent = absent b (map spoken_word bounds) (All-head IsSpoken b bounds all) e
 
-pub rest-none : (left : List ℕ) → left ≢ [] → ((b : PlacedBound) (words : List Word) → IsSpoken b → (space ∷ spoken_word b) ++ spaced words ≢ left) → SaysRest left → ⊥
-rest-none left some absent r = says-none r.later left r.spoken r.says some absent
+pub rest-none : (from : ℕ) (left : List ℕ) → left ≢ [] → ((b : PlacedBound) (words : List Word) → IsSpoken b → (space ∷ spoken_word b) ++ spaced words ≢ left) → SaysRest from left → ⊥
+rest-none from left some absent r = says-none r.later left r.spoken r.says some absent
 
 -- one bound further
 pub said-further : (bounds more : List PlacedBound) (d : PlacedBound) (left later text : List ℕ) → more ≡ bounds ++ d ∷ [] → IsFirstWord left (spoken_word d) later →

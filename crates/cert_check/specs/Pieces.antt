@@ -132,7 +132,7 @@ head_line End = codes "end" ∷ []
 abbrev pub marked_lines : (zone_key marks_key : Word) → Old → List text.Line
 marked_lines zone_key marks_key old = zone_line zone_key old.zone ∷ marks_line marks_key old.marks ∷ []
 
--- the same as a buffer's
+-- a zone and its marks as an earlier buffer
 abbrev pub marked_value : Marked → Old
 marked_value m = record { zone = m.zone; marks = m.marks }
 

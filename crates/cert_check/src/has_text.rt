@@ -41,14 +41,7 @@ pub(crate) fn letters_are_counted(marks: &Marks)
     let _first = marks.is_sure(0);
 }
 
-/// A zone has 1024 bounds, and keeps each.
-pub(crate) fn zone_is_formed(zone: &KeptZone)
-    ensures is_zone { IsZone zone.now }
-{
-    let _entries = zone.entries();
-}
-
-/// A zone that speaks of the lines and of the letters that are sure beside it. A bound that isn't known may be said.
+/// Whether a zone speaks only of the lines and of the letters that are sure beside it. A bound that isn't known may be said.
 pub(crate) fn zone_has_text(marks: &Marks, zone: &KeptZone) -> bool
     ensures exact { IsTrue result ↔ ZoneIsFormed marks.now zone.now }
 {

@@ -53,7 +53,7 @@ pub(crate) fn count(commands: &[Command]) -> Counted
     }
 }
 
-/// What is known says no more than a state.
+/// Whether what is known says no more than a state.
 pub(crate) fn is_covered(known: &KeptState, strong: &State) -> bool
     ensures value { result ≡ covers known.now strong.now }
 {
@@ -61,7 +61,7 @@ pub(crate) fn is_covered(known: &KeptState, strong: &State) -> bool
     known.covers(strong)
 }
 
-/// Goes over to the state after a command, where all its needs hold.
+/// Goes over to the state after a command, where all its needs hold, and says whether they do.
 fn leave(command: &Command, known: &State, coming: &mut State) -> Result<bool, AllocError>
     ensures value { IfOk result (λ holds.
         Passes holds coming.new (left_where_met (command_value command.now) known.now)) }

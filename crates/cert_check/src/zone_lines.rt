@@ -2,11 +2,12 @@
 
 ghost use Rattle.std.specs.Prelude.{◌≡◌, ◌≢◌, ◌<◌, ◌≤◌, ◌+◌, ◌*◌, ◌++◌, ◌∷◌, ℕ, ℤ, List, Bool, [], IsTrue, ◌↔◌, MatchOption, IfOk, All, length, map};
 ghost use Rattle.zones.specs.KnownBounds.{PlacedBound};
+ghost use Rattle.zones.specs.Written.{Rise};
 ghost use Rattle.ed_rules.specs.Formed.{ZoneIsFormed};
 ghost use Rattle.cert_check.specs.Text.{Word, space, spaced, name_word, letter_a, sure_letters, letters_words, zone_line, marks_line};
 ghost use Rattle.cert_check.specs.Reading.{ReadsAs, all_marks, IsFirstWord, IsNamed, IsSigned, said_word, IsSaid, spoken_word, IsSpoken};
 
-use crate::has_text::{zone_has_text, zone_is_formed};
+use crate::has_text::zone_has_text;
 use crate::words_in::{after_key, signed_in, word_len};
 use ed_rules::Marks;
 use std::alloc::{AllocError, Global};
@@ -161,19 +162,25 @@ fn first_bound(text: &[u8]) -> Option<(KeptEntry, &[u8])>
     None
 }
 
-/// The bounds that a text says, one after another.
+/// The bounds that a text says, one after another in rising places. No more are taken up than a zone can have.
 fn bounds_said(alloc: Global, text: &[u8]) -> Result<Option<Vec<KeptEntry>>, AllocError>
     ensures exact { IfOk result (λ bounds. MatchOption bounds
-        ((others : List PlacedBound) → All IsSpoken others → spaced (map spoken_word others) ≢ text.now)
+        ((others : List PlacedBound) → All IsSpoken others → Rise 0 others → spaced (map spoken_word others) ≢ text.now)
         (λ bounds. All IsSpoken bounds.items × (spaced (map spoken_word bounds.items) ≡ text.now))) }
 {
     let mut bounds = Vec::new(alloc);
     let mut left = text;
+    let mut from = 0;
     'words: while !left.is_empty() {
         let Some(first) = first_bound(left) else {
             return Ok(None);
         };
         let (bound, later) = first;
+        let place = 32 * bound.x().place() + bound.y().place();
+        if place < from {
+            return Ok(None);
+        }
+        from = place + 1;
         bounds.push(bound)?;
         left = later;
     }
@@ -197,6 +204,5 @@ pub(crate) fn zone_in(
     let Some(zone) = KeptZone::from_entries(bounds) else {
         return Ok(None);
     };
-    zone_is_formed(&zone);
     Ok(Some(zone))
 }

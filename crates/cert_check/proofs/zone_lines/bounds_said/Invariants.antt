@@ -2,6 +2,7 @@
 use Rattle.std.proofs.Common.{◌≡◌, ◌++◌, length, map, List}
 use Rattle.std.specs.List.{All}
 use Rattle.zones.specs.KnownBounds.{PlacedBound}
+use Rattle.zones.specs.Written.{Rise}
 use Rattle.cert_check.specs.Text.{spaced}
 use Rattle.cert_check.specs.Reading.{spoken_word, IsSpoken}
 use Rattle.cert_check.proofs.SpokenBounds.{SaysRest}
@@ -11,7 +12,7 @@ abbrev pub invariant-words : goal.invariant-words
 invariant-words l = record {
   spoken : All IsSpoken l.bounds.items;
   said : spaced (map spoken_word l.bounds.items) ++ l.left ≡ l.text;
-  rest : (others : List PlacedBound) → All IsSpoken others → spaced (map spoken_word others) ≡ l.text → SaysRest l.left;
+  rest : (others : List PlacedBound) → All IsSpoken others → Rise 0 others → spaced (map spoken_word others) ≡ l.text → SaysRest l.from l.left;
 }
 
 abbrev pub decreases-words : goal.decreases-words

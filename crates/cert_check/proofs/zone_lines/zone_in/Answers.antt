@@ -1,6 +1,7 @@
-use Rattle.std.proofs.Common.{◌++◌, ℕ, List, map, ◌∙◌, sym, ap, subst}
+use Rattle.std.proofs.Common.{◌++◌, ℕ, refl, List, map, ◌∙◌, sym, ap, subst}
 use Rattle.std.specs.List.{All}
 use Rattle.zones.specs.KnownBounds.{PlacedBound, known_bounds}
+use Rattle.zones.proofs.Rising.{AreKnownBounds-known}
 use Rattle.cert_check.specs.Text.{Word, spaced, bounds_words}
 use Rattle.cert_check.specs.Reading.{spoken_word, IsSpoken}
 use Rattle.cert_check.proofs.ReadSets.{after-its-key}
@@ -13,7 +14,7 @@ returns-in_default-2 c = record {
       let says = after-its-key c.args.key.now c.args.line.now c.in-Some.left.now (bounds_words 0 v) c.in-Some.ensures.cases e in
       let spoken = formed-spoken v h in
       let none = rw c.in_default-2.is at c.in_ok-bounds.ensures.exact in
-      none (known_bounds v) spoken (ap (λ (ws : List Word). spaced ws) (sym (spoken-zone v spoken)) ∙ says);
+      none (known_bounds v) spoken (AreKnownBounds-known v (known_bounds v) h.is_zone.size refl).rise (ap (λ (ws : List Word). spaced ws) (sym (spoken-zone v spoken)) ∙ says);
 }
 
 pub returns-in_default-from_entries : goal.returns-in_default-from_entries
@@ -37,6 +38,6 @@ returns c =
         ap (λ (t : List ℕ). c.args.key.now ++ t)
             (ap (λ (ws : List Word). spaced ws) (spoken-zone zone spoken) ∙ ap (λ (bs : List PlacedBound). spaced (map spoken_word bs)) known ∙ read.1)
             ∙ sym c.in-Some.ensures.cases,
-        spoken-formed zone c.zone_is_formed.ensures.is_zone spoken,
+        spoken-formed zone c.in-Some-from_entries.ensures.well_formed spoken,
       );
     }
