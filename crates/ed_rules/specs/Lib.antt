@@ -13,8 +13,7 @@ pub mod Substituting
 pub mod Files
 pub mod Undoing
 pub mod Rules
+pub mod Reaching
 pub mod Soundness
 pub mod Globals
 pub mod GlobalSoundness
--- what only serves clauses inside the crate
-pub mod Reaching

@@ -9,7 +9,7 @@ abbrev pub Reaches : Result (Unit {0}) Fault → State → Result State Fault �
 Reaches (Ok u) t should = should ≡ Ok t
 Reaches (Err f) t should = f ≢ Memory → should ≡ Err f
 
--- a call comes to the state, where no need fails, or tells the fault
+-- a call tells the fault that it should or, where there is none, reaches the state that it should
 abbrev pub Comes : (failed : Option Fault) → State → Result State Fault → Type 0
 Comes None t should = should ≡ Ok t
 Comes (Some f) t should = should ≡ Err f

@@ -137,7 +137,7 @@ pub(crate) fn kept_old_covers(weak: &Option<KeptOld>, strong: &Option<Old>) -> b
 }
 
 impl KeptUndo {
-    /// That undo may find these. It takes no memory.
+    /// What undo may find, of its parts. It takes no memory.
     pub fn new(nothing: bool, same: bool, was: Option<KeptOld>) -> KeptUndo
         ensures value { result ≡ record { nothing = nothing; same = same; was = was } }
     {

@@ -179,7 +179,8 @@ impl State {
 }
 
 /// Carries out the rule of a command in `before`: where none of its needs fails, `after` becomes the state after it; else it is
-/// some state, and the first need that fails is told. It is what `needs` and `after` tell one by one.
+/// some state, and the first need that fails is told. After an `Err`, too, it is some state. It is what `needs` and `after` tell one
+/// by one.
 pub fn outcome_into(
     command: &Command,
     before: &State,

@@ -13,7 +13,8 @@ use ed_syntax::Form;
 use line_store::{FileLines, LineStore};
 use std::alloc::{AllocError, Global};
 
-/// Appends the lines of a span, as the form writes them. As plain lines they share their bytes with the store.
+/// Appends the lines of a span, as the form writes them. Plain lines share their bytes with the store, unless they are short and
+/// stand alone.
 pub fn write_lines<S: LineStore>(
     alloc: Global,
     output: &mut Pieces,
@@ -47,7 +48,7 @@ fn write_plain<S: LineStore>(output: &mut Pieces, span: Span, store: &S) -> Resu
     Ok(())
 }
 
-// Appends the lines of a span, each made in the form before it is copied.
+// Appends the lines of a span, each put into the form first and then copied.
 fn write_formed<S: LineStore>(
     alloc: Global,
     output: &mut Pieces,
