@@ -1,32 +1,11 @@
-//! Certificates that are made by the rules themselves, for the tests to check.
+//! Certificates that are made by the rules themselves, for the tests to check. Each step only borrows what a later one may fail to
+//! fill, since every way out of a function that owns a state or a certificate is proved with all that is dropped there.
 
-use cert_check::{Certificate, Note};
-use ed_base::{Bytes, Fault};
-use ed_rules::{State, after, needs};
-use ed_syntax::{Script, Verb};
+use crate::walking::{Start, state_of};
+use cert_check::{CertFault, Certificate, Note};
+use ed_rules::{State, outcome_into};
+use ed_syntax::{Command, Script, Verb};
 use std::alloc::{AllocError, Global};
-
-/// What a run starts with: a file F of so many lines, or no file.
-#[derive(Clone, Copy)]
-pub(crate) struct Start {
-    pub named: bool,
-    pub min: u64,
-    pub max: Option<u64>,
-}
-
-/// The path of a start, where it has one.
-pub(crate) fn path_of(alloc: Global, start: Start) -> Result<Option<Bytes>, AllocError> {
-    if start.named {
-        Ok(Some(Bytes::from_slice(alloc, b"F")?))
-    } else {
-        Ok(None)
-    }
-}
-
-/// The state at the start.
-pub(crate) fn state_of(alloc: Global, start: Start) -> Result<State, AllocError> {
-    State::start(alloc, &path_of(alloc, start)?, start.min, start.max)
-}
 
 /// How many lines there may be at the end.
 #[derive(Clone, Copy)]
@@ -35,38 +14,94 @@ pub(crate) struct Final {
     pub high: Option<u64>,
 }
 
-/// The certificate whose notes are what the rules give from the start on, one after another, up to the first `Q`; or the fault of
-/// the first need that fails.
-pub(crate) fn certificate_of(
-    alloc: Global,
-    script: &Script,
-    start: Start,
-    bounds: Final,
-) -> Result<Result<Certificate, Fault>, AllocError> {
-    let mut notes = Vec::new(alloc);
-    let mut state = state_of(alloc, start)?;
-    for command in &script.commands {
-        if let Some(fault) = needs(command, &state)? {
-            return Ok(Err(fault));
+/// A certificate over the file F without notes, of which the numbers of lines and the end are to be put in.
+const OVER_FILE: &[u8] = b"ed-certificate 1
+path =F
+start 0 any
+end
+zone
+marks
+patterns -
+replacements none
+names =F
+changed no
+undo nothing
+final 0 any
+writes =F
+";
+
+/// The same over no file.
+const OVER_NOTHING: &[u8] = b"ed-certificate 1
+path -
+start 0 any
+end
+zone
+marks
+patterns -
+replacements none
+names -
+changed no
+undo nothing
+final 0 any
+writes =F
+";
+
+/// A certificate without notes, whose end isn't put in yet.
+pub(crate) fn opened(alloc: Global, start: Start, bounds: Final) -> Result<Certificate, CertFault> {
+    let text = if start.named { OVER_FILE } else { OVER_NOTHING };
+    let mut certificate = Certificate::read(alloc, text)?;
+    certificate.min = start.min;
+    certificate.max = start.max;
+    certificate.low = bounds.low;
+    certificate.high = bounds.high;
+    Ok(certificate)
+}
+
+fn add_note(state: &State, notes: &mut Vec<Note>) -> Result<(), AllocError> {
+    notes.push(Note {
+        state: state.try_keep()?,
+        looped: None,
+    })?;
+    Ok(())
+}
+
+/// Notes what is known before each command up to the first `Q`, and at the end, with `left` for room; it tells whether all needs hold.
+fn add_notes(
+    commands: &[Command],
+    state: &mut State,
+    left: &mut State,
+    certificate: &mut Certificate,
+) -> Result<bool, AllocError> {
+    for command in commands {
+        add_note(state, &mut certificate.notes)?;
+        if outcome_into(command, state, left)?.is_some() {
+            return Ok(false);
         }
-        let next = after(command, &state)?;
-        notes.push(Note {
-            state: state.try_keep()?,
-            looped: None,
-        })?;
-        state = next;
-        if command.verb == Verb::QuitAnyway {
+        state.try_copy_from(left)?;
+        if matches!(command.verb, Verb::QuitAnyway) {
             break;
         }
     }
-    Ok(Ok(Certificate {
-        path: path_of(alloc, start)?,
-        min: start.min,
-        max: start.max,
-        notes,
-        last: state.try_keep()?,
-        low: bounds.low,
-        high: bounds.high,
-        writes: Vec::new(alloc),
-    }))
+    certificate.last = state.try_keep()?;
+    Ok(true)
+}
+
+fn add_notes_from(
+    script: &Script,
+    state: &mut State,
+    certificate: &mut Certificate,
+) -> Result<bool, AllocError> {
+    let mut left = state.try_copy()?;
+    add_notes(script.commands.as_slice(), state, &mut left, certificate)
+}
+
+/// Puts in what the rules give from the start on, one after another; it tells whether all needs hold.
+pub(crate) fn fill(
+    alloc: Global,
+    script: &Script,
+    start: Start,
+    certificate: &mut Certificate,
+) -> Result<bool, AllocError> {
+    let mut state = state_of(alloc, start)?;
+    add_notes_from(script, &mut state, certificate)
 }

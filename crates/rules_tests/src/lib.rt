@@ -10,8 +10,12 @@ mod checking;
 #[cfg(test)]
 mod globals;
 #[cfg(test)]
+mod lists;
+#[cfg(test)]
 mod rules;
 #[cfg(test)]
 mod substitution;
 #[cfg(test)]
 mod text;
+#[cfg(test)]
+mod walking;
