@@ -1,7 +1,9 @@
 //! Lines of bytes, letters, numbers and faults: that calls succeed, and that the definitions are the standard's.
+use crate::asserting::same;
+use crate::expected::{are_lines, bytes};
 use ed_base::{Bytes, Fault, Letter, Text, count_lines, join_lines, push_number, split_lines};
-use std::alloc::AllocError;
-use std::test::Fail;
+use std::alloc::{AllocError, Global};
+use std::process::Abort;
 
 struct Row {
     bytes: &'static [u8],
@@ -21,86 +23,100 @@ static ROWS: [Row; 8] = [
     Row { bytes: b"\0\r\n\xff\x80", lines: &[b"\0\r", b"\xff\x80"], written: b"\0\r\n\xff\x80\n" },
 ];
 
-#[test]
-fn a_last_line_without_its_newline_is_a_line_and_gets_one_when_written(
-    rt: HostRuntime,
-) -> Result<(), Fail> {
-    for row in &ROWS {
-        let lines = split_lines(rt.alloc(), row.bytes)?;
-        assert_eq!(rt; lines.len(), row.lines.len(), "{:?}", row.bytes);
-        for (line, expected) in lines.as_slice().iter().zip(row.lines) {
-            assert_eq!(rt; line.as_slice(), *expected, "{:?}", row.bytes);
-        }
-        assert_eq!(rt; count_lines(row.bytes), row.lines.len(), "{:?}", row.bytes);
-        let written = join_lines(rt.alloc(), &lines)?;
-        assert_eq!(rt; written.as_slice(), row.written, "{:?}", row.bytes);
-    }
-    Ok(())
-}
-
-#[test]
-fn bytes_are_built_copied_and_compared(rt: HostRuntime) -> Result<(), Fail> {
-    let mut bytes = Bytes::from_slice(rt.alloc(), b"a")?;
-    bytes.reserve(2)?;
-    bytes.push(b'b')?;
-    bytes.extend_from_slice(b"\xff\0")?;
-    assert_eq!(rt; bytes.as_slice(), b"ab\xff\0".as_slice());
-    assert_eq!(rt; bytes.len(), 4);
-    let copy = bytes.try_copy()?;
-    assert!(rt; copy == bytes);
-    bytes.clear();
-    assert!(rt; bytes.is_empty());
-    assert!(rt; copy != bytes);
-    assert_eq!(rt; copy.into_vec().as_slice(), b"ab\xff\0".as_slice());
-    assert_eq!(rt;
-        Bytes::from_vec(vec![in rt.alloc(); 7]?).as_slice(),
-        [7].as_slice()
+fn check(rt: &impl Abort, alloc: Global, row: &Row) {
+    let lines = split_lines(alloc, row.bytes).expect(rt, "memory");
+    assert!(rt;
+        are_lines(&lines, row.lines),
+        "{:?}: {:?}",
+        row.bytes,
+        lines
     );
-    Ok(())
+    same(rt, count_lines(row.bytes), row.lines.len(), row.bytes);
+    let written = join_lines(alloc, &lines).expect(rt, "memory");
+    same(rt, written.as_slice(), row.written, row.bytes);
 }
 
 #[test]
-fn lists_of_lines_are_built_copied_and_compared(rt: HostRuntime) -> Result<(), Fail> {
+fn a_last_line_without_its_newline_is_a_line_and_gets_one_when_written(rt: HostRuntime) {
+    for row in &ROWS {
+        check(&rt, rt.alloc(), row);
+    }
+}
+
+// Bytes that were pushed and appended.
+fn built(rt: &impl Abort, alloc: Global) -> Bytes {
+    let mut built = bytes(rt, alloc, b"a");
+    built.reserve(2).expect(rt, "memory");
+    built.push(b'b').expect(rt, "memory");
+    built.extend_from_slice(b"\xff\0").expect(rt, "memory");
+    built
+}
+
+#[test]
+fn bytes_are_built_copied_and_compared(rt: HostRuntime) {
+    let mut built = built(&rt, rt.alloc());
+    same(&rt, built.as_slice(), b"ab\xff\0".as_slice(), "built");
+    same(&rt, built.len(), 4, "their number");
+    let copy = built.try_copy().expect(&rt, "memory");
+    assert!(rt; copy == built);
+    built.clear();
+    assert!(rt; built.is_empty());
+    assert!(rt; copy != built);
+    let items = copy.into_vec();
+    same(&rt, items.as_slice(), b"ab\xff\0".as_slice(), "copied");
+    let again = Bytes::from_vec(items);
+    same(&rt, again.as_slice(), b"ab\xff\0".as_slice(), "taken over");
+}
+
+#[test]
+fn lists_of_lines_are_built_copied_and_compared(rt: HostRuntime) {
     let mut lines = Text::new(rt.alloc());
     assert!(rt; lines.is_empty());
-    lines.push(Bytes::new(rt.alloc()))?;
-    let copy = lines.try_copy()?;
+    lines.push(Bytes::new(rt.alloc())).expect(&rt, "memory");
+    let copy = lines.try_copy().expect(&rt, "memory");
     assert!(rt; copy == lines);
-    lines.push(Bytes::new(rt.alloc()))?;
-    assert_eq!(rt; lines.len(), 2);
+    lines.push(Bytes::new(rt.alloc())).expect(&rt, "memory");
+    assert!(rt; lines.len() == 2);
     assert!(rt; copy != lines);
-    Ok(())
 }
 
+static NUMBERS: [u64; 3] = [0, 10, 18_446_744_073_709_551_615];
+
 #[test]
-fn numbers_are_written_in_decimal_digits(rt: HostRuntime) -> Result<(), Fail> {
-    let mut bytes = Bytes::new(rt.alloc());
-    for number in [0, 10, 18_446_744_073_709_551_615] {
-        push_number(&mut bytes, number)?;
-        bytes.push(b'\n')?;
+fn numbers_are_written_in_decimal_digits(rt: HostRuntime) {
+    let mut written = Bytes::new(rt.alloc());
+    for number in &NUMBERS {
+        push_number(&mut written, *number).expect(&rt, "memory");
+        written.push(b'\n').expect(&rt, "memory");
     }
-    assert_eq!(rt;
-        bytes.as_slice(),
-        b"0\n10\n18446744073709551615\n".as_slice()
+    same(
+        &rt,
+        written.as_slice(),
+        b"0\n10\n18446744073709551615\n".as_slice(),
+        "the numbers",
     );
-    Ok(())
 }
 
 #[test]
 fn small_letters_mark_lines_and_nothing_else_does(rt: HostRuntime) {
     for (byte, place) in (b'a'..=b'z').zip(0..) {
-        assert_eq!(rt; Letter::new(byte).map(Letter::place), Some(place));
+        same(&rt, Letter::new(byte).map(Letter::place), Some(place), byte);
     }
-    for byte in *b"`{AZ0 \n\xe1" {
-        assert_eq!(rt; Letter::new(byte), None);
+    for byte in b"`{AZ0 \n\xe1" {
+        same(&rt, Letter::new(*byte), None, *byte);
     }
 }
 
 #[test]
 fn a_refused_file_and_want_of_memory_have_their_own_statuses(rt: HostRuntime) {
-    assert_eq!(rt; Fault::Syntax.text(), "invalid command");
-    assert_eq!(rt; Fault::Syntax.status(), 1);
-    assert_eq!(rt; Fault::File.status(), 3);
-    assert_eq!(rt; Fault::Memory.status(), 2);
-    assert_eq!(rt; Fault::from(AllocError), Fault::Memory);
+    same(&rt, Fault::Syntax.text(), "invalid command", "text");
+    same(&rt, Fault::Syntax.status(), 1, "the script's own");
+    same(&rt, Fault::File.status(), 3, "a refused file");
+    same(&rt, Fault::Memory.status(), 2, "memory");
+    same(
+        &rt,
+        Fault::from(AllocError),
+        Fault::Memory,
+        "a refused allocation",
+    );
 }

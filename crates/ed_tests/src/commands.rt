@@ -1,61 +1,105 @@
 //! Commands as they are read, with the values that the standard says (XCU ed, "Commands in ed").
-use ed_syntax::{Address, Addresses, Base, Form, Taking, Verb, read_script};
+use crate::asserting::{same, same_as};
+use crate::expected::{Given, Place, address, addresses, only, script};
+use ed_syntax::{Command, Form, Taking, Verb};
 use std::alloc::Global;
 use std::process::Abort;
-use std::test::Fail;
 
-#[derive(Drop)]
-struct CommandRow {
-    script: &'static [u8],
-    addresses: Addresses,
-    verb: Verb,
-    suffix: Option<Form>,
+/// A command's letter with its parameters, as rows have it.
+#[derive(Clone, Copy)]
+pub(crate) enum RowVerb {
+    Delete,
+    Join,
+    Move(Place),
+    Copy(Place),
+    LineNumber,
+    Null,
+    Write(Form),
+    Help,
+    HelpMode,
+    PromptMode,
+    QuitAnyway,
 }
+
+fn verb(rt: &impl Abort, alloc: Global, row: RowVerb) -> Verb {
+    match row {
+        RowVerb::Delete => Verb::Delete,
+        RowVerb::Join => Verb::Join,
+        RowVerb::Move(target) => Verb::Move(address(rt, alloc, target)),
+        RowVerb::Copy(target) => Verb::Copy(address(rt, alloc, target)),
+        RowVerb::LineNumber => Verb::LineNumber,
+        RowVerb::Null => Verb::Null,
+        RowVerb::Write(form) => Verb::Write(form),
+        RowVerb::Help => Verb::Help,
+        RowVerb::HelpMode => Verb::HelpMode,
+        RowVerb::PromptMode => Verb::PromptMode,
+        RowVerb::QuitAnyway => Verb::QuitAnyway,
+    }
+}
+
+/// A script of one command.
+#[derive(Clone, Copy)]
+pub(crate) struct CommandRow {
+    pub script: &'static [u8],
+    pub given: Given,
+    pub verb: RowVerb,
+    pub suffix: Option<Form>,
+}
+
+/// A command `p`.
+pub(crate) const PRINTED: CommandRow = CommandRow {
+    script: b"p",
+    given: Given::Without,
+    verb: RowVerb::Write(Form::Plain),
+    suffix: None,
+};
 
 // XCU ed, "Commands in ed": each command has one letter, and the target of `m` and `t` is an address. A suffix stands directly
 // after the letter and its parameters.
 #[rattlefmt::skip]
-const COMMANDS: [CommandRow; 19] = [
-    CommandRow { script: b" 2 d\t\n", addresses: Addresses::One(Address { base: Base::Number(2), offset: 0 }), verb: Verb::Delete, suffix: None },
-    CommandRow { script: b",p", addresses: Addresses::Comma(Address { base: Base::Number(1), offset: 0 }, Address { base: Base::Last, offset: 0 }), verb: Verb::Write(Form::Plain), suffix: None },
-    CommandRow { script: b"=", addresses: Addresses::Without, verb: Verb::LineNumber, suffix: None },
-    CommandRow { script: b"\n", addresses: Addresses::Without, verb: Verb::Null, suffix: None },
-    CommandRow { script: b"Q", addresses: Addresses::Without, verb: Verb::QuitAnyway, suffix: None },
-    CommandRow { script: b"j", addresses: Addresses::Without, verb: Verb::Join, suffix: None },
-    CommandRow { script: b"2,3jl", addresses: Addresses::Comma(Address { base: Base::Number(2), offset: 0 }, Address { base: Base::Number(3), offset: 0 }), verb: Verb::Join, suffix: Some(Form::Unambiguous) },
-    CommandRow { script: b"1m3p", addresses: Addresses::One(Address { base: Base::Number(1), offset: 0 }), verb: Verb::Move(Address { base: Base::Number(3), offset: 0 }), suffix: Some(Form::Plain) },
-    CommandRow { script: b"m \t+ \t", addresses: Addresses::Without, verb: Verb::Move(Address { base: Base::Current, offset: 1 }), suffix: None },
-    CommandRow { script: b"t$ -1n ", addresses: Addresses::Without, verb: Verb::Copy(Address { base: Base::Last, offset: -1 }), suffix: Some(Form::Numbered) },
-    CommandRow { script: b"t0", addresses: Addresses::Without, verb: Verb::Copy(Address { base: Base::Number(0), offset: 0 }), suffix: None },
-    CommandRow { script: b"t.l", addresses: Addresses::Without, verb: Verb::Copy(Address { base: Base::Current, offset: 0 }), suffix: Some(Form::Unambiguous) },
-    CommandRow { script: b"l", addresses: Addresses::Without, verb: Verb::Write(Form::Unambiguous), suffix: None },
-    CommandRow { script: b"n", addresses: Addresses::Without, verb: Verb::Write(Form::Numbered), suffix: None },
-    CommandRow { script: b"lp", addresses: Addresses::Without, verb: Verb::Write(Form::Unambiguous), suffix: Some(Form::Plain) },
-    CommandRow { script: b"=n", addresses: Addresses::Without, verb: Verb::LineNumber, suffix: Some(Form::Numbered) },
-    CommandRow { script: b"h", addresses: Addresses::Without, verb: Verb::Help, suffix: None },
-    CommandRow { script: b"Hp", addresses: Addresses::Without, verb: Verb::HelpMode, suffix: Some(Form::Plain) },
-    CommandRow { script: b"P", addresses: Addresses::Without, verb: Verb::PromptMode, suffix: None },
+static COMMANDS: [CommandRow; 19] = [
+    CommandRow { script: b" 2 d\t\n", given: Given::One(Place::Number(2)), verb: RowVerb::Delete, suffix: None },
+    CommandRow { script: b",p", given: Given::Comma(Place::Number(1), Place::Last(0)), verb: RowVerb::Write(Form::Plain), suffix: None },
+    CommandRow { script: b"=", given: Given::Without, verb: RowVerb::LineNumber, suffix: None },
+    CommandRow { script: b"\n", given: Given::Without, verb: RowVerb::Null, suffix: None },
+    CommandRow { script: b"Q", given: Given::Without, verb: RowVerb::QuitAnyway, suffix: None },
+    CommandRow { script: b"j", given: Given::Without, verb: RowVerb::Join, suffix: None },
+    CommandRow { script: b"2,3jl", given: Given::Comma(Place::Number(2), Place::Number(3)), verb: RowVerb::Join, suffix: Some(Form::Unambiguous) },
+    CommandRow { script: b"1m3p", given: Given::One(Place::Number(1)), verb: RowVerb::Move(Place::Number(3)), suffix: Some(Form::Plain) },
+    CommandRow { script: b"m \t+ \t", given: Given::Without, verb: RowVerb::Move(Place::Current(1)), suffix: None },
+    CommandRow { script: b"t$ -1n ", given: Given::Without, verb: RowVerb::Copy(Place::Last(-1)), suffix: Some(Form::Numbered) },
+    CommandRow { script: b"t0", given: Given::Without, verb: RowVerb::Copy(Place::Number(0)), suffix: None },
+    CommandRow { script: b"t.l", given: Given::Without, verb: RowVerb::Copy(Place::Current(0)), suffix: Some(Form::Unambiguous) },
+    CommandRow { script: b"l", given: Given::Without, verb: RowVerb::Write(Form::Unambiguous), suffix: None },
+    CommandRow { script: b"n", given: Given::Without, verb: RowVerb::Write(Form::Numbered), suffix: None },
+    CommandRow { script: b"lp", given: Given::Without, verb: RowVerb::Write(Form::Unambiguous), suffix: Some(Form::Plain) },
+    CommandRow { script: b"=n", given: Given::Without, verb: RowVerb::LineNumber, suffix: Some(Form::Numbered) },
+    CommandRow { script: b"h", given: Given::Without, verb: RowVerb::Help, suffix: None },
+    CommandRow { script: b"Hp", given: Given::Without, verb: RowVerb::HelpMode, suffix: Some(Form::Plain) },
+    CommandRow { script: b"P", given: Given::Without, verb: RowVerb::PromptMode, suffix: None },
 ];
 
-// A row's script is that one command, and no fault.
-fn check(rt: &impl Abort, alloc: Global, row: &CommandRow) -> Result<(), Fail> {
-    let read = read_script(alloc, row.script)?;
-    assert_eq!(rt; read.fault, None, "at {:?}", row.script);
-    assert_eq!(rt; read.commands.len(), 1, "at {:?}", row.script);
-    let command = &read.commands[0];
-    assert_eq!(rt; command.addresses, row.addresses, "at {:?}", row.script);
-    assert_eq!(rt; command.verb, row.verb, "at {:?}", row.script);
-    assert_eq!(rt; command.suffix, row.suffix, "at {:?}", row.script);
-    assert!(rt; !command.listed, "at {:?}", row.script);
-    Ok(())
+fn check(rt: &impl Abort, alloc: Global, row: &CommandRow) {
+    let read = script(rt, alloc, row.script);
+    let expected = Command {
+        addresses: addresses(rt, alloc, row.given),
+        verb: verb(rt, alloc, row.verb),
+        suffix: row.suffix,
+        listed: false,
+    };
+    same_as(rt, only(rt, &read), expected, row.script);
+}
+
+/// Each row's script is its command, and no fault.
+pub(crate) fn check_each(rt: &impl Abort, alloc: Global, rows: &[CommandRow]) {
+    for row in rows {
+        check(rt, alloc, row);
+    }
 }
 
 #[test]
-fn a_command_is_read_with_its_target_and_suffix(rt: HostRuntime) -> Result<(), Fail> {
-    for row in &COMMANDS {
-        check(&rt, rt.alloc(), row)?;
-    }
-    Ok(())
+fn a_command_is_read_with_its_target_and_suffix(rt: HostRuntime) {
+    check_each(&rt, rt.alloc(), &COMMANDS);
 }
 
 struct SynopsisRow {
@@ -89,39 +133,29 @@ static SYNOPSES: [SynopsisRow; 16] = [
     SynopsisRow { script: b"\n", spelled_out: b".+1\n", taking: Taking::OneLine, has_text: false, has_target: false, takes_suffix: false },
 ];
 
+fn check_synopsis(rt: &impl Abort, alloc: Global, row: &SynopsisRow) {
+    let read = script(rt, alloc, row.script);
+    let spelled_out = script(rt, alloc, row.spelled_out);
+    let takes = only(rt, &read).verb.takes();
+    same_as(
+        rt,
+        &only(rt, &spelled_out).addresses,
+        takes.default.addresses(),
+        row.script,
+    );
+    let found = (
+        takes.taking,
+        takes.text,
+        takes.target.is_some(),
+        takes.suffix,
+    );
+    let expected = (row.taking, row.has_text, row.has_target, row.takes_suffix);
+    same(rt, found, expected, row.script);
+}
+
 #[test]
-fn a_command_takes_what_its_synopsis_says(rt: HostRuntime) -> Result<(), Fail> {
+fn a_command_takes_what_its_synopsis_says(rt: HostRuntime) {
     for row in &SYNOPSES {
-        let read = read_script(rt.alloc(), row.script)?;
-        let spelled_out = read_script(rt.alloc(), row.spelled_out)?;
-        assert_eq!(rt;
-            (read.commands.len(), spelled_out.commands.len()),
-            (1, 1),
-            "at {:?}",
-            row.script
-        );
-        let verb = &read.commands[0].verb;
-        let default = verb.takes().default.addresses();
-        assert_eq!(rt;
-            default,
-            spelled_out.commands[0].addresses,
-            "at {:?}",
-            row.script
-        );
-        assert_eq!(rt; verb.takes().taking, row.taking, "at {:?}", row.script);
-        assert_eq!(rt; verb.takes().text, row.has_text, "at {:?}", row.script);
-        assert_eq!(rt;
-            verb.takes().target.is_some(),
-            row.has_target,
-            "at {:?}",
-            row.script
-        );
-        assert_eq!(rt;
-            verb.takes().suffix,
-            row.takes_suffix,
-            "at {:?}",
-            row.script
-        );
+        check_synopsis(&rt, rt.alloc(), row);
     }
-    Ok(())
 }

@@ -2,6 +2,10 @@
 #![tactic(auto)]
 
 #[cfg(test)]
+mod applying;
+#[cfg(test)]
+mod asserting;
+#[cfg(test)]
 mod bytes;
 #[cfg(test)]
 mod commands;

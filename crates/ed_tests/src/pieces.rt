@@ -1,15 +1,17 @@
 //! Bytes in pieces: which parts become one piece, and what is written of lines after edits.
+use crate::applying::{apply, loaded};
+use crate::asserting::{same, same_as};
+use crate::expected::{bytes, only, script};
 use ed_base::{Bytes, Pieces};
-use ed_commands::{Editor, Reply};
-use ed_syntax::{Request, read_script};
+use ed_commands::Reply;
+use ed_syntax::Request;
 use line_store::{ChunkStore, GapStore, LineStore, PlainStore};
-use std::alloc::{AllocError, Global};
+use std::alloc::Global;
 use std::process::Abort;
 use std::rc::Rc;
-use std::test::Fail;
 
 /// A block that parts are taken of.
-#[derive(Clone, Copy)]
+#[derive(Clone, Copy, Debug)]
 enum Block {
     Digits,
     /// The same bytes once more, in a block of their own.
@@ -18,7 +20,7 @@ enum Block {
 }
 
 /// One call.
-#[derive(Clone, Copy)]
+#[derive(Clone, Copy, Debug)]
 enum Step {
     Copy(&'static [u8]),
     Share(Block, usize, usize),
@@ -62,10 +64,6 @@ static ROWS: [Row; 12] = [
     Row { steps: &[Step::Copy(b"x"), Step::Share(Block::Digits, 0, 64), Step::Copy(b"y")], pieces: &[b"x", LONG, b"y"] },
 ];
 
-fn share(alloc: Global, bytes: &[u8]) -> Result<Rc<Bytes>, AllocError> {
-    Ok(Rc::new(alloc, Bytes::from_slice(alloc, bytes)?)?)
-}
-
 /// The blocks of the rows.
 #[derive(Drop)]
 struct Blocks {
@@ -74,13 +72,17 @@ struct Blocks {
     letters: Rc<Bytes>,
 }
 
+fn share(rt: &impl Abort, alloc: Global, of: &[u8]) -> Rc<Bytes> {
+    Rc::new(alloc, bytes(rt, alloc, of)).expect(rt, "memory")
+}
+
 impl Blocks {
-    fn new(alloc: Global) -> Result<Blocks, AllocError> {
-        Ok(Blocks {
-            digits: share(alloc, DIGITS)?,
-            again: share(alloc, DIGITS)?,
-            letters: share(alloc, LETTERS)?,
-        })
+    fn new(rt: &impl Abort, alloc: Global) -> Blocks {
+        Blocks {
+            digits: share(rt, alloc, DIGITS),
+            again: share(rt, alloc, DIGITS),
+            letters: share(rt, alloc, LETTERS),
+        }
     }
 
     fn get(&self, block: Block) -> &Rc<Bytes> {
@@ -92,76 +94,83 @@ impl Blocks {
     }
 }
 
-fn append(pieces: &mut Pieces, blocks: &Blocks, step: Step) -> Result<(), Fail> {
-    match step {
-        Step::Copy(bytes) => pieces.extend_from_slice(bytes)?,
+fn append(rt: &impl Abort, pieces: &mut Pieces, blocks: &Blocks, step: Step) {
+    let appended = match step {
+        Step::Copy(bytes) => pieces.extend_from_slice(bytes),
         Step::Share(of, start, end) => {
             let block = blocks.get(of);
-            if start > end || end > block.len() {
-                return Err(Fail::new("a part lies in its block"));
-            }
-            pieces.extend_from_block(block, start, end)?;
+            assert!(rt; start <= end && end <= block.len());
+            pieces.extend_from_block(block, start, end)
         }
+    };
+    appended.expect(rt, "memory")
+}
+
+fn built(rt: &impl Abort, alloc: Global, blocks: &Blocks, steps: &[Step]) -> Pieces {
+    let mut pieces = Pieces::new(alloc);
+    for step in steps {
+        append(rt, &mut pieces, blocks, *step);
     }
-    Ok(())
+    pieces
+}
+
+// The pieces are those of the row, whose bytes are handed on as one.
+fn check_walk(rt: &impl Abort, alloc: Global, pieces: &Pieces, row: &Row) -> Bytes {
+    let mut whole = Bytes::new(alloc);
+    let mut walk = pieces.walk();
+    for piece in row.pieces {
+        same(rt, walk.next_piece(), Some(*piece), row.steps);
+        whole.extend_from_slice(piece).expect(rt, "memory");
+    }
+    same(rt, walk.next_piece(), None, row.steps);
+    whole
+}
+
+fn check(rt: &impl Abort, alloc: Global, blocks: &Blocks, row: &Row) {
+    let pieces = built(rt, alloc, blocks, row.steps);
+    let whole = check_walk(rt, alloc, &pieces, row);
+    same(rt, pieces.len(), whole.len(), row.steps);
+    let joined = pieces.to_bytes(alloc).expect(rt, "memory");
+    same_as(rt, &whole, joined, row.steps);
+    same_as(rt, &pieces, Pieces::from_bytes(alloc, whole), row.steps);
 }
 
 #[test]
-fn parts_that_follow_each_other_are_one_piece(rt: HostRuntime) -> Result<(), Fail> {
-    let blocks = Blocks::new(rt.alloc())?;
+fn parts_that_follow_each_other_are_one_piece(rt: HostRuntime) {
+    let blocks = Blocks::new(&rt, rt.alloc());
     for row in &ROWS {
-        let mut pieces = Pieces::new(rt.alloc());
-        for step in row.steps {
-            append(&mut pieces, &blocks, *step)?;
-        }
-        let mut whole = Bytes::new(rt.alloc());
-        let mut walk = pieces.walk();
-        for piece in row.pieces {
-            whole.extend_from_slice(piece)?;
-            assert_eq!(rt; walk.next_piece(), Some(*piece));
-        }
-        assert_eq!(rt; walk.next_piece(), None, "{:?}", whole);
-        assert_eq!(rt; pieces.len(), whole.len());
-        assert_eq!(rt; pieces.to_bytes(rt.alloc())?, whole);
-        assert_eq!(rt; pieces, Pieces::from_bytes(rt.alloc(), whole));
+        check(&rt, rt.alloc(), &blocks, row);
     }
-    Ok(())
 }
 
+static OTHERS: [&[u8]; 4] = [b"", b"0", b"11", b"012"];
+
 #[test]
-fn pieces_with_other_bytes_differ(rt: HostRuntime) -> Result<(), Fail> {
-    let blocks = Blocks::new(rt.alloc())?;
-    let mut pieces = Pieces::new(rt.alloc());
-    append(&mut pieces, &blocks, Step::Share(Block::Digits, 0, 2))?;
-    for other in [b"".as_slice(), b"0", b"11", b"012"] {
-        let other = Bytes::from_slice(rt.alloc(), other)?;
-        assert_ne!(rt; pieces, Pieces::from_bytes(rt.alloc(), other));
+fn pieces_with_other_bytes_differ(rt: HostRuntime) {
+    let alloc = rt.alloc();
+    let blocks = Blocks::new(&rt, alloc);
+    let pieces = built(&rt, alloc, &blocks, &[Step::Share(Block::Digits, 0, 2)]);
+    for other in &OTHERS {
+        let others = Pieces::from_bytes(alloc, bytes(&rt, alloc, other));
+        assert!(rt; pieces != others, "{other:?}");
     }
-    Ok(())
 }
 
 // The last line of the file lacks its newline, one line is new, and one stands twice.
-fn check_write<S: LineStore>(rt: &impl Abort, alloc: Global) -> Result<(), Fail> {
-    let mut editor = Editor::new(alloc, S::empty(alloc)?);
-    editor.load(b"one\ntwo\nthree\nfour", Bytes::from_slice(alloc, b"F")?)?;
-    let script = read_script(alloc, b"2s/w/W/\n1t3\n2,5w G\n")?;
-    let [substitute, copy, write] = script.commands.as_slice() else {
-        return Err(Fail::new("there are three commands"));
-    };
-    editor.apply(substitute, None)?;
-    editor.apply(copy, None)?;
-    let bytes = Bytes::from_slice(alloc, b"tWo\nthree\none\nfour\n")?;
-    let asked = Request::Write(
-        Bytes::from_slice(alloc, b"G")?,
-        Pieces::from_bytes(alloc, bytes),
-    );
-    assert_eq!(rt; editor.apply(write, None), Ok(Reply::Wants(asked)));
-    Ok(())
+fn check_write<S: LineStore>(rt: &impl Abort, alloc: Global) {
+    let mut editor = loaded::<S>(rt, alloc, b"one\ntwo\nthree\nfour");
+    apply(rt, alloc, &mut editor, b"2s/w/W/\n1t3\n");
+    let write = script(rt, alloc, b"2,5w G\n");
+    let lines = bytes(rt, alloc, b"tWo\nthree\none\nfour\n");
+    let lines = Pieces::from_bytes(alloc, lines);
+    let asked = Reply::Wants(Request::Write(bytes(rt, alloc, b"G"), lines));
+    let reply = editor.apply(only(rt, &write), None);
+    same(rt, reply, Ok(asked), "2,5w G");
 }
 
 #[test]
-fn a_range_is_written_as_its_lines_are(rt: HostRuntime) -> Result<(), Fail> {
-    check_write::<PlainStore>(&rt, rt.alloc())?;
-    check_write::<GapStore>(&rt, rt.alloc())?;
-    check_write::<ChunkStore>(&rt, rt.alloc())
+fn a_range_is_written_as_its_lines_are(rt: HostRuntime) {
+    check_write::<PlainStore>(&rt, rt.alloc());
+    check_write::<GapStore>(&rt, rt.alloc());
+    check_write::<ChunkStore>(&rt, rt.alloc());
 }

@@ -1,30 +1,32 @@
 //! Scripts as they are read: up to the first fault, with the addresses that the standard says (XCU ed, "Addresses in ed").
-use crate::expected::{at, from, letter, pattern};
+use crate::asserting::{same, same_as};
+use crate::commands::{CommandRow, PRINTED, RowVerb, check_each};
+use crate::expected::{Given, Place, are_lines, bytes, only, pattern, script};
 use bre_parse::fault::BreFault;
-use ed_base::Bytes;
-use ed_syntax::{Address, Addresses, Answer, Base, Pattern, Verb, read_script};
+use ed_syntax::{Address, Answer, Base, Pattern, Verb};
 use std::alloc::Global;
-use std::test::Fail;
+use std::process::Abort;
 
-#[test]
-fn a_text_holds_any_byte_but_newline(rt: HostRuntime) -> Result<(), Fail> {
-    let mut bytes = Vec::from_slice(rt.alloc(), b"a\n".as_slice())?;
+// The command `a` with each byte in turn.
+fn every_byte(rt: &impl Abort, alloc: Global) -> Vec<u8> {
+    let mut bytes = Vec::from_slice(alloc, b"a\n".as_slice()).expect(rt, "memory");
     for byte in 0..=255 {
-        bytes.push(byte)?;
+        bytes.push(byte).expect(rt, "memory");
     }
-    assert_eq!(rt; bytes.len(), 258);
-    let script = read_script(rt.alloc(), bytes.as_slice())?;
-    assert_eq!(rt; script.commands.len(), 1);
-    let Verb::Append(text) = &script.commands[0].verb else {
-        return Err(Fail::from("no text"));
-    };
-    assert_eq!(rt; text.len(), 2);
-    assert_eq!(rt; text.as_slice()[0].as_slice(), &bytes[2..12]);
-    assert_eq!(rt; text.as_slice()[1].as_slice(), &bytes[13..]);
-    Ok(())
+    bytes
 }
 
-#[derive(Drop)]
+#[test]
+fn a_text_holds_any_byte_but_newline(rt: HostRuntime) {
+    let bytes = every_byte(&rt, rt.alloc());
+    assert!(rt; bytes.len() == 258);
+    let read = script(&rt, rt.alloc(), bytes.as_slice());
+    let Verb::Append(text) = &only(&rt, &read).verb else {
+        panic!(rt; "no text");
+    };
+    assert!(rt; are_lines(text, &[&bytes[2..12], &bytes[13..]]), "{text:?}");
+}
+
 struct ScriptRow {
     script: &'static [u8],
     commands: usize,
@@ -70,214 +72,135 @@ static SCRIPTS: [ScriptRow; 34] = [
     ScriptRow { script: b"1P", commands: 0, fault: Some(1) },
 ];
 
-#[rattlefmt::skip]
+fn check_script(rt: &impl Abort, alloc: Global, row: &ScriptRow) {
+    let read = script(rt, alloc, row.script);
+    let expected = (row.commands, row.fault);
+    same(rt, (read.commands.len(), read.fault), expected, row.script);
+}
+
 #[test]
-fn a_script_is_read_up_to_its_first_fault(rt: HostRuntime) -> Result<(), Fail> {
+fn a_script_is_read_up_to_its_first_fault(rt: HostRuntime) {
     for row in &SCRIPTS {
-        let script = read_script(rt.alloc(), row.script)?;
-        assert_eq!(rt; script.commands.len(), row.commands, "at {:?}", row.script);
-        assert_eq!(rt; script.fault, row.fault, "at {:?}", row.script);
+        check_script(&rt, rt.alloc(), row);
     }
-    Ok(())
-}
-
-// Whether a script is one command with these addresses.
-fn reads(alloc: Global, bytes: &[u8], expected: Addresses) -> Result<bool, Fail> {
-    let script = read_script(alloc, bytes)?;
-    match script.commands.as_slice() {
-        [command] => Ok(script.fault.is_none() && command.addresses == expected),
-        _ => Ok(false),
-    }
-}
-
-struct OffsetRow {
-    script: &'static [u8],
-    offset: i128,
 }
 
 // XCU ed, "Addresses in ed": a sign alone counts 1, and blanks don't matter.
 #[rattlefmt::skip]
-static OFFSETS: [OffsetRow; 8] = [
-    OffsetRow { script: b".p", offset: 0 },
-    OffsetRow { script: b"+p", offset: 1 },
-    OffsetRow { script: b"--p", offset: -2 },
-    OffsetRow { script: b".+5p", offset: 5 },
-    OffsetRow { script: b"-12p", offset: -12 },
-    OffsetRow { script: b" . +7 -\t+3 p", offset: 9 },
-    OffsetRow { script: b"-999999999-p", offset: -1_000_000_000 },
-    OffsetRow { script: b"+0p", offset: 0 },
+static OFFSETS: [CommandRow; 8] = [
+    CommandRow { script: b".p", given: Given::One(Place::Current(0)), ..PRINTED },
+    CommandRow { script: b"+p", given: Given::One(Place::Current(1)), ..PRINTED },
+    CommandRow { script: b"--p", given: Given::One(Place::Current(-2)), ..PRINTED },
+    CommandRow { script: b".+5p", given: Given::One(Place::Current(5)), ..PRINTED },
+    CommandRow { script: b"-12p", given: Given::One(Place::Current(-12)), ..PRINTED },
+    CommandRow { script: b" . +7 -\t+3 p", given: Given::One(Place::Current(9)), ..PRINTED },
+    CommandRow { script: b"-999999999-p", given: Given::One(Place::Current(-1_000_000_000)), ..PRINTED },
+    CommandRow { script: b"+0p", given: Given::One(Place::Current(0)), ..PRINTED },
 ];
 
 #[test]
-fn offsets_are_summed(rt: HostRuntime) -> Result<(), Fail> {
-    for row in &OFFSETS {
-        let expected = Addresses::One(from(Base::Current, row.offset));
-        assert!(rt;
-            reads(rt.alloc(), row.script, expected)?,
-            "at {:?}",
-            row.script
-        );
-    }
-    Ok(())
-}
-
-/// An address, as rows have it.
-#[derive(Clone, Copy)]
-enum Place {
-    Number(u32),
-    Current(i128),
-    Last(i128),
-}
-
-/// The addresses of a command, as rows have them.
-#[derive(Clone, Copy)]
-enum Given {
-    Without,
-    One(Place),
-    Comma(Place, Place),
-    Semicolon(Place, Option<Place>),
-}
-
-struct AddressRow {
-    script: &'static [u8],
-    given: Given,
+fn offsets_are_summed(rt: HostRuntime) {
+    check_each(&rt, rt.alloc(), &OFFSETS);
 }
 
 // What an address begins with, and what stands for one that is left out.
 #[rattlefmt::skip]
-static ADDRESSES: [AddressRow; 11] = [
-    AddressRow { script: b"7p", given: Given::One(Place::Number(7)) },
-    AddressRow { script: b"$-p", given: Given::One(Place::Last(-1)) },
-    AddressRow { script: b"p", given: Given::Without },
-    AddressRow { script: b",p", given: Given::Comma(Place::Number(1), Place::Last(0)) },
-    AddressRow { script: b",7p", given: Given::Comma(Place::Number(1), Place::Number(7)) },
-    AddressRow { script: b"7,p", given: Given::Comma(Place::Number(7), Place::Number(7)) },
-    AddressRow { script: b" 7 , + p", given: Given::Comma(Place::Number(7), Place::Current(1)) },
-    AddressRow { script: b";p", given: Given::Semicolon(Place::Current(0), Some(Place::Last(0))) },
-    AddressRow { script: b";7p", given: Given::Semicolon(Place::Current(0), Some(Place::Number(7))) },
-    AddressRow { script: b"7;p", given: Given::Semicolon(Place::Number(7), None) },
-    AddressRow { script: b" 7 ; + p", given: Given::Semicolon(Place::Number(7), Some(Place::Current(1))) },
+static ADDRESSES: [CommandRow; 12] = [
+    CommandRow { script: b"7p", given: Given::One(Place::Number(7)), ..PRINTED },
+    CommandRow { script: b"$-p", given: Given::One(Place::Last(-1)), ..PRINTED },
+    CommandRow { script: b"'z+2p", given: Given::One(Place::Marked(b'z', 2)), ..PRINTED },
+    CommandRow { script: b"p", given: Given::Without, ..PRINTED },
+    CommandRow { script: b",p", given: Given::Comma(Place::Number(1), Place::Last(0)), ..PRINTED },
+    CommandRow { script: b",7p", given: Given::Comma(Place::Number(1), Place::Number(7)), ..PRINTED },
+    CommandRow { script: b"7,p", given: Given::Comma(Place::Number(7), Place::Number(7)), ..PRINTED },
+    CommandRow { script: b" 7 , + p", given: Given::Comma(Place::Number(7), Place::Current(1)), ..PRINTED },
+    CommandRow { script: b";p", given: Given::Semicolon(Place::Current(0), Some(Place::Last(0))), ..PRINTED },
+    CommandRow { script: b";7p", given: Given::Semicolon(Place::Current(0), Some(Place::Number(7))), ..PRINTED },
+    CommandRow { script: b"7;p", given: Given::Semicolon(Place::Number(7), None), ..PRINTED },
+    CommandRow { script: b" 7 ; + p", given: Given::Semicolon(Place::Number(7), Some(Place::Current(1))), ..PRINTED },
 ];
 
-fn address(place: Place) -> Address {
-    match place {
-        Place::Number(number) => at(Base::Number(number)),
-        Place::Current(offset) => from(Base::Current, offset),
-        Place::Last(offset) => from(Base::Last, offset),
-    }
-}
-
-fn addresses(given: Given) -> Addresses {
-    match given {
-        Given::Without => Addresses::Without,
-        Given::One(place) => Addresses::One(address(place)),
-        Given::Comma(first, second) => Addresses::Comma(address(first), address(second)),
-        Given::Semicolon(first, second) => {
-            Addresses::Semicolon(address(first), second.map(address))
-        }
-    }
-}
-
 #[test]
-fn an_address_that_is_left_out_is_filled_in(rt: HostRuntime) -> Result<(), Fail> {
-    for row in &ADDRESSES {
-        assert!(rt;
-            reads(rt.alloc(), row.script, addresses(row.given))?,
-            "at {:?}",
-            row.script
-        );
-    }
-    let marked = Addresses::One(from(Base::Marked(letter(b'z')?), 2));
-    assert!(rt; reads(rt.alloc(), b"'z+2p", marked)?);
-    Ok(())
+fn an_address_that_is_left_out_is_filled_in(rt: HostRuntime) {
+    check_each(&rt, rt.alloc(), &ADDRESSES);
 }
 
-struct SearchRow {
-    script: &'static [u8],
-    is_forward: bool,
-    text: Option<&'static [u8]>,
-}
+// No letter behind a search that its line ends.
+const UNLETTERED: CommandRow = CommandRow {
+    verb: RowVerb::Null,
+    ..PRINTED
+};
 
 // XCU ed, "Regular Expressions in ed": the delimiter in a pattern, and the pattern that is left out.
 #[rattlefmt::skip]
-static SEARCHES: [SearchRow; 13] = [
-    SearchRow { script: b"/a b/p", is_forward: true, text: Some(b"a b") },
-    SearchRow { script: b"/a?b", is_forward: true, text: Some(b"a?b") },
-    SearchRow { script: b"/a\\/b/p", is_forward: true, text: Some(b"a/b") },
-    SearchRow { script: b"/a\\.b/p", is_forward: true, text: Some(b"a\\.b") },
-    SearchRow { script: b"/a\\\\/p", is_forward: true, text: Some(b"a\\\\") },
-    SearchRow { script: b"/[/]x/p", is_forward: true, text: Some(b"[/]x") },
-    SearchRow { script: b"/[]/]/p", is_forward: true, text: Some(b"[]/]") },
-    SearchRow { script: b"//p", is_forward: true, text: None },
-    SearchRow { script: b"/", is_forward: true, text: None },
-    SearchRow { script: b"?a/b?p", is_forward: false, text: Some(b"a/b") },
-    SearchRow { script: b"?a\\?b", is_forward: false, text: Some(b"a?b") },
-    SearchRow { script: b"?[?]?p", is_forward: false, text: Some(b"[?]") },
-    SearchRow { script: b"??p", is_forward: false, text: None },
+static SEARCHES: [CommandRow; 13] = [
+    CommandRow { script: b"/a b/p", given: Given::One(Place::Forward(Some(b"a b"))), ..PRINTED },
+    CommandRow { script: b"/a?b", given: Given::One(Place::Forward(Some(b"a?b"))), ..UNLETTERED },
+    CommandRow { script: b"/a\\/b/p", given: Given::One(Place::Forward(Some(b"a/b"))), ..PRINTED },
+    CommandRow { script: b"/a\\.b/p", given: Given::One(Place::Forward(Some(b"a\\.b"))), ..PRINTED },
+    CommandRow { script: b"/a\\\\/p", given: Given::One(Place::Forward(Some(b"a\\\\"))), ..PRINTED },
+    CommandRow { script: b"/[/]x/p", given: Given::One(Place::Forward(Some(b"[/]x"))), ..PRINTED },
+    CommandRow { script: b"/[]/]/p", given: Given::One(Place::Forward(Some(b"[]/]"))), ..PRINTED },
+    CommandRow { script: b"//p", given: Given::One(Place::Forward(None)), ..PRINTED },
+    CommandRow { script: b"/", given: Given::One(Place::Forward(None)), ..UNLETTERED },
+    CommandRow { script: b"?a/b?p", given: Given::One(Place::Backward(Some(b"a/b"))), ..PRINTED },
+    CommandRow { script: b"?a\\?b", given: Given::One(Place::Backward(Some(b"a?b"))), ..UNLETTERED },
+    CommandRow { script: b"?[?]?p", given: Given::One(Place::Backward(Some(b"[?]"))), ..PRINTED },
+    CommandRow { script: b"??p", given: Given::One(Place::Backward(None)), ..PRINTED },
 ];
 
 #[test]
-fn a_search_has_its_pattern(rt: HostRuntime) -> Result<(), Fail> {
-    for row in &SEARCHES {
-        let script = read_script(rt.alloc(), row.script)?;
-        assert_eq!(rt; script.commands.len(), 1, "at {:?}", row.script);
-        let Addresses::One(address) = &script.commands[0].addresses else {
-            return Err(Fail::from("not one address"));
-        };
-        assert_eq!(rt; address.offset, 0, "at {:?}", row.script);
-        let (pattern, is_forward) = match &address.base {
-            Base::Forward(pattern) => (pattern, true),
-            Base::Backward(pattern) => (pattern, false),
-            _ => return Err(Fail::from("no search")),
-        };
-        assert_eq!(rt; is_forward, row.is_forward, "at {:?}", row.script);
-        let text = match pattern {
-            Some(pattern) => Some(pattern.text()),
-            None => None,
-        };
-        assert_eq!(rt; text, row.text, "at {:?}", row.script);
+fn a_search_has_its_pattern(rt: HostRuntime) {
+    check_each(&rt, rt.alloc(), &SEARCHES);
+}
+
+fn push_times(rt: &impl Abort, bytes: &mut Vec<u8>, byte: u8, times: usize) {
+    for _ in 0..times {
+        bytes.push(byte).expect(rt, "memory");
     }
-    Ok(())
 }
 
 #[test]
-fn long_lines_are_read(rt: HostRuntime) -> Result<(), Fail> {
-    let mut bytes = Vec::from_slice(rt.alloc(), b"a\n".as_slice())?;
-    for _ in 0..100_000 {
-        bytes.push(b'x')?;
-    }
-    bytes.extend_from_slice(b"\n.\n/".as_slice())?;
-    for _ in 0..10_000 {
-        bytes.push(b'y')?;
-    }
-    let script = read_script(rt.alloc(), bytes.as_slice())?;
-    assert_eq!(rt; (script.commands.len(), script.fault), (2, None));
-    Ok(())
+fn long_lines_are_read(rt: HostRuntime) {
+    let mut bytes = Vec::from_slice(rt.alloc(), b"a\n".as_slice()).expect(&rt, "memory");
+    push_times(&rt, &mut bytes, b'x', 100_000);
+    bytes
+        .extend_from_slice(b"\n.\n/".as_slice())
+        .expect(&rt, "memory");
+    push_times(&rt, &mut bytes, b'y', 10_000);
+    let read = script(&rt, rt.alloc(), bytes.as_slice());
+    assert!(rt; read.commands.len() == 2 && read.fault.is_none());
+}
+
+fn check_pattern(rt: &impl Abort, pattern: &Pattern, copied: &str) {
+    same(rt, pattern.text(), b"\\(x\\)*y".as_slice(), copied);
+    same(rt, pattern.bre().groups(), 1, copied);
 }
 
 #[test]
-fn a_pattern_has_its_text_and_its_meaning(rt: HostRuntime) -> Result<(), Fail> {
-    let pattern = pattern(rt.alloc(), b"\\(x\\)*y")?;
-    let copy = pattern.try_copy()?;
-    for pattern in [&pattern, &copy] {
-        assert_eq!(rt; pattern.text(), b"\\(x\\)*y".as_slice());
-        assert_eq!(rt; pattern.bre().groups(), 1);
-    }
-    assert_eq!(rt; pattern, copy);
-    let text = Bytes::from_slice(rt.alloc(), b"[x".as_slice())?;
-    assert_eq!(rt;
-        Pattern::read(rt.alloc(), text).err(),
-        Some(BreFault::Bracket)
-    );
-    Ok(())
+fn a_pattern_has_its_text_and_its_meaning(rt: HostRuntime) {
+    let pattern = pattern(&rt, rt.alloc(), b"\\(x\\)*y");
+    check_pattern(&rt, &pattern, "as it was read");
+    let copy = pattern.try_copy().expect(&rt, "memory");
+    check_pattern(&rt, &copy, "copied");
+    same_as(&rt, &pattern, copy, "the copy");
 }
 
 #[test]
-fn copies_are_equal(rt: HostRuntime) -> Result<(), Fail> {
-    let pattern = pattern(rt.alloc(), b"x*")?;
-    let address = from(Base::Forward(Some(pattern)), -3);
-    assert_eq!(rt; address.try_copy()?, address);
-    let answer = Answer::Bytes(Bytes::from_slice(rt.alloc(), b"x\n".as_slice())?);
-    assert_eq!(rt; answer.try_copy()?, answer);
-    Ok(())
+fn a_pattern_that_cannot_be_read_tells_why(rt: HostRuntime) {
+    let read = Pattern::read(rt.alloc(), bytes(&rt, rt.alloc(), b"[x"));
+    same(&rt, read.err(), Some(BreFault::Bracket), "[x");
+}
+
+#[test]
+fn copies_are_equal(rt: HostRuntime) {
+    let address = Address {
+        base: Base::Forward(Some(pattern(&rt, rt.alloc(), b"x*"))),
+        offset: -3,
+    };
+    let copy = address.try_copy().expect(&rt, "memory");
+    same(&rt, copy, address, "the address");
+    let answer = Answer::Bytes(bytes(&rt, rt.alloc(), b"x\n"));
+    let copy = answer.try_copy().expect(&rt, "memory");
+    same(&rt, copy, answer, "the answer");
 }

@@ -3,49 +3,18 @@ ghost use Rattle.std.specs.Prelude.{IsTrue};
 ghost use Rattle.ed_syntax.specs.PublicTypes.{command_value};
 ghost use Rattle.ed_commands.specs.Editors.{is_global};
 
-use crate::expected::{at, letter, pattern, texts};
-use ed_base::{Bytes, Fault};
+use crate::applying::{Value, apply, apply_listed, check_texts, check_values, loaded};
+use crate::asserting::same;
+use crate::expected::{Place, only, pattern, script};
+use ed_base::Fault;
 use ed_commands::Editor;
-use ed_syntax::{Addresses, Base, Command, Pattern, Sense, Verb, read_script};
+use ed_syntax::{Addresses, Command, Pattern, Sense, Verb};
 use line_store::{ChunkStore, GapStore, LineStore, PlainStore};
 use std::alloc::Global;
 use std::process::Abort;
-use std::test::Fail;
 
-fn command(verb: Verb) -> Command {
-    Command {
-        addresses: Addresses::Without,
-        verb,
-        suffix: None,
-        listed: false,
-    }
-}
-
-// An editor of the lines `a`, `b`, `c` and `d`, of which the last is current.
-fn editor<S: LineStore>(alloc: Global) -> Result<Editor<S>, Fail> {
-    let mut editor = Editor::new(alloc, S::empty(alloc)?);
-    editor.load(b"a\nb\nc\nd\n", Bytes::from_slice(alloc, b"F")?)?;
-    Ok(editor)
-}
-
-// Applies the commands of a script, as those of a list or not.
-fn apply<S: LineStore>(
-    alloc: Global,
-    editor: &mut Editor<S>,
-    script: &[u8],
-    listed: bool,
-) -> Result<(), Fail> {
-    let mut read = read_script(alloc, script)?;
-    for command in &mut read.commands {
-        command.listed = listed;
-        editor.apply(command, None)?;
-    }
-    Ok(())
-}
-
-fn undo<S: LineStore>(alloc: Global, editor: &mut Editor<S>) -> Result<(), Fail> {
-    apply(alloc, editor, b"u\n", false)
-}
+// The lines that each editor begins with, of which the last is current.
+const ABCD: &[u8] = b"a\nb\nc\nd\n";
 
 // The lines are these, each with its newline, and this one is current.
 fn check_lines<S: LineStore>(
@@ -54,13 +23,27 @@ fn check_lines<S: LineStore>(
     editor: &Editor<S>,
     lines: &[u8],
     current: usize,
-) -> Result<(), Fail> {
-    let texts = texts(alloc, editor.lines())?;
-    assert_eq!(rt; (texts.as_slice(), editor.current()), (lines, current));
-    Ok(())
+) {
+    check_texts(rt, alloc, editor.lines(), lines, lines);
+    same(rt, editor.current(), current, lines);
 }
 
-#[derive(Drop)]
+// The lines are these now, `u` brings back those that the editor began with, and the next `u` these.
+fn check_exchange<S: LineStore>(
+    rt: &impl Abort,
+    alloc: Global,
+    editor: &mut Editor<S>,
+    lines: &[u8],
+    current: usize,
+) {
+    check_lines(rt, alloc, editor, lines, current);
+    apply(rt, alloc, editor, b"u\n");
+    check_lines(rt, alloc, editor, ABCD, 4);
+    assert!(rt; editor.changed());
+    apply(rt, alloc, editor, b"u\n");
+    check_lines(rt, alloc, editor, lines, current);
+}
+
 struct UndoneRow {
     script: &'static [u8],
     lines: &'static [u8],
@@ -82,92 +65,70 @@ static UNDONE: [UndoneRow; 10] = [
     UndoneRow { script: b"2,3s/./<\\\n&/", lines: b"a\n<\nb\n<\nc\nd\n", current: 5 },
 ];
 
-fn check_undone<S: LineStore>(rt: &impl Abort, alloc: Global) -> Result<(), Fail> {
+fn check_undone<S: LineStore>(rt: &impl Abort, alloc: Global) {
     for row in &UNDONE {
-        let mut editor = editor::<S>(alloc)?;
-        apply(alloc, &mut editor, row.script, false)?;
-        check_lines(rt, alloc, &editor, row.lines, row.current)?;
-        undo(alloc, &mut editor)?;
-        check_lines(rt, alloc, &editor, b"a\nb\nc\nd\n", 4)?;
-        assert!(rt; editor.changed());
-        undo(alloc, &mut editor)?;
-        check_lines(rt, alloc, &editor, row.lines, row.current)?;
-        undo(alloc, &mut editor)?;
-        check_lines(rt, alloc, &editor, b"a\nb\nc\nd\n", 4)?;
+        let mut editor = loaded::<S>(rt, alloc, ABCD);
+        apply(rt, alloc, &mut editor, row.script);
+        check_exchange(rt, alloc, &mut editor, row.lines, row.current);
+        check_exchange(rt, alloc, &mut editor, row.lines, row.current);
     }
-    Ok(())
 }
 
 #[test]
-fn undo_exchanges_the_buffer_before_a_command_with_the_one_after_it(
-    rt: HostRuntime,
-) -> Result<(), Fail> {
-    check_undone::<PlainStore>(&rt, rt.alloc())?;
-    check_undone::<GapStore>(&rt, rt.alloc())?;
-    check_undone::<ChunkStore>(&rt, rt.alloc())
+fn undo_exchanges_the_buffer_before_a_command_with_the_one_after_it(rt: HostRuntime) {
+    check_undone::<PlainStore>(&rt, rt.alloc());
+    check_undone::<GapStore>(&rt, rt.alloc());
+    check_undone::<ChunkStore>(&rt, rt.alloc());
 }
 
-fn check_start<S: LineStore>(rt: &impl Abort, alloc: Global) -> Result<(), Fail> {
-    let mut editor = editor::<S>(alloc)?;
-    assert_eq!(rt; editor.apply(&command(Verb::Undo), None), Err(Fault::Undo));
-    assert_eq!(rt; editor.failed(), Some(Fault::Undo));
-    Ok(())
+fn check_start<S: LineStore>(rt: &impl Abort, alloc: Global) {
+    let mut editor = loaded::<S>(rt, alloc, ABCD);
+    let undo = script(rt, alloc, b"u\n");
+    let reply = editor.apply(only(rt, &undo), None);
+    same(rt, reply, Err(Fault::Undo), "u");
+    same(rt, editor.failed(), Some(Fault::Undo), "u");
 }
 
 #[test]
-fn before_the_first_change_nothing_is_to_be_undone(rt: HostRuntime) -> Result<(), Fail> {
-    check_start::<PlainStore>(&rt, rt.alloc())?;
-    check_start::<GapStore>(&rt, rt.alloc())?;
-    check_start::<ChunkStore>(&rt, rt.alloc())
+fn before_the_first_change_nothing_is_to_be_undone(rt: HostRuntime) {
+    check_start::<PlainStore>(&rt, rt.alloc());
+    check_start::<GapStore>(&rt, rt.alloc());
+    check_start::<ChunkStore>(&rt, rt.alloc());
 }
 
-// Where the line is that a letter marks.
-fn marked<S: LineStore>(editor: &mut Editor<S>, byte: u8) -> Result<Result<usize, Fault>, Fail> {
-    let address = at(Base::Marked(letter(byte)?));
-    Ok(editor.value_of(&address))
-}
-
-fn check_letters<S: LineStore>(
-    rt: &impl Abort,
-    editor: &mut Editor<S>,
-    places: &[(u8, Result<usize, Fault>)],
-) -> Result<(), Fail> {
-    for (byte, place) in places {
-        assert_eq!(rt; marked(editor, *byte)?, *place, "at {byte}");
-    }
-    Ok(())
-}
-
-static AFTER_CHANGES: [(u8, Result<usize, Fault>); 1] = [(b'y', Err(Fault::Mark))];
+// Where the lines are that letters mark.
+static AFTER_CHANGES: &[Value] = &[(Place::Marked(b'y', 0), Err(Fault::Mark))];
 
 #[rattlefmt::skip]
-static AFTER_UNDO: [(u8, Result<usize, Fault>); 4] = [(b'x', Ok(1)), (b'y', Ok(2)), (b'z', Ok(4)), (b'w', Err(Fault::Mark))];
+static AFTER_UNDO: &[Value] = &[
+    (Place::Marked(b'x', 0), Ok(1)),
+    (Place::Marked(b'y', 0), Ok(2)),
+    (Place::Marked(b'z', 0), Ok(4)),
+    (Place::Marked(b'w', 0), Err(Fault::Mark)),
+];
 
-static AFTER_UNDO_AGAIN: [(u8, Result<usize, Fault>); 2] = [(b'z', Ok(1)), (b'w', Ok(1))];
+static AFTER_UNDO_AGAIN: &[Value] = &[
+    (Place::Marked(b'z', 0), Ok(1)),
+    (Place::Marked(b'w', 0), Ok(1)),
+];
 
-fn check_marks<S: LineStore>(rt: &impl Abort, alloc: Global) -> Result<(), Fail> {
-    let mut editor = editor::<S>(alloc)?;
-    apply(
-        alloc,
-        &mut editor,
-        b"1kx\n2ky\n4kz\n1,2d\n1kz\n1kw\n",
-        false,
-    )?;
-    check_letters(rt, &mut editor, &AFTER_CHANGES)?;
-    undo(alloc, &mut editor)?;
-    check_letters(rt, &mut editor, &AFTER_UNDO)?;
-    undo(alloc, &mut editor)?;
-    check_letters(rt, &mut editor, &AFTER_UNDO_AGAIN)
+fn check_marks<S: LineStore>(rt: &impl Abort, alloc: Global) {
+    let mut editor = loaded::<S>(rt, alloc, ABCD);
+    apply(rt, alloc, &mut editor, b"1kx\n2ky\n4kz\n1,2d\n1kz\n1kw\n");
+    check_values(rt, alloc, &mut editor, AFTER_CHANGES);
+    apply(rt, alloc, &mut editor, b"u\n");
+    check_values(rt, alloc, &mut editor, AFTER_UNDO);
+    apply(rt, alloc, &mut editor, b"u\n");
+    check_values(rt, alloc, &mut editor, AFTER_UNDO_AGAIN);
 }
 
 #[test]
-fn undo_brings_the_marks_back_and_takes_later_ones(rt: HostRuntime) -> Result<(), Fail> {
-    check_marks::<PlainStore>(&rt, rt.alloc())?;
-    check_marks::<GapStore>(&rt, rt.alloc())?;
-    check_marks::<ChunkStore>(&rt, rt.alloc())
+fn undo_brings_the_marks_back_and_takes_later_ones(rt: HostRuntime) {
+    check_marks::<PlainStore>(&rt, rt.alloc());
+    check_marks::<GapStore>(&rt, rt.alloc());
+    check_marks::<ChunkStore>(&rt, rt.alloc());
 }
 
-#[derive(Drop)]
 struct GlobalRow {
     sense: Sense,
     pattern: &'static [u8],
@@ -204,69 +165,73 @@ fn global(alloc: Global, sense: Sense, pattern: Pattern) -> Command
     }
 }
 
-// Runs a list for each line that a global command takes, and tells how many it took.
-fn run_global<S: LineStore>(
+// How many lines a global command takes. The command is handed over to be dropped, since that in place is dear to prove.
+fn begin_global<S: LineStore>(
+    rt: &impl Abort,
     alloc: Global,
     editor: &mut Editor<S>,
     row: &GlobalRow,
-) -> Result<usize, Fail> {
-    let global = global(alloc, row.sense, pattern(alloc, row.pattern)?);
-    let taken = editor.begin_global(&global)?.lines;
+) -> usize {
+    let global = global(alloc, row.sense, pattern(rt, alloc, row.pattern));
+    let begun = editor.begin_global(&global).expect(rt, "begun");
+    drop(global);
+    begun.lines
+}
+
+// Runs a list for each line that a global command takes.
+fn run_global<S: LineStore>(
+    rt: &impl Abort,
+    alloc: Global,
+    editor: &mut Editor<S>,
+    row: &GlobalRow,
+) {
+    let taken = begin_global(rt, alloc, editor, row);
+    same(rt, taken, row.taken, row.pattern);
     for _ in 0..taken {
         if !editor.next_global() {
             break;
         }
-        apply(alloc, editor, row.list, true)?;
+        apply_listed(rt, alloc, editor, row.list);
     }
     editor.end_global();
-    Ok(taken)
+    assert!(rt; !editor.next_global());
 }
 
-fn check_globals<S: LineStore>(rt: &impl Abort, alloc: Global) -> Result<(), Fail> {
+fn check_globals<S: LineStore>(rt: &impl Abort, alloc: Global) {
     for row in &GLOBALS {
-        let mut editor = editor::<S>(alloc)?;
-        let taken = run_global(alloc, &mut editor, row)?;
-        assert_eq!(rt; taken, row.taken, "at {:?}", row.pattern);
-        assert!(rt; !editor.next_global());
-        check_lines(rt, alloc, &editor, row.lines, row.current)?;
-        undo(alloc, &mut editor)?;
-        check_lines(rt, alloc, &editor, b"a\nb\nc\nd\n", 4)?;
-        undo(alloc, &mut editor)?;
-        check_lines(rt, alloc, &editor, row.lines, row.current)?;
+        let mut editor = loaded::<S>(rt, alloc, ABCD);
+        run_global(rt, alloc, &mut editor, row);
+        check_exchange(rt, alloc, &mut editor, row.lines, row.current);
     }
-    Ok(())
 }
 
 #[test]
-fn a_global_command_is_one_change_for_undo(rt: HostRuntime) -> Result<(), Fail> {
-    check_globals::<PlainStore>(&rt, rt.alloc())?;
-    check_globals::<GapStore>(&rt, rt.alloc())?;
-    check_globals::<ChunkStore>(&rt, rt.alloc())
+fn a_global_command_is_one_change_for_undo(rt: HostRuntime) {
+    check_globals::<PlainStore>(&rt, rt.alloc());
+    check_globals::<GapStore>(&rt, rt.alloc());
+    check_globals::<ChunkStore>(&rt, rt.alloc());
 }
 
-fn check_unchanged<S: LineStore>(rt: &impl Abort, alloc: Global) -> Result<(), Fail> {
-    let mut editor = editor::<S>(alloc)?;
-    let row = GlobalRow {
-        sense: Sense::Matching,
-        pattern: b"[bc]",
-        taken: 2,
-        list: b"p",
-        lines: b"a\nb\nc\nd\n",
-        current: 3,
-    };
-    let taken = run_global(alloc, &mut editor, &row)?;
-    assert_eq!(rt; taken, 2);
-    undo(alloc, &mut editor)?;
-    check_lines(rt, alloc, &editor, row.lines, row.current)?;
+static UNCHANGING: GlobalRow = GlobalRow {
+    sense: Sense::Matching,
+    pattern: b"[bc]",
+    taken: 2,
+    list: b"p",
+    lines: ABCD,
+    current: 3,
+};
+
+fn check_unchanged<S: LineStore>(rt: &impl Abort, alloc: Global) {
+    let mut editor = loaded::<S>(rt, alloc, ABCD);
+    run_global(rt, alloc, &mut editor, &UNCHANGING);
+    apply(rt, alloc, &mut editor, b"u\n");
+    check_lines(rt, alloc, &editor, UNCHANGING.lines, UNCHANGING.current);
     assert!(rt; !editor.changed());
-    Ok(())
 }
 
 #[test]
-fn after_a_global_command_that_changed_nothing_undo_does_nothing(
-    rt: HostRuntime,
-) -> Result<(), Fail> {
-    check_unchanged::<PlainStore>(&rt, rt.alloc())?;
-    check_unchanged::<GapStore>(&rt, rt.alloc())?;
-    check_unchanged::<ChunkStore>(&rt, rt.alloc())
+fn after_a_global_command_that_changed_nothing_undo_does_nothing(rt: HostRuntime) {
+    check_unchanged::<PlainStore>(&rt, rt.alloc());
+    check_unchanged::<GapStore>(&rt, rt.alloc());
+    check_unchanged::<ChunkStore>(&rt, rt.alloc());
 }
