@@ -1,59 +1,87 @@
 //! Files on a disk. What the system answers, no clause says.
+use crate::asserting::same;
 use ed_base::{Bytes, Pieces};
 use ed_session::{DiskFiles, Outside};
 use ed_syntax::Answer;
-use std::alloc::{AllocError, Global};
+use std::alloc::Global;
+use std::process::Abort;
 use std::rc::Rc;
-use std::test::Fail;
 use std::{env, fs};
 
-fn bytes(alloc: Global, of: &[u8]) -> Result<Answer, AllocError> {
-    Ok(Answer::Bytes(Bytes::from_slice(alloc, of)?))
+fn bytes(rt: &impl Abort, alloc: Global, of: &[u8]) -> Bytes {
+    Bytes::from_slice(alloc, of).expect(rt, "memory")
 }
 
-fn pieces(alloc: Global, of: &[u8]) -> Result<Pieces, AllocError> {
-    Ok(Pieces::from_bytes(alloc, Bytes::from_slice(alloc, of)?))
+fn check_write<O: Outside>(
+    rt: &impl Abort,
+    files: &mut O,
+    path: &[u8],
+    lines: &Pieces,
+    expected: Answer,
+) {
+    let answer = files.write(path, lines).expect(rt, "memory");
+    same(rt, answer, expected, path);
 }
+
+fn check_read<O: Outside>(rt: &impl Abort, files: &mut O, path: &[u8], expected: Answer) {
+    let answer = files.read(path).expect(rt, "memory");
+    same(rt, answer, expected, path);
+}
+
+static TEXTS: [&[u8]; 4] = [b"a\nlonger\nfile\n", b"short\0\xff", b"", b"a\n"];
 
 #[test]
-fn a_file_that_was_written_is_read_again(rt: HostRuntime) -> Result<(), Fail> {
-    let written = env::temp_dir(&rt)?.join(rt.alloc(), "session_tests_written")?;
+fn a_file_that_was_written_is_read_again(rt: HostRuntime) {
+    let alloc = rt.alloc();
+    let folder = env::temp_dir(&rt).expect(&rt, "a folder");
+    let written = folder
+        .join(alloc, "session_tests_written")
+        .expect(&rt, "memory");
     let path = written.as_str().as_bytes();
-    let mut files = DiskFiles::new(rt.alloc(), &rt);
-    let texts: [&[u8]; 4] = [b"a\nlonger\nfile\n", b"short\0\xff", b"", b"a\n"];
-    for text in &texts {
-        let written = files.write(path, &pieces(rt.alloc(), text)?)?;
-        assert_eq!(rt; written, Answer::Done, "{text:?}");
-        assert_eq!(rt; files.read(path)?, bytes(rt.alloc(), text)?, "{text:?}");
+    let mut files = DiskFiles::new(alloc, &rt);
+    for text in &TEXTS {
+        let lines = Pieces::from_bytes(alloc, bytes(&rt, alloc, text));
+        check_write(&rt, &mut files, path, &lines, Answer::Done);
+        check_read(
+            &rt,
+            &mut files,
+            path,
+            Answer::Bytes(bytes(&rt, alloc, text)),
+        );
     }
-    fs::remove_file(&rt, written.as_str())?;
-    assert_eq!(rt; files.read(path)?, Answer::Missing);
-    Ok(())
+    fs::remove_file(&rt, written.as_str()).expect(&rt, "removed");
+    check_read(&rt, &mut files, path, Answer::Missing);
 }
+
+static SIZES: [usize; 6] = [100, 70_000, 65_000, 300, 65_536, 100];
 
 // Short pieces and long ones in turn, some of which fill the room where they are gathered and some of which are longer than it.
-fn mixed(alloc: Global) -> Result<Pieces, AllocError> {
-    let block = Rc::new(alloc, Bytes::from_slice(alloc, &[b'x'; 70_000])?)?;
+fn mixed(rt: &impl Abort, alloc: Global) -> Pieces {
+    let block = Rc::new(alloc, bytes(rt, alloc, &[b'x'; 70_000])).expect(rt, "memory");
     let mut mixed = Pieces::new(alloc);
-    for size in [100, 70_000, 65_000, 300, 65_536, 100] {
-        mixed.extend_from_slice(b"line\n")?;
-        mixed.extend_from_block(&block, 0, block.len().min(size))?;
+    for size in &SIZES {
+        mixed.extend_from_slice(b"line\n").expect(rt, "memory");
+        let end = block.len().min(*size);
+        mixed.extend_from_block(&block, 0, end).expect(rt, "memory");
     }
-    Ok(mixed)
+    mixed
 }
 
 #[test]
-fn pieces_are_written_one_after_another(rt: HostRuntime) -> Result<(), Fail> {
-    let written = env::temp_dir(&rt)?.join(rt.alloc(), "session_tests_pieces")?;
+fn pieces_are_written_one_after_another(rt: HostRuntime) {
+    let alloc = rt.alloc();
+    let folder = env::temp_dir(&rt).expect(&rt, "a folder");
+    let written = folder
+        .join(alloc, "session_tests_pieces")
+        .expect(&rt, "memory");
     let path = written.as_str().as_bytes();
-    let mut files = DiskFiles::new(rt.alloc(), &rt);
-    let mixed = mixed(rt.alloc())?;
-    assert_eq!(rt; mixed.len(), 201_066);
-    assert_eq!(rt; files.write(path, &mixed)?, Answer::Done);
-    let read = files.read(path)?;
-    fs::remove_file(&rt, written.as_str())?;
-    assert!(rt; read == Answer::Bytes(mixed.to_bytes(rt.alloc())?));
-    Ok(())
+    let mut files = DiskFiles::new(alloc, &rt);
+    let mixed = mixed(&rt, alloc);
+    assert!(rt; mixed.len() == 201_066);
+    check_write(&rt, &mut files, path, &mixed, Answer::Done);
+    let read = files.read(path).expect(&rt, "memory");
+    fs::remove_file(&rt, written.as_str()).expect(&rt, "removed");
+    assert!(rt; read == Answer::Bytes(mixed.to_bytes(alloc).expect(&rt, "memory")));
 }
 
 /// A path that can't be written, and whether a read finds no file there; else it is refused.
@@ -71,25 +99,24 @@ static ROWS: [Row; 5] = [
     Row { path: b"session_tests_\xff", missing: false },
 ];
 
+fn check_refused<O: Outside>(rt: &impl Abort, files: &mut O, row: &Row, line: &Pieces) {
+    let read = if row.missing {
+        Answer::Missing
+    } else {
+        Answer::Refused
+    };
+    check_read(rt, files, row.path, read);
+    check_write(rt, files, row.path, line, Answer::Refused);
+}
+
 #[test]
-fn what_is_no_file_is_missing_or_refused(rt: HostRuntime) -> Result<(), Fail> {
-    let mut files = DiskFiles::new(rt.alloc(), &rt);
-    let line = pieces(rt.alloc(), b"a\n")?;
+fn what_is_no_file_is_missing_or_refused(rt: HostRuntime) {
+    let alloc = rt.alloc();
+    let mut files = DiskFiles::new(alloc, &rt);
+    let line = Pieces::from_bytes(alloc, bytes(&rt, alloc, b"a\n"));
     for row in &ROWS {
-        let read = if row.missing {
-            Answer::Missing
-        } else {
-            Answer::Refused
-        };
-        assert_eq!(rt; files.read(row.path)?, read, "{:?}", row.path);
-        assert_eq!(rt;
-            files.write(row.path, &line)?,
-            Answer::Refused,
-            "{:?}",
-            row.path
-        );
+        check_refused(&rt, &mut files, row, &line);
     }
     // A device that is always full.
-    assert_eq!(rt; files.write(b"/dev/full", &line)?, Answer::Refused);
-    Ok(())
+    check_write(&rt, &mut files, b"/dev/full", &line, Answer::Refused);
 }

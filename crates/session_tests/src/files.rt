@@ -1,12 +1,10 @@
 //! Runs of the commands on files: what they read and write, what the files hold after them, and how they end.
-use crate::driving::{ABC, lines, session_of};
-use ed_base::{Bytes, Fault};
-use ed_session::{MemFiles, MemSink, drive};
-use ed_syntax::Options;
+use crate::asserting::same;
+use crate::driving::{ABC, Case, UNREFUSED, run};
+use ed_base::Fault;
 use line_store::{ChunkStore, GapStore, LineStore, PlainStore};
-use std::alloc::{AllocError, Global};
+use std::alloc::Global;
 use std::process::Abort;
-use std::test::Fail;
 
 /// A run: the bytes of the files `F` and `G`, where they are there, the file that is edited, whether it is silent, which of its calls
 /// for a file is refused (0: none), its output, what one file holds after it, and its end.
@@ -127,79 +125,67 @@ static REFUSED: [Row; 6] = [
     Row { script: b"E G\n", g: X, refused: 2, output: b"?\n", ends: Err(Fault::File), ..ON_F },
 ];
 
-fn bytes_of(alloc: Global, bytes: Option<&[u8]>) -> Result<Option<Bytes>, AllocError> {
-    match bytes {
-        Some(bytes) => Ok(Some(Bytes::from_slice(alloc, bytes)?)),
-        None => Ok(None),
-    }
-}
-
-// How the run ends over a store, its files and what its sink took.
-fn run<S: LineStore>(
-    alloc: Global,
-    row: Row,
-) -> Result<(Result<usize, Fault>, MemFiles, MemSink), AllocError> {
-    let mut files = MemFiles::new(alloc);
-    for (path, bytes) in [(F, row.f), (G, row.g)] {
-        if let Some(bytes) = bytes_of(alloc, bytes)? {
-            files.add(path, bytes)?;
+impl Row {
+    fn case(&self) -> Case<'static> {
+        Case {
+            script: self.script,
+            file: self.f,
+            other: self.g,
+            edited: self.edited,
+            silent: self.silent,
+            refused_call: self.refused,
+            ..UNREFUSED
         }
     }
-    files.refuse(row.refused);
-    let mut sink = MemSink::new(alloc, 64, 64)?;
-    let options = Options {
-        silent: row.silent,
-        prompt: None,
-        path: bytes_of(alloc, row.edited)?,
-    };
-    let mut session = session_of::<S>(alloc, row.script, options)?;
-    let end = drive(&mut session, &mut files, &mut sink);
-    Ok((lines(end), files, sink))
 }
 
-fn check_over<S: LineStore>(rt: &impl Abort, alloc: Global, rows: &[Row]) -> Result<(), Fail> {
+fn check_over<S: LineStore>(rt: &impl Abort, alloc: Global, row: &Row) {
+    let outcome = run::<S>(alloc, row.case()).expect(rt, "memory");
+    same(rt, outcome.sink.taken(), row.output, row.script);
+    let (path, bytes) = row.after;
+    same(rt, outcome.files.file(path), bytes, row.script);
+    same(rt, outcome.ends, row.ends, row.script);
+}
+
+fn check_each(rt: &impl Abort, alloc: Global, rows: &[Row]) {
     for row in rows {
-        let (ends, files, sink) = run::<S>(alloc, *row)?;
-        assert_eq!(*rt; sink.taken(), row.output, "{:?}", row.script);
-        assert_eq!(*rt; files.file(row.after.0), row.after.1, "{:?}", row.script);
-        assert_eq!(rt; ends, row.ends, "{:?}", row.script);
+        check_over::<PlainStore>(rt, alloc, row);
+        check_over::<GapStore>(rt, alloc, row);
+        check_over::<ChunkStore>(rt, alloc, row);
     }
-    Ok(())
-}
-
-fn check_each(rt: &impl Abort, alloc: Global, rows: &[Row]) -> Result<(), Fail> {
-    check_over::<PlainStore>(rt, alloc, rows)?;
-    check_over::<GapStore>(rt, alloc, rows)?;
-    check_over::<ChunkStore>(rt, alloc, rows)
 }
 
 #[test]
-fn files_are_read_and_written_as_the_standard_says(rt: HostRuntime) -> Result<(), Fail> {
-    check_each(&rt, rt.alloc(), &READ_AND_WRITTEN)
+fn files_are_read_and_written_as_the_standard_says(rt: HostRuntime) {
+    check_each(&rt, rt.alloc(), &READ_AND_WRITTEN);
 }
 
 #[test]
-fn files_are_edited_and_left_as_the_standard_says(rt: HostRuntime) -> Result<(), Fail> {
-    check_each(&rt, rt.alloc(), &EDITED_AND_LEFT)
+fn files_are_edited_and_left_as_the_standard_says(rt: HostRuntime) {
+    check_each(&rt, rt.alloc(), &EDITED_AND_LEFT);
 }
 
 #[test]
-fn lists_read_write_and_name_files(rt: HostRuntime) -> Result<(), Fail> {
-    check_each(&rt, rt.alloc(), &LISTED)
+fn lists_read_write_and_name_files(rt: HostRuntime) {
+    check_each(&rt, rt.alloc(), &LISTED);
 }
 
 #[test]
-fn a_refused_file_ends_the_run_and_stays(rt: HostRuntime) -> Result<(), Fail> {
-    check_each(&rt, rt.alloc(), &REFUSED)
+fn a_refused_file_ends_the_run_and_stays(rt: HostRuntime) {
+    check_each(&rt, rt.alloc(), &REFUSED);
 }
 
 // The run ends as it should or by being out of memory, and a file has its old bytes or those that were to be written.
-fn ends_as_it_may(alloc: Global, row: Row) -> bool {
-    let Ok((ends, files, _)) = run::<GapStore>(alloc, row) else {
-        return true;
-    };
-    let now = files.file(row.after.0);
-    (ends == Err(Fault::Memory) || ends == row.ends) && (now == row.after.1 || now == row.f)
+fn ends_as_it_may(alloc: Global, row: &Row) -> bool {
+    let (path, bytes) = row.after;
+    match &run::<GapStore>(alloc, row.case()) {
+        Ok(outcome) => {
+            let now = outcome.files.file(path);
+            (outcome.ends == Err(Fault::Memory) || outcome.ends == row.ends)
+                && (now == bytes || now == row.f)
+        }
+        Err(_) => true,
+    }
 }
 
 // To be run with each allocation refused in turn, too (`rt try --test --fail-alloc N`).
@@ -211,6 +197,6 @@ fn a_run_on_files_that_is_out_of_memory_ends_by_no_other_fault(rt: HostRuntime) 
         &EDITED_AND_LEFT[2],
         &LISTED[3],
     ] {
-        assert!(rt; ends_as_it_may(rt.alloc(), *row), "{:?}", row.script);
+        assert!(rt; ends_as_it_may(rt.alloc(), row), "{:?}", row.script);
     }
 }

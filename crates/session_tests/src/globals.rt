@@ -1,7 +1,6 @@
 //! Runs of `g`, `v` and `u`: what they write and how they end, as the standard says, and that a run that is out of memory says so.
 use crate::driving::{ABA, ABC, ARROW, Case, Row, UNREFUSED, check, check_each, check_memory};
 use ed_base::Fault;
-use std::test::Fail;
 
 const AB: Option<&[u8]> = Some(b"a\nb\n");
 
@@ -110,35 +109,35 @@ static UNDONE: [Row; 24] = [
 ];
 
 #[test]
-fn lines_are_taken_as_the_standard_says(rt: HostRuntime) -> Result<(), Fail> {
-    check_each(&rt, rt.alloc(), &TAKEN)
+fn lines_are_taken_as_the_standard_says(rt: HostRuntime) {
+    check_each(&rt, rt.alloc(), &TAKEN);
 }
 
 #[test]
-fn lists_are_read_line_by_line(rt: HostRuntime) -> Result<(), Fail> {
-    check_each(&rt, rt.alloc(), &LISTS)
+fn lists_are_read_line_by_line(rt: HostRuntime) {
+    check_each(&rt, rt.alloc(), &LISTS);
 }
 
 #[test]
-fn lists_remember_and_fail_as_commands_do(rt: HostRuntime) -> Result<(), Fail> {
-    check_each(&rt, rt.alloc(), &IN_LISTS)
+fn lists_remember_and_fail_as_commands_do(rt: HostRuntime) {
+    check_each(&rt, rt.alloc(), &IN_LISTS);
 }
 
 #[test]
-fn changes_are_undone_as_the_standard_says(rt: HostRuntime) -> Result<(), Fail> {
-    check_each(&rt, rt.alloc(), &UNDONE)
+fn changes_are_undone_as_the_standard_says(rt: HostRuntime) {
+    check_each(&rt, rt.alloc(), &UNDONE);
 }
 
 // The prompt comes before a global command, and not before the commands of its list.
 #[test]
-fn a_list_has_no_prompts(rt: HostRuntime) -> Result<(), Fail> {
+fn a_list_has_no_prompts(rt: HostRuntime) {
     let case = Case {
         script: b"g/./p\\\n=\n1p\n",
         file: AB,
         prompt: ARROW,
         ..UNREFUSED
     };
-    check(&rt, rt.alloc(), case, b"> a\n2\nb\n2\n> a\n> ", Ok(2))
+    check(&rt, rt.alloc(), case, b"> a\n2\nb\n2\n> a\n> ", Ok(2));
 }
 
 // To be run with each allocation refused in turn (`rt try --test --fail-alloc N`): the run ends as it should or by being out of memory.

@@ -1,9 +1,10 @@
 //! How `l` folds a line: no row is longer than 71 bytes, and none ends within an escape (XCU ed, "List Command").
+use crate::asserting::same;
 use crate::driving::{Case, UNREFUSED, run};
 use ed_base::Bytes;
 use line_store::PlainStore;
-use std::alloc::AllocError;
-use std::test::Fail;
+use std::alloc::Global;
+use std::process::Abort;
 
 // A line of so many letters and a tail, and each row that it is folded into: how many letters, and what stands behind them.
 struct Folding {
@@ -24,36 +25,44 @@ static FOLDINGS: [Folding; 8] = [
     Folding { letters: 68, tail: b"\xc3", rows: &[(68, b"\\\n"), (0, b"\\303$\n")] },
 ];
 
-fn push_letters(bytes: &mut Bytes, letters: usize, tail: &[u8]) -> Result<(), AllocError> {
+fn push_letters(rt: &impl Abort, bytes: &mut Bytes, letters: usize, tail: &[u8]) {
     for _ in 0..letters {
-        bytes.push(b'a')?;
+        bytes.push(b'a').expect(rt, "memory");
     }
-    bytes.extend_from_slice(tail)
+    bytes.extend_from_slice(tail).expect(rt, "memory");
+}
+
+fn file(rt: &impl Abort, alloc: Global, folding: &Folding) -> Bytes {
+    let mut file = Bytes::new(alloc);
+    push_letters(rt, &mut file, folding.letters, folding.tail);
+    file.push(b'\n').expect(rt, "memory");
+    file
+}
+
+fn folded(rt: &impl Abort, alloc: Global, folding: &Folding) -> Bytes {
+    let mut folded = Bytes::new(alloc);
+    for (letters, end) in folding.rows {
+        push_letters(rt, &mut folded, *letters, end);
+    }
+    folded
+}
+
+fn check(rt: &impl Abort, alloc: Global, folding: &Folding) {
+    let file = file(rt, alloc, folding);
+    let case = Case {
+        script: b"l\n",
+        file: Some(file.as_slice()),
+        ..UNREFUSED
+    };
+    let outcome = run::<PlainStore>(alloc, case).expect(rt, "memory");
+    let expected = folded(rt, alloc, folding);
+    let at = (folding.letters, folding.tail);
+    same(rt, outcome.sink.taken(), expected.as_slice(), at);
 }
 
 #[test]
-fn a_long_line_is_folded_between_two_bytes(rt: HostRuntime) -> Result<(), Fail> {
+fn a_long_line_is_folded_between_two_bytes(rt: HostRuntime) {
     for folding in &FOLDINGS {
-        let mut file = Bytes::new(rt.alloc());
-        push_letters(&mut file, folding.letters, folding.tail)?;
-        file.push(b'\n')?;
-        let mut expected = Bytes::new(rt.alloc());
-        for (letters, end) in folding.rows {
-            push_letters(&mut expected, *letters, end)?;
-        }
-        let case = Case {
-            script: b"l\n",
-            file: Some(file.as_slice()),
-            ..UNREFUSED
-        };
-        let (_, sink) = run::<PlainStore>(rt.alloc(), case)?;
-        assert_eq!(rt;
-            sink.taken(),
-            expected.as_slice(),
-            "{} {:?}",
-            folding.letters,
-            folding.tail
-        );
+        check(&rt, rt.alloc(), folding);
     }
-    Ok(())
 }

@@ -1,11 +1,12 @@
 //! What a run writes where files, output or memory are refused, and how it ends then.
-use crate::driving::{ABC, ARROW, Case, UNREFUSED, lines, run, session_of};
+use crate::asserting::same;
+use crate::driving::{ABC, ARROW, Case, UNREFUSED, files, lines, run, session};
 use ed_base::{Bytes, Fault, Pieces};
-use ed_session::{Ask, MemFiles, Out, drive};
-use ed_syntax::{Answer, Options};
+use ed_session::{Ask, Out, Session, drive};
+use ed_syntax::Answer;
 use line_store::PlainStore;
-use std::alloc::{AllocError, Global};
-use std::test::Fail;
+use std::alloc::Global;
+use std::process::Abort;
 
 // A run that writes two lines.
 const TWO_LINES: Case<'static> = Case {
@@ -28,19 +29,22 @@ static REFUSED_FILES: [FileRow; 3] = [
     FileRow { refused_call: 2, prompt: None, output: b"a\nc\n", ends: Ok(2) },
 ];
 
+fn check_file(rt: &impl Abort, alloc: Global, row: &FileRow) {
+    let case = Case {
+        refused_call: row.refused_call,
+        prompt: row.prompt,
+        ..TWO_LINES
+    };
+    let outcome = run::<PlainStore>(alloc, case).expect(rt, "memory");
+    same(rt, outcome.sink.taken(), row.output, row.refused_call);
+    same(rt, outcome.ends, row.ends, row.refused_call);
+}
+
 #[test]
-fn a_refused_start_file_is_reported_and_ends_the_run(rt: HostRuntime) -> Result<(), Fail> {
+fn a_refused_start_file_is_reported_and_ends_the_run(rt: HostRuntime) {
     for row in &REFUSED_FILES {
-        let case = Case {
-            refused_call: row.refused_call,
-            prompt: row.prompt,
-            ..TWO_LINES
-        };
-        let (ends, sink) = run::<PlainStore>(rt.alloc(), case)?;
-        assert_eq!(rt; sink.taken(), row.output, "{} refused", row.refused_call);
-        assert_eq!(rt; ends, row.ends, "{} refused", row.refused_call);
+        check_file(&rt, rt.alloc(), row);
     }
-    Ok(())
 }
 
 // A run that prompts, numbers a line, and has its help written.
@@ -51,80 +55,73 @@ const HELPED: Case<'static> = Case {
     ..UNREFUSED
 };
 
-// Whether the case ends by the refusal of its output, of which so many bytes were taken.
-fn is_refused_at(
-    alloc: Global,
-    case: Case,
-    whole: &[u8],
-    taken: usize,
-) -> Result<bool, AllocError> {
-    let (ends, sink) = run::<PlainStore>(alloc, case)?;
-    Ok(ends == Err(Fault::Output) && sink.taken().len() == taken && whole.starts_with(sink.taken()))
+// The case ends by the refusal of its output, of which so many bytes were taken.
+fn check_output(rt: &impl Abort, alloc: Global, case: Case<'_>, whole: &[u8], taken: usize) {
+    let outcome = run::<PlainStore>(alloc, case).expect(rt, "memory");
+    let at = (case.script, taken);
+    same(rt, outcome.ends, Err(Fault::Output), at);
+    same(rt, outcome.sink.taken().len(), taken, at);
+    assert!(rt; whole.starts_with(outcome.sink.taken()), "{at:?}");
 }
 
 // Each byte of the output is refused in turn, once by its write and once for want of room.
-#[test]
-fn each_refused_write_and_each_full_room_ends_the_run(rt: HostRuntime) -> Result<(), Fail> {
-    for case in [TWO_LINES, HELPED] {
-        let (_, whole) = run::<PlainStore>(rt.alloc(), case)?;
-        let whole = whole.taken();
-        for (room, refused_write) in (0..whole.len()).zip(1..) {
-            let refused = Case {
-                piece: 1,
-                refused_write,
-                ..case
-            };
-            for refusing in [refused, Case { room, ..case }] {
-                assert!(rt;
-                    is_refused_at(rt.alloc(), refusing, whole, room)?,
-                    "{:?} at {room}",
-                    case.script
-                );
-            }
-        }
+fn check_outputs(rt: &impl Abort, alloc: Global, case: Case<'_>) {
+    let outcome = run::<PlainStore>(alloc, case).expect(rt, "memory");
+    let whole = outcome.sink.taken();
+    for (room, refused_write) in (0..whole.len()).zip(1..) {
+        let refused = Case {
+            piece: 1,
+            refused_write,
+            ..case
+        };
+        check_output(rt, alloc, refused, whole, room);
+        check_output(rt, alloc, Case { room, ..case }, whole, room);
     }
-    Ok(())
 }
 
 #[test]
-fn a_writer_takes_the_output_till_it_is_full(rt: HostRuntime) -> Result<(), Fail> {
-    let mut files = MemFiles::new(rt.alloc());
-    files.add(b"F", Bytes::from_slice(rt.alloc(), b"a\nb\nc\n")?)?;
+fn each_refused_write_and_each_full_room_ends_the_run(rt: HostRuntime) {
+    check_outputs(&rt, rt.alloc(), TWO_LINES);
+    check_outputs(&rt, rt.alloc(), HELPED);
+}
+
+#[test]
+fn a_writer_takes_the_output_till_it_is_full(rt: HostRuntime) {
+    let mut files = files(rt.alloc(), TWO_LINES).expect(&rt, "memory");
+    let mut session = session::<PlainStore>(rt.alloc(), TWO_LINES).expect(&rt, "memory");
     let mut room = [0u8; 3];
     let mut sink = Out::new(room.as_mut_slice());
-    let options = Options {
-        silent: true,
-        prompt: None,
-        path: Some(Bytes::from_slice(rt.alloc(), b"F")?),
-    };
-    let mut session = session_of::<PlainStore>(rt.alloc(), TWO_LINES.script, options)?;
     let end = drive(&mut session, &mut files, &mut sink);
-    assert_eq!(rt; lines(end), Err(Fault::Output));
+    drop(session);
+    same(&rt, lines(end), Err(Fault::Output), "the end");
     drop(sink);
-    assert_eq!(rt; room.as_slice(), b"a\nc".as_slice());
-    Ok(())
+    same(&rt, room.as_slice(), b"a\nc".as_slice(), "the room");
+}
+
+fn output(rt: &impl Abort, alloc: Global, bytes: &[u8]) -> Ask {
+    let bytes = Bytes::from_slice(alloc, bytes).expect(rt, "memory");
+    Ask::Output(Pieces::from_bytes(alloc, bytes))
+}
+
+fn check_step(rt: &impl Abort, session: &mut Session<PlainStore>, ask: Ask) {
+    assert!(rt; session.started() && !session.waits());
+    same(rt, session.step(), ask, "a step");
 }
 
 #[test]
-fn a_session_without_a_path_is_stepped_to_its_end(rt: HostRuntime) -> Result<(), Fail> {
-    let options = Options {
-        silent: true,
-        prompt: None,
-        path: None,
+fn a_session_without_a_path_is_stepped_to_its_end(rt: HostRuntime) {
+    let case = Case {
+        script: b"a\nx\n.\np\nx\n",
+        edited: None,
+        ..UNREFUSED
     };
-    let mut session = session_of::<PlainStore>(rt.alloc(), b"a\nx\n.\np\nx\n", options)?;
+    let mut session = session(rt.alloc(), case).expect(&rt, "memory");
     assert!(rt; !session.started());
     session.start(Answer::Refused);
-    for output in ["x\n", "?\n"] {
-        assert!(rt; session.started() && !session.waits());
-        let bytes = Bytes::from_slice(rt.alloc(), output.as_bytes())?;
-        let output = Pieces::from_bytes(rt.alloc(), bytes);
-        assert_eq!(rt; session.step(), Ask::Output(output));
-    }
+    check_step(&rt, &mut session, output(&rt, rt.alloc(), b"x\n"));
+    check_step(&rt, &mut session, output(&rt, rt.alloc(), b"?\n"));
     for _ in 0..2 {
-        assert!(rt; session.started() && !session.waits());
-        assert_eq!(rt; session.step(), Ask::Ended(Err(Fault::Syntax)));
+        check_step(&rt, &mut session, Ask::Ended(Err(Fault::Syntax)));
         session.fail_output();
     }
-    Ok(())
 }

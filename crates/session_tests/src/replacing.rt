@@ -1,7 +1,6 @@
 //! Runs of `s`: what they write and how they end, as the standard says, and that a run that is out of memory says so.
 use crate::driving::{Row, check_each, check_memory};
 use ed_base::Fault;
-use std::test::Fail;
 
 const CROSSES: Option<&[u8]> = Some(b"aXbXc\n");
 
@@ -63,18 +62,18 @@ static LINES: [Row; 13] = [
 ];
 
 #[test]
-fn matches_are_replaced_as_the_standard_says(rt: HostRuntime) -> Result<(), Fail> {
-    check_each(&rt, rt.alloc(), &MATCHES)
+fn matches_are_replaced_as_the_standard_says(rt: HostRuntime) {
+    check_each(&rt, rt.alloc(), &MATCHES);
 }
 
 #[test]
-fn patterns_and_replacements_are_remembered(rt: HostRuntime) -> Result<(), Fail> {
-    check_each(&rt, rt.alloc(), &REMEMBERED)
+fn patterns_and_replacements_are_remembered(rt: HostRuntime) {
+    check_each(&rt, rt.alloc(), &REMEMBERED);
 }
 
 #[test]
-fn the_lines_of_a_range_are_rewritten_one_by_one(rt: HostRuntime) -> Result<(), Fail> {
-    check_each(&rt, rt.alloc(), &LINES)
+fn the_lines_of_a_range_are_rewritten_one_by_one(rt: HostRuntime) {
+    check_each(&rt, rt.alloc(), &LINES);
 }
 
 // To be run with each allocation refused in turn (`rt try --test --fail-alloc N`): the run ends as it should or by being out of memory.

@@ -1,7 +1,6 @@
 //! Runs of scripts: what they write and how they end, as the standard says (XCU ed).
 use crate::driving::{ABA, ABC, ARROW, Case, Row, UNREFUSED, check, check_each};
 use ed_base::Fault;
-use std::test::Fail;
 
 const FIVE: &[u8] = b"1\n2\n3\n4\n5\n";
 
@@ -130,25 +129,23 @@ static LINE_COMMANDS: [Row; 37] = [
 ];
 
 #[test]
-fn runs_write_and_end_as_the_standard_says(rt: HostRuntime) -> Result<(), Fail> {
-    check_each(&rt, rt.alloc(), &COMMANDS)
+fn runs_write_and_end_as_the_standard_says(rt: HostRuntime) {
+    check_each(&rt, rt.alloc(), &COMMANDS);
 }
 
 #[test]
-fn addresses_are_the_lines_that_the_standard_says(rt: HostRuntime) -> Result<(), Fail> {
-    check_each(&rt, rt.alloc(), &ADDRESSES)
+fn addresses_are_the_lines_that_the_standard_says(rt: HostRuntime) {
+    check_each(&rt, rt.alloc(), &ADDRESSES);
 }
 
 #[test]
-fn searches_find_the_lines_that_the_standard_says(rt: HostRuntime) -> Result<(), Fail> {
-    check_each(&rt, rt.alloc(), &SEARCHES)
+fn searches_find_the_lines_that_the_standard_says(rt: HostRuntime) {
+    check_each(&rt, rt.alloc(), &SEARCHES);
 }
 
 #[test]
-fn lines_are_entered_moved_joined_and_shown_as_the_standard_says(
-    rt: HostRuntime,
-) -> Result<(), Fail> {
-    check_each(&rt, rt.alloc(), &LINE_COMMANDS)
+fn lines_are_entered_moved_joined_and_shown_as_the_standard_says(rt: HostRuntime) {
+    check_each(&rt, rt.alloc(), &LINE_COMMANDS);
 }
 
 struct PromptRow {
@@ -182,19 +179,18 @@ static COUNTS: [Row; 3] = [
 ];
 
 #[test]
-fn the_bytes_of_the_start_file_are_counted(rt: HostRuntime) -> Result<(), Fail> {
+fn the_bytes_of_the_start_file_are_counted(rt: HostRuntime) {
     for row in &COUNTS {
         let case = Case {
             silent: false,
             ..row.case()
         };
-        check(&rt, rt.alloc(), case, row.output, row.ends)?;
+        check(&rt, rt.alloc(), case, row.output, row.ends);
     }
-    Ok(())
 }
 
 #[test]
-fn prompts_and_help_come_where_the_standard_says(rt: HostRuntime) -> Result<(), Fail> {
+fn prompts_and_help_come_where_the_standard_says(rt: HostRuntime) {
     for row in &PROMPTS_AND_HELP {
         let case = Case {
             script: row.script,
@@ -202,7 +198,6 @@ fn prompts_and_help_come_where_the_standard_says(rt: HostRuntime) -> Result<(), 
             prompt: row.prompt,
             ..UNREFUSED
         };
-        check(&rt, rt.alloc(), case, row.output, row.ends)?;
+        check(&rt, rt.alloc(), case, row.output, row.ends);
     }
-    Ok(())
 }
