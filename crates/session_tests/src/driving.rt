@@ -116,12 +116,17 @@ pub(crate) fn run<S: LineStore>(alloc: Global, case: Case<'_>) -> Result<Outcome
     sink.refuse(case.refused_write);
     let (mut session, mut files) = both(session::<S>(alloc, case), files(alloc, case))?;
     let end = drive(&mut session, &mut files, &mut sink);
-    drop(session);
+    drop(session); // By a call: where it goes out of scope its parts are dropped one by one, which is dear to prove.
     Ok(Outcome {
         ends: lines(end),
         files,
         sink,
     })
+}
+
+/// What comes of it over the plainest store.
+pub(crate) fn run_plain(alloc: Global, case: Case<'_>) -> Result<Outcome, AllocError> {
+    run::<PlainStore>(alloc, case)
 }
 
 fn check_over<S: LineStore>(
@@ -198,7 +203,7 @@ fn ends_as_it_may(alloc: Global, row: &Row) -> bool {
 }
 
 /// Each row's run ends as the row says or by being out of memory.
-pub(crate) fn check_memory(rt: &impl Abort, alloc: Global, rows: &[&Row]) {
+pub(crate) fn check_memory(rt: &impl Abort, alloc: Global, rows: &[Row]) {
     for row in rows {
         assert!(rt; ends_as_it_may(alloc, row), "{:?}", row.script);
     }

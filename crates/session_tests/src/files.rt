@@ -56,11 +56,9 @@ const COUNTED: Row = Row {
 
 // XCU ed, "Read Command", "Write Command".
 #[rattlefmt::skip]
-static READ_AND_WRITTEN: [Row; 18] = [
-    Row { script: b"$a\nd\n.\nw\nq\n", output: b"6\n8\n", after: (F, Some(b"a\nb\nc\nd\n")), ends: Ok(4), ..COUNTED },
+static READ_AND_WRITTEN: [Row; 16] = [
     Row { script: b"3c\n..\n.\ns/.//\n1d\nw\nq\n", after: (F, Some(b"b\n.\n")), ends: Ok(2), ..ON_F },
     Row { script: b"2d\n1w\nq\n", output: b"?\n", after: (F, A), ends: Err(Fault::Unsaved), ..ON_F },
-    Row { script: b"1r G\n,p\nQ\n", f: AB, g: Some(b"x"), output: b"4\n1\na\nx\nb\n", after: (F, AB), ends: Ok(3), ..COUNTED },
     Row { script: b"0r G\n.=\n,p\nQ\n", f: AB, g: Some(b"x\ny\n"), output: b"2\nx\ny\na\nb\n", after: (F, AB), ends: Ok(4), ..ON_F },
     Row { script: b"1\n$r G\n.=\nQ\n", f: AB, g: X, output: b"a\n3\n", after: (G, X), ends: Ok(3), ..ON_F },
     Row { script: b"1r G\n.=\nq\n", g: Some(b""), output: b"6\n0\n1\n", ..COUNTED },
@@ -79,10 +77,9 @@ static READ_AND_WRITTEN: [Row; 18] = [
 
 // XCU ed, "Edit Command", "Filename Command", "Quit Command".
 #[rattlefmt::skip]
-static EDITED_AND_LEFT: [Row; 16] = [
+static EDITED_AND_LEFT: [Row; 15] = [
     Row { script: b"1d\ne G\n", g: X, output: b"?\n", ends: Err(Fault::Unsaved), ..ON_F },
     Row { script: b"1d\nE G\n,p\nQ\n", g: X, output: b"x\n", ends: Ok(1), ..ON_F },
-    Row { script: b"1d\nE G\nf\nq\n", g: X, output: b"6\n2\nG\n", ends: Ok(1), ..COUNTED },
     Row { script: b"1d\nw\ne\n,p\nq\n", output: b"b\nc\n", after: (F, Some(b"b\nc\n")), ends: Ok(2), ..ON_F },
     Row { script: b"2ka\ne\n'ap\n", output: b"?\n", ends: Err(Fault::Mark), ..ON_F },
     Row { script: b"/b/p\nE G\n//p\nQ\n", g: Some(b"x\nb\n"), output: b"b\nb\n", ends: Ok(2), ..ON_F },
@@ -100,11 +97,10 @@ static EDITED_AND_LEFT: [Row; 16] = [
 
 // A list of `g` and `v` may read, write and name files.
 #[rattlefmt::skip]
-static LISTED: [Row; 11] = [
+static LISTED: [Row; 10] = [
     Row { script: b"g/x/p\nw\nq\n", f: Some(b""), after: (F, Some(b"")), ends: Ok(0), ..ON_F },
     Row { script: b"g/b/.r G\n,p\nQ\n", g: X, output: b"a\nb\nx\nc\n", after: (G, X), ends: Ok(4), ..ON_F },
     Row { script: b"g/./r G\nQ\n", f: AB, g: X, output: b"4\n2\n2\n", after: (F, AB), ends: Ok(4), ..COUNTED },
-    Row { script: b"g/./.r G\\\nn\nQ\n", f: AB, g: X, output: b"2\tx\n4\tx\n", after: (F, AB), ends: Ok(4), ..ON_F },
     Row { script: b"g/[bc]/.w G\nq\n", output: b"6\n2\n2\n", after: (G, Some(b"c\n")), ..COUNTED },
     Row { script: b"g/b/w G\nq\n", after: (G, ABC), ..ON_F },
     Row { script: b"g/a/r G\\\n.w H\nQ\n", f: AB, g: X, after: (H, X), ends: Ok(3), ..ON_F },
@@ -123,6 +119,15 @@ static REFUSED: [Row; 6] = [
     Row { script: b"r G\n", g: X, refused: 2, output: b"?\n", ends: Err(Fault::File), ..ON_F },
     Row { script: b"r G\n", output: b"?\n", ends: Err(Fault::File), ..ON_F },
     Row { script: b"E G\n", g: X, refused: 2, output: b"?\n", ends: Err(Fault::File), ..ON_F },
+];
+
+// Rows that are also run with each allocation refused in turn.
+#[rattlefmt::skip]
+static SHORT_OF_MEMORY: [Row; 4] = [
+    Row { script: b"$a\nd\n.\nw\nq\n", output: b"6\n8\n", after: (F, Some(b"a\nb\nc\nd\n")), ends: Ok(4), ..COUNTED },
+    Row { script: b"1r G\n,p\nQ\n", f: AB, g: Some(b"x"), output: b"4\n1\na\nx\nb\n", after: (F, AB), ends: Ok(3), ..COUNTED },
+    Row { script: b"1d\nE G\nf\nq\n", g: X, output: b"6\n2\nG\n", ends: Ok(1), ..COUNTED },
+    Row { script: b"g/./.r G\\\nn\nQ\n", f: AB, g: X, output: b"2\tx\n4\tx\n", after: (F, AB), ends: Ok(4), ..ON_F },
 ];
 
 impl Row {
@@ -158,6 +163,7 @@ fn check_each(rt: &impl Abort, alloc: Global, rows: &[Row]) {
 #[test]
 fn files_are_read_and_written_as_the_standard_says(rt: HostRuntime) {
     check_each(&rt, rt.alloc(), &READ_AND_WRITTEN);
+    check_each(&rt, rt.alloc(), &SHORT_OF_MEMORY);
 }
 
 #[test]
@@ -191,12 +197,7 @@ fn ends_as_it_may(alloc: Global, row: &Row) -> bool {
 // To be run with each allocation refused in turn, too (`rt try --test --fail-alloc N`).
 #[test]
 fn a_run_on_files_that_is_out_of_memory_ends_by_no_other_fault(rt: HostRuntime) {
-    for row in [
-        &READ_AND_WRITTEN[0],
-        &READ_AND_WRITTEN[3],
-        &EDITED_AND_LEFT[2],
-        &LISTED[3],
-    ] {
+    for row in &SHORT_OF_MEMORY {
         assert!(rt; ends_as_it_may(rt.alloc(), row), "{:?}", row.script);
     }
 }

@@ -1,8 +1,7 @@
 //! How `l` folds a line: no row is longer than 71 bytes, and none ends within an escape (XCU ed, "List Command").
 use crate::asserting::same;
-use crate::driving::{Case, UNREFUSED, run};
+use crate::driving::{Case, UNREFUSED, run_plain};
 use ed_base::Bytes;
-use line_store::PlainStore;
 use std::alloc::Global;
 use std::process::Abort;
 
@@ -54,7 +53,7 @@ fn check(rt: &impl Abort, alloc: Global, folding: &Folding) {
         file: Some(file.as_slice()),
         ..UNREFUSED
     };
-    let outcome = run::<PlainStore>(alloc, case).expect(rt, "memory");
+    let outcome = run_plain(alloc, case).expect(rt, "memory");
     let expected = folded(rt, alloc, folding);
     let at = (folding.letters, folding.tail);
     same(rt, outcome.sink.taken(), expected.as_slice(), at);

@@ -1,6 +1,6 @@
 //! What a run writes where files, output or memory are refused, and how it ends then.
 use crate::asserting::same;
-use crate::driving::{ABC, ARROW, Case, UNREFUSED, files, lines, run, session};
+use crate::driving::{ABC, ARROW, Case, UNREFUSED, files, lines, run_plain, session};
 use ed_base::{Bytes, Fault, Pieces};
 use ed_session::{Ask, Out, Session, drive};
 use ed_syntax::Answer;
@@ -35,7 +35,7 @@ fn check_file(rt: &impl Abort, alloc: Global, row: &FileRow) {
         prompt: row.prompt,
         ..TWO_LINES
     };
-    let outcome = run::<PlainStore>(alloc, case).expect(rt, "memory");
+    let outcome = run_plain(alloc, case).expect(rt, "memory");
     same(rt, outcome.sink.taken(), row.output, row.refused_call);
     same(rt, outcome.ends, row.ends, row.refused_call);
 }
@@ -57,7 +57,7 @@ const HELPED: Case<'static> = Case {
 
 // The case ends by the refusal of its output, of which so many bytes were taken.
 fn check_output(rt: &impl Abort, alloc: Global, case: Case<'_>, whole: &[u8], taken: usize) {
-    let outcome = run::<PlainStore>(alloc, case).expect(rt, "memory");
+    let outcome = run_plain(alloc, case).expect(rt, "memory");
     let at = (case.script, taken);
     same(rt, outcome.ends, Err(Fault::Output), at);
     same(rt, outcome.sink.taken().len(), taken, at);
@@ -66,7 +66,7 @@ fn check_output(rt: &impl Abort, alloc: Global, case: Case<'_>, whole: &[u8], ta
 
 // Each byte of the output is refused in turn, once by its write and once for want of room.
 fn check_outputs(rt: &impl Abort, alloc: Global, case: Case<'_>) {
-    let outcome = run::<PlainStore>(alloc, case).expect(rt, "memory");
+    let outcome = run_plain(alloc, case).expect(rt, "memory");
     let whole = outcome.sink.taken();
     for (room, refused_write) in (0..whole.len()).zip(1..) {
         let refused = Case {
@@ -124,4 +124,5 @@ fn a_session_without_a_path_is_stepped_to_its_end(rt: HostRuntime) {
         check_step(&rt, &mut session, Ask::Ended(Err(Fault::Syntax)));
         session.fail_output();
     }
+    drop(session);
 }
