@@ -94,15 +94,20 @@ mark_replaced n letter s =
     else if known s.zone second_address (mark_name letter) (negsuc 0) then mark_moved n letter s
     else mark_lost letter s
 
+-- the target becomes the number of lines that are left: the first address less the second is from low to high, the last line less the second is
+-- at most above, and the second less the last line at most below
+abbrev pub left_by : (low high above below : Option ℤ) → Bounds → Bounds
+left_by low high above below zone =
+    guarded_by
+    (guarded_by (after_shift (after_set zone target_address last_line (negsuc 0)) target_address low high)
+    target_address first_address (sum_of above (Some (negsuc 0))))
+    first_address target_address (sum_of below (Some (pos 1)))
+
 -- the target becomes the number of lines that are left; the distances are those in the zone before
 unfoldable pub left_over : (before : Bounds) → Bounds → Bounds
 left_over before zone =
-    guarded_by
-    (guarded_by
-    (after_shift (after_set zone target_address last_line (negsuc 0)) target_address (least before first_address second_address)
-    (greatest before first_address second_address))
-    target_address first_address (sum_of (greatest before last_line second_address) (Some (negsuc 0))))
-    first_address target_address (sum_of (greatest before second_address last_line) (Some (pos 1)))
+    left_by (least before first_address second_address) (greatest before first_address second_address)
+    (greatest before last_line second_address) (greatest before second_address last_line) zone
 
 -- the current line after a deletion
 unfoldable pub current_left : Bounds → Bounds

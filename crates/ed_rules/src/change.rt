@@ -6,7 +6,7 @@ ghost use Rattle.ed_rules.specs.Pieces.{modified, mark_moved, mark_lost, mark_re
 ghost use Rattle.ed_rules.specs.States.{old_of};
 
 use crate::marks::Marks;
-use crate::pieces::{mark, move_mark, set_current_replaced, set_left_over};
+use crate::pieces::{Distances, mark, move_mark, set_current_replaced, set_left_over};
 use crate::state::{Changed, State, find_old};
 use zones::Name;
 
@@ -57,14 +57,14 @@ impl State {
     }
 
     /// The addressed lines give way to `count` lines.
-    #[tactic(auto, unfolding(crate::specs::Pieces::replaced))]
+    #[tactic(auto, unfolding(crate::specs::Pieces::replaced, crate::specs::Pieces::left_over))]
     pub(crate) fn replace(&mut self, count: usize)
         ensures exact { self.new ≡ replaced count self.old }
     {
-        let before = self.zone;
+        let before = Distances::of(&self.zone);
         let marks = self.marks;
         self.replace_marks(count, &marks);
-        set_left_over(&mut self.zone, &before);
+        set_left_over(&mut self.zone, before);
         set_current_replaced(&mut self.zone, count);
         self.zone
             .set_wide(Name::LAST_LINE, Name::TARGET_ADDRESS, count as i128);

@@ -1,12 +1,13 @@
 //! The pieces that rules share, on a zone: the end of a rule, insertion, line 0 as 1.
 
 ghost use Rattle.std.specs.Prelude.{◌≡◌, ◌<◌, ◌+ℤ◌, ◌-ℤ◌, ◌≤ℤ◌, ◌^◌, pos, Some};
+ghost use Rattle.zones.specs.Name.{last_line, first_address, second_address};
 ghost use Rattle.zones.specs.Bound.{sum_of, negative_of};
 ghost use Rattle.zones.specs.Zone.{bound};
 ghost use Rattle.zones.specs.Known.{least, greatest};
 ghost use Rattle.zones.specs.Steps.{after_shift};
 ghost use Rattle.ed_rules.specs.Marks.{mark_name, for_each_sure};
-ghost use Rattle.ed_rules.specs.Pieces.{guarded_by, without_addresses, mark_bounded, ended, mark_pushed, inserted, lifted, left_over, current_left, current_replaced};
+ghost use Rattle.ed_rules.specs.Pieces.{guarded_by, without_addresses, mark_bounded, ended, mark_pushed, inserted, lifted, left_by, current_left, current_replaced};
 
 use crate::marks::Marks;
 use zones::{Name, Zone};
@@ -168,28 +169,54 @@ pub(crate) fn move_mark(zone: &mut Zone, count: usize, letter: usize)
     zone.shift_wide(mark(letter), plus(low, growth), plus(high, growth));
 }
 
-/// The target becomes the number of lines that are left.
-#[tactic(auto, unfolding(crate::specs::Pieces::left_over))]
-pub(crate) fn set_left_over(zone: &mut Zone, before: &Zone)
-    ensures exact { zone.new ≡ left_over before.now zone.old }
+/// How far the addresses and the last line lie from each other, where a zone says it.
+#[derive(Clone, Copy)]
+pub(crate) struct Distances {
+    /// The first address less the second is at least this.
+    low: Option<i64>,
+    /// The first address less the second is at most this.
+    high: Option<i64>,
+    /// The last line less the second address is at most this.
+    above: Option<i64>,
+    /// The second address less the last line is at most this.
+    below: Option<i64>,
+}
+
+impl Distances {
+    pub(crate) fn of(zone: &Zone) -> Self
+        ensures value { result ≡ record {
+          low = least zone.now first_address second_address;
+          high = greatest zone.now first_address second_address;
+          above = greatest zone.now last_line second_address;
+          below = greatest zone.now second_address last_line;
+        } }
+    {
+        Distances {
+            low: zone.least(Name::FIRST_ADDRESS, Name::SECOND_ADDRESS),
+            high: zone.bound(Name::FIRST_ADDRESS, Name::SECOND_ADDRESS),
+            above: zone.bound(Name::LAST_LINE, Name::SECOND_ADDRESS),
+            below: zone.bound(Name::SECOND_ADDRESS, Name::LAST_LINE),
+        }
+    }
+}
+
+/// The target becomes the number of lines that are left, by the distances before.
+pub(crate) fn set_left_over(zone: &mut Zone, before: Distances)
+    ensures exact { zone.new ≡ left_by before.low before.high before.above before.below zone.old }
 {
-    let low = before.least(Name::FIRST_ADDRESS, Name::SECOND_ADDRESS);
-    let high = before.bound(Name::FIRST_ADDRESS, Name::SECOND_ADDRESS);
-    let above = before.bound(Name::LAST_LINE, Name::SECOND_ADDRESS);
-    let below = before.bound(Name::SECOND_ADDRESS, Name::LAST_LINE);
     zone.set(Name::TARGET_ADDRESS, Name::LAST_LINE, -1);
-    zone.shift(Name::TARGET_ADDRESS, low, high);
+    zone.shift(Name::TARGET_ADDRESS, before.low, before.high);
     guard_by(
         zone,
         Name::TARGET_ADDRESS,
         Name::FIRST_ADDRESS,
-        plus(above, -1),
+        plus(before.above, -1),
     );
     guard_by(
         zone,
         Name::FIRST_ADDRESS,
         Name::TARGET_ADDRESS,
-        plus(below, 1),
+        plus(before.below, 1),
     );
 }
 
