@@ -167,11 +167,20 @@ fn take(
     }
 }
 
-fn note_of(state: KeptState, looped: Option<Looped>) -> Note
-    ensures value { note_value result ≡
-        record { state = state; looped = option_map looped_value looped } }
+fn note_of(alloc: Global, state: KeptState, looped: Option<Looped>) -> Result<Note, AllocError>
+    ensures value { IfOk result (λ note. note_value note ≡
+        record { state = state; looped = option_map looped_value looped }) }
 {
-    Note { state, looped }
+    match looped {
+        None => Ok(Note {
+            state,
+            looped: None,
+        }),
+        Some(looped) => Ok(Note {
+            state,
+            looped: Some(Box::new(alloc, looped)?),
+        }),
+    }
 }
 
 /// Goes through the counted commands, from the state at the start.
@@ -192,14 +201,16 @@ pub(crate) fn go_through(
         let known = coming.try_keep()?;
         match end {
             End::Stops { inner, why } => {
-                notes.push(note_of(known, looped))?;
+                let note = note_of(alloc, known, looped)?;
+                notes.push(note)?;
                 let place = place_of(index + 1, inner);
                 let outcome = Outcome::Fails { place, why };
                 return Ok(Walk::of(notes, writes, false, outcome));
             }
             End::Leaves => {
                 list_taken(&mut writes, command, &known, &looped)?;
-                notes.push(note_of(known, looped))?;
+                let note = note_of(alloc, known, looped)?;
+                notes.push(note)?;
                 coming.try_copy_from(&left)?;
             }
         }

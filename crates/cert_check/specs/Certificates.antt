@@ -1,5 +1,6 @@
 -- What a certificate says, apart from where it lies in memory.
 use Rattle.std.specs.Prelude.{ℕ, List, map, Option, option_map}
+use Rattle.std.specs.Global.{Box}
 use Rattle.ed_rules.specs.declared.state.State.{State}
 use Rattle.cert_check.specs.declared.certificate.Looped as looped
 use Rattle.cert_check.specs.declared.certificate.Note as note
@@ -31,8 +32,12 @@ pub record Certificate : Type 0 where
 abbrev pub looped_value : looped.Looped → Looped
 looped_value l = record { invariant = l.invariant; inner = l.inner.items }
 
+-- the same of what stands elsewhere in memory
+abbrev pub boxed_value : Box looped.Looped → Looped
+boxed_value b = looped_value b.value
+
 abbrev pub note_value : note.Note → Note
-note_value n = record { state = n.state; looped = option_map looped_value n.looped }
+note_value n = record { state = n.state; looped = option_map boxed_value n.looped }
 
 -- what a certificate in memory stands for
 abbrev pub certificate_value : public.Certificate → Certificate

@@ -16,7 +16,8 @@ pub struct Looped {
 #[derive(Debug, Drop)]
 pub struct Note {
     pub state: KeptState,
-    pub looped: Option<Looped>,
+    /// It stands elsewhere in memory, since most commands have none and a script has as many notes as commands.
+    pub looped: Option<Box<Looped>>,
 }
 
 /// What a certificate says: the file that a run starts with and how long it may be, what is known before each counted command

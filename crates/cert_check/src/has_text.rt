@@ -4,7 +4,7 @@ ghost use Rattle.std.specs.Prelude.{◌≡◌, ◌<◌, ◌↔◌, ◌&&◌, ◌
 ghost use Rattle.std.specs.Ordering.{is_lt};
 ghost use Rattle.zones.specs.Limits.{IsZone};
 ghost use Rattle.ed_rules.specs.Choices.{order_of};
-ghost use Rattle.cert_check.specs.Certificates.{looped_value, note_value, certificate_value};
+ghost use Rattle.cert_check.specs.Certificates.{boxed_value, note_value, certificate_value};
 ghost use Rattle.ed_rules.specs.Formed.{has_name, may_say, ZoneIsFormed, OldIsFormed, ChoiceIsBytes, is_rising, SetIsFormed, StateIsFormed};
 ghost use Rattle.cert_check.specs.HasText.{LoopedHasText, NoteHasText, is_few, is_limit, is_within, HasText};
 ghost use Rattle.ed_rules.specs.Formed.{says_nothing};
@@ -189,8 +189,8 @@ fn inner_have_text(states: &[KeptState]) -> bool
     true
 }
 
-fn looped_has_text(looped: &Option<Looped>) -> bool
-    ensures exact { IsTrue result ↔ LoopedHasText (option_map looped_value looped.now) }
+fn looped_has_text(looped: &Option<Box<Looped>>) -> bool
+    ensures exact { IsTrue result ↔ LoopedHasText (option_map boxed_value looped.now) }
 {
     match looped {
         Some(looped) => {

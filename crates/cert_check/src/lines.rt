@@ -157,7 +157,8 @@ fn members_in(alloc: Global, text: &[u8]) -> Result<Option<Vec<Option<Bytes>>>, 
     ensures exact { IfOk result (λ set. WordReadsAs (λ set. spaced (map choice_word set)) (All ChoiceIsBytes)
         text.now (option_map (λ set. set.items) set)) }
 {
-    let mut members = Vec::new(alloc);
+    // Most sets have one member.
+    let mut members = Vec::with_capacity(alloc, 1)?;
     let mut left = text;
     while let Some((word, later)) = next_word(left) {
         let Some(choice) = choice_in(alloc, word)? else {

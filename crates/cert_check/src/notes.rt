@@ -2,7 +2,7 @@
 
 ghost use Rattle.std.specs.Prelude.{All, map};
 ghost use Rattle.ed_rules.specs.Formed.{StateIsFormed};
-ghost use Rattle.cert_check.specs.Certificates.{looped_value, note_value};
+ghost use Rattle.cert_check.specs.Certificates.{boxed_value, note_value};
 ghost use Rattle.cert_check.specs.HasText.{NoteHasText};
 ghost use Rattle.cert_check.specs.Pieces.{Reads, inner_lines, list_lines, ListIsFormed, noted_lines, noted_value, NotedIsFormed, notes_lines};
 
@@ -26,12 +26,12 @@ fn read_inner(alloc: Global, cursor: &mut Cursor<'_>) -> Result<Vec<KeptState>, 
 }
 
 /// What is known of a list, after its head.
-fn read_list(alloc: Global, cursor: &mut Cursor<'_>) -> Result<Looped, CertFault>
-    ensures exact { Reads looped_value list_lines ListIsFormed cursor.old cursor.new result }
+fn read_list(alloc: Global, cursor: &mut Cursor<'_>) -> Result<Box<Looped>, CertFault>
+    ensures exact { Reads boxed_value list_lines ListIsFormed cursor.old cursor.new result }
 {
     let invariant = read_state(alloc, cursor)?;
     let inner = read_inner(alloc, cursor)?;
-    Ok(Looped { invariant, inner })
+    Ok(Box::new(alloc, Looped { invariant, inner })?)
 }
 
 /// A note after its head, and whether another follows.

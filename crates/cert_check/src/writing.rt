@@ -1,7 +1,7 @@
 //! The lines of a certificate's text, as they are written.
 
 ghost use Rattle.std.specs.Prelude.{◌≡◌, ◌++◌, ◌∷◌, [], map, flat_map, option_map, codes, IfOk, OnOk};
-ghost use Rattle.cert_check.specs.Certificates.{looped_value, note_value, certificate_value};
+ghost use Rattle.cert_check.specs.Certificates.{boxed_value, looped_value, note_value, certificate_value};
 ghost use Rattle.cert_check.specs.Text.{lines_text, zone_line, marks_line, choices_line, replacements_line, changed_line, undo_line, old_lines, state_lines, headed_lines, looped_lines, note_lines, path_line, bounds_line, writes_line, opening_lines, closing_lines, text_of};
 ghost use Rattle.cert_check.specs.HasText.{HasText};
 
@@ -120,17 +120,22 @@ fn push_inner(out: &mut Bytes, states: &[KeptState]) -> Result<(), AllocError>
     Ok(())
 }
 
-fn push_looped(out: &mut Bytes, looped: &Option<Looped>) -> Result<(), AllocError>
+fn push_list(out: &mut Bytes, looped: &Looped) -> Result<(), AllocError>
     ensures appended { OnOk result
-        (out.new ≡ out.old ++ lines_text (looped_lines (option_map looped_value looped.now))) }
+        (out.new ≡ out.old ++ lines_text (looped_lines (Some (looped_value looped.now)))) }
+{
+    push_headed(out, b"loop", &looped.invariant)?;
+    push_inner(out, looped.inner.as_slice())?;
+    out.extend_from_slice(b"done\n")?;
+    Ok(())
+}
+
+fn push_looped(out: &mut Bytes, looped: &Option<Box<Looped>>) -> Result<(), AllocError>
+    ensures appended { OnOk result
+        (out.new ≡ out.old ++ lines_text (looped_lines (option_map boxed_value looped.now))) }
 {
     match looped {
-        Some(looped) => {
-            push_headed(out, b"loop", &looped.invariant)?;
-            push_inner(out, looped.inner.as_slice())?;
-            out.extend_from_slice(b"done\n")?;
-            Ok(())
-        }
+        Some(looped) => push_list(out, looped),
         None => Ok(()),
     }
 }

@@ -139,6 +139,9 @@ fn place_said(text: &[u8]) -> usize
     32 * name_said(*x) + name_said(*y)
 }
 
+/// How many bounds are known of three names, which is what most zones speak of: 0, the current line and the last one.
+const BOUNDS_OF_THREE_NAMES: usize = 6;
+
 /// The bound that a text says first, after a space in front, and what is left after it.
 fn first_bound(text: &[u8]) -> Option<(KeptEntry, &[u8])>
     ensures exact { MatchOption result
@@ -168,7 +171,7 @@ fn bounds_said(alloc: Global, text: &[u8]) -> Result<Option<Vec<KeptEntry>>, All
         ((others : List PlacedBound) → All IsSpoken others → Rise 0 others → spaced (map spoken_word others) ≢ text.now)
         (λ bounds. All IsSpoken bounds.items × (spaced (map spoken_word bounds.items) ≡ text.now))) }
 {
-    let mut bounds = Vec::new(alloc);
+    let mut bounds = Vec::with_capacity(alloc, BOUNDS_OF_THREE_NAMES)?;
     let mut left = text;
     let mut from = 0;
     'words: while !left.is_empty() {

@@ -20,9 +20,9 @@ loop-index-init c = record {
 pub returns-in-Stops : goal.returns-in-Stops
 returns-in-Stops c = record {
   value =
-      walk-off c.args.commands.now c.args.start c.loop-index.index c.index-commands-index.result c.loop-index.notes.items c.push.new.self.items c.note_of.result c.in_ok-looped.field-0.looped c.loop-index.writes.items c.loop-index.coming c.take.new.left
+      walk-off c.args.commands.now c.args.start c.loop-index.index c.index-commands-index.result c.loop-index.notes.items c.push.new.self.items c.in_ok-note-in-Stops.note c.in_ok-looped.field-0.looped c.loop-index.writes.items c.loop-index.coming c.take.new.left
       c.in_ok-looped.field-0.end c.in-Stops.inner c.in-Stops.why c.place_of-place.result c.of.result
-      (omega arith) c.index-commands-index.is (rw c.in_ok-known.ensures.value at c.note_of.ensures.value) c.in_ok-push-in-Stops.ensures.items c.in_ok-looped.ensures.value c.in-Stops.is c.loop-index.invariant.going
+      (omega arith) c.index-commands-index.is (rw c.in_ok-known.ensures.value at c.in_ok-note-in-Stops.ensures.value) c.in_ok-push-in-Stops.ensures.items c.in_ok-looped.ensures.value c.in-Stops.is c.loop-index.invariant.going
       c.place_of-place.ensures.value (ap (λ (w : Walk). w.outcome) c.of.ensures.value) (ap (λ (w : Walk). w.notes.items) c.of.ensures.value);
 }
 
@@ -33,9 +33,9 @@ list_taken-requires c = record {
 
 pub returns-then-quits : goal.returns-then-quits
 returns-then-quits c =
-    let on = walk-on c.args.commands.now c.args.start c.loop-index.index c.index-commands-index.result c.loop-index.notes.items c.push-in-Leaves.new.self.items c.note_of-in-Leaves.result c.in_ok-looped.field-0.looped c.loop-index.writes.items c.list_taken.new.paths.items
+    let on = walk-on c.args.commands.now c.args.start c.loop-index.index c.index-commands-index.result c.loop-index.notes.items c.push-in-Leaves.new.self.items c.in_ok-note-in-Leaves.note c.in_ok-looped.field-0.looped c.loop-index.writes.items c.list_taken.new.paths.items
     c.loop-index.coming c.take.new.left c.try_copy_from.new.self c.in_ok-looped.field-0.end
-    (omega arith) c.index-commands-index.is (rw c.in_ok-known.ensures.value at c.note_of-in-Leaves.ensures.value) c.in_ok-push-in-Leaves.ensures.items (rw c.in_ok-known.ensures.value at c.in_ok-list_taken-in-Leaves.ensures.value) c.in_ok-looped.ensures.value c.in-Leaves.is c.in_ok-try_copy_from-in-Leaves.ensures.value c.loop-index.invariant.going in
+    (omega arith) c.index-commands-index.is (rw c.in_ok-known.ensures.value at c.in_ok-note-in-Leaves.ensures.value) c.in_ok-push-in-Leaves.ensures.items (rw c.in_ok-known.ensures.value at c.in_ok-list_taken-in-Leaves.ensures.value) c.in_ok-looped.ensures.value c.in-Leaves.is c.in_ok-try_copy_from-in-Leaves.ensures.value c.loop-index.invariant.going in
     let ends = sym c.quits.ensures.value ∙ c.if-quits.true in
     let quit = quit-off c.args.commands.now c.loop-index.index c.index-commands-index.result (omega arith) c.index-commands-index.is ends c.loop-index.invariant.quit in
     record {
@@ -48,9 +48,9 @@ returns-then-quits c =
 
 pub loop-index-preserved : goal.loop-index-preserved
 loop-index-preserved c =
-    let on = walk-on c.args.commands.now c.args.start c.loop-index.index c.index-commands-index.result c.loop-index.notes.items c.push-in-Leaves.new.self.items c.note_of-in-Leaves.result c.in_ok-looped.field-0.looped c.loop-index.writes.items c.list_taken.new.paths.items
+    let on = walk-on c.args.commands.now c.args.start c.loop-index.index c.index-commands-index.result c.loop-index.notes.items c.push-in-Leaves.new.self.items c.in_ok-note-in-Leaves.note c.in_ok-looped.field-0.looped c.loop-index.writes.items c.list_taken.new.paths.items
     c.loop-index.coming c.take.new.left c.try_copy_from.new.self c.in_ok-looped.field-0.end
-    (omega arith) c.index-commands-index.is (rw c.in_ok-known.ensures.value at c.note_of-in-Leaves.ensures.value) c.in_ok-push-in-Leaves.ensures.items (rw c.in_ok-known.ensures.value at c.in_ok-list_taken-in-Leaves.ensures.value) c.in_ok-looped.ensures.value c.in-Leaves.is c.in_ok-try_copy_from-in-Leaves.ensures.value c.loop-index.invariant.going in
+    (omega arith) c.index-commands-index.is (rw c.in_ok-known.ensures.value at c.in_ok-note-in-Leaves.ensures.value) c.in_ok-push-in-Leaves.ensures.items (rw c.in_ok-known.ensures.value at c.in_ok-list_taken-in-Leaves.ensures.value) c.in_ok-looped.ensures.value c.in-Leaves.is c.in_ok-try_copy_from-in-Leaves.ensures.value c.loop-index.invariant.going in
     let stays = sym c.quits.ensures.value ∙ c.if-quits.false in
     record {
       going = subst (λ (xs : List Step). Going (counted_from c.args.commands.now 0) c.args.start (c.loop-index.index + 1) (map note_value c.push-in-Leaves.new.self.items) c.list_taken.new.paths.items c.try_copy_from.new.self xs)

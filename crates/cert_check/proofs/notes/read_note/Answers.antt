@@ -1,5 +1,5 @@
 use Rattle.std.proofs.Common.{true, false}
-use Rattle.cert_check.specs.Certificates.{looped_value}
+use Rattle.cert_check.specs.Certificates.{boxed_value}
 use Rattle.cert_check.specs.Pieces.{noted_value}
 use Rattle.cert_check.proofs.Pieces.{took-none, took-more, exits}
 use Rattle.cert_check.proofs.Noted.{noted-state, noted-head, noted-list, noted-turn, noted-plain, noted-listed, took-is, took-head}
@@ -30,7 +30,7 @@ pub returns-in_err-another-in-Loop : goal.returns-in_err-another-in-Loop
 returns-in_err-another-in-Loop c = record {
   exact =
       exits noted_value c.read_either.new.cursor c.from_residual-in_err-another-in-Loop.result c.in_err-another-in-Loop.field-0.0 c.from_residual-in_err-another-in-Loop.ensures.1
-      (noted-turn c.in_ok-state.state (looped_value c.in_ok-looped-in-Loop.looped) c.in_ok-state.ensures.exact.0 c.in_ok-looped-in-Loop.ensures.exact.0) (took-more (took-more c.in_ok-state.ensures.exact.1 (took-head c.in-Loop.is c.in_ok-read_head.ensures.exact.1)) c.in_ok-looped-in-Loop.ensures.exact.1) c.in_err-another-in-Loop.ensures.exact;
+      (noted-turn c.in_ok-state.state (boxed_value c.in_ok-looped-in-Loop.looped) c.in_ok-state.ensures.exact.0 c.in_ok-looped-in-Loop.ensures.exact.0) (took-more (took-more c.in_ok-state.ensures.exact.1 (took-head c.in-Loop.is c.in_ok-read_head.ensures.exact.1)) c.in_ok-looped-in-Loop.ensures.exact.1) c.in_err-another-in-Loop.ensures.exact;
 }
 
 pub returns-in-AnotherNote : goal.returns-in-AnotherNote
@@ -53,7 +53,7 @@ pub returns-in_ok-another-in-Loop : goal.returns-in_ok-another-in-Loop
 returns-in_ok-another-in-Loop c = record {
   exact = (
     (c.in_ok-state.ensures.exact.0, c.in_ok-looped-in-Loop.ensures.exact.0),
-    took-is (noted-listed c.in_ok-state.state (looped_value c.in_ok-looped-in-Loop.looped) c.in_ok-another-in-Loop.another)
+    took-is (noted-listed c.in_ok-state.state (boxed_value c.in_ok-looped-in-Loop.looped) c.in_ok-another-in-Loop.another)
         (took-more (took-more (took-more c.in_ok-state.ensures.exact.1 (took-head c.in-Loop.is c.in_ok-read_head.ensures.exact.1)) c.in_ok-looped-in-Loop.ensures.exact.1) c.in_ok-another-in-Loop.ensures.exact.1),
   );
 }

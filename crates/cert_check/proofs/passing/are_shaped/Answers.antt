@@ -1,4 +1,4 @@
-use Rattle.std.proofs.Common.{arith, refl, sym, ◌∙◌}
+use Rattle.std.proofs.Common.{arith, rules, refl, sym, ◌∙◌, ◌<◌, length}
 use Rattle.cert_check.proofs.Counting.{counted-bounded}
 use Rattle.cert_check.proofs.Judging.{shape-on, shape-off, shape-over, shape-size}
 use Rattle.cert_check.proofs.passing.are_shaped.Goals as goal
@@ -8,6 +8,11 @@ returns-then-notes-number c = record { value = sym (shape-size c.args.commands.n
 
 pub loop-index-init : goal.loop-index-init
 loop-index-init c = refl
+
+pub offset_bounds-commands-index : goal.offset_bounds-commands-index
+offset_bounds-commands-index c =
+    let within : c.loop-index.index < length c.args.commands.now = omega (arith, counted-bounded c.args.commands.now, c.requires.counted, c.if-notes-number.false) in
+    search rules
 
 pub bounds-commands-index : goal.bounds-commands-index
 bounds-commands-index c = omega (arith, counted-bounded c.args.commands.now, c.requires.counted, c.if-notes-number.false)

@@ -1,10 +1,15 @@
-use Rattle.std.proofs.Common.{arith, refl, sym, ◌∙◌}
+use Rattle.std.proofs.Common.{arith, rules, refl, sym, ◌∙◌, ◌<◌, length}
 use Rattle.cert_check.proofs.Counting.{counted-bounded}
 use Rattle.cert_check.proofs.Judging.{go-on, stop-here, gone-through, shape-on, shape-fits, noted-length}
 use Rattle.cert_check.proofs.passing.go_through.Goals as goal
 
 pub loop-index-init : goal.loop-index-init
 loop-index-init c = record { shape = c.requires.shape; checks = λ end. refl }
+
+pub offset_bounds-commands-index : goal.offset_bounds-commands-index
+offset_bounds-commands-index c =
+    let within : c.loop-index.index < length c.args.commands.now = omega (arith, counted-bounded c.args.commands.now, noted-length c.args.commands.now c.args.notes.now c.requires.shape) in
+    search rules
 
 pub bounds-commands-index : goal.bounds-commands-index
 bounds-commands-index c = omega (arith, counted-bounded c.args.commands.now, noted-length c.args.commands.now c.args.notes.now c.requires.shape)
