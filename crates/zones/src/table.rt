@@ -17,7 +17,7 @@ use crate::reach::any_of;
 /// The bound of the pair (p, q) lies at `32 * p + q`.
 pub(crate) type Table = [Entry; 1024];
 
-/// A bound for each name: a row or a column of a table.
+/// A bound for each name: a row of a table.
 type Line = [Entry; 32];
 
 /// Any of each two names, and 0 of a name with itself.
@@ -29,18 +29,6 @@ pub(crate) fn any_table() -> Table
         table[32 * p + p] = Entry::of(Some(0));
     }
     table
-}
-
-/// The line of the bounds that a function gives.
-fn line_of<F: Fn(usize) -> Entry>(bound_at: F) -> Line
-    requires total { (p : ℕ) → p < 32 → F.pre bound_at p }
-    ensures each { (p : ℕ) → p < 32 → F.post bound_at p (get_or result p None) }
-{
-    let mut line = [Entry::any(); 32];
-    for p in 0..32 {
-        line[p] = bound_at(p);
-    }
-    line
 }
 
 /// Writes the row of the name at `x`, which is that at `y` raised by `high`.
@@ -125,18 +113,18 @@ fn tighten_row(table: &mut Table, most: usize, p: usize, to: i64, c: i64, row: &
     }
 }
 
-/// The row of the name at `y`.
-#[tactic(auto, unfolding(crate::specs::Zone::bound))]
-fn row_of(table: &Table, y: usize) -> Line
-    requires y_in_range { y < 32 }
+/// The row of the name at `y`, which ends before `most`.
+fn row_of(table: &Table, most: usize, y: usize) -> Line
+    requires most_in_range { most ≤ 32 }
+    requires y_in_range { y < most }
+    requires unknown { AreUnknown table.now most }
     ensures each { (q : ℕ) → q < 32 → get_or result q None ≡ bound table.now y q }
 {
-    line_of(
-        |q: usize| -> Entry
-            requires { (y < 32) × (q < 32) }
-            ensures { result ≡ bound table.entry.now y q }
-        { table[32 * y + q] },
-    )
+    let mut row = [Entry::any(); 32];
+    for q in 0..most {
+        row[q] = table[32 * y + q];
+    }
+    row
 }
 
 /// Takes up that the difference of the names at `x` and `y` is at most `c`.
@@ -148,7 +136,7 @@ pub(crate) fn guard_table(table: &mut Table, most: usize, x: usize, y: usize, c:
     requires unknown { AreUnknown table.old most }
     ensures exact { table.new ≡ after_guard table.old x y c }
 {
-    let row = row_of(table, y);
+    let row = row_of(table, most, y);
     for p in 0..most {
         // Only the row itself is read here, and that of `y` as it was before the step. A row with no
         // bound up to `x` stays, since no way leads on.
