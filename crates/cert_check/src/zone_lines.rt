@@ -11,7 +11,7 @@ use crate::has_text::zone_has_text;
 use crate::words_in::{after_key, signed_in, word_len};
 use ed_rules::Marks;
 use std::alloc::{AllocError, Global};
-use zones::{KeptEntry, KeptZone, Name};
+use zones::{BOUNDS_OF_THREE_NAMES, KeptEntry, KeptZone, Name};
 
 /// The letters of a word.
 fn letters_in(word: &[u8]) -> Option<Marks>
@@ -138,9 +138,6 @@ fn place_said(text: &[u8]) -> usize
     };
     32 * name_said(*x) + name_said(*y)
 }
-
-/// How many bounds are known of three names, which is what most zones speak of: 0, the current line and the last one.
-const BOUNDS_OF_THREE_NAMES: usize = 6;
 
 /// The bound that a text says first, after a space in front, and what is left after it.
 fn first_bound(text: &[u8]) -> Option<(KeptEntry, &[u8])>

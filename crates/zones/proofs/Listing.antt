@@ -1,14 +1,14 @@
 -- The known bounds of a zone, in the order of their places.
-use Rattle.std.proofs.Common.{◌≡◌, ◌≢◌, ◌<◌, ◌≤◌, ◌+◌, ◌⊎◌, inl, inr, ℕ, zero, suc, ℤ, List, [], ◌∷◌, get_or, set, drop, length, map, Option, Some, None, true, false, All, Contains, arith, ◌∙◌, ap, refl, sym, subst, add-one, drop-cons, length-set, get_or-set_other, below_more}
+use Rattle.std.proofs.Common.{◌≡◌, ◌≢◌, ◌<◌, ◌≤◌, ◌+◌, ◌⊎◌, inl, inr, ℕ, zero, suc, ℤ, List, [], ◌∷◌, get_or, set, drop, length, Option, Some, None, true, false, All, Contains, arith, ◌∙◌, ap, refl, sym, subst, add-one, drop-cons, length-set, get_or-set_other, below_more}
 use Rattle.std.specs.Option.{option_eq}
 use Rattle.std.specs.Ordering.{int_eq}
 use Rattle.std.proofs.lemmas.Bool.Decides.{Decides-int_eq, eqb_tells}
-use Rattle.std.proofs.lemmas.List.{drop_all, get_or-map, length-map}
-use Rattle.std.proofs.lemmas.List.Elements.{All-nil, All-cons, All-get_or}
+use Rattle.std.proofs.lemmas.List.{drop_all}
+use Rattle.std.proofs.lemmas.List.Elements.{All-nil, All-cons}
 use Rattle.zones.specs.Zone.{Bounds}
 use Rattle.zones.specs.Steps.{any_zone, any_bound}
 use Rattle.zones.specs.KnownBounds.{PlacedBound, is_unknown, known_from, known_bounds}
-use Rattle.zones.specs.Written.{written, any_at, places_from}
+use Rattle.zones.specs.Written.{written, any_at, known_after}
 use Rattle.zones.proofs.Keeping.{written-is}
 use Rattle.zones.proofs.Places.{each-set, get_or-any_zone, length-zone_by}
 
@@ -104,18 +104,32 @@ pub Contains-known_bounds : (zone : Bounds) (k : ℕ) → k < length zone → ge
 unfolding known_bounds
 Contains-known_bounds zone k h known = Contains-known_from (length zone) 0 zone (omega arith) k (omega arith) h known
 
--- the places of a zone's known bounds, one place further
-pub places_from-skip : (zone : Bounds) (place : ℕ) → place < length zone → get_or zone place None ≡ any_at place → places_from (place + 1) zone ≡ places_from place zone
-unfolding places_from
-places_from-skip zone place h e = ap (map (λ (b : PlacedBound). b.place)) (sym (known_from-skip zone place h e))
+-- a zone's known bounds from a place on, one place further
+pub known_after-skip : (zone : Bounds) (place : ℕ) → place < length zone → get_or zone place None ≡ any_at place → known_after (place + 1) zone ≡ known_after place zone
+unfolding known_after
+known_after-skip zone place h e = sym (known_from-skip zone place h e)
 
-pub places_from-next : (zone : Bounds) (place : ℕ) → place < length zone → get_or zone place None ≢ any_at place → place ∷ places_from (place + 1) zone ≡ places_from place zone
-unfolding places_from
-places_from-next zone place h n = ap (map (λ (b : PlacedBound). b.place)) (sym (known_from-next zone place h n))
+pub known_after-next : (zone : Bounds) (place : ℕ) (b : PlacedBound) → place < length zone → b ≡ (record { place = place; bound = get_or zone place None }) →
+    get_or zone place None ≢ any_at place → b ∷ known_after (place + 1) zone ≡ known_after place zone
+unfolding known_after
+known_after-next zone place b h is n = rw is (sym (known_from-next zone place h n))
 
-pub places_from-end : (zone : Bounds) (place : ℕ) → length zone ≤ place → places_from place zone ≡ []
-unfolding places_from
-places_from-end zone place h = ap (map (λ (b : PlacedBound). b.place)) (known_from-end zone place h)
+pub known_after-end : (zone : Bounds) (place : ℕ) → length zone ≤ place → known_after place zone ≡ []
+unfolding known_after
+known_after-end zone place h = known_from-end zone place h
+
+pub known_after-start : (zone : Bounds) → known_after 0 zone ≡ known_bounds zone
+unfolding known_after known_bounds
+known_after-start zone = refl
+
+-- places at which nothing is known are passed over
+pub known_after-pass : (zone : Bounds) (place n : ℕ) → place + n ≤ length zone → ((k : ℕ) → place ≤ k → k < place + n → get_or zone k None ≡ any_at k) →
+    known_after (place + n) zone ≡ known_after place zone
+known_after-pass zone place zero h none = ap (λ (k : ℕ). known_after k zone) (omega arith)
+known_after-pass zone place (suc n) h none =
+    ap (λ (k : ℕ). known_after k zone) (omega arith)
+    ∙ known_after-skip zone (place + n) (omega arith) (none (place + n) (omega arith) (omega arith))
+    ∙ known_after-pass zone place n (omega arith) (λ k l r. none k l (omega arith))
 
 -- the known bounds of a zone, written into one in which nothing is known from their first place on
 written-known_from : (n place : ℕ) (zone base : Bounds) → place + n ≡ length zone → length base ≡ length zone →
@@ -142,44 +156,8 @@ written-known_bounds zone size =
     (λ k h. written-known_from (length zone) 0 zone any_zone (omega arith) (length-zone_by any_bound ∙ sym size) (λ i l. absurd (omega arith))
     (λ i l r. get_or-any_zone i (omega arith)) k (omega arith))
 
--- each place of a zone's known bounds, with the bound there, is the known bound
-pub record IsAt (zone : Bounds) (i : ℕ) (b : PlacedBound) : Type 0 where
-  pub placed : b.place < length zone
-  pub counted : i < length (known_bounds zone)
-  pub listed : b ≡ get_or (known_bounds zone) i b
-
+-- a bound is told by its place and its number
 pub same-bound : (b : PlacedBound) (place : ℕ) (bound : Option ℤ) → b.place ≡ place → b.bound ≡ bound → (record { place = place; bound = bound }) ≡ b
 same-bound b place bound e f =
     ap (λ (p : ℕ). let r : PlacedBound = record { place = p; bound = bound } in r) (sym e)
     ∙ ap (λ (n : Option ℤ). let r : PlacedBound = record { place = b.place; bound = n } in r) (sym f)
-
-pub length-places : (zone : Bounds) (places : List ℕ) → places ≡ places_from 0 zone → length places ≡ length (known_bounds zone)
-unfolding places_from known_bounds
-length-places zone places is = ap length is ∙ length-map (known_from 0 zone) (λ (b : PlacedBound). b.place)
-
-pub listed-at : (zone : Bounds) (places : List ℕ) (i place : ℕ) (b : Option ℤ) → places ≡ places_from 0 zone → i < length places →
-    place ≡ get_or places i 0 → b ≡ get_or zone place None → IsAt zone i (record { place = place; bound = b })
-unfolding places_from known_bounds
-listed-at zone places i place b is h at here =
-    let d : PlacedBound = record { place = place; bound = b } in
-    let counted : i < length (known_from 0 zone) = omega (arith, length-places zone places is) in
-    let listed = All-get_or (IsListed zone) (known_from 0 zone) i d counted (All-known_bounds zone) in
-    let there : (get_or (known_from 0 zone) i d).place ≡ place =
-    sym (at ∙ ap (λ (ps : List ℕ). get_or ps i 0) is ∙ get_or-map (λ (b : PlacedBound). b.place) (known_from 0 zone) i d 0 counted) in
-    record {
-      placed = rw there at listed.placed;
-      counted = counted;
-      listed = same-bound _ place b there (listed.at ∙ ap (λ (k : ℕ). get_or zone k None) there ∙ sym here);
-    }
-
-pub placed-at : (zone : Bounds) (places : List ℕ) (i place : ℕ) → places ≡ places_from 0 zone → i < length places → place ≡ get_or places i 0 → place < length zone
-placed-at zone places i place is h at = (listed-at zone places i place (get_or zone place None) is h at refl).placed
-
--- places at which nothing is known are passed over
-pub places_from-pass : (zone : Bounds) (place n : ℕ) → place + n ≤ length zone → ((k : ℕ) → place ≤ k → k < place + n → get_or zone k None ≡ any_at k) →
-    places_from (place + n) zone ≡ places_from place zone
-places_from-pass zone place zero h none = ap (λ (k : ℕ). places_from k zone) (omega arith)
-places_from-pass zone place (suc n) h none =
-    ap (λ (k : ℕ). places_from k zone) (omega arith)
-    ∙ places_from-skip zone (place + n) (omega arith) (none (place + n) (omega arith) (omega arith))
-    ∙ places_from-pass zone place n (omega arith) (λ k l r. none k l (omega arith))

@@ -1,5 +1,5 @@
 -- How a kept zone is read: its known bounds, written one after another into a zone. No public contract speaks of it.
-use Rattle.std.specs.Prelude.{◌≡◌, ◌≢◌, ℕ, suc, ℤ, ◌/◌, ◌%◌, ◌<◌, ◌≤◌, List, [], ◌∷◌, map, drop, set, Option, All}
+use Rattle.std.specs.Prelude.{◌≡◌, ◌≢◌, ℕ, suc, ℤ, ◌/◌, ◌%◌, ◌<◌, ◌≤◌, List, [], ◌∷◌, drop, set, Option, All}
 use Rattle.zones.specs.Zone.{Bounds}
 use Rattle.zones.specs.Limits.{IsZone}
 use Rattle.zones.specs.Steps.{any_zone, any_bound}
@@ -19,9 +19,9 @@ pub record IsKeptZone (entries : List PlacedBound) : Type 0 where
 abbrev pub any_at : (place : ℕ) → Option ℤ
 any_at place = any_bound (place / 32) (place % 32)
 
--- the places of a zone's known bounds, from a place on
-unfoldable pub places_from : (place : ℕ) → Bounds → List ℕ
-places_from place zone = map (λ b. b.place) (known_from place (drop place zone))
+-- a zone's known bounds from a place on
+unfoldable pub known_after : (place : ℕ) → Bounds → List PlacedBound
+known_after place zone = known_from place (drop place zone)
 
 -- places rise, from one on
 abbrev pub Rise : (place : ℕ) → List PlacedBound → Type 0

@@ -11,7 +11,7 @@ ghost use Rattle.zones.specs.Written.{written, IsWithin, AreKnownBounds};
 
 use crate::entry::{Entry, covers_bound};
 use crate::kept_entry::KeptEntry;
-use crate::known_places::KnownPlaces;
+use crate::known_entries::known_entries;
 use crate::reach::{any_of, reach_with, reach_within};
 use crate::table::{Table, clear_table};
 use crate::zone::Zone;
@@ -36,23 +36,6 @@ impl Model for KeptZone {
     ghost view = { λ kept. written kept.entries.items any_zone };
 
     ghost invariant = { λ kept. IsKeptZone kept.entries.items };
-}
-
-/// The known bounds of a table.
-fn known_entries(alloc: Global, table: &Table, reach: usize) -> Result<Vec<KeptEntry>, AllocError>
-    requires reach { reach ≤ 32 }
-    requires unknown { AreUnknown table.now reach }
-    ensures value { IfOk result (λ entries. entries.items ≡ known_bounds table.now) }
-{
-    let known = KnownPlaces::known(table, reach);
-    let places = known.as_slice();
-    // They get exactly the room that they need.
-    let mut entries = Vec::with_capacity(alloc, places.len())?;
-    for place in places {
-        let place = usize::from(*place);
-        entries.push(KeptEntry::at(place, table[place]))?;
-    }
-    Ok(entries)
 }
 
 /// Writes bounds into a table, each at its place, and tells how far their names reach.

@@ -4,7 +4,7 @@
 mod entry;
 mod kept_entry;
 mod kept_zone;
-mod known_places;
+mod known_entries;
 mod laws;
 mod name;
 mod number;
@@ -16,6 +16,7 @@ mod zone;
 
 pub use kept_entry::KeptEntry;
 pub use kept_zone::KeptZone;
+pub use known_entries::BOUNDS_OF_THREE_NAMES;
 pub use laws::{
     bounds_are_formulas, covering_is_an_order, covering_is_weaker, differences_obey_sums,
     fixed_names_stay_fixed, isolated_names_stay_isolated, known_bounds_are_the_zone,
