@@ -4,8 +4,8 @@
 
 Straight scripts change lines one after another from the last to the first; an update, as `diff -e` writes it, changes, deletes and adds
 lines by turns, at places that are spread over its file; the others are of globals, whose lists the verifier goes through until an
-invariant is found. The file of the straight scripts has 100,000 lines, that of the update 300,000, that of the globals 1,000, and that of
-the small scripts ten: there `edit` over no command is the start of the program. Each figure is the best of three runs, that
+invariant is found. The file of the straight scripts has 100,000 lines, that of the update 300,000, of 49 bytes each as in ../editor, that of
+the globals 1,000, and that of the small scripts ten: there `edit` over no command is the start of the program. Each figure is the best of three runs, that
 of a small script the best of a hundred. For large straight scripts the times, and the peak of `check`, are given for each command too. A
 peak of some 10 MiB is that of this script, from which the program is started.
 """
@@ -75,7 +75,7 @@ def each(count, figures):
     return f' {times} us {figures[1][1] * 1024 / count:5.1f} KiB'
 
 
-def table(title, kind, lines, counts, runs=3):
+def table(title, kind, lines, counts, runs=3, line='line {} of the file\n'):
     """One row for each number of commands. Times are in milliseconds where there are many runs."""
     unit, factor, digits = ('s', 1, 3) if runs == 3 else ('ms', 1000, 2)
     by_command = '  a command of vouch, check, run' if kind in (straight, update) else ''
@@ -83,7 +83,7 @@ def table(title, kind, lines, counts, runs=3):
     print(f'{"commands":>9} {"vouch":>17} {"check":>17} {"run":>17} {"edit":>17} {"certificate":>12}{by_command}')
     with tempfile.TemporaryDirectory() as folder:
         os.chdir(folder)
-        text = ''.join(f'line {number} of the file\n' for number in range(lines))
+        text = ''.join(line.format(number) for number in range(lines))
 
         def restore():
             with open('F', 'w') as out:
@@ -106,7 +106,8 @@ def main():
     resource.setrlimit(resource.RLIMIT_CORE, (0, 0))
     table('Small scripts, over a file of 10 lines', small, 10, [0, 1, 10], 100)
     table('Straight scripts, over a file of 100,000 lines', straight, 100000, [10, 1000, 10000, 20000, 100000])
-    table('Updates as diff -e writes them, over a file of 300,000 lines', update, 300000, [5000, 10000, 20000])
+    table('Updates as diff -e writes them, over a file of 300,000 lines', update, 300000, [5000, 10000, 20000],
+          line='line {:07} of a text that is forty-seven bytes\n')
     table('Globals, over a file of 1,000 lines', globals_of, 1000, [10, 100, 1000])
 
 
