@@ -1,5 +1,9 @@
 //! One line of the plain model's output: a step, and the digest of the zone after it.
 
+ghost use Rattle.std.specs.Prelude.{◌≡◌};
+ghost use Rattle.zones.specs.Steps.{any_zone};
+ghost use Rattle.zones_compare.specs.Stepping.{IsStepped, kept_after};
+
 use std::alloc::{AllocError, Global};
 use zones::{Name, Zone};
 
@@ -91,7 +95,9 @@ pub struct Pair {
 
 impl Pair {
     /// Two zones in which nothing is known.
-    pub fn new() -> Self {
+    pub fn new() -> Self
+        ensures value { result ≡ record { zone = any_zone; kept = any_zone } }
+    {
         Pair {
             zone: Zone::any(),
             kept: Zone::any(),
@@ -99,7 +105,10 @@ impl Pair {
     }
 
     /// Takes one step.
-    pub fn apply(&mut self, step: Step) {
+    pub fn apply(&mut self, step: Step)
+        ensures zone { IsStepped step self.old.zone self.old.kept self.new.zone }
+        ensures kept { self.new.kept ≡ kept_after step self.old.zone self.old.kept }
+    {
         match step {
             Step::Any => self.zone = Zone::any(),
             Step::Keep => self.kept = self.zone,
