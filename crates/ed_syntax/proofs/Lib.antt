@@ -49,6 +49,7 @@ pub mod JoinedLemmas
 pub mod ListSteps
 pub mod ScriptSteps
 pub mod LawLemmas
+pub mod ReadableLemmas
 pub mod TextLemmas
 pub mod Fronts
 pub mod OffsetSteps

@@ -21,6 +21,7 @@ pub mod Progress
 pub mod Runs
 -- what the laws on all commands and runs say
 pub mod Laws
+pub mod Readable
 -- what the public types stand for
 pub mod PublicTypes
 pub mod PublicScript

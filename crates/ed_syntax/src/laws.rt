@@ -2,6 +2,7 @@
 ghost use Rattle.ed_base.specs.declared.fault.Fault.TheVariants as fault;
 ghost use Rattle.ed_syntax.specs.Laws.{ListsLeaveUndo, ListsAddNoFlags, CommandsKeepMarks, UnaskedAnswersDoNothing, NothingIsAskedTwice, NeverEndsBy, FilesHaveACause};
 ghost use Rattle.ed_syntax.specs.Progress.{CutsToAFront, CutsAfter};
+ghost use Rattle.ed_syntax.specs.Readable.{SpelledIsReadable};
 
 /// A command of a list leaves what undo keeps as it is.
 pub fn listed_commands_leave_undo()
@@ -36,4 +37,10 @@ pub fn runs_end_for_a_cause()
     ensures memory { NeverEndsBy fault.Memory }
     ensures output { NeverEndsBy fault.Output }
     ensures file { FilesHaveACause }
+{}
+
+/// Each command of a script that bytes spell is readable. No crate calls this law: it is for whoever reads what the analyser proves of
+/// the scripts whose runs it foretells, which have to be readable ones.
+pub fn spelled_scripts_are_readable()
+    ensures readable { SpelledIsReadable }
 {}

@@ -26,7 +26,7 @@ mod verbs;
 pub use command::{Address, Addresses, Base, Command, Form, Sense, Verb};
 pub use laws::{
     answers_are_asked_for, commands_keep_marks, cut_runs_write_a_front, listed_commands_leave_undo,
-    lists_add_no_flags, runs_end_for_a_cause,
+    lists_add_no_flags, runs_end_for_a_cause, spelled_scripts_are_readable,
 };
 pub use options::{Ending, Options};
 pub use pattern::Pattern;
