@@ -16,6 +16,11 @@ pub mod FaultSteps
 pub mod CountLemmas
 pub mod MarkLemmas
 pub mod GlobalLemmas
+pub mod ResultLemmas
+pub mod PlaceLemmas
+pub mod WholeLemmas
+pub mod Reshaping
+pub mod EffectShapes
 pub mod CommandSteps
 pub mod FaultLemmas
 pub mod AnswerLemmas

@@ -1,11 +1,11 @@
 -- What the commands make of lines in which each letter marks at most one line.
-use Rattle.std.proofs.Common.{◌≡◌, ℕ, ◌+◌, ◌≤◌, List, [], ◌∷◌, ◌++◌, map, take, drop, length, Option, Some, None, ap, ◌∙◌, arith}
+use Rattle.std.proofs.Common.{◌≡◌, ℕ, ◌+◌, ◌≤◌, List, [], ◌∷◌, ◌++◌, map, take, drop, length, Option, Some, None, sym, ap, ◌∙◌, arith}
 use Rattle.std.specs.Prelude.{false, count_by, slice_index_or}
 use Rattle.std.proofs.lemmas.List.Elements.{All-nil, All-cons, All-head, All-tail, All-append, All-take, All-drop}
 use Rattle.ed_base.specs.Buffer.{Line, plain_line, has_letter, marked_at, KnowLetters}
 use Rattle.ed_base.specs.Parts.{block, exchanged, carried}
 use Rattle.ed_base.proofs.Letters.{once-counts, counts-once, plain-known, plain-uncounted, marked_at-once, marked_at-known}
-use Rattle.ed_syntax.specs.Laws.{WellMarked}
+use Rattle.ed_syntax.specs.CommandLaws.{WellMarked}
 use Rattle.ed_syntax.specs.SubstitutedLines.{Results, onto, each}
 use Rattle.ed_syntax.proofs.CountLemmas.{counted-exchanged, counted-each, counted-mapped}
 
@@ -83,6 +83,19 @@ pub well-mapped : (f : Line → Line) → KeepsLetters f → (xs : List Line) �
 well-mapped f same xs marked = record {
   known = known-mapped f same xs marked.known;
   once = counts-once (map f xs) (λ letter. omega (arith, marked_by-mapped letter f same xs, few marked letter));
+}
+
+-- and they are as well marked where the changed ones are
+known-unmapped : (f : Line → Line) → KeepsLetters f → (xs : List Line) → KnowLetters (map f xs) → KnowLetters xs
+known-unmapped f same [] all = All-nil Knows
+known-unmapped f same (line ∷ lines) all =
+    All-cons Knows line lines (sym (ap length (same line)) ∙ All-head Knows (f line) (map f lines) all)
+    (known-unmapped f same lines (All-tail Knows (f line) (map f lines) all))
+
+pub well-unmapped : (f : Line → Line) → KeepsLetters f → (xs : List Line) → WellMarked (map f xs) → WellMarked xs
+well-unmapped f same xs marked = record {
+  known = known-unmapped f same xs marked.known;
+  once = counts-once xs (λ letter. omega (arith, marked_by-mapped letter f same xs, few marked letter));
 }
 
 pub well-mapped_block : (a b : ℕ) (f : Line → Line) → KeepsLetters f → (xs : List Line) → a ≤ b → WellMarked xs → WellMarked (exchanged a b (map f (block a b xs)) xs)

@@ -1,8 +1,8 @@
 -- What bytes spell is readable.
-use Rattle.std.proofs.Common.{◌≡◌, ◌≢◌, ℕ, nat_eq, Bool, true, false, ◌&&◌, ◌||◌, List, [], ◌∷◌, Option, is_none, refl}
+use Rattle.std.proofs.Common.{◌≡◌, ◌≢◌, ℕ, nat_eq, Bool, true, false, ◌&&◌, ◌||◌, List, [], ◌∷◌, Option, is_none, refl, sym, ap, ◌∙◌}
 use Rattle.std.specs.Prelude.{not}
 use Rattle.std.specs.List.{list_all}
-use Rattle.std.proofs.lemmas.Bool.{and_from, ne_eqb}
+use Rattle.std.proofs.lemmas.Bool.{and_from, and_parts, ne_eqb, eq-eqb}
 use Rattle.std.proofs.lemmas.List.Elements.{All-nil, All-cons, All-head, All-tail}
 use Rattle.ed_base.specs.Lines.{newline, IsLine, AreLines}
 use Rattle.ed_syntax.specs.declared.command.Sense.{Sense}
@@ -16,12 +16,29 @@ use Rattle.ed_syntax.specs.Readable.{are_lines, enters_lines, is_readable, is_re
 is-line : (line : List ℕ) → IsLine line → list_all (λ byte. not (nat_eq byte newline)) line ≡ true
 is-line [] h = refl
 is-line (byte ∷ line) h =
-    rw (ne_eqb byte newline (All-head (λ byte. byte ≢ newline) byte line h), is-line line (All-tail (λ byte. byte ≢ newline) byte line h)) refl
+    let other = ne_eqb byte newline (All-head (λ byte. byte ≢ newline) byte line h) in
+    rw (other, is-line line (All-tail (λ byte. byte ≢ newline) byte line h)) refl
 
 -- lines pass the test of a text
 pub are-lines : (text : List (List ℕ)) → AreLines text → are_lines text ≡ true
 are-lines [] h = refl
 are-lines (line ∷ text) h = rw (is-line line (All-head IsLine line text h), are-lines text (All-tail IsLine line text h)) refl
+
+-- and what passes it are lines
+other-byte : (byte : ℕ) → not (nat_eq byte newline) ≡ true → byte ≢ newline
+other-byte byte h is = let k : false ≡ true = ap not (sym (eq-eqb byte newline is)) ∙ h in absurd cc
+
+line-is : (line : List ℕ) → list_all (λ byte. not (nat_eq byte newline)) line ≡ true → IsLine line
+line-is [] h = All-nil (λ byte. byte ≢ newline)
+line-is (byte ∷ line) h =
+    let both = and_parts (not (nat_eq byte newline)) (list_all (λ byte. not (nat_eq byte newline)) line) h in
+    All-cons (λ byte. byte ≢ newline) byte line (other-byte byte both.0) (line-is line both.1)
+
+pub lines-are : (text : List (List ℕ)) → are_lines text ≡ true → AreLines text
+lines-are [] h = All-nil IsLine
+lines-are (line ∷ text) h =
+    let both = and_parts (list_all (λ byte. not (nat_eq byte newline)) line) (are_lines text) h in
+    All-cons IsLine line text (line-is line both.0) (lines-are text both.1)
 
 -- what a text is spelled with are lines
 spelled-lines : (text rest : List ℕ) (lines : List (List ℕ)) → SpellsText text rest lines → AreLines lines
@@ -60,7 +77,8 @@ list-readable : (list : List ℕ) (cs : List Command) → SpellsList list cs →
 list-readable _ _ (SpellsList.print_alone list h) = refl
 list-readable _ _ (SpellsList.commands list cs h each) = each-passes is_readable (command-readable true) list [] cs each
 
-global-readable : (sense : Sense) (pattern : Option (List ℕ)) (given : Addresses) → is_readable (spells.global_of given sense pattern) ≡ true
+global-readable : (sense : Sense) (pattern : Option (List ℕ)) (given : Addresses) →
+    is_readable (spells.global_of given sense pattern) ≡ true
 global-readable sense pattern Without = refl
 global-readable sense pattern (One a) = refl
 global-readable sense pattern (Comma a b) = refl

@@ -1,6 +1,5 @@
--- What holds of every command and of every run.
-use Rattle.std.specs.Prelude.{◌≡◌, ◌≤◌, Bool, true, false, ℕ, List, [], ◌∷◌, Option, Some, None, Ok, Err, IsTrue, IsFalse}
-use Rattle.ed_base.specs.Buffer.{Line, KnowLetters, AtMostOnce}
+-- What is asked of the outside, and how runs end.
+use Rattle.std.specs.Prelude.{◌≡◌, Bool, true, false, ℕ, List, [], ◌∷◌, Option, Some, None, Ok, Err, IsFalse}
 use Rattle.ed_base.specs.declared.fault.Fault.{Fault}
 use Rattle.ed_base.specs.declared.fault.Fault.TheVariants as fault
 use Rattle.ed_syntax.specs.declared.request.Answer.{Answer}
@@ -9,36 +8,11 @@ use Rattle.ed_syntax.specs.declared.request.Request.{Request}
 use Rattle.ed_syntax.specs.declared.request.Request.TheVariants as request
 use Rattle.ed_syntax.specs.declared.options.Options.{Options}
 use Rattle.ed_syntax.specs.Commands.{Command, Script}
-use Rattle.ed_syntax.specs.Verbs.{is_listed}
-use Rattle.ed_syntax.specs.States.{State, Kept, Was, Open}
-use Rattle.ed_syntax.specs.Effects.{Outcome, Makes, Asks}
-use Rattle.ed_syntax.specs.Globals.{flags}
+use Rattle.ed_syntax.specs.States.{State}
+use Rattle.ed_syntax.specs.Effects.{Asks}
 use Rattle.ed_syntax.specs.Applied.{command}
 use Rattle.ed_syntax.specs.Progress.{Ends, asked_of, stop_of}
 use Rattle.ed_syntax.specs.Runs.{run}
-
--- a command of a list leaves what undo keeps as it is: the end of the global sets it
-abbrev pub ListsLeaveUndo : Type 0
-ListsLeaveUndo = (s : State) (c : Command) (given : Option Answer) (o : Outcome) → command s c given ≡ Ok (Makes o) → IsTrue (is_listed c) → o.state.past ≡ s.past
-
--- and it gives no line the flag, so that a global command comes to its end
-abbrev pub ListsAddNoFlags : Type 0
-ListsAddNoFlags = (s : State) (c : Command) (given : Option Answer) (o : Outcome) → command s c given ≡ Ok (Makes o) → IsTrue (is_listed c) → flags o.state ≤ flags s
-
--- of each line it is known of all letters whether they mark it, and each letter marks at most one line
-pub record WellMarked (lines : List Line) : Type 0 where
-  pub known : KnowLetters lines
-  pub once : AtMostOnce lines
-
--- so it is in the buffer, in what undo would bring back, and in the buffer before a global command that is open
-pub record MarksHold (s : State) : Type 0 where
-  pub buffer : WellMarked s.lines
-  pub past : (before : Kept) → s.past ≡ Was before → WellMarked before.lines
-  pub global : (g : Open) → s.global ≡ Some g → WellMarked g.before.lines
-
--- a command keeps it so
-abbrev pub CommandsKeepMarks : Type 0
-CommandsKeepMarks = (s : State) (c : Command) (given : Option Answer) (o : Outcome) → command s c given ≡ Ok (Makes o) → MarksHold s → MarksHold o.state
 
 -- no run ends by this fault
 abbrev pub NeverEndsBy : Fault → Type 0

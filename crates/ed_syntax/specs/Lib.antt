@@ -20,8 +20,9 @@ pub mod Applied
 pub mod Progress
 pub mod Runs
 -- what the laws on all commands and runs say
-pub mod Laws
 pub mod Readable
+pub mod CommandLaws
+pub mod Laws
 -- what the public types stand for
 pub mod PublicTypes
 pub mod PublicScript

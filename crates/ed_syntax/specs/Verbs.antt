@@ -109,6 +109,19 @@ abbrev pub has_split : Verb → Bool
 has_split (ed.Substitute pattern (Some parts) choice form) = list_any is_split parts
 has_split _ = false
 
+-- a command that may change the buffer, as part of a list
+abbrev pub may_alter : Verb → Bool
+may_alter (ed.Append text) = true
+may_alter (ed.Change text) = true
+may_alter ed.Delete = true
+may_alter (ed.Insert text) = true
+may_alter ed.Join = true
+may_alter (ed.Move to) = true
+may_alter (ed.Copy to) = true
+may_alter (ed.Substitute pattern replacement choice form) = true
+may_alter (ed.ReadFile path) = true
+may_alter _ = false
+
 -- a command of a list
 abbrev pub is_listed : Command → Bool
 is_listed c = c.listed && is_sound c.verb && may_be_listed c.verb && not (has_split c.verb)

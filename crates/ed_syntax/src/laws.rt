@@ -1,8 +1,18 @@
 //! What holds of all commands and of all runs.
 ghost use Rattle.ed_base.specs.declared.fault.Fault.TheVariants as fault;
-ghost use Rattle.ed_syntax.specs.Laws.{ListsLeaveUndo, ListsAddNoFlags, CommandsKeepMarks, UnaskedAnswersDoNothing, NothingIsAskedTwice, NeverEndsBy, FilesHaveACause};
+ghost use Rattle.ed_syntax.specs.CommandLaws.{AddressesKeepTheRest, TargetsKeepTheRest, SpansAreInOrder, CommandsArePlaced, ListsLeaveUndo, ListsAddNoFlags, ListsNoteChanges, CommandsKeepMarks, OpenKeepsMarks, CommandsKeepLines, FilesAreWellMarked, FilesAreWhole, FlagsMarkNothing, FlagsAreNoBytes};
+ghost use Rattle.ed_syntax.specs.Laws.{UnaskedAnswersDoNothing, NothingIsAskedTwice, NeverEndsBy, FilesHaveACause};
 ghost use Rattle.ed_syntax.specs.Progress.{CutsToAFront, CutsAfter};
 ghost use Rattle.ed_syntax.specs.Readable.{SpelledIsReadable};
+
+/// Addresses and a target change the current line and the remembered pattern alone, and the lines that a command is applied to are in
+/// order.
+pub fn commands_are_placed()
+    ensures addresses { AddressesKeepTheRest }
+    ensures target { TargetsKeepTheRest }
+    ensures order { SpansAreInOrder }
+    ensures placed { CommandsArePlaced }
+{}
 
 /// A command of a list leaves what undo keeps as it is.
 pub fn listed_commands_leave_undo()
@@ -14,9 +24,34 @@ pub fn lists_add_no_flags()
     ensures flags { ListsAddNoFlags }
 {}
 
-/// Where each letter marks at most one line, and of each line all letters are known, it is so after a command.
+/// A command of a list leaves the global command that is open as it is, or makes it know of a change, which only a command that may
+/// change the buffer does.
+pub fn lists_note_changes()
+    ensures notes { ListsNoteChanges }
+{}
+
+/// Where each letter marks at most one line, and of each line all letters are known, in the buffer and in what undo would bring back, it
+/// is so after a command; and so it is before a global command that is open, whose buffer undo has once the list was run.
 pub fn commands_keep_marks()
     ensures marks { CommandsKeepMarks }
+    ensures global { OpenKeepsMarks }
+{}
+
+/// Where no line holds a newline, neither in the buffer nor in what undo would bring back, none does after a command that enters lines.
+pub fn commands_keep_lines()
+    ensures lines { CommandsKeepLines }
+{}
+
+/// The lines of a file are well marked, and none holds a newline.
+pub fn files_have_lines()
+    ensures marks { FilesAreWellMarked }
+    ensures lines { FilesAreWhole }
+{}
+
+/// Lines that differ in their flags alone are as well marked, and hold a newline no more.
+pub fn flags_change_no_line()
+    ensures marks { FlagsMarkNothing }
+    ensures lines { FlagsAreNoBytes }
 {}
 
 /// A run that is cut where memory ran out wrote a front of its output and the report; cut after some of its steps, it is cut in what

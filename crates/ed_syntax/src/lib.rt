@@ -25,8 +25,9 @@ mod verbs;
 
 pub use command::{Address, Addresses, Base, Command, Form, Sense, Verb};
 pub use laws::{
-    answers_are_asked_for, commands_keep_marks, cut_runs_write_a_front, listed_commands_leave_undo,
-    lists_add_no_flags, runs_end_for_a_cause, spelled_scripts_are_readable,
+    answers_are_asked_for, commands_are_placed, commands_keep_lines, commands_keep_marks,
+    cut_runs_write_a_front, files_have_lines, flags_change_no_line, listed_commands_leave_undo,
+    lists_add_no_flags, lists_note_changes, runs_end_for_a_cause, spelled_scripts_are_readable,
 };
 pub use options::{Ending, Options};
 pub use pattern::Pattern;

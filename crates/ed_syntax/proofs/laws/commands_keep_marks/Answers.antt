@@ -2,4 +2,4 @@ use Rattle.ed_syntax.proofs.CommandSteps as command
 use Rattle.ed_syntax.proofs.laws.commands_keep_marks.Goals as goal
 
 pub returns : goal.returns
-returns c = record { marks = command.commands_keep_marks }
+returns c = record { marks = command.commands_keep_marks; global = command.open_keeps_marks }
