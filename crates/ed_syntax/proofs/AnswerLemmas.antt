@@ -1,5 +1,5 @@
 -- What a command makes of the answer to its request, and that no other answer is looked at.
-use Rattle.std.proofs.Common.{◌≡◌, ℕ, Bool, false, List, Option, Some, None, Result, Ok, Err, refl, ap, subst}
+use Rattle.std.proofs.Common.{◌≡◌, ℕ, Bool, true, false, List, Option, Some, None, Result, Ok, Err, refl, sym, ap, ◌∙◌, subst}
 use Rattle.ed_base.specs.declared.fault.Fault.{Fault}
 use Rattle.ed_base.specs.declared.fault.Fault.TheVariants as fault
 use Rattle.ed_syntax.specs.declared.request.Answer.{Answer}
@@ -18,9 +18,9 @@ use Rattle.ed_syntax.specs.Files as file
 use Rattle.ed_syntax.specs.Files.{used_path, with_bytes, written_to, with_lines, saved}
 use Rattle.ed_syntax.specs.Globals.{flagged}
 use Rattle.ed_syntax.specs.Applied.{placed, making, effect_of, suffix_written, completed, command}
-use Rattle.ed_syntax.specs.Laws.{serves, UnaskedAnswersDoNothing, NothingIsAskedTwice}
+use Rattle.ed_syntax.specs.Laws.{serves, UnaskedAnswersDoNothing, NothingIsAskedTwice, OnlyUnservedFilesFail}
 use Rattle.ed_syntax.proofs.FaultSteps.{Gives, Meets, gives, gives-none, meets, meets-none, bind-gives, bind-any, bind-meets}
-use Rattle.ed_syntax.proofs.FaultLemmas.{Own, fine, placed-own, flagged-own, undo-own, move-own, substitute-own, making-own, used_path-own, saved-own, file_name-own, quit-own, suffix-own}
+use Rattle.ed_syntax.proofs.FaultLemmas.{is_own, Own, fine, placed-own, flagged-own, undo-own, move-own, substitute-own, making-own, used_path-own, saved-own, file_name-own, quit-own, suffix-own}
 
 -- it asks for no file
 abbrev pub IsMade : Effect → Type 0
@@ -174,3 +174,10 @@ unasked_answers_do_nothing s c a unasked = (command-asking s c).unasked unasked 
 
 pub nothing_is_asked_twice : NothingIsAskedTwice
 nothing_is_asked_twice s c a r asked = (command-asking s c).once a (Asks r) asked r refl
+
+unserved : (r : Request) (a : Answer) (f : Fault) → f ≡ fault.File → Answered r a f → serves r a ≡ false
+unserved r a f is (own _ owns) = let k : false ≡ true = ap is_own (sym is) ∙ owns in absurd cc
+unserved r a f is (refused not_served) = not_served
+
+pub only_unserved_files_fail : OnlyUnservedFilesFail
+only_unserved_files_fail s c r a asks fails = unserved r a fault.File refl ((command-asking s c).heard r asks a fault.File fails)

@@ -1,19 +1,25 @@
 -- What a command keeps: how lines are marked, that no line holds a newline, and in a list undo, flags, and the buffer before the global.
 use Rattle.std.proofs.Common.{◌≡◌, ◌≤◌, inl, inr, Bool, true, false, not, ◌&&◌, ℕ, List, map, Option, Some, None, option_map, Ok, IfOk, refl, sym, ap, ◌∙◌, subst, arith}
+use Rattle.std.specs.Prelude.{ok_or}
 use Rattle.std.proofs.lemmas.Bool.{and_parts, false≢true}
 use Rattle.std.proofs.lemmas.Result.{IfOk-at_ok}
 use Rattle.ed_base.specs.Buffer.{Line, plain_line, with_flag}
 use Rattle.ed_base.specs.Lines.{lines_of}
+use Rattle.ed_base.specs.declared.fault.Fault.TheVariants as fault
 use Rattle.ed_syntax.specs.declared.request.Answer.{Answer}
+use Rattle.ed_syntax.specs.declared.request.Request.{Request}
+use Rattle.ed_syntax.specs.declared.request.Request.TheVariants as request
 use Rattle.ed_syntax.specs.Commands.{Verb, Command}
 use Rattle.ed_syntax.specs.Verbs.{may_be_listed, is_sound, has_split, is_listed}
 use Rattle.ed_syntax.specs.Readable.{enters_lines}
 use Rattle.ed_syntax.specs.States.{State, Kept, Past, Open, kept, unflagged, noted}
 use Rattle.ed_syntax.specs.Effects.{Outcome, Effect, Makes, Asks}
+use Rattle.ed_syntax.specs.Files.{used_path}
 use Rattle.ed_syntax.specs.Globals.{flags}
 use Rattle.ed_syntax.specs.Applied.{Placed, placed, effect_of, suffix_written, past_after, changed_from, settled, completed, command}
 pub use Rattle.ed_syntax.specs.CommandLaws.{InOrder}
 use Rattle.ed_syntax.specs.CommandLaws.{KeepsTheRest, ListsLeaveUndo, ListsAddNoFlags, Notes, ListsNoteChanges, WellMarked, AreWhole, OfPast, OfLines, OfOpen, CommandsKeepMarks, OpenKeepsMarks, CommandsKeepLines, FilesAreWellMarked, FilesAreWhole, FlagsMarkNothing, FlagsAreNoBytes}
+use Rattle.ed_syntax.specs.Laws.{FilesAreWrittenByTheirPath}
 use Rattle.ed_syntax.proofs.StepLemmas.{either}
 use Rattle.ed_syntax.proofs.FaultSteps.{Gives}
 use Rattle.ed_syntax.proofs.ResultLemmas.{IfOk-bind, IfOk-after}
@@ -22,7 +28,7 @@ use Rattle.ed_syntax.proofs.MarkLemmas.{well-plain, well-mapped, well-unmapped}
 use Rattle.ed_syntax.proofs.WholeLemmas.{lines_of-lines, whole-plain, whole-mapped, whole-unmapped}
 use Rattle.ed_syntax.proofs.GlobalLemmas.{flagged_of}
 use Rattle.ed_syntax.proofs.Reshaping.{Reshaped, well-reshaped, whole-reshaped, fewer-reshaped}
-use Rattle.ed_syntax.proofs.EffectShapes.{Within, Shape, IfMade, effect-shapes}
+use Rattle.ed_syntax.proofs.EffectShapes.{Within, Shape, IsAsked, IsShaped, effect-shapes}
 
 -- what a command did, where it was placed, and what came of it
 pub record CommandDone (s : State) (c : Command) (o : Outcome) : Type 0 where
@@ -33,10 +39,21 @@ pub record CommandDone (s : State) (c : Command) (o : Outcome) : Type 0 where
   pub state : o.state ≡ settled c.listed (kept s) made
 
 abbrev Done : State → Command → Effect → Type 0
-Done s c e = IfMade e (CommandDone s c)
+Done s c (Makes o) = CommandDone s c o
+Done s c (Asks r) = IsAsked c.verb s r
 
-completed-done : (c : Command) (s t : State) (e : Effect) → KeepsTheRest s t → IfMade e (Shape c.verb t) → IfOk (completed c s e) (Done s c)
-completed-done c s t (Asks r) rest shape = tt
+-- what is asked for is the same before the addresses
+same-path : (own : Option (List ℕ)) (s t : State) → t.name ≡ s.name → used_path own s ≡ used_path own t
+same-path (Some path) s t same = refl
+same-path None s t same = ap (λ (name : Option (List ℕ)). ok_or name fault.Name) (sym same)
+
+asked-before : (verb : Verb) (s t : State) (r : Request) → KeepsTheRest s t → IsAsked verb t r → IsAsked verb s r
+asked-before verb s t (request.Read path) rest asked = tt
+asked-before verb s t (request.Write path bytes) rest asked =
+    (asked.0, asked.1, same-path asked.0 s t (ap (λ (u : State). u.name) rest) ∙ asked.2)
+
+completed-done : (c : Command) (s t : State) (e : Effect) → KeepsTheRest s t → IsShaped c.verb t e → IfOk (completed c s e) (Done s c)
+completed-done c s t (Asks r) rest asked = asked-before c.verb s t r rest asked
 completed-done c s t (Makes o) rest shape =
     IfOk-after (Done s c) (suffix_written c.suffix o.state) _ (λ more.
     record { placed = t; made = o; rest = rest; shape = shape; state = refl })
@@ -44,13 +61,16 @@ completed-done c s t (Makes o) rest shape =
 commands-done : (s : State) (c : Command) (given : Option Answer) → IfOk (command s c given) (Done s c)
 commands-done s c given =
     IfOk-bind (λ (p : Placed). KeepsTheRest s p.state × InOrder p.span) (Done s c) (placed c s) _ (commands_are_placed c s) (λ p well.
-    IfOk-bind (λ (e : Effect). IfMade e (Shape c.verb p.state)) (Done s c)
+    IfOk-bind (IsShaped c.verb p.state) (Done s c)
     (effect_of c.verb c.listed p.span p.target p.state given) _
     (effect-shapes c.verb c.listed p.span p.target p.state given well.1) (λ e shape.
     completed-done c s p.state e well.0 shape))
 
 command-done : (s : State) (c : Command) (given : Option Answer) (o : Outcome) → command s c given ≡ Ok (Makes o) → CommandDone s c o
 command-done s c given o is = IfOk-at_ok (Done s c) is (commands-done s c given)
+
+pub files_are_written_by_their_path : FilesAreWrittenByTheirPath
+files_are_written_by_their_path s c given path bytes is = IfOk-at_ok (Done s c) is (commands-done s c given)
 
 -- the same lines, undo and global command that is open, and lines in order, by an equation for each place
 pub record SameBuffer (s t : State) : Type 0 where
@@ -98,7 +118,8 @@ module _ (P : List Line → Type 0) where
     past = subst (λ (p : Past). OfPast P p) (sym b.past) (k.unflagged s.lines h.buffer);
   }
 
-  past_after-keeps : (listed : Bool) (before : Kept) (past : Past) → P before.lines → OfPast P past → OfPast P (past_after listed before past)
+  past_after-keeps : (listed : Bool) (before : Kept) (past : Past) → P before.lines → OfPast P past →
+      OfPast P (past_after listed before past)
   past_after-keeps true before past now earlier = earlier
   past_after-keeps false before past now earlier = now
 

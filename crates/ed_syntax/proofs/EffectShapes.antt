@@ -1,4 +1,5 @@
--- What each command's effect is: it changes the lines in one of a few shapes, puts a file in their place, or brings back what undo keeps.
+-- What each command's effect is: it asks for a file, changes the lines in one of a few shapes, puts a file in their place, or brings back
+-- what undo keeps.
 use Rattle.std.proofs.Common.{◌≡◌, ℕ, ◌-◌, Bool, true, false, ◌&&◌, nat_le, List, [], ◌∷◌, map, Option, Some, None, Result, Ok, IfOk, refl, sym, subst, arith}
 use Rattle.std.specs.Prelude.{nat_lt}
 use Rattle.std.specs.List.{concat}
@@ -13,6 +14,8 @@ use Rattle.ed_syntax.specs.declared.replacement.Part.{Part}
 use Rattle.ed_syntax.specs.declared.replacement.Which.{Which}
 use Rattle.ed_syntax.specs.declared.request.Answer.{Answer}
 use Rattle.ed_syntax.specs.declared.request.Answer.TheVariants as answer
+use Rattle.ed_syntax.specs.declared.request.Request.{Request}
+use Rattle.ed_syntax.specs.declared.request.Request.TheVariants as request
 use Rattle.ed_syntax.specs.Commands as ed
 use Rattle.ed_syntax.specs.Commands.{Address, Form, Verb}
 use Rattle.ed_syntax.specs.Verbs.{may_be_listed, may_alter}
@@ -30,7 +33,7 @@ use Rattle.ed_syntax.specs.Globals.{flagged}
 use Rattle.ed_syntax.specs.Applied.{making, effect_of}
 use Rattle.ed_syntax.specs.CommandLaws.{InOrder, AreWhole}
 use Rattle.ed_syntax.proofs.StepLemmas.{either}
-use Rattle.ed_syntax.proofs.ResultLemmas.{IfOk-bind, IfOk-after}
+use Rattle.ed_syntax.proofs.ResultLemmas.{IfOk-bind, IfOk-itself, IfOk-after}
 use Rattle.ed_syntax.proofs.ReadableLemmas.{lines-are}
 use Rattle.ed_syntax.proofs.WholeLemmas.{lines_of-lines, whole-block, whole-texts, line-concat}
 use Rattle.ed_syntax.proofs.Reshaping as shape
@@ -65,14 +68,19 @@ pub data Shape (verb : Verb) (s : State) (o : Outcome) : Type 0 where
   loads : Loads verb o → Shape verb s o
   brings_back : BringsBack verb s o → Shape verb s o
 
--- what is said of an outcome, where there is one
-abbrev pub IfMade : Effect → (Outcome → Type 0) → Type 0
-IfMade (Makes o) P = P o
-IfMade (Asks r) P = Unit {0}
+-- a file that is asked for: one to be written is written by the path that `w` uses
+abbrev pub IsAsked : Verb → State → Request → Type 0
+IsAsked verb s (request.Read path) = Unit {0}
+IsAsked verb s (request.Write path bytes) = (own : Option (List ℕ)) × (verb ≡ ed.WriteFile own) × (used_path own s ≡ Ok path)
+
+-- such an outcome, or such a request
+abbrev pub IsShaped : Verb → State → Effect → Type 0
+IsShaped verb s (Makes o) = Shape verb s o
+IsShaped verb s (Asks r) = IsAsked verb s r
 
 module _ (verb : Verb) (s : State) where
   abbrev HasShape : Effect → Type 0
-  HasShape e = IfMade e (Shape verb s)
+  HasShape e = IsShaped verb s e
 
   -- no change is a change of any command
   unaltered : false ≡ true → may_alter verb ≡ true
@@ -147,7 +155,8 @@ module _ (verb : Verb) (s : State) where
       Shape.within (record { lines = reshaped; past = refl; global = refl; alters = λ alters. may })
 
   substitute-shape : (listed : Bool) (pattern : Option (List ℕ)) (replacement : Option (List Part)) (which : Which) (form : Option Form)
-      (x : Span) → InOrder x → may_alter verb ≡ true → IfOk (substitution.substitute listed pattern replacement which form x s) (Shape verb s)
+      (x : Span) → InOrder x → may_alter verb ≡ true →
+      IfOk (substitution.substitute listed pattern replacement which form x s) (Shape verb s)
   substitute-shape listed pattern replacement which form x order may =
       IfOk-after (Shape verb s) (used_replacement listed replacement s) _ (λ parts.
       IfOk-after (Shape verb s) (used_pattern pattern s) _ (λ text.
@@ -185,9 +194,14 @@ module _ (verb : Verb) (s : State) where
   written-shape path answer.Missing x = tt
   written-shape path answer.Refused x = tt
 
-  with_lines-shape : (path : List ℕ) (given : Option Answer) (x : Span) → IfOk (with_lines path given x s) HasShape
-  with_lines-shape path None x = tt
-  with_lines-shape path (Some a) x = written-shape path a x
+  write-shape : (own : Option (List ℕ)) (given : Option Answer) (x : Span) → verb ≡ ed.WriteFile own →
+      IfOk (file.write own given x s) HasShape
+  write-shape own given x is =
+      IfOk-bind (λ (used : List ℕ). used_path own s ≡ Ok used) HasShape (used_path own s) _ (IfOk-itself (used_path own s)) (by given)
+    where
+      by : (given : Option Answer) (used : List ℕ) → used_path own s ≡ Ok used → IfOk (with_lines used given x s) HasShape
+      by None used found = (own, is, found)
+      by (Some a) used found = written-shape used a x
 
   edit_anyway-shape : (path : Option (List ℕ)) (given : Option Answer) → may_be_listed verb ≡ false →
       IfOk (file.edit_anyway path given s) HasShape
@@ -238,7 +252,7 @@ module _ (verb : Verb) (s : State) where
 
 -- each command's effect has one of these shapes
 pub effect-shapes : (verb : Verb) (listed : Bool) (x : Span) (target : ℕ) (s : State) (given : Option Answer) → InOrder x →
-    IfOk (effect_of verb listed x target s given) (λ e. IfMade e (Shape verb s))
+    IfOk (effect_of verb listed x target s given) (IsShaped verb s)
 effect-shapes (ed.Append text) listed x target s given order =
     Shape.within (entered-within (ed.Append text) s x.first text refl (λ enters all. lines-are text enters))
 effect-shapes (ed.Change text) listed x target s given order =
@@ -257,8 +271,7 @@ effect-shapes (ed.Substitute pattern replacement which form) listed x target s g
     let verb : Verb = ed.Substitute pattern replacement which form in
     making-shape verb s _ (substitute-shape verb s listed pattern replacement which form x order refl)
 effect-shapes (ed.ReadFile path) listed x target s given order = read-shape (ed.ReadFile path) s path given x refl
-effect-shapes (ed.WriteFile path) listed x target s given order =
-    IfOk-after (HasShape (ed.WriteFile path) s) (used_path path s) _ (λ used. with_lines-shape (ed.WriteFile path) s used given x)
+effect-shapes (ed.WriteFile path) listed x target s given order = write-shape (ed.WriteFile path) s path given x refl
 effect-shapes (ed.Edit path) listed x target s given order = edit-shape (ed.Edit path) s path given refl
 effect-shapes (ed.EditAnyway path) listed x target s given order = edit_anyway-shape (ed.EditAnyway path) s path given refl
 effect-shapes (ed.FileName path) listed x target s given order =

@@ -106,4 +106,5 @@ module _ (f : List ℕ → Option (List (List ℕ)))
   pub whole-each : (xs : List Line) → AreWhole xs → AreWhole (each f xs).0
   whole-each [] h = h
   whole-each (line ∷ xs) h =
-      whole-onto line (f line.bytes) (each f xs) (lines line.bytes) (All-head IsWhole line xs h) (whole-each xs (All-tail IsWhole line xs h))
+      whole-onto line (f line.bytes) (each f xs) (lines line.bytes) (All-head IsWhole line xs h)
+      (whole-each xs (All-tail IsWhole line xs h))

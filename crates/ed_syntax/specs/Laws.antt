@@ -7,9 +7,11 @@ use Rattle.ed_syntax.specs.declared.request.Answer.TheVariants as answer
 use Rattle.ed_syntax.specs.declared.request.Request.{Request}
 use Rattle.ed_syntax.specs.declared.request.Request.TheVariants as request
 use Rattle.ed_syntax.specs.declared.options.Options.{Options}
+use Rattle.ed_syntax.specs.Commands as ed
 use Rattle.ed_syntax.specs.Commands.{Command, Script}
 use Rattle.ed_syntax.specs.States.{State}
 use Rattle.ed_syntax.specs.Effects.{Asks}
+use Rattle.ed_syntax.specs.Files.{used_path}
 use Rattle.ed_syntax.specs.Applied.{command}
 use Rattle.ed_syntax.specs.Progress.{Ends, asked_of, stop_of}
 use Rattle.ed_syntax.specs.Runs.{run}
@@ -31,6 +33,17 @@ UnaskedAnswersDoNothing = (s : State) (c : Command) (a : Answer) → ((r : Reque
 -- a command that has its answer asks no more
 abbrev pub NothingIsAskedTwice : Type 0
 NothingIsAskedTwice = (s : State) (c : Command) (a : Answer) (r : Request) → command s c (Some a) ≡ Ok (Asks r) → ⊥
+
+-- where a command that has its answer fails by a file, the answer doesn't serve what it asked for
+abbrev pub OnlyUnservedFilesFail : Type 0
+OnlyUnservedFilesFail = (s : State) (c : Command) (r : Request) (a : Answer) → command s c None ≡ Ok (Asks r) →
+    command s c (Some a) ≡ Err fault.File → IsFalse (serves r a)
+
+-- only `w` asks for a file to be written, by the path that it uses
+abbrev pub FilesAreWrittenByTheirPath : Type 0
+FilesAreWrittenByTheirPath = (s : State) (c : Command) (given : Option Answer) (path bytes : List ℕ) →
+    command s c given ≡ Ok (Asks (request.Write path bytes)) →
+    (own : Option (List ℕ)) × (c.verb ≡ ed.WriteFile own) × (used_path own s ≡ Ok path)
 
 -- the last of these requests was answered, and not served
 pub data LastUnserved : List Request → List Answer → Type 0 where

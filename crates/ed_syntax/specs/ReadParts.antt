@@ -6,7 +6,7 @@ use Rattle.ed_syntax.specs.declared.command.Verb.{Verb}
 use Rattle.ed_syntax.specs.declared.command.Command.{Command}
 use Rattle.ed_syntax.specs.declared.heading.Order.{Order}
 use Rattle.ed_syntax.specs.declared.command.Sense.{Sense}
-use Rattle.ed_syntax.specs.PublicTypes.{base_value, addresses_value, verb_value, suffix_value, command_value, list_value, step_value}
+use Rattle.ed_syntax.specs.PublicTypes.{base_value, verb_value, suffix_value, command_value, list_value, step_value}
 use Rattle.ed_syntax.specs.Characters.{comma_byte}
 use Rattle.ed_syntax.specs.Addressing.{comma, semicolon}
 use Rattle.ed_syntax.specs.Spellings.{global_of}

@@ -1,7 +1,7 @@
 //! What holds of all commands and of all runs.
 ghost use Rattle.ed_base.specs.declared.fault.Fault.TheVariants as fault;
 ghost use Rattle.ed_syntax.specs.CommandLaws.{AddressesKeepTheRest, TargetsKeepTheRest, SpansAreInOrder, CommandsArePlaced, ListsLeaveUndo, ListsAddNoFlags, ListsNoteChanges, CommandsKeepMarks, OpenKeepsMarks, CommandsKeepLines, FilesAreWellMarked, FilesAreWhole, FlagsMarkNothing, FlagsAreNoBytes};
-ghost use Rattle.ed_syntax.specs.Laws.{UnaskedAnswersDoNothing, NothingIsAskedTwice, NeverEndsBy, FilesHaveACause};
+ghost use Rattle.ed_syntax.specs.Laws.{UnaskedAnswersDoNothing, NothingIsAskedTwice, OnlyUnservedFilesFail, FilesAreWrittenByTheirPath, NeverEndsBy, FilesHaveACause};
 ghost use Rattle.ed_syntax.specs.Progress.{CutsToAFront, CutsAfter};
 ghost use Rattle.ed_syntax.specs.Readable.{SpelledIsReadable};
 
@@ -61,10 +61,13 @@ pub fn cut_runs_write_a_front()
     ensures after { CutsAfter }
 {}
 
-/// An answer is looked at only where a file is asked for, and then no more is asked.
+/// An answer is looked at only where a file is asked for, and then no more is asked; the command fails by the file only if the answer
+/// isn't what it asked for. Files are written by the path that `w` uses.
 pub fn answers_are_asked_for()
     ensures unasked { UnaskedAnswersDoNothing }
     ensures once { NothingIsAskedTwice }
+    ensures served { OnlyUnservedFilesFail }
+    ensures written { FilesAreWrittenByTheirPath }
 {}
 
 /// No run ends by memory or output that was lost, and one that ends by a file had an answer that wasn't what it asked for.
