@@ -22,7 +22,7 @@ import compare
 import reference
 from substitution import replaced
 
-PROGRAM = os.path.join(HERE, '../../crates/ed_main/out/ed_main')
+PROGRAM = os.path.join(HERE, '../../../crates/ed_main/out/ed_main')
 SHOWN = 20
 
 

@@ -13,7 +13,7 @@ import subprocess
 import sys
 import tempfile
 
-PROGRAM = os.path.join(os.path.dirname(os.path.abspath(__file__)), '../../crates/ed_main/out/ed_main')
+PROGRAM = os.path.join(os.path.dirname(os.path.abspath(__file__)), '../../../crates/ed_main/out/ed_main')
 FOLDERS = ['/usr/share/doc', '/usr/include', '/usr/share/i18n/locales', '/usr/share/perl', '/etc']
 LARGEST = 400_000
 

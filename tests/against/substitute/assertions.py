@@ -11,7 +11,7 @@ Of each case `s` puts the match between < and >; a match that the test puts else
 import os, subprocess, sys, tempfile
 
 HERE = os.path.dirname(os.path.abspath(__file__))
-OURS = [os.path.join(HERE, '../../crates/ed_main/out/ed_main'), 'edit', '-s']
+OURS = [os.path.join(HERE, '../../../crates/ed_main/out/ed_main'), 'edit', '-s']
 DELIMITERS = b'/,;!@~_"|:'
 
 

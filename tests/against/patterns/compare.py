@@ -16,7 +16,7 @@ import sys
 sys.dont_write_bytecode = True
 import reference
 
-PROGRAM = os.path.join(os.path.dirname(os.path.abspath(__file__)), '../../crates/bre_bench/out/bre_bench')
+PROGRAM = os.path.join(os.path.dirname(os.path.abspath(__file__)), '../../../crates/bre_bench/out/bre_bench')
 REPEATS = [(0, None)] * 4 + [(0, 1)] * 4 + [(1, 2), (0, 2), (2, None), (1, None), (2, 2), (2, 3), (3, 5), (0, 0), (1, 1)]
 
 

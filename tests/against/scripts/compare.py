@@ -6,7 +6,7 @@
 Each script has a few commands on a file of a few short lines: texts, marks, searches, `s`, moves, copies, joins, files, globals with
 lists, undo, the help mode and the prompt. Output, status and files have to be those of editor.py. `ed` goes on after a fault, so what we
 write has to be the front of what it writes, but for the help mode's text of the fault, and where there is no fault the files have to be
-the same. Where `ed` differs from both, the case is counted by what editor.py noted, and shown where it noted nothing: README.md says why
+the same. Where `ed` differs from both, the case is counted by what editor.py noted, and shown where it noted nothing: ../README.md says why
 `ed` differs. Build the program first.
 """
 import collections
@@ -21,7 +21,7 @@ import tempfile
 import editor
 from editor import Command
 
-PROGRAM = os.path.join(editor.BENCH, '../crates/ed_main/out/ed_main')
+PROGRAM = os.path.join(editor.AGAINST, '../../crates/ed_main/out/ed_main')
 SHOWN = 20
 WORDS = ('a', 'b', 'ab', 'ba', 'x', 'abc', 'a.b', '', 'b b', 'xx')
 

@@ -26,7 +26,7 @@ import sys
 import tempfile
 import time
 
-PROGRAM = os.path.join(os.path.dirname(os.path.abspath(__file__)), '../../crates/ed_main/out/ed_main')
+PROGRAM = os.path.join(os.path.dirname(os.path.abspath(__file__)), '../../../crates/ed_main/out/ed_main')
 # MIN, MAX, FILE or None, and a script.
 SCRIPTS = (
     (0, 'any', 'F', ''),

@@ -9,8 +9,8 @@ import os
 import sys
 
 sys.dont_write_bytecode = True
-BENCH = os.path.dirname(os.path.dirname(os.path.abspath(__file__)))
-sys.path += [os.path.join(BENCH, 'patterns'), os.path.join(BENCH, 'substitute')]
+AGAINST = os.path.dirname(os.path.dirname(os.path.abspath(__file__)))
+sys.path += [os.path.join(AGAINST, 'patterns'), os.path.join(AGAINST, 'substitute')]
 import reference
 from substitution import replaced
 
