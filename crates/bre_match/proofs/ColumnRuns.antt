@@ -17,7 +17,7 @@ unmarked (Maybe content) = unmarked content
 unmarked (Star content) = unmarked content
 unmarked _ = true
 
-none_pending : (t : Part) (s : List ℕ) (x y w : ℕ) → unmarked t ≡ true → Pending t s x y w → ⊥
+pub none_pending : (t : Part) (s : List ℕ) (x y w : ℕ) → unmarked t ≡ true → Pending t s x y w → ⊥
 none_pending Nothing s x y w u h = h
 none_pending Never s x y w u h = h
 none_pending (One n r None) s x y w u h = let e = h.1 in cc

@@ -147,7 +147,7 @@ no_ways : (ws : List Way) → ((m : ℕ) → Has m ws → ⊥) → ws ≡ []
 no_ways [] none_there = refl
 no_ways (w ∷ ws) none_there = absurd (none_there w.0 (inl refl))
 
-none_from : (t : Tree) (s : List ℕ) (p : ℕ) → ((m : ℕ) → Has m (ways t s p no_groups) → ⊥) → longest_from t s p ≡ None
+pub none_from : (t : Tree) (s : List ℕ) (p : ℕ) → ((m : ℕ) → Has m (ways t s p no_groups) → ⊥) → longest_from t s p ≡ None
 none_from t s p h = ap (λ ws. first (by_end ws)) (no_ways (ways t s p no_groups) h)
 
 found_among : (t : Tree) (s : List ℕ) (n start b e : ℕ) (w : Way) → start ≤ b → b < start + n → ((p m : ℕ) → start ≤ p → p < b → Has m (ways t s p no_groups) → ⊥) → Has e (ways t s b no_groups) → ((m : ℕ) → Has m (ways t s b no_groups) → m ≤ e) → first_to e (ways t s b no_groups) ≡ Some w → match_among n t s start ≡ Some (b, w)

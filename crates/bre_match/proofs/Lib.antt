@@ -26,3 +26,6 @@ pub mod Words
 pub mod Needs
 pub mod Beginnings
 pub mod RowEnds
+pub mod Automata
+pub mod AutomatonTables
+pub mod AutomatonRuns

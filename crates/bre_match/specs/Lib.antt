@@ -1,5 +1,7 @@
 -- to believe: what `find` answers
 pub mod Answer
+-- what a searcher looks for
+pub mod Searchers
 -- laws of first ways
 pub mod Laws
 -- these only serve clauses inside the crate
@@ -17,3 +19,6 @@ pub mod Spans
 pub mod Backwards
 pub mod Ends
 pub mod Tables
+pub mod States
+pub mod Automata
+pub mod Scans

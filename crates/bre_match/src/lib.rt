@@ -10,6 +10,7 @@ ghost use Rattle.bre_parse.specs.Match.{match_from};
 ghost use Rattle.bre_match.specs.Answer.{spans, LiesWithin};
 
 mod ahead;
+mod automaton;
 mod backwards;
 mod column;
 mod grouping;
@@ -21,10 +22,14 @@ mod row;
 mod row_end;
 mod row_search;
 mod run;
+mod scan;
 mod search;
+mod searcher;
 mod span;
 mod start;
+mod state;
 mod table;
+mod transition;
 mod turn;
 mod word;
 
@@ -37,6 +42,7 @@ use crate::start::{begins_at_start, longest_from, starts_without};
 use crate::word::find_word;
 use bre_parse::Bre;
 use bre_parse::tree::{Groups, Node};
+pub use searcher::Searcher;
 use std::alloc::{AllocError, Global};
 
 /// Where a pattern matches a text.

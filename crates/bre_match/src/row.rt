@@ -56,6 +56,11 @@ pub(crate) fn is_too_wide(items: &[Node]) -> bool {
     all_written_sets(items) > 1_000_000
 }
 
+/// Whether the states of an automaton would take more memory than is sensible: each has a mark for each byte set.
+pub(crate) fn has_wide_states(items: &[Node]) -> bool {
+    all_written_sets(items) > 256
+}
+
 /// Whether the pattern is a row of bytes and anchors with at most one repeat of a byte set, in which no byte of a text is
 /// looked at from more starts than the pattern has items. For each other pattern too both searches give one answer.
 pub(crate) fn is_quick_row(items: &[Node]) -> bool {

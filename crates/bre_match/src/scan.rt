@@ -1,0 +1,150 @@
+//! A scan of a text by an automaton, one look into its table for each byte.
+
+ghost use Rattle.std.specs.Prelude.{◌≡◌, ◌≢◌, ◌<◌, ◌≤◌, [], Some, false, true, IfOk, IfSome, length, get_or, nat_eq, if◌then◌else◌};
+ghost use Rattle.bre_parse.specs.Tree.{sequence_of};
+ghost use Rattle.bre_parse.specs.WellFormed.{repeats_in_order};
+ghost use Rattle.bre_parse.specs.Groups.{refers};
+ghost use Rattle.bre_match.specs.Parts.{part_of};
+ghost use Rattle.bre_match.specs.States.{transition};
+ghost use Rattle.bre_match.specs.Automata.{meaning_of, IsEntry, Serves};
+ghost use Rattle.bre_match.specs.Scans.{IsTold};
+
+use crate::automaton::{FOUND, UNKNOWN, WIDTH, begin};
+use crate::state::State;
+use crate::transition::{learn, symbol_at};
+use bre_parse::tree::Node;
+use std::alloc::AllocError;
+
+// What a transition costs that has to be worked out, in bytes that are scanned by the table.
+const PRICE: usize = 32;
+
+/// The credit of an automaton before its first byte.
+pub(crate) const FIRST_CREDIT: usize = 100_000;
+
+// What may be spent on transitions that have to be worked out: each byte of a text brings one. So a pattern whose states seldom
+// recur isn't scanned for long.
+#[derive(Clone, Copy)]
+struct Credit {
+    amount: usize,
+    // The place in the text up to which bytes were counted.
+    counted: usize,
+}
+
+impl Credit {
+    // What is left at a place.
+    fn at(self, place: usize) -> usize {
+        self.amount
+            .saturating_add(place.saturating_sub(self.counted))
+    }
+
+    // Pays for a transition at a place, if enough is left.
+    fn pay(&mut self, place: usize) -> bool {
+        let amount = self.at(place);
+        self.amount = amount.saturating_sub(PRICE);
+        self.counted = place;
+        amount >= PRICE
+    }
+}
+
+// The entry for a state at a place, worked out where the table doesn't have it. None where that can't be paid.
+#[inline(always)]
+fn entry_at(
+    states: &mut Vec<State>,
+    table: &mut Vec<u16>,
+    credit: &mut Credit,
+    items: &[Node],
+    text: &[u8],
+    place: usize,
+    state: usize,
+) -> Result<Option<u16>, AllocError>
+    requires place { place ≤ length text.now }
+    requires state { state < length states.old.items }
+    requires start { nat_eq place 0 ≡ nat_eq state 0 }
+    requires begun { 2 ≤ length states.old.items }
+    requires serves { Serves (part_of (sequence_of items.now)) states.old.items table.old.items }
+    ensures begun { 2 ≤ length states.new.items }
+    ensures serves { Serves (part_of (sequence_of items.now)) states.new.items table.new.items }
+    ensures value { IfOk result (λ known. IfSome known (λ entry. meaning_of states.new.items entry ≡ Some (transition (part_of (sequence_of items.now)) (get_or states.old.items state []) text.now place))) }
+    ensures entry { IfOk result (λ known. IfSome known (λ entry. IsEntry states.new.items entry)) }
+    ensures known { IfOk result (λ known. IfSome known (λ entry. entry ≢ 65535)) }
+{
+    let symbol = symbol_at(text, place);
+    let entry = table[WIDTH * state + symbol];
+    if entry != UNKNOWN {
+        return Ok(Some(entry));
+    }
+    if !credit.pay(place) {
+        return Ok(None);
+    }
+    let entry = learn(states, table, items, text, place, state)?;
+    Ok(Some(entry))
+}
+
+// The state in which a scan begins at a place.
+fn first_state(from: usize) -> usize
+    ensures start { nat_eq from 0 ≡ nat_eq result 0 }
+    ensures low { result < 2 }
+{
+    if from == 0 { 0 } else { 1 }
+}
+
+// The last place before which no start leads on: this one, where the state has no marks, or the one before.
+#[inline(always)]
+fn clean_place(state: usize, place: usize, before: usize) -> usize
+    ensures value { result ≡ (if nat_eq state 1 then place else before) }
+{
+    if state == 1 { place } else { before }
+}
+
+/// What a scan tells of the matches at or after a place.
+#[derive(Clone, Copy)]
+pub(crate) enum Scanned {
+    /// Nothing: too many transitions would have to be worked out.
+    Untold,
+    /// There is none.
+    Nowhere,
+    /// There is one, and none starts before this place.
+    From(usize),
+}
+
+/// Scans a text from a place on, up to the first place where a match ends.
+pub(crate) fn scan(
+    states: &mut Vec<State>,
+    table: &mut Vec<u16>,
+    credit: &mut usize,
+    items: &[Node],
+    text: &[u8],
+    from: usize,
+) -> Result<Scanned, AllocError>
+    requires place { from ≤ length text.now }
+    requires free { refers (sequence_of items.now) ≡ false }
+    requires in_order { repeats_in_order (sequence_of items.now) ≡ true }
+    requires serves { Serves (part_of (sequence_of items.now)) states.old.items table.old.items }
+    ensures serves { Serves (part_of (sequence_of items.now)) states.new.items table.new.items }
+    ensures told { IfOk result (IsTold (sequence_of items.now) text.now from) }
+{
+    begin(states, table)?;
+    let mut left = Credit {
+        amount: *credit,
+        counted: from,
+    };
+    let mut state = first_state(from);
+    let mut clean = from;
+    let mut place = from;
+    while place <= text.len() {
+        let known = entry_at(states, table, &mut left, items, text, place, state)?;
+        let Some(entry) = known else {
+            *credit = left.at(place);
+            return Ok(Scanned::Untold);
+        };
+        if entry == FOUND {
+            *credit = left.at(place);
+            return Ok(Scanned::From(clean));
+        }
+        state = entry as usize;
+        place += 1;
+        clean = clean_place(state, place, clean);
+    }
+    *credit = left.at(text.len());
+    Ok(Scanned::Nowhere)
+}

@@ -1,0 +1,63 @@
+//! The transitions of an automaton: what a step of a column gives from a state at a symbol, worked out once and put into the table.
+
+ghost use Rattle.std.specs.Prelude.{◌≡◌, ◌<◌, ◌≤◌, [], Some, IfOk, length, get_or, nat_eq, slice_get};
+ghost use Rattle.bre_parse.specs.Tree.{sequence_of};
+ghost use Rattle.bre_match.specs.Parts.{part_of};
+ghost use Rattle.bre_match.specs.States.{transition};
+ghost use Rattle.bre_match.specs.Automata.{symbol_byte, meaning_of, IsEntry, Serves};
+
+use crate::automaton::{END, WIDTH, entry_for, make_room};
+use crate::column::{Asked, Passed, step_all};
+use crate::state::State;
+use bre_parse::tree::Node;
+use std::alloc::AllocError;
+
+/// The symbol at a place of a text: its byte, or the end.
+#[inline(always)]
+pub(crate) fn symbol_at(text: &[u8], place: usize) -> usize
+    requires place { place ≤ length text.now }
+    ensures value { symbol_byte result ≡ slice_get text.now place }
+    ensures low { result ≤ 256 }
+{
+    if place < text.len() {
+        text[place] as usize
+    } else {
+        END
+    }
+}
+
+/// Works out the transition from a state at a place, and puts its entry into the table.
+#[cold]
+#[inline(never)]
+pub(crate) fn learn(
+    states: &mut Vec<State>,
+    table: &mut Vec<u16>,
+    items: &[Node],
+    text: &[u8],
+    place: usize,
+    state: usize,
+) -> Result<u16, AllocError>
+    requires place { place ≤ length text.now }
+    requires state { state < length states.old.items }
+    requires start { nat_eq place 0 ≡ nat_eq state 0 }
+    requires begun { 2 ≤ length states.old.items }
+    requires serves { Serves (part_of (sequence_of items.now)) states.old.items table.old.items }
+    ensures begun { 2 ≤ length states.new.items }
+    ensures serves { Serves (part_of (sequence_of items.now)) states.new.items table.new.items }
+    ensures value { IfOk result (λ entry. meaning_of states.new.items entry ≡ Some (transition (part_of (sequence_of items.now)) (get_or states.old.items state []) text.now place)) }
+    ensures entry { IfOk result (λ entry. IsEntry states.new.items entry) }
+{
+    let alloc = *table.allocator();
+    let state = make_room(states, table, state);
+    let mut next = Vec::new(alloc);
+    let before = Passed {
+        weight: Some(0),
+        at: 0,
+    };
+    let marks = states[state].marks();
+    let passed = step_all(&mut next, Asked::Marks, items, marks, text, place, before)?;
+    let entry = entry_for(states, table, passed.weight, next)?;
+    let symbol = symbol_at(text, place);
+    table[WIDTH * state + symbol] = entry;
+    Ok(entry)
+}
