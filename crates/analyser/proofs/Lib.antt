@@ -11,3 +11,7 @@ pub mod Answering
 pub mod Going
 pub mod Determined
 pub mod Texting
+pub mod ExactWalks
+pub mod ExactRuns
+pub mod ExactAnswers
+mod ExactRows

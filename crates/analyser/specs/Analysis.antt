@@ -10,6 +10,7 @@ use Rattle.zones.specs.Name.{last_line}
 use Rattle.zones.specs.Known.{least, greatest}
 use Rattle.ed_syntax.specs.Commands.{Script}
 use Rattle.ed_rules.specs.Choices.{Choice}
+pub use Rattle.ed_rules.specs.LineBounds.{most_lines}
 use Rattle.cert_check.specs.declared.verdict.Verdict.TheVariants.{Accepted}
 use Rattle.cert_check.specs.declared.verdict.Place.{Place}
 use Rattle.cert_check.specs.Certificates.{Note, note_value, Certificate, certificate_value}
@@ -19,10 +20,6 @@ use Rattle.analyser.specs.declared.analysis.Start.{Start}
 use Rattle.analyser.specs.declared.analysis.Analysis.{Analysis}
 use Rattle.analyser.specs.declared.analysis.Analysis.TheVariants.{Vouched, Cannot}
 use Rattle.analyser.specs.Following.{AreNotes, NotesFail, result_from, paths_from, begun, end_fault}
-
--- a certificate tells of at most 10^12 lines
-abbrev pub most_lines : ℕ
-most_lines = 1000000000000
 
 -- a low bound as it is told: 0 where none is known, or one below 0; most_lines where it is higher
 abbrev pub low_of : Option ℤ → ℕ

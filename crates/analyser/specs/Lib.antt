@@ -2,5 +2,6 @@
 pub mod Rounds
 pub mod Following
 pub mod Analysis
+pub mod Exactness
 -- what only serves clauses inside the crate
 pub mod Walking

@@ -6,10 +6,12 @@ ghost use Rattle.ed_syntax.specs.PublicScript.{script_value};
 ghost use Rattle.cert_check.specs.Opening.{IsAtMost};
 ghost use Rattle.analyser.specs.Following.{begun, end_fault};
 ghost use Rattle.analyser.specs.Analysis.{most_lines, IsAnswer, IsValid, HasTextIfVouched};
+ghost use Rattle.analyser.specs.Exactness.{IsExactAnswer};
 ghost use Rattle.analyser.specs.Walking.{IsWalk, StepIsBytes};
 
 use crate::analysis::{Analysis, Start};
 use crate::bounds::{high_of, low_of};
+use crate::laws::exact_scripts_are_foretold;
 use crate::texts::{path_is_bytes, paths_are_bytes, steps_are_bytes};
 use crate::walk::{Outcome, Walk, go_through, place_of};
 use cert_check::{Certificate, covering_is_decided};
@@ -95,7 +97,11 @@ pub fn analyse(script: &Script, start: Start) -> Result<Analysis, AllocError>
 
     // What is vouched for has a text.
     ensures texts { IfOk result (λ answer. HasTextIfVouched answer) }
+
+    // No false alarm on exact scripts: the answer foretells each of their runs.
+    ensures foretold { IfOk result (λ answer. IsExactAnswer (script_value script.now) start answer) }
 {
+    exact_scripts_are_foretold();
     let alloc = *script.commands.allocator();
     steps_are_bytes(script.commands.as_slice());
     let begun = State::start(alloc, &start.path, start.min, start.max)?;

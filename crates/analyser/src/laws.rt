@@ -6,7 +6,12 @@ ghost use Rattle.ed_syntax.specs.Commands.{Script};
 ghost use Rattle.cert_check.specs.declared.verdict.Place.{Place};
 ghost use Rattle.cert_check.specs.Certificates as plain;
 ghost use Rattle.analyser.specs.declared.analysis.Start.{Start};
-ghost use Rattle.analyser.specs.Analysis.{IsCertificate, IsFailure};
+ghost use Rattle.analyser.specs.declared.analysis.Analysis.{Analysis};
+ghost use Rattle.analyser.specs.Analysis.{IsCertificate, IsFailure, IsAnswer};
+ghost use Rattle.analyser.specs.Exactness.{IsExactAnswer};
+
+use ed_rules::exact_commands_are_exact;
+use ed_syntax::answers_are_asked_for;
 
 /// A script has one answer over a start: the notes are determined, and so is the first need that fails.
 pub fn answers_are_determined()
@@ -19,3 +24,11 @@ pub fn answers_are_determined()
         IsFailure script start place why notes → IsFailure script start other_place other_why other_notes →
         (place ≡ other_place) × (why ≡ other_why) × (notes ≡ other_notes) }
 {}
+
+/// The answer on an exact script foretells each run.
+pub fn exact_scripts_are_foretold()
+    ensures exact { (script : Script) (start : Start) (answer : Analysis) → IsAnswer script start answer → IsExactAnswer script start answer }
+{
+    exact_commands_are_exact();
+    answers_are_asked_for();
+}

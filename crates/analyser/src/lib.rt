@@ -12,4 +12,4 @@ mod walk;
 
 pub use analysing::analyse;
 pub use analysis::{Analysis, Start};
-pub use laws::answers_are_determined;
+pub use laws::{answers_are_determined, exact_scripts_are_foretold};

@@ -34,7 +34,7 @@ use Rattle.ed_rules.proofs.Basics.{and-both, bind-twice, Agrees-also, Agrees-bin
 abbrev pub Valued : ℕ → editor.State → Numbers → State → ℕ → Type 0
 Valued x e v t n = StandsBy t e (updated v x (pos n)) × (n ≤ length e.lines)
 
-within-inside : (n : ℕ) (e : editor.State) → n ≤ length e.lines → within e (pos n) ≡ Ok n
+pub within-inside : (n : ℕ) (e : editor.State) → n ≤ length e.lines → within e (pos n) ≡ Ok n
 within-inside n e h = rw (le-leb n (length e.lines) h, within) refl
 
 in_buffer-sound : (x : ℕ) (m : ℤ) (t : State) (e : editor.State) (v : Numbers) → 3 ≤ x → x < 6 → StandsBy t e (updated v x m) → Agrees (Valued x e v) (in_buffer x t) (within e m)
@@ -252,12 +252,12 @@ addressed-sound (Semicolon a (Some b)) s e st =
     )))
 
 -- a default `.,.` is evaluated once by the rule and twice by the editor
-value-here : (e : editor.State) → e.current ≤ length e.lines → value here e ≡ Ok e.current
+pub value-here : (e : editor.State) → e.current ≤ length e.lines → value here e ≡ Ok e.current
 value-here e h =
     let n : pos e.current +ℤ pos 0 ≡ pos e.current = omega (arith, ints) in
     ap (within e) n ∙ within-inside e.current e h
 
-twice-is : (e : editor.State) → e.current ≤ length e.lines → values (Comma here here) e ≡ Ok (e, e.current ∷ e.current ∷ [])
+pub twice-is : (e : editor.State) → e.current ≤ length e.lines → values (Comma here here) e ≡ Ok (e, e.current ∷ e.current ∷ [])
 twice-is e h = rw (value-here e h) refl
 
 pub twice-sound : (s : State) (e : editor.State) → Stands s e → Agrees (AddressedIn e.lines (NamesOf (One here))) (addressed (One here) s) (values (Comma here here) e)

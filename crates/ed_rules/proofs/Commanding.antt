@@ -54,7 +54,7 @@ use Rattle.zones.proofs.Known.{known-true}
 use Rattle.ed_rules.proofs.Basics.{chain, and-both, Agrees-bind, Agrees-ok, Agrees-map, Agrees-needing, Agrees-need_then, Agrees-weaker, Agrees-also}
 
 -- an address is there
-abbrev IsGiven : Addresses → Type 0
+abbrev pub IsGiven : Addresses → Type 0
 IsGiven Without = ⊥
 IsGiven (One a) = Unit {0}
 IsGiven (Comma a b) = Unit {0}
@@ -95,7 +95,7 @@ last_given-spans (One a) g t p h = record {
 last_given-spans (Comma a b) g t p h = last_for_both t p h.numbers h.stands h.names
 last_given-spans (Semicolon a b) g t p h = last_for_both t p h.numbers h.stands h.names
 
-ordered-is : (a b : ℕ) → 1 ≤ a → a ≤ b → ordered a b ≡ Ok (span a b)
+pub ordered-is : (a b : ℕ) → 1 ≤ a → a ≤ b → ordered a b ≡ Ok (span a b)
 ordered-is a b h k = rw (le-leb 1 a h, ordered) (rw (le-leb a b k) refl)
 
 single-is : (n : ℕ) → 1 ≤ n → single n ≡ Ok (span n n)
@@ -156,7 +156,7 @@ one_line-sound given a g t p count h =
     Agrees-ok (AtLine p.0) u (span n n) (spanned many.OneLine count p.1) (single-is n from) (record { spans = r; from = from; order = omega arith }, refl))
 
 -- which addresses a command's phases after them may meet
-abbrev Suits : Taking → Addresses → Type 0
+abbrev pub Suits : Taking → Addresses → Type 0
 Suits many.NoAddress a = Unit {0}
 Suits many.Place a = IsGiven a
 Suits many.FirstPlace a = IsGiven a
@@ -165,13 +165,13 @@ Suits many.Lines a = IsGiven a
 Suits many.Range a = IsGiven a
 Suits many.Whole a = a ≡ Without
 
-given_or-given : (a d : Addresses) → IsGiven d → IsGiven (given_or a d)
+pub given_or-given : (a d : Addresses) → IsGiven d → IsGiven (given_or a d)
 given_or-given Without d h = h
 given_or-given (One a) d h = tt
 given_or-given (Comma a b) d h = tt
 given_or-given (Semicolon a b) d h = tt
 
-suits : (verb : Verb) → Suits (takes verb).taking (standing (takes verb).default)
+pub suits : (verb : Verb) → Suits (takes verb).taking (standing (takes verb).default)
 suits (ed.Append text) = tt
 suits (ed.Change text) = tt
 suits ed.Delete = tt
@@ -226,7 +226,7 @@ first_place-sound given a g t p count h =
 abbrev pub from_zero : ℕ → ℕ → Span
 from_zero a b = span (max 1 a) (max 1 b)
 
-from_first-is : (a b count : ℕ) → a ≤ b → max 1 b ≤ count → from_first a b count ≡ Ok (from_zero a b)
+pub from_first-is : (a b count : ℕ) → a ≤ b → max 1 b ≤ count → from_first a b count ≡ Ok (from_zero a b)
 from_first-is a b count h k = rw (le-leb a b h, le-leb (max 1 b) count k, from_first) refl
 
 -- numbers for both lifted addresses

@@ -172,11 +172,11 @@ change-follows listed (line ∷ more) s start st t e x r =
     (altered-aside listed s t (replaced (length new) t) start e st r.spans.stands.remembered r.spans.stands.past q.aside (parts.replaced x.first x.last new e.lines) (x.first - 1 + length text) q.numbers q.buffer)
 
 -- `j`
-join-changes : (x : Span) (e : editor.State) → x.first < x.last →
+pub join-changes : (x : Span) (e : editor.State) → x.first < x.last →
     effects.join x e ≡ effects.altered (parts.replaced x.first x.last (plain_line (concat (texts (parts.between x.first x.last e.lines))) ∷ []) e.lines) x.first e
 join-changes x e h = rw (lt-ltb x.first x.last h, effects.join) refl
 
-join-stays : (x : Span) (e : editor.State) → x.last ≤ x.first → effects.join x e ≡ effects.only e []
+pub join-stays : (x : Span) (e : editor.State) → x.last ≤ x.first → effects.join x e ≡ effects.only e []
 join-stays x e h = rw (le-ltb x.first x.last h, effects.join) refl
 
 join-many : (listed : Bool) (s : State) (start : editor.State) → Stands s start → (t : State) (e : editor.State) (x : Span) → Ranges t e x → x.first < x.last →
@@ -227,12 +227,12 @@ join-follows listed s start st t e x r =
     ]) refl
 
 -- `t`
-entered-some : (a : ℕ) (ts : List (List ℕ)) (e : editor.State) → 1 ≤ length ts →
+pub entered-some : (a : ℕ) (ts : List (List ℕ)) (e : editor.State) → 1 ≤ length ts →
     effects.entered a ts e ≡ effects.altered (parts.inserted a (map plain_line ts) e.lines) (a + length ts) e
 entered-some a [] e h = absurd (omega arith)
 entered-some a (t ∷ ts) e h = refl
 
-length-texts : (a b : ℕ) (ls : List Line) → 1 ≤ a → a ≤ b → b ≤ length ls → length (texts (parts.between a b ls)) ≡ b + 1 - a
+pub length-texts : (a b : ℕ) (ls : List Line) → 1 ≤ a → a ≤ b → b ≤ length ls → length (texts (parts.between a b ls)) ≡ b + 1 - a
 length-texts a b ls h k l = length-map (parts.between a b ls) (λ (line : Line). line.bytes) ∙ length-drop (a - 1) (take b ls) ∙ (let q = length-take-le b ls l in omega arith)
 
 pub copy-follows : (listed : Bool) (s : State) (start : editor.State) → Stands s start → (t : State) (e : editor.State) (x : Span) (target : ℕ) (r : Ranges t e x) → r.spans.numbers 5 ≡ pos target → target ≤ length e.lines →
@@ -318,10 +318,10 @@ mark-follows listed letter start t e x r same h known =
     )
 
 -- `m`
-length-between : (a b : ℕ) (ls : List Line) → 1 ≤ a → a ≤ b → b ≤ length ls → length (parts.between a b ls) ≡ b + 1 - a
+pub length-between : (a b : ℕ) (ls : List Line) → 1 ≤ a → a ≤ b → b ≤ length ls → length (parts.between a b ls) ≡ b + 1 - a
 length-between a b ls h k l = length-drop (a - 1) (take b ls) ∙ (let q = length-take-le b ls l in omega arith)
 
-move-up-is : (x : Span) (target : ℕ) (e : editor.State) → target < x.first → x.first ≤ x.last →
+pub move-up-is : (x : Span) (target : ℕ) (e : editor.State) → target < x.first → x.first ≤ x.last →
     effects.move x target e ≡ Ok (effects.altered (parts.carried (x.first - 1) x.last target e.lines) (target + length (parts.between x.first x.last e.lines)) e)
 move-up-is x target e h k = rw (lt-leb x.first target h, le-leb target x.last (omega arith), effects.move, effects.place_left) refl
 
@@ -335,7 +335,7 @@ moved-by p q x target e =
       | false ↦ Ok (effects.altered (parts.inserted place moved (parts.replaced x.first x.last [] e.lines)) (place + length moved) e)
     ]
 
-move-down-is : (x : Span) (target : ℕ) (e : editor.State) → x.first ≤ x.last → x.last < target →
+pub move-down-is : (x : Span) (target : ℕ) (e : editor.State) → x.first ≤ x.last → x.last < target →
     effects.move x target e ≡ Ok (effects.altered (parts.carried (x.first - 1) x.last (target - (x.last + 1 - x.first)) e.lines)
     (target - (x.last + 1 - x.first) + length (parts.between x.first x.last e.lines)) e)
 move-down-is x target e k h =

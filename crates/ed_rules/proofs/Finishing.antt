@@ -95,7 +95,7 @@ abbrev pub Final : State → Effect → Type 0
 Final t (Makes o) = Stands t o.state
 Final t (Asks f) = ⊥
 
-settled-current : (listed : Bool) (k : Kept) (o : Outcome) → (settled listed k o).current ≡ o.state.current
+pub settled-current : (listed : Bool) (k : Kept) (o : Outcome) → (settled listed k o).current ≡ o.state.current
 settled-current listed k o = elim o.alters as (λ b. (settled listed k (record o { alters = b })).current ≡ o.state.current) [ true ↦ refl | false ↦ refl ]
 
 on_line : {A : Type 0} (n : ℕ) (f : Fault) (a : A) → 1 ≤ n → (elim n as (λ _. Result A Fault) [ zero ↦ Err f | suc m ↦ Ok a ]) ≡ Ok a
@@ -106,7 +106,7 @@ suffix_written-line : (form : Form) (s : editor.State) → 1 ≤ s.current →
     suffix_written (Some form) s ≡ Ok (lines_written form s.current s.current s.lines)
 suffix_written-line form s h = on_line s.current fault.Address (lines_written form s.current s.current s.lines) h
 
-abbrev made : (listed : Bool) → editor.State → Outcome → List ℕ → Result Effect Fault
+abbrev pub made : (listed : Bool) → editor.State → Outcome → List ℕ → Result Effect Fault
 made listed start o more = Ok (Makes (record { state = settled listed (kept start) o; output = o.output ++ more; alters = o.alters }))
 
 finish-makes : (suffix : Option Form) (listed : Bool) (start : editor.State) (r : State) (o : Outcome) → Stands r (settled listed (kept start) o) →

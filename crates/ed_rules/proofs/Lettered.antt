@@ -28,7 +28,7 @@ use Rattle.ed_syntax.specs.Effects.{Outcome, Effect, Makes, Asks}
 use Rattle.ed_syntax.specs.Applied.{making, completed, targeted, effect_of, command, settled, past_after, suffix_written}
 use Rattle.ed_base.specs.Lines.{lines_of, IsLine, AreLines}
 use Rattle.ed_base.proofs.LineLemmas.{HoldsLines-lines, HoldsLines-lines_of}
-use Rattle.ed_rules.specs.Rules.{enters_lines}
+use Rattle.ed_syntax.specs.Readable.{enters_lines}
 use Rattle.ed_rules.specs.StandsFor.{AreLettered, KeepsLettered}
 use Rattle.ed_rules.proofs.Orders.{OnValue, OnValue-bind, always, InOrder, spanned-order}
 use Rattle.ed_rules.proofs.LettersInLines.{KnowLetters-plain, KnowLetters-inserted, KnowLetters-replaced, KnowLetters-marked, KnowLetters-carried}

@@ -41,5 +41,14 @@ pub mod FormingAddresses
 pub mod FormingRows
 pub mod StatesFormed
 pub mod Weaker
+pub mod EndAlike
+pub mod ExactZones
+pub mod ExactPieces
+pub mod ExactAddresses
+pub mod ExactSpans
+pub mod ExactEffects
+pub mod ExactFiles
+pub mod ExactCommands
+pub mod ExactStart
 mod SubstitutingRows
 mod FilesRows

@@ -12,7 +12,8 @@ use Rattle.ed_syntax.specs.Verbs.{takes, given_or}
 use Rattle.ed_rules.specs.declared.state.State.{State}
 use Rattle.ed_rules.specs.Pieces.{needing}
 use Rattle.ed_rules.specs.Addresses.{standing}
-use Rattle.ed_rules.specs.Rules.{enters_lines, step_at, step, fault_of}
+use Rattle.ed_syntax.specs.Readable.{enters_lines}
+use Rattle.ed_rules.specs.Rules.{step_at, step, fault_of}
 use Rattle.ed_rules.specs.Soundness.{IsUnserved, IsDone, CommandIsSound}
 use Rattle.ed_rules.specs.StandsFor.{StandsFor}
 use Rattle.ed_rules.proofs.Answering.{Does, Comes}

@@ -15,7 +15,8 @@ use Rattle.ed_rules.specs.States.{start}
 use Rattle.ed_rules.specs.Order.{join, widen}
 use Rattle.ed_rules.specs.Pieces.{with_zone, ended}
 use Rattle.ed_rules.specs.Addresses.{addressed, standing, targeted}
-use Rattle.ed_rules.specs.Rules.{taken, effect, suffixed, enters_lines, step_at, step}
+use Rattle.ed_syntax.specs.Readable.{enters_lines}
+use Rattle.ed_rules.specs.Rules.{taken, effect, suffixed, step_at, step}
 use Rattle.ed_rules.specs.Globals.{finished, line_taken, body_entry, list_may_alter, old_if, undo_of_global, loop_end}
 use Rattle.ed_rules.proofs.SpeakingPieces.{Speaks-start, Inner-line_taken}
 use Rattle.ed_rules.proofs.RisingChoices.{SetIsFormed-only}

@@ -9,7 +9,7 @@ use Rattle.ed_base.specs.Buffer.{Line, plain_line, with_letter, marked_at, texts
 use Rattle.ed_base.specs.Lines.{newline, IsLine, AreLines}
 use Rattle.ed_base.specs.Parts as parts
 use Rattle.ed_rules.specs.StandsFor.{AreWhole}
-use Rattle.ed_rules.specs.Rules.{are_lines}
+use Rattle.ed_syntax.specs.Readable.{are_lines}
 use Rattle.ed_rules.proofs.Basics.{and-both}
 
 -- a byte that is no newline

@@ -15,5 +15,9 @@ pub mod Undoing
 pub mod Rules
 pub mod Reaching
 pub mod Soundness
+pub mod LineBounds
+pub mod Exact
 pub mod Globals
 pub mod GlobalSoundness
+-- what a law says that only proofs above use
+pub mod ExactRules

@@ -1,7 +1,5 @@
 -- The rules: the state after a command, or the fault of the first need that fails. They go through the phases of a command.
-use Rattle.std.specs.Prelude.{ℕ, pos, negsuc, Bool, true, ◌&&◌, not, nat_lt, nat_eq, List, length, Option, Some, None, Result, Ok, Err}
-use Rattle.std.specs.List.{list_all}
-use Rattle.ed_base.specs.Lines.{newline}
+use Rattle.std.specs.Prelude.{pos, negsuc, Bool, ◌&&◌, nat_lt, length, Option, Some, None, Result, Ok, Err}
 use Rattle.ed_base.specs.declared.fault.Fault.{Fault}
 use Rattle.ed_base.specs.declared.fault.Fault.TheVariants as fault
 use Rattle.zones.specs.Name as name
@@ -9,6 +7,7 @@ use Rattle.zones.specs.Name.{current_line, last_line, first_address, second_addr
 use Rattle.zones.specs.Known.{known}
 use Rattle.ed_syntax.specs.Commands as ed
 use Rattle.ed_syntax.specs.Commands.{Addresses, Form, Verb, Command}
+use Rattle.ed_syntax.specs.Readable.{enters_lines}
 use Rattle.ed_syntax.specs.Verbs.{takes, given_or}
 use Rattle.ed_syntax.specs.Values.{◌>>◌}
 use Rattle.ed_syntax.specs.declared.verbs.Taking.{Taking}
@@ -74,17 +73,6 @@ step_at a c s =
     taken (takes c.verb).taking c.addresses a p >> λ u.
     effect c.listed c.addresses c.verb s u >> λ r.
     suffixed c.suffix (with_zone (ended r.marks r.zone) r)
-
--- none of these lines holds a newline
-abbrev pub are_lines : List (List ℕ) → Bool
-are_lines text = list_all (λ line. list_all (λ byte. not (nat_eq byte newline)) line) text
-
--- what a command enters are lines; no script enters anything else
-abbrev pub enters_lines : Verb → Bool
-enters_lines (ed.Append text) = are_lines text
-enters_lines (ed.Insert text) = are_lines text
-enters_lines (ed.Change text) = are_lines text
-enters_lines _ = true
 
 -- the state after a command, or the fault of the first need that fails
 abbrev pub step : Command → State → Result State Fault

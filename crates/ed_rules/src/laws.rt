@@ -11,6 +11,7 @@ ghost use Rattle.ed_rules.specs.StandsFor.{StandsFor};
 ghost use Rattle.std.specs.Prelude.{ℕ, Option, IfOk};
 ghost use Rattle.ed_syntax.specs.Commands.{Command, Step};
 ghost use Rattle.ed_rules.specs.Soundness.{CommandIsSound};
+ghost use Rattle.ed_rules.specs.ExactRules.{CommandIsExact, StartIsExact};
 ghost use Rattle.ed_rules.specs.Globals.{body_entry, loop_end};
 ghost use Rattle.ed_rules.specs.GlobalSoundness.{StartIsSound, TurnIsSound, ChangesAreNoted, EndIsSound};
 
@@ -52,4 +53,11 @@ pub fn states_stay_formed()
     ensures entry { (invariant : State) → IsFormed invariant → IsFormed (body_entry invariant) }
     ensures end { (x : Step) (before invariant : State) → IsFormed before → IsFormed invariant →
         IsFormed (loop_end x before invariant) }
+{}
+
+/// Where a state tells the number of lines and what else an exact command looks at, a need fails just where the command meets a fault,
+/// and by that fault; else the state after its rule tells as much of what it leaves. So does the start.
+pub fn exact_commands_are_exact()
+    ensures command { CommandIsExact }
+    ensures start { StartIsExact }
 {}

@@ -24,7 +24,8 @@ pub use globals::{body_entry, loop_end, loop_start};
 pub use kept::KeptState;
 pub use kept_undo::{KeptOld, KeptUndo};
 pub use laws::{
-    commands_are_sound, globals_are_sound, states_stay_formed, weaker_states_stand_for_more,
+    commands_are_sound, exact_commands_are_exact, globals_are_sound, states_stay_formed,
+    weaker_states_stand_for_more,
 };
 pub use marks::Marks;
 pub use rules::{after, needs, outcome_into};

@@ -1,0 +1,139 @@
+-- The answer on an exact script foretells each run.
+use Rattle.std.proofs.Common.{◌≡◌, ◌≤◌, ℕ, ℤ, pos, true, false, List, [], ◌∷◌, length, Option, None, Some, Result, Ok, Err, refl, sym, ap, ◌∙◌, subst, arith}
+use Rattle.std.proofs.lemmas.Int.{ints}
+use Rattle.std.proofs.lemmas.Bool.{le-ltb}
+use Rattle.std.proofs.lemmas.List.{length-map}
+use Rattle.ed_base.specs.Buffer.{plain_line}
+use Rattle.ed_base.specs.Lines.{lines_of}
+use Rattle.ed_base.specs.declared.fault.Fault.{Fault}
+use Rattle.zones.specs.Bound.{negative_of}
+use Rattle.zones.specs.Known.{least, greatest}
+use Rattle.zones.specs.Differences.{Fixes}
+use Rattle.ed_syntax.specs.declared.options.Options.{Options}
+use Rattle.ed_syntax.specs.declared.options.Ending.{Ending}
+use Rattle.ed_syntax.specs.declared.request.Answer.{Answer}
+use Rattle.ed_syntax.specs.declared.request.Answer.TheVariants as answer
+use Rattle.ed_syntax.specs.Commands.{Step, Script}
+use Rattle.ed_syntax.specs.States as editor
+use Rattle.ed_syntax.specs.States.{opening}
+use Rattle.ed_syntax.specs.Files.{loaded}
+use Rattle.ed_syntax.specs.Progress.{Present, Stop, Waits, Ends, stop_of, ending}
+use Rattle.ed_syntax.specs.Runs as runs
+use Rattle.ed_syntax.specs.Runs.{run, steps, present, with_state}
+use Rattle.ed_rules.specs.declared.state.State.{State}
+use Rattle.ed_rules.specs.States as states
+use Rattle.ed_rules.specs.Exact.{are_exact}
+use Rattle.ed_rules.specs.LineBounds.{most_lines}
+use Rattle.ed_rules.specs.ExactRules.{Tells, StartIsExact}
+use Rattle.cert_check.specs.Certificates.{certificate_value}
+use Rattle.cert_check.specs.Sound.{start_lines}
+use Rattle.analyser.specs.declared.analysis.Start.{Start}
+use Rattle.analyser.specs.declared.analysis.Analysis.{Analysis}
+use Rattle.analyser.specs.declared.analysis.Analysis.TheVariants.{Vouched, Cannot}
+use Rattle.analyser.specs.Following.{begun}
+use Rattle.analyser.specs.Analysis.{low_of, high_of, IsAnswer}
+use Rattle.analyser.specs.Exactness.{to_commands, IsExactRun, Foretells, IsExactAnswer}
+use Rattle.analyser.proofs.ExactWalks.{walked, certified-walk, failed-walk}
+use Rattle.analyser.proofs.ExactRuns.{Laws, AreDone, prompted-stop, Decided, front_of, StaysFew, decided}
+
+-- THE BOUNDS OF THE END
+
+told-most : (t : State) (s : editor.State) → Tells t s → greatest t.zone 2 0 ≡ Some (pos (length s.lines))
+unfolding Fixes
+told-most t s h = h.zone 2 0 (omega arith) (omega arith) refl refl ∙ ap (λ (n : ℤ). Some n) (omega (arith, ints))
+
+told-least : (t : State) (s : editor.State) → Tells t s → least t.zone 2 0 ≡ Some (pos (length s.lines))
+unfolding Fixes
+told-least t s h = ap (λ (b : Option ℤ). negative_of b) (h.zone 0 2 (omega arith) (omega arith) refl refl) ∙ ap (λ (n : ℤ). Some n)
+    (omega (arith, ints))
+
+low-is : (n : ℕ) → n ≤ most_lines → low_of (Some (pos n)) ≡ n
+low-is n h = omega arith
+
+high-is : (n : ℕ) → n ≤ most_lines → high_of (Some (pos n)) ≡ Some n
+high-is n h = rw (le-ltb most_lines n h) refl
+
+-- THE START
+
+-- each run of what is left, from an editor that was just opened
+module _ (k : Laws) (begins : StartIsExact) (xs : List Step) (bad : Option ℕ) (exact : are_exact xs ≡ true) where
+  from-state : (path : Option (List ℕ)) (n : ℕ) (m : Present) (answers : List Answer) → m.state.name ≡ path → length m.state.lines ≡ n →
+      m.state.current ≡ n → m.state.changed ≡ false →
+      AreDone answers → length xs ≤ length answers → StaysFew xs m answers →
+      Decided (walked xs bad (states.start path n (Some n))) (stop_of (steps xs bad m answers))
+  from-state path n m answers name lines current flag done enough few =
+      let much : length m.state.lines ≤ most_lines = few 0 (record { lines = length m.state.lines }) (prompted-stop m (ending m)) in
+      decided k xs bad (states.start path n (Some n)) m answers exact
+      (begins path n m.state name lines current flag (omega arith)) done enough few
+
+  from-start : (path : Option (List ℕ)) (n : ℕ) (o : Options) (answers : List Answer) → start_lines path answers ≡ Some n →
+      AreDone (to_commands path answers) → length xs ≤ length (to_commands path answers) →
+      ((i : ℕ) (e : Ending) → stop_of (runs.start path (present o) (steps (front_of i xs) None) answers) ≡ Ends (Ok e) →
+      e.lines ≤ most_lines) →
+      Decided (walked xs bad (states.start path n (Some n))) (stop_of (runs.start path (present o) (steps xs bad) answers))
+  from-start None n o answers lines done enough few =
+      let none : 0 ≡ n = cc in
+      from-state None n (present o) answers refl none none refl done enough few
+  from-start (Some path) n o [] lines done enough few = absurd cc
+  from-start (Some path) n o (answer.Bytes bytes ∷ more) lines done enough few =
+      let size : length (lines_of bytes) ≡ n = cc in
+      let all : length (loaded bytes path opening).lines ≡ n = length-map (lines_of bytes) plain_line ∙ size in
+      from-state (Some path) n (with_state (loaded bytes path opening) (present o)) more refl all all refl done enough few
+  from-start (Some path) n o (answer.Missing ∷ more) lines done enough few =
+      let none : 0 ≡ n = cc in
+      from-state (Some path) n (with_state (loaded [] path opening) (present o)) more refl none none refl done enough few
+  from-start (Some path) n o (answer.Refused ∷ more) lines done enough few = absurd cc
+  from-start (Some path) n o (answer.Done ∷ more) lines done enough few = absurd cc
+
+-- THE ANSWER
+
+vouched : (low : ℕ) (high : Option ℕ) (t : State) (stop : Stop) → low ≡ low_of (least t.zone 2 0) → high ≡ high_of (greatest t.zone 2 0) →
+    Decided (Ok t) stop →
+    (e : Ending) × (stop ≡ Ends (Ok e)) × (low ≡ e.lines) × (high ≡ Some e.lines)
+vouched low high t (Waits r) l h d = absurd d
+vouched low high t (Ends (Err f)) l h d = absurd d
+vouched low high t (Ends (Ok e)) l h d =
+    let s = d.0 in
+    let tells = d.1 in
+    let few = tells.few in (
+      e,
+      refl,
+      l ∙ ap (λ (b : Option ℤ). low_of b) (told-least t s tells) ∙ low-is (length s.lines) few ∙ sym d.2,
+      h ∙ ap (λ (b : Option ℤ). high_of b) (told-most t s tells) ∙ high-is (length s.lines) few ∙ ap (λ (n : ℕ). Some n) (sym d.2),
+    )
+
+refused : (f : Fault) (stop : Stop) → Decided (Err f) stop → stop ≡ Ends (Err f)
+refused f (Waits r) d = absurd d
+refused f (Ends (Ok e)) d = absurd d
+refused f (Ends (Err g)) d = ap (λ (h : Fault). Ends (Err h)) (sym d)
+
+run-decided : Laws → StartIsExact → (script : Script) (start : Start) (o : Options) (answers : List Answer) →
+    IsExactRun script start o answers →
+    Decided (walked script.steps script.fault (begun start)) (stop_of (run script o answers))
+run-decided k begins script start o answers h =
+    let go : (path : Option (List ℕ)) → o.path ≡ path →
+    ((i : ℕ) (e : Ending) → stop_of (runs.start path (present o) (steps (front_of i script.steps) None) answers) ≡ Ends (Ok e) →
+    e.lines ≤ most_lines) =
+    λ (path : Option (List ℕ)) (is : o.path ≡ path). subst (λ (p : Option (List ℕ)). (i : ℕ) (e : Ending) → stop_of
+    (runs.start p (present o) (steps (front_of i script.steps) None) answers) ≡ Ends (Ok e) → e.lines ≤ most_lines) is h.few in
+    let from : Decided (walked script.steps script.fault (states.start start.path start.min (Some start.min)))
+    (stop_of (runs.start start.path (present o) (steps script.steps script.fault) answers)) =
+    from-start k begins script.steps script.fault h.exact start.path start.min o answers h.lines h.done h.enough (go start.path h.path) in
+    let same : Decided (walked script.steps script.fault (begun start))
+    (stop_of (runs.start start.path (present o) (steps script.steps script.fault) answers)) =
+    subst (λ (most : Option ℕ). Decided (walked script.steps script.fault (states.start start.path start.min most))
+    (stop_of (runs.start start.path (present o) (steps script.steps script.fault) answers))) (sym h.one) from in
+    subst (λ (p : Option (List ℕ)). Decided (walked script.steps script.fault (begun start))
+    (stop_of (runs.start p (present o) (steps script.steps script.fault) answers))) (sym h.path) same
+
+pub foretold : Laws → StartIsExact → (script : Script) (start : Start) (answer : Analysis) → IsAnswer script start answer →
+    IsExactAnswer script start answer
+foretold k begins script start (Vouched c) is o answers h =
+    let d = subst (λ (r : Result State Fault). Decided r (stop_of (run script o answers)))
+    (certified-walk script start (certificate_value c) h.exact is) (run-decided k begins script start o answers h) in
+    let v = vouched c.low c.high (certificate_value c).last (stop_of (run script o answers)) is.low is.high d in
+    subst (λ (z : Stop). Foretells (Vouched c) z) (sym v.1) (v.2, v.3)
+foretold k begins script start (Cannot place why notes) is o answers h =
+    let d = subst (λ (r : Result State Fault). Decided r (stop_of (run script o answers))) (failed-walk script start place why _ h.exact is)
+    (run-decided k begins script start o answers h) in
+    subst (λ (z : Stop). Foretells (Cannot place why notes) z) (sym (refused why (stop_of (run script o answers)) d)) refl

@@ -1,0 +1,340 @@
+-- The run of an exact script beside its rules.
+use Rattle.std.proofs.Common.{◌≡◌, ◌⊎◌, inl, inr, ◌≤◌, ℕ, suc, Bool, true, false, ◌&&◌, ◌||◌, List, [], ◌∷◌, ◌++◌, length, take, Option, None, Some, is_none, Result, Ok, Err, refl, sym, ap, ◌∙◌, subst, arith}
+use Rattle.std.specs.List.{All}
+use Rattle.std.proofs.lemmas.List.Elements.{All-head, All-tail}
+use Rattle.ed_base.specs.declared.fault.Fault.{Fault}
+use Rattle.ed_base.specs.declared.fault.Fault.TheVariants as fault
+use Rattle.ed_syntax.specs.declared.options.Ending.{Ending}
+use Rattle.ed_syntax.specs.declared.request.Answer.{Answer}
+use Rattle.ed_syntax.specs.declared.request.Answer.TheVariants as answer
+use Rattle.ed_syntax.specs.declared.request.Request.{Request}
+use Rattle.ed_syntax.specs.Commands as ed
+use Rattle.ed_syntax.specs.Commands.{Addresses, Without, One, Comma, Semicolon, Form, Verb, Command, Step, Script, alone}
+use Rattle.ed_syntax.specs.States as editor
+use Rattle.ed_syntax.specs.Effects.{Outcome, Effect, Makes, Asks}
+use Rattle.ed_syntax.specs.Applied.{command}
+use Rattle.ed_syntax.specs.Laws.{UnaskedAnswersDoNothing, NothingIsAskedTwice}
+use Rattle.ed_syntax.specs.Progress.{Present, Progress, Stop, Ends, Writes, stop_of, failing, ending, count}
+use Rattle.ed_syntax.specs.Runs.{Further, reached, answered, asking, turned, one, step_by, prompted, at_end, steps}
+use Rattle.ed_syntax.specs.Values.{◌>>◌}
+use Rattle.ed_syntax.specs.Verbs.{takes, takes_any, may_have}
+use Rattle.ed_rules.specs.declared.state.Changed.{Changed}
+use Rattle.ed_rules.specs.declared.state.State.{State}
+use Rattle.ed_syntax.specs.Readable.{enters_lines, is_readable}
+use Rattle.ed_rules.specs.Rules.{step}
+use Rattle.ed_rules.specs.Exact.{are_by_number, is_exact_verb, is_exact, are_exact}
+use Rattle.ed_rules.specs.LineBounds.{most_lines}
+use Rattle.ed_rules.specs.ExactRules.{flag_of, Tells, EndAlike, LeavesTold, LeavesFew, CommandIsExact}
+use Rattle.ed_rules.proofs.Basics.{and-both}
+use Rattle.cert_check.specs.Valid.{quits}
+use Rattle.analyser.specs.Exactness.{quit_anyway}
+use Rattle.analyser.proofs.ExactWalks.{ended, walked, goes_on, exact-verb, exact-both}
+
+-- the laws of the crates below
+pub record Laws : Type 0 where
+  pub command : CommandIsExact
+  pub unasked : UnaskedAnswersDoNothing
+  pub once : NothingIsAskedTwice
+
+-- each write is done
+abbrev pub AreDone : List Answer → Type 0
+AreDone answers = All (λ (a : Answer). a ≡ answer.Done) answers
+
+-- a prompt doesn't matter
+pub prompted-stop : (m : Present) (p : Progress) → stop_of (prompted m p) ≡ stop_of p
+prompted-stop m p = elim m.prompting as (λ b. stop_of
+    (elim b as (λ _. Progress) [ true ↦ Writes m.help m.prompt p | false ↦ p ]) ≡ stop_of p) [ true ↦ refl | false ↦ refl ]
+
+turned-state : (verb : Verb) (m : Present) → (turned verb m).state ≡ m.state
+turned-state ed.HelpMode m = refl
+turned-state ed.PromptMode m = refl
+turned-state _ m = refl
+
+-- ONE COMMAND
+
+-- it meets a fault, and the run ends
+pub record Fails (c : Command) (m : Present) (answers : List Answer) : Type 0 where
+  pub fault : Fault
+  pub comes : command m.state c (Some answer.Done) ≡ Err fault
+  pub stops : (go : Further) → stop_of (one c m go answers) ≡ Ends (Err fault)
+
+-- it is done, and the run goes on
+pub record Goes (c : Command) (m : Present) (answers : List Answer) : Type 0 where
+  pub outcome : Outcome
+  pub later : List Answer
+  pub comes : command m.state c (Some answer.Done) ≡ Ok (Makes outcome)
+  pub done : AreDone later
+  pub enough : length answers ≤ suc (length later)
+  pub goes : (go : Further) → stop_of (one c m go answers) ≡ stop_of (go (turned c.verb (reached outcome m)) later)
+
+module _ (k : Laws) (c : Command) (m : Present) where
+  unasked : (y : Result Effect Fault) → command m.state c None ≡ y → ((r : Request) → y ≡ Ok (Asks r) → ⊥) →
+      command m.state c (Some answer.Done) ≡ y
+  unasked y is never = k.unasked m.state c answer.Done (λ r e. never r (sym is ∙ e)) ∙ is
+
+  one-by : (y : Result Effect Fault) → command m.state c None ≡ y → (go : Further) (answers : List Answer) →
+      stop_of (one c m go answers) ≡ stop_of (asking m y (λ a. command m.state c (Some a)) (λ t. go (turned c.verb t)) answers)
+  one-by y is go answers =
+      ap (λ (z : Result Effect Fault). stop_of (asking m z (λ a. command m.state c (Some a)) (λ t. go (turned c.verb t)) answers)) is
+
+  after-asking : (r : Request) (a : Answer) (later : List Answer) → command m.state c None ≡ Ok (Asks r) → a ≡ answer.Done → AreDone later →
+      (z : Result Effect Fault) → command m.state c (Some answer.Done) ≡ z →
+      Fails c m (a ∷ later) ⊎ Goes c m (a ∷ later)
+  after-asking r a later is done all (Err f) now =
+      inl (record {
+        fault = f;
+        comes = now;
+        stops = λ go. one-by (Ok (Asks r)) is go (a ∷ later)
+            ∙ ap (λ (z : Result Effect Fault). stop_of (answered m (count m.silent r a) z (λ t. go (turned c.verb t)) later))
+            (ap (λ (b : Answer). command m.state c (Some b)) done ∙ now);
+      })
+  after-asking r a later is done all (Ok (Makes o)) now =
+      inr (record {
+        outcome = o;
+        later = later;
+        comes = now;
+        done = all;
+        enough = omega arith;
+        goes = λ go. one-by (Ok (Asks r)) is go (a ∷ later)
+            ∙ ap (λ (z : Result Effect Fault). stop_of (answered m (count m.silent r a) z (λ t. go (turned c.verb t)) later))
+            (ap (λ (b : Answer). command m.state c (Some b)) done ∙ now);
+      })
+  after-asking r a later is done all (Ok (Asks q)) now = absurd (k.once m.state c answer.Done q now)
+
+  by-effect : (answers : List Answer) → AreDone answers → 1 ≤ length answers → (y : Result Effect Fault) → command m.state c None ≡ y →
+      Fails c m answers ⊎ Goes c m answers
+  by-effect answers all some (Err f) is =
+      inl (record { fault = f; comes = unasked (Err f) is (λ r e. cc); stops = λ go. one-by (Err f) is go answers })
+  by-effect answers all some (Ok (Makes o)) is =
+      inr (record {
+        outcome = o;
+        later = answers;
+        comes = unasked (Ok (Makes o)) is (λ r e. cc);
+        done = all;
+        enough = omega arith;
+        goes = λ go. one-by (Ok (Makes o)) is go answers;
+      })
+  by-effect [] all some (Ok (Asks r)) is = absurd (omega arith)
+  by-effect (a ∷ later) all some (Ok (Asks r)) is =
+      after-asking r a later is (All-head (λ (b : Answer). b ≡ answer.Done) a later all)
+      (All-tail (λ (b : Answer). b ≡ answer.Done) a later all) (command m.state c (Some answer.Done)) refl
+
+  pub comes-by : (answers : List Answer) → AreDone answers → 1 ≤ length answers → Fails c m answers ⊎ Goes c m answers
+  comes-by answers all some = by-effect answers all some (command m.state c None) refl
+
+-- THE STEPS
+
+-- the rules come to what the run comes to
+abbrev pub Decided : Result State Fault → Stop → Type 0
+Decided (Ok t) (Ends (Ok e)) = (s : editor.State) × Tells t s × (e.lines ≡ length s.lines)
+Decided (Err f) (Ends (Err g)) = f ≡ g
+Decided _ _ = ⊥
+
+-- the first k of the steps that are left, and then a `Q`
+abbrev pub front_of : (k : ℕ) → List Step → List Step
+front_of k xs = take k xs ++ quit_anyway ∷ []
+
+-- after none of the commands are there too many lines
+abbrev pub StaysFew : List Step → Present → List Answer → Type 0
+StaysFew xs m answers = (k : ℕ) (e : Ending) → stop_of (steps (front_of k xs) None m answers) ≡ Ends (Ok e) → e.lines ≤ most_lines
+
+step-is : (x : Step) (m : Present) (go : Further) (answers : List Answer) (verb : Verb) → is_exact_verb verb ≡ true → quits verb ≡ false →
+    step_by verb x m go answers ≡ one x.command m go answers
+step-is x m go answers ed.Quit e q = absurd cc
+step-is x m go answers ed.QuitAnyway e q = absurd cc
+step-is x m go answers (ed.Global sense pattern) e q = absurd cc
+step-is x m go answers _ e q = refl
+
+-- a step that goes on
+steps-is : (x : Step) (xs : List Step) (bad : Option ℕ) (m : Present) (answers : List Answer) → is_exact_verb x.command.verb ≡ true →
+    quits x.command.verb ≡ false →
+    stop_of (steps (x ∷ xs) bad m answers) ≡ stop_of (one x.command m (λ t more. steps xs bad t more) answers)
+steps-is x xs bad m answers e q =
+    prompted-stop m (step_by x.command.verb x m (λ t more. steps xs bad t more) answers) ∙ ap (λ (p : Progress). stop_of p)
+    (step-is x m (λ t more. steps xs bad t more) answers x.command.verb e q)
+
+-- THE END
+
+abbrev quits_by : Bool → Present → Progress
+quits_by is_changed m = elim is_changed [ true ↦ failing m fault.Unsaved | false ↦ ending m ]
+
+flag-yes : (s : State) (e : editor.State) → Tells s e → s.changed.yes ≡ e.changed
+flag-yes s e h = ap (λ (f : Changed). f.yes) h.changed ∙ yes e.changed
+  where
+    yes : (b : Bool) → (flag_of b).yes ≡ b
+    yes true = refl
+    yes false = refl
+
+end-decided : (bad : Option ℕ) (s : State) (m : Present) → Tells s m.state → Decided (ended bad s) (stop_of (at_end bad m))
+end-decided (Some line) s m h = refl
+end-decided None s m h =
+    (elim m.state.changed as (λ b. s.changed.yes ≡ b → Decided
+    (elim s.changed.yes as (λ _. Result State Fault) [ true ↦ Err fault.Unsaved | false ↦ Ok s ])
+    (stop_of (quits_by b m))) [
+      | true ↦ λ e. rw e refl
+      | false ↦ λ e. rw e (m.state, h, refl)
+    ]) (flag-yes s m.state h)
+
+-- QUITTING
+
+-- neither addresses nor a suffix
+abbrev bare : Verb → Bool → Command
+bare verb listed = record { addresses = Without; verb = verb; suffix = None; listed = listed }
+
+none-given : (verb : Verb) (a : Addresses) → takes_any (takes verb).taking ≡ false → may_have a verb ≡ true → a ≡ Without
+none-given verb Without q h = refl
+none-given verb (One b) q h = let bad : false ≡ true = sym q ∙ h in absurd cc
+none-given verb (Comma b d) q h = let bad : false ≡ true = sym q ∙ h in absurd cc
+none-given verb (Semicolon b d) q h = let bad : false ≡ true = sym q ∙ h in absurd cc
+
+none-after : (suffix : Option Form) (takes_one : Bool) → takes_one ≡ false → (is_none suffix || takes_one) ≡ true → suffix ≡ None
+none-after None takes_one q h = refl
+none-after (Some form) takes_one q h = let bad : false ≡ true = sym q ∙ h in absurd cc
+
+-- a command that takes nothing has nothing
+bare-by : (c : Command) (verb : Verb) → is_exact c ≡ true → c.verb ≡ verb → takes_any (takes verb).taking ≡ false →
+    (takes verb).suffix ≡ false → c ≡ bare verb c.listed
+bare-by c verb e is no_address no_suffix =
+    let both = and-both (are_by_number c.addresses && is_exact_verb c.verb) (is_readable c) e in
+    let reads = and-both (may_have c.addresses c.verb && (is_none c.suffix || (takes c.verb).suffix)) (enters_lines c.verb) both.1 in
+    let parts = and-both (may_have c.addresses c.verb) (is_none c.suffix || (takes c.verb).suffix) reads.0 in
+    ap (λ (v : Verb). record { addresses = c.addresses; verb = v; suffix = c.suffix; listed = c.listed }) is
+    ∙ ap (λ (a : Addresses). record { addresses = a; verb = verb; suffix = c.suffix; listed = c.listed })
+    (none-given verb c.addresses no_address (subst (λ (v : Verb). may_have c.addresses v ≡ true) is parts.0))
+    ∙ ap (λ (f : Option Form). record { addresses = Without; verb = verb; suffix = f; listed = c.listed })
+    (none-after c.suffix (takes verb).suffix no_suffix (subst (λ (v : Verb). (is_none c.suffix || (takes v).suffix) ≡ true) is parts.1))
+
+-- what `q` does where the buffer is changed or not
+abbrev quit_effect : Bool → editor.State → Result Effect Fault
+quit_effect is_changed e =
+    elim is_changed [ true ↦ Err fault.Unsaved | false ↦ Ok (Makes (record { state = e; output = []; alters = false })) ]
+
+quit-command : (listed : Bool) (e : editor.State) (is_changed : Bool) → e.changed ≡ is_changed →
+    command e (bare ed.Quit listed) (Some answer.Done) ≡ quit_effect is_changed e
+quit-command listed e true is = rw is refl
+quit-command listed e false is = rw is refl
+
+quit-few : (is_changed : Bool) (e : editor.State) → length e.lines ≤ most_lines → LeavesFew (quit_effect is_changed e)
+quit-few true e few = tt
+quit-few false e few = few
+
+quit-decided-by : (is_changed : Bool) (m : Present) (r : Result State Fault) → EndAlike LeavesTold r (quit_effect is_changed m.state) →
+    Decided (r >> λ t. Ok t) (stop_of (quits_by is_changed m))
+quit-decided-by true m (Ok t) h = absurd h
+quit-decided-by true m (Err f) h = h
+quit-decided-by false m (Ok t) h = (m.state, h, refl)
+quit-decided-by false m (Err f) h = absurd h
+
+end-decided-by : (m : Present) (r : Result State Fault) →
+    EndAlike LeavesTold r (Ok (Makes (record { state = m.state; output = []; alters = false }))) → Decided (r >> λ t. Ok t)
+    (stop_of (ending m))
+end-decided-by m (Ok t) h = (m.state, h, refl)
+end-decided-by m (Err f) h = absurd h
+
+walked-quits : (x : Step) (xs : List Step) (bad : Option ℕ) (s : State) → quits x.command.verb ≡ true →
+    walked (x ∷ xs) bad s ≡ step x.command s >> λ t. Ok t
+walked-quits x xs bad s q =
+    ap (λ (b : Bool). step x.command s >> λ t. goes_on b xs bad t) q
+
+walked-goes : (x : Step) (xs : List Step) (bad : Option ℕ) (s t : State) → quits x.command.verb ≡ false → step x.command s ≡ Ok t →
+    walked (x ∷ xs) bad s ≡ walked xs bad t
+walked-goes x xs bad s t q is =
+    ap (λ (b : Bool). step x.command s >> λ u. goes_on b xs bad u) q
+    ∙ ap (λ (r : Result State Fault). r >> λ u. walked xs bad u) is
+
+quits-cases : (verb : Verb) → quits verb ≡ true → (verb ≡ ed.Quit) ⊎ (verb ≡ ed.QuitAnyway)
+quits-cases ed.Quit q = inl refl
+quits-cases ed.QuitAnyway q = inr refl
+quits-cases _ q = absurd cc
+
+steps-quit : (x : Step) (xs : List Step) (bad : Option ℕ) (m : Present) (answers : List Answer) (verb : Verb) → x.command.verb ≡ verb →
+    stop_of (steps (x ∷ xs) bad m answers) ≡ stop_of (step_by verb x m (λ t more. steps xs bad t more) answers)
+steps-quit x xs bad m answers verb is =
+    prompted-stop m (step_by x.command.verb x m (λ t more. steps xs bad t more) answers)
+    ∙ ap (λ (v : Verb). stop_of (step_by v x m (λ t more. steps xs bad t more) answers)) is
+
+fail-decided : (r : Result State Fault) (f : Fault) (h : State → Result State Fault) → EndAlike LeavesTold r (Err f) →
+    Decided (r >> h) (Ends (Err f))
+fail-decided (Ok t) f h k = absurd k
+fail-decided (Err e) f h k = k
+
+made-told : (r : Result State Fault) (o : Outcome) → EndAlike LeavesTold r (Ok (Makes o)) → (t : State) × (r ≡ Ok t) × Tells t o.state
+made-told (Ok t) o h = (t, refl, h)
+made-told (Err f) o h = absurd h
+
+module _ (k : Laws) where
+  quitting-decided : (x : Step) (xs : List Step) (bad : Option ℕ) (s : State) (m : Present) (answers : List Answer) →
+      is_exact x.command ≡ true → Tells s m.state → x.command.verb ≡ ed.Quit →
+      Decided (walked (x ∷ xs) bad s) (stop_of (steps (x ∷ xs) bad m answers))
+  quitting-decided x xs bad s m answers e h is =
+      let c : Command = x.command in
+      let does : command m.state c (Some answer.Done) ≡ quit_effect m.state.changed m.state =
+      ap (λ (d : Command). command m.state d (Some answer.Done)) (bare-by c ed.Quit e is refl refl)
+      ∙ quit-command c.listed m.state m.state.changed refl in
+      let few : LeavesFew (command m.state c (Some answer.Done)) =
+      subst (λ (y : Result Effect Fault). LeavesFew y) (sym does) (quit-few m.state.changed m.state h.few) in
+      let told : EndAlike LeavesTold (step c s) (quit_effect m.state.changed m.state) =
+      subst (λ (y : Result Effect Fault). EndAlike LeavesTold (step c s) y) does (k.command c s m.state e h few) in
+      subst (λ (z : Stop). Decided (walked (x ∷ xs) bad s) z) (sym (steps-quit x xs bad m answers ed.Quit is))
+      (subst (λ (r : Result State Fault). Decided r (stop_of (quits_by m.state.changed m)))
+      (sym (walked-quits x xs bad s (ap (λ (v : Verb). quits v) is)))
+      (quit-decided-by m.state.changed m (step c s) told))
+
+  ending-decided : (x : Step) (xs : List Step) (bad : Option ℕ) (s : State) (m : Present) (answers : List Answer) →
+      is_exact x.command ≡ true → Tells s m.state → x.command.verb ≡ ed.QuitAnyway →
+      Decided (walked (x ∷ xs) bad s) (stop_of (steps (x ∷ xs) bad m answers))
+  ending-decided x xs bad s m answers e h is =
+      let c : Command = x.command in
+      let y : Result Effect Fault = Ok (Makes (record { state = m.state; output = []; alters = false })) in
+      let does : command m.state c (Some answer.Done) ≡ y =
+      ap (λ (d : Command). command m.state d (Some answer.Done)) (bare-by c ed.QuitAnyway e is refl refl) in
+      let few : LeavesFew (command m.state c (Some answer.Done)) = subst (λ (z : Result Effect Fault). LeavesFew z) (sym does) h.few in
+      let told : EndAlike LeavesTold (step c s) y =
+      subst (λ (z : Result Effect Fault). EndAlike LeavesTold (step c s) z) does (k.command c s m.state e h few) in
+      subst (λ (z : Stop). Decided (walked (x ∷ xs) bad s) z) (sym (steps-quit x xs bad m answers ed.QuitAnyway is))
+      (subst (λ (r : Result State Fault). Decided r (stop_of (ending m))) (sym (walked-quits x xs bad s (ap (λ (v : Verb). quits v) is)))
+      (end-decided-by m (step c s) told))
+
+  pub decided : (xs : List Step) (bad : Option ℕ) (s : State) (m : Present) (answers : List Answer) → are_exact xs ≡ true →
+      Tells s m.state → AreDone answers → length xs ≤ length answers → StaysFew xs m answers →
+      Decided (walked xs bad s) (stop_of (steps xs bad m answers))
+  decided [] bad s m answers e h done enough few =
+      subst (λ (z : Stop). Decided (ended bad s) z) (sym (prompted-stop m (at_end bad m))) (end-decided bad s m h)
+  decided (x ∷ xs) bad s m answers e h done enough few =
+      let both = exact-both x xs e in
+      (elim (quits x.command.verb) as (λ q. quits x.command.verb ≡ q → Decided (walked (x ∷ xs) bad s)
+      (stop_of (steps (x ∷ xs) bad m answers))) [
+        | true ↦ λ q. elim (quits-cases x.command.verb q) [
+          | inl is ↦ quitting-decided x xs bad s m answers both.0 h is
+          | inr is ↦ ending-decided x xs bad s m answers both.0 h is
+        ]
+        | false ↦ λ q. elim (comes-by k x.command m answers done (omega arith)) [
+          | inl f ↦
+              let told : EndAlike LeavesTold (step x.command s) (Err f.fault) =
+              subst (λ (y : Result Effect Fault). EndAlike LeavesTold (step x.command s) y) f.comes
+              (k.command x.command s m.state both.0 h (subst (λ (y : Result Effect Fault). LeavesFew y) (sym f.comes) tt)) in
+              subst (λ (z : Stop). Decided (walked (x ∷ xs) bad s) z)
+              (sym (steps-is x xs bad m answers (exact-verb x.command both.0) q ∙ f.stops (λ t more. steps xs bad t more)))
+              (fail-decided (step x.command s) f.fault
+              (λ t. goes_on (quits x.command.verb) xs bad t) told)
+          | inr g ↦
+              let n : Present = turned x.command.verb (reached g.outcome m) in
+              let same : n.state ≡ g.outcome.state = turned-state x.command.verb (reached g.outcome m) in
+              let on : (ys : List Step) (b : Option ℕ) → stop_of (steps (x ∷ ys) b m answers) ≡ stop_of (steps ys b n g.later) =
+              λ (ys : List Step) (b : Option ℕ). steps-is x ys b m answers (exact-verb x.command both.0) q ∙ g.goes
+              (λ t more. steps ys b t more) in
+              let much : length n.state.lines ≤ most_lines =
+              few 1 (record { lines = length n.state.lines }) (on (front_of 0 xs) None ∙ prompted-stop n (ending n)) in
+              let told = made-told (step x.command s) g.outcome
+              (subst (λ (y : Result Effect Fault). EndAlike LeavesTold (step x.command s) y) g.comes
+              (k.command x.command s m.state both.0 h
+              (subst (λ (y : Result Effect Fault). LeavesFew y) (sym g.comes)
+              (subst (λ (f : editor.State). length f.lines ≤ most_lines) same much)))) in
+              let t : State = told.0 in
+              subst (λ (z : Stop). Decided (walked (x ∷ xs) bad s) z) (sym (on xs bad))
+              (subst (λ (r : Result State Fault). Decided r (stop_of (steps xs bad n g.later))) (sym (walked-goes x xs bad s t q told.1))
+              (decided xs bad t n g.later both.1 (subst (λ (f : editor.State). Tells t f) (sym same) told.2) g.done
+              (let some = g.enough in omega arith)
+              (λ i e stop. few (suc i) e (on (front_of i xs) None ∙ stop))))
+        ]
+      ]) refl

@@ -1,0 +1,52 @@
+-- No false alarm on exact scripts. Over a known number of lines such a script is vouched for just where its run meets no fault, and the
+-- certificate then tells just how many lines that run leaves. Where the run ends by a fault, that fault is the one that is told.
+use Rattle.std.specs.Prelude.{◌≡◌, ◌≤◌, ℕ, false, List, [], ◌∷◌, ◌++◌, length, take, drop, Option, Some, None, Ok, Err, IsTrue, All}
+use Rattle.ed_syntax.specs.declared.options.Options.{Options}
+use Rattle.ed_syntax.specs.declared.options.Ending.{Ending}
+use Rattle.ed_syntax.specs.declared.request.Answer.{Answer}
+use Rattle.ed_syntax.specs.declared.request.Answer.TheVariants as answer
+use Rattle.ed_syntax.specs.Commands as ed
+use Rattle.ed_syntax.specs.Commands.{Step, Script, Without, alone}
+use Rattle.ed_syntax.specs.Progress.{Stop, Ends, stop_of}
+use Rattle.ed_syntax.specs.Runs.{run}
+use Rattle.ed_rules.specs.Exact.{are_exact}
+use Rattle.ed_rules.specs.LineBounds.{most_lines}
+use Rattle.cert_check.specs.Sound.{start_lines}
+use Rattle.analyser.specs.declared.analysis.Start.{Start}
+use Rattle.analyser.specs.declared.analysis.Analysis.{Analysis}
+use Rattle.analyser.specs.declared.analysis.Analysis.TheVariants.{Vouched, Cannot}
+
+-- the answers to what the commands ask: all after the start file's, where there is a path
+abbrev pub to_commands : (path : Option (List ℕ)) → List Answer → List Answer
+to_commands None answers = answers
+to_commands (Some path) answers = drop 1 answers
+
+-- a `Q`, which ends a run whether its buffer is saved or not
+abbrev pub quit_anyway : Step
+quit_anyway = alone (record { addresses = Without; verb = ed.QuitAnyway; suffix = None; listed = false })
+
+-- the script up to its k-th command and then a `Q`: the end of its run tells the number of lines there
+abbrev pub up_to : (k : ℕ) → Script → Script
+up_to k script = record { steps = take k script.steps ++ quit_anyway ∷ []; fault = None }
+
+-- A run of an exact script: it starts with the one number of lines that the analyser was given, each write is done, and after no command
+-- are there more lines than a certificate tells of. It has an answer for each command, since with fewer it may only wait for one.
+pub record IsExactRun (script : Script) (start : Start) (o : Options) (answers : List Answer) : Type 0 where
+  pub exact : IsTrue (are_exact script.steps)
+  pub path : o.path ≡ start.path
+  pub lines : start_lines start.path answers ≡ Some start.min
+  pub one : start.max ≡ Some start.min
+  pub done : All (λ (a : Answer). a ≡ answer.Done) (to_commands start.path answers)
+  pub enough : length script.steps ≤ length (to_commands start.path answers)
+  pub few : (k : ℕ) (e : Ending) → stop_of (run (up_to k script) o answers) ≡ Ends (Ok e) → e.lines ≤ most_lines
+
+-- A run that ends without a fault was vouched for, with just as many lines as it leaves; of one that ends by a fault, that fault was told.
+abbrev pub Foretells : Analysis → Stop → Type 0
+Foretells (Vouched c) (Ends (Ok e)) = (c.low ≡ e.lines) × (c.high ≡ Some e.lines)
+Foretells (Cannot place why notes) (Ends (Err f)) = why ≡ f
+Foretells _ _ = ⊥
+
+-- the answer foretells each run of an exact script
+abbrev pub IsExactAnswer : Script → Start → Analysis → Type 0
+IsExactAnswer script start answer =
+    (o : Options) (answers : List Answer) → IsExactRun script start o answers → Foretells answer (stop_of (run script o answers))
