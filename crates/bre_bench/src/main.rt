@@ -5,9 +5,23 @@ mod counting;
 mod pattern;
 mod places;
 
+use crate::counting::{Counted, Means};
 use std::{env, io};
 
-const USAGE: &str = "usage: bre_bench count PATTERN | bre_bench places";
+const USAGE: &str =
+    "usage: bre_bench {count|count_searched|count_anew|all|all_searched} PATTERN | bre_bench {places|places_searched}";
+
+// What a task counts, and how, if it counts.
+fn count_task(task: &str) -> Option<(Counted, Means)> {
+    match task {
+        "count" => Some((Counted::Lines, Means::Alone)),
+        "count_searched" => Some((Counted::Lines, Means::Searcher)),
+        "count_anew" => Some((Counted::Lines, Means::NewSearchers)),
+        "all" => Some((Counted::Matches, Means::Alone)),
+        "all_searched" => Some((Counted::Matches, Means::Searcher)),
+        _ => None,
+    }
+}
 
 fn main(rt: HostRuntime) -> io::Result<()> {
     let mut words = env::args(&rt)?;
@@ -16,11 +30,14 @@ fn main(rt: HostRuntime) -> io::Result<()> {
         return rt.eprintln(USAGE);
     };
     if task.as_str() == "places" {
-        return places::tell(&rt);
+        return places::tell(&rt, Means::Alone);
     }
-    if task.as_str() == "count" {
+    if task.as_str() == "places_searched" {
+        return places::tell(&rt, Means::Searcher);
+    }
+    if let Some((counted, means)) = count_task(task.as_str()) {
         if let Some(pattern) = words.next() {
-            return counting::count(&rt, pattern.as_bytes());
+            return counting::print_count(&rt, counted, means, pattern.as_bytes());
         }
     }
     rt.eprintln(USAGE)

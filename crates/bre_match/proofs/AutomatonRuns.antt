@@ -131,7 +131,20 @@ pub run_goes_on : (t : Tree) (s : List ℕ) (from : ℕ) (states old : List (Lis
     meaning_of states entry ≡ Some (transition (part_of t) (get_or old state []) s x) → entry ≢ 65535 → entry ≢ 65534 →
     new ≡ cond (eqb entry 1) (x + 1) clean → Run t s from states table (x + 1) new entry
 run_goes_on t s from states old table before x clean state entry new le h begun serves good tells known on e =
-    subst (λ z. Run t s from states table (x + 1) z entry) (sym e) (by_cases (eqb entry 1) refl)
+    subst (λ z. Run t s from states table (x + 1) z entry) (sym e)
+    (record {
+      serves = serves;
+      begun = begun;
+      within = later.1;
+      start = not_first;
+      low = omega arith;
+      high = omega arith;
+      column = column;
+      none = none;
+      clean_low = (clean_between (eqb entry 1)).0;
+      clean_high = (clean_between (eqb entry 1)).1;
+      passed = passed_still (eqb entry 1) refl;
+    })
   where
     low : from ≤ x
     low = h.low
@@ -185,36 +198,16 @@ run_goes_on t s from states old table before x clean state entry new le h begun 
     no_mark : eqb entry 1 ≡ true → get_or states entry [] ≡ []
     no_mark is = ap (λ i. get_or states i []) (let one : entry ≡ 1 = grind (arith, nat_tests) in one) ∙ serves.second
 
-    by_cases : (b : Bool) → eqb entry 1 ≡ b → Run t s from states table (x + 1) (cond b (x + 1) clean) entry
-    by_cases true is = record {
-      serves = serves;
-      begun = begun;
-      within = later.1;
-      start = not_first;
-      low = omega arith;
-      high = omega arith;
-      column = column;
-      none = none;
-      clean_low = omega arith;
-      clean_high = omega arith;
-      passed = λ p y l lt r.
-          none_before (part_of t) s from (x + 1 - from) (unmarked_part t)
-          (sym column ∙ ap (fill (part_of t)) (no_mark is) ∙ (no_marks (part_of t) (unmarked_part t)).0)
-          none p y l (omega arith) r;
-    }
-    by_cases false is = record {
-      serves = serves;
-      begun = begun;
-      within = later.1;
-      start = not_first;
-      low = omega arith;
-      high = omega arith;
-      column = column;
-      none = none;
-      clean_low = h.clean_low;
-      clean_high = let a = h.clean_high in omega arith;
-      passed = h.passed;
-    }
+    clean_between : (b : Bool) → (from ≤ cond b (x + 1) clean) × (cond b (x + 1) clean ≤ x + 1)
+    clean_between true = let a : from ≤ x + 1 = omega arith in let b : x + 1 ≤ x + 1 = omega arith in (a, b)
+    clean_between false = let a = h.clean_high in let b : clean ≤ x + 1 = omega arith in (h.clean_low, b)
+
+    passed_still : (b : Bool) → eqb entry 1 ≡ b → (p y : ℕ) → from ≤ p → p < cond b (x + 1) clean → Reaches (part_of t) s p y → ⊥
+    passed_still true is p y l lt r =
+        none_before (part_of t) s from (x + 1 - from) (unmarked_part t)
+        (sym column ∙ ap (fill (part_of t)) (no_mark is) ∙ (no_marks (part_of t) (unmarked_part t)).0)
+        none p y l (let a : p < x + 1 = lt in omega arith) r
+    passed_still false is p y l lt r = h.passed p y l lt r
 
 pub run_ends : (t : Tree) (s : List ℕ) (from : ℕ) (states : List (List (Option ℕ))) (table : List ℕ) (x clean state : ℕ) →
     refers t ≡ false → repeats_in_order t ≡ true → from ≤ length s → length s < x → Run t s from states table x clean state →

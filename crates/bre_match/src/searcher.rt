@@ -46,15 +46,17 @@ fn is_plain(pattern: &Bre) -> bool
 }
 
 /// A pattern that is looked for in many texts, with an automaton that fills up while they are searched. What was worked out for one
-/// text serves the next, so take one where the lines of a file or a buffer are searched, and `find` or `matches` for a text alone.
+/// text serves the next ones: take a searcher for the lines of a file or a buffer, and `find` or `matches` for a single text.
 ///
 /// A byte of a text then costs one look into a table, whatever the pattern. Where there is a match, `find` takes the time of `crate::find`
-/// besides, from the last place before the match's end at which no start led on. Literal patterns, those with back-references or with
-/// more than 256 byte sets, turns written out, and rows of bytes and anchors that are found sooner by themselves are searched as `find` and
-/// `matches` do it, and so is each text for a while, or from some text on, if the pattern's states seldom recur.
+/// from the last place before the match's end at which no start led on. Without an automaton, in the time of `crate::find` and
+/// `crate::matches`, a searcher looks for literal patterns, for patterns with back-references or with more than 256 byte sets (the turns of
+/// counted repeats written out), and for most rows of bytes and anchors; and so it searches the first 256 bytes, and texts of which too
+/// many steps would have to be worked out, since the pattern's states seldom recur.
 ///
-/// An automaton has at most 128 states: when they are used up all but three are forgotten. Its table takes at most 128 KB, and a state
-/// 16 bytes for each byte set. After an `Err` a searcher may be used as before: it looks for the same pattern, and all that it keeps holds.
+/// An automaton has at most 128 states: once they are used up, all but three are forgotten. Its table takes at most 128 KB, and a state
+/// 16 bytes for each byte set. After an `Err` a searcher may be used as before: it looks for the same pattern, and all that it has
+/// worked out still holds.
 #[derive(Drop)]
 pub struct Searcher<'a> {
     pattern: &'a Bre,
@@ -77,7 +79,7 @@ impl<'a> Searcher<'a> {
     ghost use Rattle.bre_match.specs.Scans.{IsTold};
     ghost use Rattle.bre_match.specs.Searchers.{searched};
 
-    /// A searcher for a pattern. It takes no memory yet, and little time.
+    /// A searcher for a pattern. It takes no memory yet.
     pub fn new(alloc: Global, pattern: &'a Bre) -> Self
         ensures value { searched result ≡ bre_tree pattern.now }
     {
