@@ -4,12 +4,13 @@ ghost use Rattle.bre_parse.specs.Tree.{Tree};
 ghost use Rattle.bre_parse.specs.Bre.{bre_tree};
 ghost use Rattle.bre_parse.specs.Ways.{bytes_of};
 ghost use Rattle.bre_match.specs.Answer.{spans, LiesWithin};
+ghost use Rattle.bre_match.specs.Searchers.{searched};
 ghost use Rattle.ed_syntax.specs.declared.replacement.Part.TheVariants as part;
 ghost use Rattle.ed_syntax.specs.Substitution.{taken, taken_first, expanded, picked, replaced_in, split_at_newlines, substituted};
 ghost use Rattle.ed_base.specs.Lines.{IsLine};
 ghost use Rattle.ed_commands.specs.Scans.{left, left_from, scan_after, passed_over, Goes, nth_of, alone};
 
-use bre_match::{Match, find};
+use bre_match::{Match, Searcher};
 use bre_parse::{Bre, matches_lie_within};
 use ed_base::{Bytes, Text, next_line, split_lines};
 use ed_syntax::{Part, Replacement, Which};
@@ -26,7 +27,8 @@ pub fn substitute(
 ) -> Result<Option<Text>, AllocError>
     ensures value { IfOk result (λ lines. lines ≡ substituted (bre_tree pattern.now) replacement.now which line.now) }
 {
-    match rewritten(alloc, pattern, replacement, which, line)? {
+    let mut searcher = Searcher::new(alloc, pattern);
+    match rewritten(alloc, &mut searcher, replacement, which, line)? {
         Some(text) => Ok(Some(split(alloc, text)?)),
         None => Ok(None),
     }
@@ -35,35 +37,37 @@ pub fn substitute(
 /// The line with its matches replaced, where a newline stands for each split. `None` where no match is replaced.
 pub(crate) fn rewritten(
     alloc: Global,
-    pattern: &Bre,
+    searcher: &mut Searcher<'_>,
     replacement: &Replacement,
     which: Which,
     line: &[u8],
 ) -> Result<Option<Bytes>, AllocError>
     ensures value { IfOk result (λ text.
-        text ≡ replaced_in replacement.now line.now (picked which (taken (bre_tree pattern.now) line.now))) }
+        text ≡ replaced_in replacement.now line.now (picked which (taken (searched searcher.old) line.now))) }
+    ensures pattern { searched searcher.new ≡ searched searcher.old }
 {
     match which {
-        Which::First => replace_one(alloc, pattern, replacement, 0, line),
+        Which::First => replace_one(alloc, searcher, replacement, 0, line),
         Which::Nth(number) => {
-            replace_one(alloc, pattern, replacement, number.saturating_sub(1), line)
+            replace_one(alloc, searcher, replacement, number.saturating_sub(1), line)
         }
-        Which::All => replace_all(alloc, pattern, replacement, line),
+        Which::All => replace_all(alloc, searcher, replacement, line),
     }
 }
 
 // The line with the match after so many replaced, if there is one.
 fn replace_one(
     alloc: Global,
-    pattern: &Bre,
+    searcher: &mut Searcher<'_>,
     replacement: &Replacement,
     passed_over: u32,
     line: &[u8],
 ) -> Result<Option<Bytes>, AllocError>
     ensures value { IfOk result (λ text.
-        text ≡ replaced_in replacement.now line.now (nth_of passed_over (taken (bre_tree pattern.now) line.now))) }
+        text ≡ replaced_in replacement.now line.now (nth_of passed_over (taken (searched searcher.old) line.now))) }
+    ensures pattern { searched searcher.new ≡ searched searcher.old }
 {
-    let Some(found) = nth_taken(alloc, pattern, line, passed_over)? else {
+    let Some(found) = nth_taken(searcher, line, passed_over)? else {
         return Ok(None);
     };
     let mut text = Bytes::new(alloc);
@@ -76,14 +80,15 @@ fn replace_one(
 // The line with each match replaced, if there is one.
 fn replace_all(
     alloc: Global,
-    pattern: &Bre,
+    searcher: &mut Searcher<'_>,
     replacement: &Replacement,
     line: &[u8],
 ) -> Result<Option<Bytes>, AllocError>
-    ensures value { IfOk result (λ text. text ≡ replaced_in replacement.now line.now (taken (bre_tree pattern.now) line.now)) }
+    ensures value { IfOk result (λ text. text ≡ replaced_in replacement.now line.now (taken (searched searcher.old) line.now)) }
+    ensures pattern { searched searcher.new ≡ searched searcher.old }
 {
     let mut scan = beginning();
-    let Some(first) = next_taken(alloc, pattern, line, &mut scan)? else {
+    let Some(first) = next_taken(searcher, line, &mut scan)? else {
         return Ok(None);
     };
     let mut text = Bytes::new(alloc);
@@ -91,7 +96,7 @@ fn replace_all(
     text.reserve(size_with(replacement, line, &first))?;
     replace(&mut text, replacement, line, 0, &first)?;
     let mut copied = first.end;
-    while let Some(found) = next_taken(alloc, pattern, line, &mut scan)? {
+    while let Some(found) = next_taken(searcher, line, &mut scan)? {
         replace(&mut text, replacement, line, copied, &found)?;
         copied = found.end;
     }
@@ -215,20 +220,20 @@ fn beginning() -> Scan
 
 // The first match at the scan's place or after it.
 fn found_from(
-    alloc: Global,
-    pattern: &Bre,
+    searcher: &mut Searcher<'_>,
     line: &[u8],
     scan: Scan,
 ) -> Result<Option<Match>, AllocError>
-    ensures value { IfOk result (λ found. left (bre_tree pattern.now) line.now scan
-        ≡ taken_first (left_from (bre_tree pattern.now) line.now) scan.place scan.after_full (option_map spans found)) }
+    ensures value { IfOk result (λ found. left (searched searcher.old) line.now scan
+        ≡ taken_first (left_from (searched searcher.old) line.now) scan.place scan.after_full (option_map spans found)) }
     ensures within { IfOk result (λ found. IfSome found (LiesWithin scan.place (length line.now))) }
+    ensures pattern { searched searcher.new ≡ searched searcher.old }
 {
     matches_lie_within();
     if scan.place > line.len() {
         return Ok(None);
     }
-    find(alloc, pattern, line, scan.place)
+    searcher.find(line, scan.place)
 }
 
 // Where the search goes on after a match that was taken: after an empty one a byte is kept.
@@ -258,41 +263,41 @@ fn is_passed_over(found: &Match, scan: Scan) -> bool
 
 // The match that is taken after so many.
 fn nth_taken(
-    alloc: Global,
-    pattern: &Bre,
+    searcher: &mut Searcher<'_>,
     line: &[u8],
     passed_over: u32,
 ) -> Result<Option<Match>, AllocError>
-    ensures value { IfOk result (λ found. alone found ≡ nth_of passed_over (taken (bre_tree pattern.now) line.now)) }
+    ensures value { IfOk result (λ found. alone found ≡ nth_of passed_over (taken (searched searcher.old) line.now)) }
     ensures within { IfOk result (λ found. IfSome found (LiesWithin 0 (length line.now))) }
+    ensures pattern { searched searcher.new ≡ searched searcher.old }
 {
     let mut scan = beginning();
     let mut still = passed_over;
     while still > 0 {
-        if next_taken(alloc, pattern, line, &mut scan)?.is_none() {
+        if next_taken(searcher, line, &mut scan)?.is_none() {
             return Ok(None);
         }
         still -= 1;
     }
-    next_taken(alloc, pattern, line, &mut scan)
+    next_taken(searcher, line, &mut scan)
 }
 
 // The next match that is taken, and the scan after it.
 fn next_taken(
-    alloc: Global,
-    pattern: &Bre,
+    searcher: &mut Searcher<'_>,
     line: &[u8],
     scan: &mut Scan,
 ) -> Result<Option<Match>, AllocError>
-    ensures value { IfOk result (λ found. Goes (bre_tree pattern.now) line.now scan.old found scan.new) }
+    ensures value { IfOk result (λ found. Goes (searched searcher.old) line.now scan.old found scan.new) }
+    ensures pattern { searched searcher.new ≡ searched searcher.old }
 {
-    let found = match found_from(alloc, pattern, line, *scan)? {
+    let found = match found_from(searcher, line, *scan)? {
         Some(found) if is_passed_over(&found, *scan) => {
             let further = Scan {
                 place: scan.place + 1,
                 after_full: false,
             };
-            found_from(alloc, pattern, line, further)?
+            found_from(searcher, line, further)?
         }
         found => found,
     };

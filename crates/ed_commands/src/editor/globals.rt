@@ -11,7 +11,7 @@ ghost use Rattle.ed_commands.specs.Editors.{Begins, Tells, failure_of, is_global
 
 use crate::editor::Editor;
 use crate::editor::addressing::Span;
-use bre_match::matches;
+use bre_match::Searcher;
 use ed_base::{Fault, Pieces};
 use ed_syntax::{Answer, Command, Pattern, Sense};
 use line_store::{LineStore, Marks};
@@ -51,8 +51,9 @@ fn flag_block<S: LineStore>(
         ≡ exchanged from to (map (flagged_line sense pattern.now) (block from to (S.lines store.old))) (S.lines store.old)) }
     ensures count { length (S.lines store.new) ≡ length (S.lines store.old) }
 {
+    let mut searcher = Searcher::new(alloc, pattern.bre());
     for i in from..to {
-        let matched = matches(alloc, pattern.bre(), store.text(i))?;
+        let matched = searcher.matches(store.text(i))?;
         if is_wanted(sense, matched) {
             store.flag(i);
         } else {

@@ -1,5 +1,7 @@
 //! Lines that are rewritten one by one, each by itself.
-ghost use Rattle.std.specs.Prelude.{◌≡◌, ◌+◌, ◌-◌, ◌^◌, ◌<◌, ◌≤◌, length, map, option_map, IfNone, IfOk, IfSome, OnErr, OnOk};
+ghost use Rattle.std.specs.Prelude.{ℕ, List, Ok, ◌≡◌, ◌+◌, ◌-◌, ◌^◌, ◌<◌, ◌≤◌, length, map, option_map, IfNone, IfOk, IfSome, OnErr, OnOk};
+ghost use Rattle.bre_parse.specs.Grammar.{pattern as pattern_of};
+ghost use Rattle.bre_match.specs.Searchers.{searched};
 ghost use Rattle.ed_base.specs.Buffer.{plain_line, texts};
 ghost use Rattle.ed_base.specs.Parts.{between, exchanged, replaced};
 ghost use Rattle.ed_syntax.specs.SubstitutedLines.{each, made_of};
@@ -11,6 +13,7 @@ use crate::editor::addressing::Span;
 use crate::editor::blocks::{exchange, split_text};
 use crate::editor::past::{Before, Change, Past};
 use crate::substitution::rewritten;
+use bre_match::Searcher;
 use ed_syntax::{Pattern, Replacement, Which};
 use line_store::{Line, LineStore};
 use std::alloc::{AllocError, Global};
@@ -18,15 +21,16 @@ use std::alloc::{AllocError, Global};
 // The new lines that a line becomes where the matches of a pattern are replaced; `None` where it stays as it is.
 fn new_lines_of(
     alloc: Global,
-    pattern: &Pattern,
+    searcher: &mut Searcher<'_>,
     replacement: &Replacement,
     which: Which,
     line: &[u8],
 ) -> Result<Option<Vec<Line>>, AllocError>
-    ensures value { IfOk result (λ made.
-        option_map (λ lines. lines.items) made ≡ option_map (map plain_line) (made_of pattern.now replacement.now which line.now)) }
+    ensures value { (text : List ℕ) → pattern_of text ≡ Ok (searched searcher.old) → IfOk result (λ made.
+        option_map (λ lines. lines.items) made ≡ option_map (map plain_line) (made_of text replacement.now which line.now)) }
+    ensures pattern { searched searcher.new ≡ searched searcher.old }
 {
-    let made = rewritten(alloc, pattern.bre(), replacement, which, line)?;
+    let made = rewritten(alloc, searcher, replacement, which, line)?;
     let Some(text) = made else {
         return Ok(None);
     };
@@ -61,10 +65,12 @@ pub fn rewrite_lines<S: LineStore>(
 {
     let count = store.len();
     let mut made = None;
+    let mut searcher = Searcher::new(alloc, pattern.bre());
     for i in span.first - 1..span.last {
         // The lines behind this one are as they were, so that its place is counted from the end.
         let place = store.len() - (count - i);
-        let new = new_lines_of(alloc, pattern, replacement, which, store.text(place))?;
+        let text = store.text(place);
+        let new = new_lines_of(alloc, &mut searcher, replacement, which, text)?;
         let Some(lines) = new else {
             continue;
         };

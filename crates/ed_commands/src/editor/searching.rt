@@ -5,7 +5,7 @@ ghost use Rattle.ed_syntax.specs.Values.{count_from, lines_backward, lines_forwa
 ghost use Rattle.ed_commands.specs.Editors.{TellsLine, SameButPattern, with_pattern};
 
 use crate::editor::Editor;
-use bre_match::matches;
+use bre_match::Searcher;
 use ed_base::Fault;
 use ed_syntax::Pattern;
 use line_store::LineStore;
@@ -24,8 +24,9 @@ fn first_match<S: LineStore>(
     ensures value { IfOk result (λ found.
         found ≡ find (matches_line pattern.now (S.lines store.now)) (count_from (from + 1) (to - from))) }
 {
+    let mut searcher = Searcher::new(alloc, pattern.bre());
     for i in from..to {
-        let matched = matches(alloc, pattern.bre(), store.text(i))?;
+        let matched = searcher.matches(store.text(i))?;
         if matched {
             return Ok(Some(i + 1));
         }
@@ -46,8 +47,9 @@ fn last_match<S: LineStore>(
     ensures value { IfOk result (λ found.
         found ≡ find (matches_line pattern.now (S.lines store.now)) (reverse (count_from (from + 1) (to - from)))) }
 {
+    let mut searcher = Searcher::new(alloc, pattern.bre());
     for i in (from..to).rev() {
-        let matched = matches(alloc, pattern.bre(), store.text(i))?;
+        let matched = searcher.matches(store.text(i))?;
         if matched {
             return Ok(Some(i + 1));
         }

@@ -1,5 +1,8 @@
 -- The lines that were passed have the flag or not, and those that are left are as they were.
 use Rattle.std.proofs.Common.{◌≡◌, length, map}
+use Rattle.std.specs.Prelude.{Ok}
+use Rattle.bre_parse.specs.Grammar.{pattern}
+use Rattle.bre_match.specs.Searchers.{searched}
 use Rattle.ed_base.specs.Parts.{block, exchanged}
 use Rattle.ed_syntax.specs.Globals.{flagged_line}
 use Rattle.ed_commands.proofs.editor.globals.flag_block.Given as goal
@@ -11,4 +14,5 @@ invariant-loop-i g l =
     record {
       flagged : now ≡ exchanged l.from l.i (map (flagged_line l.sense l.pattern) (block l.from l.i old)) old;
       count : length now ≡ length old;
+      searches : pattern l.pattern ≡ Ok (searched l.searcher);
     }

@@ -1,6 +1,6 @@
 -- One more line stays, or gives way to those that come of it.
 use Rattle.std.proofs.Common.{◌≡◌, ◌<◌, ◌+◌, ◌-◌, ◌++◌, ◌∙◌, [], not, true, false, Some, None, option_map, map, length, get_or, refl, sym, ap, subst, arith, rules}
-use Rattle.std.specs.Prelude.{is_some}
+use Rattle.std.specs.Prelude.{is_some, Ok}
 use Rattle.std.proofs.lemmas.List.{take-append-drop, length-append}
 use Rattle.ed_base.specs.Buffer.{plain_line, texts}
 use Rattle.ed_base.specs.Parts.{block, exchanged}
@@ -26,13 +26,15 @@ loop-i-init g c =
       untouched = refl;
       within = search rules;
       no_fewer = omega arith;
+      searches = c.bre.ensures.value ∙ ap Ok (sym c.new-searcher.ensures.value);
     }
 
 pub rewrite_line-requires-clause-new : goal.rewrite_line-requires-clause-new
 rewrite_line-requires-clause-new g c =
     let f = made_of c.args.pattern.now c.args.replacement.now c.args.which in
-    new-made (f c.text.result.now) c.in-Some.lines.items
-    (subst (λ made. option_map (λ lines. lines.items) made ≡ option_map (map plain_line) (f c.text.result.now)) c.in-Some.is c.in_ok-new.ensures.value)
+    new-made (f c.text-text.result.now) c.in-Some.lines.items
+    (subst (λ made. option_map (λ lines. lines.items) made ≡ option_map (map plain_line) (f c.text-text.result.now)) c.in-Some.is
+    (c.in_ok-new.ensures.value c.args.pattern.now c.loop-i.invariant.searches))
 
 pub loop-i-preserved-in_default : goal.loop-i-preserved-in_default
 loop-i-preserved-in_default g c =
@@ -47,10 +49,11 @@ loop-i-preserved-in_default g c =
     let below : i < length old = omega (arith, c.requires.last, c.requires.order, c.requires.first) in
     let at : place ≡ from + length r.0 =
     stands-at from i c.len-count.result c.len.result r.0 old now (omega arith) below c.loop-i.invariant.put c.len-count.ensures.value c.len.ensures.value in
-    let bytes : c.text.result.now ≡ (get_or old i d).bytes =
-    c.text.ensures.value ∙ ap (λ l. l.bytes) (next-line from i place r.0 old now d (omega arith) below c.loop-i.invariant.put at) in
+    let bytes : c.text-text.result.now ≡ (get_or old i d).bytes =
+    c.text-text.ensures.value ∙ ap (λ l. l.bytes) (next-line from i place r.0 old now d (omega arith) below c.loop-i.invariant.put at) in
     let told : None ≡ option_map (map plain_line) (f (get_or old i d).bytes) =
-    subst (λ made. option_map (λ lines. lines.items) made ≡ option_map (map plain_line) (f c.text.result.now)) c.in_default.is c.in_ok-new.ensures.value
+    subst (λ made. option_map (λ lines. lines.items) made ≡ option_map (map plain_line) (f c.text-text.result.now)) c.in_default.is
+    (c.in_ok-new.ensures.value c.args.pattern.now c.loop-i.invariant.searches)
     ∙ ap (λ t. option_map (map plain_line) (f t)) bytes in
     let further = each-further f from i old d (omega arith) below ∙ with-none (get_or old i d) (f (get_or old i d).bytes) r told in
     let put : now ≡ exchanged from (i + 1) (each f (block from (i + 1) old)).0 old =
@@ -63,6 +66,7 @@ loop-i-preserved-in_default g c =
       untouched = c.loop-i.invariant.untouched;
       within = c.loop-i.invariant.within;
       no_fewer = c.loop-i.invariant.no_fewer;
+      searches = c.loop-i.invariant.searches ∙ ap Ok (sym c.in_ok-new.ensures.pattern);
     }
 
 pub loop-i-preserved : goal.loop-i-preserved
@@ -80,10 +84,11 @@ loop-i-preserved g c =
     let below : i < length old = omega (arith, c.requires.last, c.requires.order, c.requires.first) in
     let at : place ≡ from + length r.0 =
     stands-at from i c.len-count.result c.len.result r.0 old now (omega arith) below c.loop-i.invariant.put c.len-count.ensures.value c.len.ensures.value in
-    let bytes : c.text.result.now ≡ (get_or old i d).bytes =
-    c.text.ensures.value ∙ ap (λ l. l.bytes) (next-line from i place r.0 old now d (omega arith) below c.loop-i.invariant.put at) in
+    let bytes : c.text-text.result.now ≡ (get_or old i d).bytes =
+    c.text-text.ensures.value ∙ ap (λ l. l.bytes) (next-line from i place r.0 old now d (omega arith) below c.loop-i.invariant.put at) in
     let told : Some new ≡ option_map (map plain_line) (f (get_or old i d).bytes) =
-    subst (λ made. option_map (λ lines. lines.items) made ≡ option_map (map plain_line) (f c.text.result.now)) c.in-Some.is c.in_ok-new.ensures.value
+    subst (λ made. option_map (λ lines. lines.items) made ≡ option_map (map plain_line) (f c.text-text.result.now)) c.in-Some.is
+    (c.in_ok-new.ensures.value c.args.pattern.now c.loop-i.invariant.searches)
     ∙ ap (λ t. option_map (map plain_line) (f t)) bytes in
     let further = each-further f from i old d (omega arith) below ∙ with-new (get_or old i d) (f (get_or old i d).bytes) new r told in
     let put : after ≡ exchanged from (i + 1) (r.0 ++ new) old =
@@ -115,6 +120,7 @@ loop-i-preserved g c =
       untouched = search rules;
       within = (omega (arith, number, some), omega (arith, c.len-in-loop-i.ensures.value));
       no_fewer = omega (arith, c.in_ok-rewrite_line.ensures.counted, c.loop-i.invariant.no_fewer, some);
+      searches = c.loop-i.invariant.searches ∙ ap Ok (sym c.in_ok-new.ensures.pattern);
     }
 
 pub returns : goal.returns

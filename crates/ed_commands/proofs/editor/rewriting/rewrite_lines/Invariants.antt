@@ -1,6 +1,8 @@
 -- The lines that were passed are what results of them, and those that are left are as they were.
 use Rattle.std.proofs.Common.{◌≡◌, ◌+◌, ◌-◌, ◌≤◌, length, option_map}
-use Rattle.std.specs.Prelude.{IfNone, IfSome}
+use Rattle.std.specs.Prelude.{IfNone, IfSome, Ok}
+use Rattle.bre_parse.specs.Grammar.{pattern}
+use Rattle.bre_match.specs.Searchers.{searched}
 use Rattle.ed_base.specs.Buffer.{texts}
 use Rattle.ed_base.specs.Parts.{block, exchanged}
 use Rattle.ed_syntax.specs.SubstitutedLines.{each, made_of}
@@ -23,4 +25,5 @@ invariant-loop-i g l =
       untouched : IfNone l.made (lines l.store ≡ old);
       within : IfSome l.made (λ line. (1 ≤ line) × (line ≤ length (lines l.store)));
       no_fewer : length old ≤ length (lines l.store);
+      searches : pattern l.fn.pattern ≡ Ok (searched l.searcher);
     }

@@ -1,7 +1,8 @@
 -- Each line that is passed doesn't match.
-use Rattle.std.proofs.Common.{sym, ◌∙◌, arith}
+use Rattle.std.proofs.Common.{sym, ap, ◌∙◌, arith}
 use Rattle.ed_syntax.specs.Values.{matches_line}
-use Rattle.bre_parse.specs.Bre.{bre_tree}
+use Rattle.std.specs.Prelude.{Ok}
+use Rattle.bre_match.specs.Searchers.{searched}
 use Rattle.ed_commands.proofs.Searching.{told, passed-up, found-up}
 use Rattle.ed_commands.proofs.editor.searching.first_match.Goals as goal
 
@@ -12,14 +13,20 @@ returns-then-matched g c =
     record {
       value =
           sym (found-up (matches_line text lines) c.loop-i.i c.args.to (omega arith)
-          (told text (bre_tree c.bre.result.now) lines c.loop-i.i c.text.result.now c.in_ok-matched.matched c.bre.ensures.value c.text.ensures.value c.in_ok-matched.ensures.value ∙ c.if-matched.true))
-          ∙ c.loop-i.invariant;
+          (told text (searched c.loop-i.searcher) lines c.loop-i.i c.text.result.now c.in_ok-matched.matched c.loop-i.invariant.searches
+          c.text.ensures.value c.in_ok-matched.ensures.value ∙ c.if-matched.true))
+          ∙ c.loop-i.invariant.left;
     }
 
 pub loop-i-preserved : goal.loop-i-preserved
 loop-i-preserved g c =
     let lines = g.S.LineStore.lines c.args.store.now in
     let text = c.args.pattern.now in
-    sym (passed-up (matches_line text lines) c.loop-i.i c.args.to (omega arith)
-    (told text (bre_tree c.bre.result.now) lines c.loop-i.i c.text.result.now c.in_ok-matched.matched c.bre.ensures.value c.text.ensures.value c.in_ok-matched.ensures.value ∙ c.if-matched.false))
-    ∙ c.loop-i.invariant
+    record {
+      left =
+          sym (passed-up (matches_line text lines) c.loop-i.i c.args.to (omega arith)
+          (told text (searched c.loop-i.searcher) lines c.loop-i.i c.text.result.now c.in_ok-matched.matched c.loop-i.invariant.searches
+          c.text.ensures.value c.in_ok-matched.ensures.value ∙ c.if-matched.false))
+          ∙ c.loop-i.invariant.left;
+      searches = c.loop-i.invariant.searches ∙ ap Ok (sym c.in_ok-matched.ensures.pattern);
+    }
