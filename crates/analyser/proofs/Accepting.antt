@@ -20,6 +20,7 @@ use Rattle.ed_rules.specs.Choices.{Choice, order_of, has_choice, union, are_choi
 use Rattle.ed_rules.specs.Marks.{is_sure, both_sure}
 use Rattle.ed_rules.specs.Order.{old_of_both, united, join, widen, CoversOld, Covers}
 use Rattle.ed_rules.specs.States as states
+use Rattle.ed_rules.specs.Formed.{IsCounted}
 use Rattle.ed_rules.specs.Files.{written_paths}
 use Rattle.ed_rules.specs.Globals.{is_global, body_entry}
 use Rattle.ed_rules.proofs.Choosing.{has-union}
@@ -33,14 +34,12 @@ use Rattle.analyser.specs.Rounds.{all_met, left_by_list, AreInner, turned, round
 use Rattle.analyser.specs.Following.{IsKnownOfList, AreNotes, result_from, list_paths, looped_paths, paths_from, end_fault, begun}
 use Rattle.analyser.specs.Analysis.{low_of, high_of, IsCertificate}
 use Rattle.analyser.proofs.Listing.{contains-here, contains-there, contains-cases, contains-none, or-left, or-right, listed-each}
-use Rattle.analyser.proofs.Lowering as low
-use Rattle.analyser.proofs.Lowering.{start-low, result-low, knows-low, knows-high}
+use Rattle.analyser.proofs.ToldBounds.{knows-low, knows-high}
 use Rattle.analyser.proofs.Rounding.{inner-met, inner-length}
-use Rattle.analyser.proofs.Stepping.{either}
+use Rattle.analyser.proofs.Results.{either}
 
 -- the laws that this rests on
 pub record Laws : Type 0 where
-  pub bounds : low.Laws
   pub same : (zone : Bounds) → zones.Covers zone zone
   pub decided : (weak strong : State) → IsTrue (covers weak strong) ↔ Covers weak strong
 
@@ -277,17 +276,19 @@ end-holds k quit bad c number s last e least most =
 
 -- THE CERTIFICATE
 
-pub accepted : Laws → (script : Script) (start : Start) (c : Certificate) → IsCertificate script start c → judged script c ≡ Accepted
-accepted k script start c is =
+-- where it is known at the end that there are at least 0 lines
+pub accepted : Laws → (script : Script) (start : Start) (c : Certificate) → IsCertificate script start c →
+    IsCounted (result_from (counted script.steps) (begun start) c.notes).zone → judged script c ≡ Accepted
+accepted k script start c is counts =
     let xs : List Step = counted script.steps in
     let s : State = begun start in
     let t : State = result_from xs s c.notes in
     let quit : Bool = has_quit script.steps in
     let begins : states.start c.path c.min c.max ≡ s =
     ap (λ path. states.start path c.min c.max) is.path ∙ ap (λ min. states.start start.path min c.max) is.min ∙ ap (λ max. states.start start.path start.min max) is.max in
-    let is_low = result-low k.bounds xs s c.notes is.notes (start-low k.bounds start.path start.min start.max) in
     let fewest : knows_least t.zone c.low ≡ true =
-    subst (λ (n : ℕ). knows_least t.zone n ≡ true) (sym (is.low ∙ ap (λ (u : State). low_of (least u.zone 2 0)) is.last)) (knows-low t is_low) in
+    subst (λ (n : ℕ). knows_least t.zone n ≡ true) (sym (is.low ∙ ap (λ (u : State). low_of (least u.zone 2 0)) is.last))
+    (knows-low t counts) in
     let most : knows_most t.zone c.high ≡ true =
     subst (λ (n : Option ℕ). knows_most t.zone n ≡ true) (sym (is.high ∙ ap (λ (u : State). high_of (greatest u.zone 2 0)) is.last)) (knows-high t) in
     let paths : list_all (is_listed c.writes) (paths_from xs c.notes) ≡ true = listed-each c.writes (paths_from xs c.notes) (λ path h. (is.writes.just path).1 h) in

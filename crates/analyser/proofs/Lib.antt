@@ -1,11 +1,10 @@
 pub mod Listing
 pub mod Sets
-pub mod Stepping
-pub mod Keeping
+pub mod Results
 pub mod Remembering
 pub mod Rooms
 pub mod Rounding
-pub mod Lowering
+pub mod ToldBounds
 pub mod Accepting
 pub mod Answering
 pub mod Going

@@ -1,6 +1,6 @@
 -- Each rule leaves, of patterns and paths that may be remembered, those that might be before, or that its command gives.
 use Rattle.std.specs.Prelude.{if◌then◌else◌}
-use Rattle.std.proofs.Common.{◌≡◌, ℕ, zero, suc, ℤ, pos, negsuc, Bool, true, false, List, [], ◌∷◌, ◌++◌, Option, None, Some, refl}
+use Rattle.std.proofs.Common.{◌≡◌, ℕ, zero, suc, ℤ, pos, negsuc, Bool, true, false, List, [], ◌∷◌, ◌++◌, Option, None, Some, IfOk, refl}
 use Rattle.zones.specs.Known.{known}
 use Rattle.zones.specs.Steps.{after_shift}
 use Rattle.ed_syntax.specs.declared.replacement.Part.{Part}
@@ -24,8 +24,8 @@ use Rattle.ed_rules.specs.Files.{named, named_first, named_anew, file_read, whol
 use Rattle.ed_rules.specs.Undoing.{brought_back, undone_by}
 use Rattle.ed_rules.specs.Rules.{taken, effect, suffixed, step_at, step}
 use Rattle.ed_rules.proofs.Basics.{and-both}
-use Rattle.analyser.proofs.Stepping.{either, for_each}
-use Rattle.analyser.proofs.Keeping.{OfResult, bind, bind-any, needed}
+use Rattle.ed_syntax.proofs.ResultLemmas.{IfOk-bind, IfOk-after}
+use Rattle.analyser.proofs.Results.{either, for_each, needed}
 use Rattle.analyser.proofs.Sets.{append-all, are-union, are-filled}
 
 -- WHAT A COMMAND GIVES
@@ -153,45 +153,56 @@ module _ (patterns names : List Choice) where
 
   -- ADDRESSES
 
-  within-possible : (text : Option (List ℕ)) (s : State) → are_choices (given text) patterns ≡ true → Within patterns names s → OfResult (λ (set : List Choice). are_choices set patterns ≡ true) (possible_patterns text s)
+  within-possible : (text : Option (List ℕ)) (s : State) → are_choices (given text) patterns ≡ true → Within patterns names s →
+      IfOk (possible_patterns text s) (λ (set : List Choice). are_choices set patterns ≡ true)
   within-possible None s h q = needed (λ (set : List Choice). are_choices set patterns ≡ true) _ _ _ q.0
   within-possible (Some text) s h q = h
 
-  within-in_buffer : (x : ℕ) (s : State) → Within patterns names s → OfResult (Within patterns names) (in_buffer x s)
+  within-in_buffer : (x : ℕ) (s : State) → Within patterns names s → IfOk (in_buffer x s) (Within patterns names)
   within-in_buffer x s q = needed (Within patterns names) _ _ s q
 
-  within-set_from : (x from : ℕ) (c : ℤ) (s : State) → Within patterns names s → OfResult (Within patterns names) (set_from x from c s)
+  within-set_from : (x from : ℕ) (c : ℤ) (s : State) → Within patterns names s → IfOk (set_from x from c s) (Within patterns names)
   within-set_from x from c s q = needed (Within patterns names) _ _ _ q
 
-  within-searched : (x : ℕ) (text : Option (List ℕ)) (c : ℤ) (s : State) → are_choices (given text) patterns ≡ true → Within patterns names s → OfResult (Within patterns names) (searched x text c s)
+  within-searched : (x : ℕ) (text : Option (List ℕ)) (c : ℤ) (s : State) → are_choices (given text) patterns ≡ true →
+      Within patterns names s → IfOk (searched x text c s) (Within patterns names)
   within-searched x text c s g q =
-      bind (λ (set : List Choice). are_choices set patterns ≡ true) (Within patterns names) (possible_patterns text s) _ (within-possible text s g q) (λ possible p.
-      bind (Within patterns names) (Within patterns names) _ (in_buffer x) (needed (Within patterns names) _ _ _ (p, q.1)) (λ t h. within-in_buffer x t h))
+      IfOk-bind (λ (set : List Choice). are_choices set patterns ≡ true) (Within patterns names) (possible_patterns text s) _
+      (within-possible text s g q) (λ possible p.
+      IfOk-bind (Within patterns names) (Within patterns names) _ (in_buffer x) (needed (Within patterns names) _ _ _ (p, q.1))
+      (λ t h. within-in_buffer x t h))
 
-  within-base : (x : ℕ) (b : Base) (c : ℤ) (s : State) → are_choices (base_patterns b) patterns ≡ true → Within patterns names s → OfResult (Within patterns names) (evaluated_base x b c s)
+  within-base : (x : ℕ) (b : Base) (c : ℤ) (s : State) → are_choices (base_patterns b) patterns ≡ true → Within patterns names s →
+      IfOk (evaluated_base x b c s) (Within patterns names)
   within-base x (ed.Number n) c s g q = within-set_from x _ _ s q
   within-base x ed.Current c s g q = within-set_from x _ _ s q
   within-base x ed.Last c s g q = within-set_from x _ _ s q
   within-base x (ed.Marked letter) c s g q =
-      bind (Within patterns names) (Within patterns names) _ (set_from x (mark_name letter) c) (needed (Within patterns names) _ _ s q) (λ t h. within-set_from x (mark_name letter) c t h)
+      IfOk-bind (Within patterns names) (Within patterns names) _ (set_from x (mark_name letter) c) (needed (Within patterns names) _ _ s q)
+      (λ t h. within-set_from x (mark_name letter) c t h)
   within-base x (ed.Forward text) c s g q = within-searched x text c s g q
   within-base x (ed.Backward text) c s g q = within-searched x text c s g q
 
-  within-evaluated : (x : ℕ) (a : Address) (s : State) → are_choices (base_patterns a.base) patterns ≡ true → Within patterns names s → OfResult (Within patterns names) (evaluated x a s)
+  within-evaluated : (x : ℕ) (a : Address) (s : State) → are_choices (base_patterns a.base) patterns ≡ true → Within patterns names s →
+      IfOk (evaluated x a s) (Within patterns names)
   within-evaluated x a s g q = within-base x a.base a.offset s g q
 
-  within-addressed : (a : Addresses) (s : State) → are_choices (addresses_patterns a) patterns ≡ true → Within patterns names s → OfResult (Within patterns names) (addressed a s)
+  within-addressed : (a : Addresses) (s : State) → are_choices (addresses_patterns a) patterns ≡ true → Within patterns names s →
+      IfOk (addressed a s) (Within patterns names)
   within-addressed Without s g q = q
-  within-addressed (One a) s g q = bind (Within patterns names) (Within patterns names) (evaluated 3 a s) _ (within-evaluated 3 a s g q) (λ t h. h)
+  within-addressed (One a) s g q =
+      IfOk-bind (Within patterns names) (Within patterns names) (evaluated 3 a s) _ (within-evaluated 3 a s g q) (λ t h. h)
   within-addressed (Comma a b) s g q =
       let both = append-all (has_choice patterns) (base_patterns a.base) (base_patterns b.base) g in
-      bind (Within patterns names) (Within patterns names) (evaluated 3 a s) (evaluated 4 b) (within-evaluated 3 a s both.0 q) (λ t h. within-evaluated 4 b t both.1 h)
+      IfOk-bind (Within patterns names) (Within patterns names) (evaluated 3 a s) (evaluated 4 b) (within-evaluated 3 a s both.0 q)
+      (λ t h. within-evaluated 4 b t both.1 h)
   within-addressed (Semicolon a None) s g q =
       let both = append-all (has_choice patterns) (base_patterns a.base) [] g in
-      bind (Within patterns names) (Within patterns names) (evaluated 3 a s) _ (within-evaluated 3 a s both.0 q) (λ t h. h)
+      IfOk-bind (Within patterns names) (Within patterns names) (evaluated 3 a s) _ (within-evaluated 3 a s both.0 q) (λ t h. h)
   within-addressed (Semicolon a (Some b)) s g q =
       let both = append-all (has_choice patterns) (base_patterns a.base) (base_patterns b.base) g in
-      bind (Within patterns names) (Within patterns names) (evaluated 3 a s) _ (within-evaluated 3 a s both.0 q) (λ t h. within-evaluated 4 b (copied 1 3 t) both.1 h)
+      IfOk-bind (Within patterns names) (Within patterns names) (evaluated 3 a s) _ (within-evaluated 3 a s both.0 q)
+      (λ t h. within-evaluated 4 b (copied 1 3 t) both.1 h)
 
   within-last_given : (a : Addresses) (s : State) → Within patterns names s → Within patterns names (last_given a s)
   within-last_given Without s q = q
@@ -199,25 +210,27 @@ module _ (patterns names : List Choice) where
   within-last_given (Comma a b) s q = q
   within-last_given (Semicolon a b) s q = q
 
-  within-targeted : (target : Option Address) (s : State) → are_choices (optional_patterns target) patterns ≡ true → Within patterns names s → OfResult (Within patterns names) (targeted target s)
+  within-targeted : (target : Option Address) (s : State) → are_choices (optional_patterns target) patterns ≡ true →
+      Within patterns names s → IfOk (targeted target s) (Within patterns names)
   within-targeted None s g q = q
   within-targeted (Some a) s g q = within-evaluated 5 a s g q
 
-  within-ranged : (s : State) → Within patterns names s → OfResult (Within patterns names) (ranged s)
+  within-ranged : (s : State) → Within patterns names s → IfOk (ranged s) (Within patterns names)
   within-ranged s q = needed (Within patterns names) _ _ s q
 
-  within-whole : (a : Addresses) (s : State) → Within patterns names s → OfResult (Within patterns names) (whole_or_ranged a s)
+  within-whole : (a : Addresses) (s : State) → Within patterns names s → IfOk (whole_or_ranged a s) (Within patterns names)
   within-whole Without s q = q
   within-whole (One a) s q = within-ranged s q
   within-whole (Comma a b) s q = within-ranged s q
   within-whole (Semicolon a b) s q = within-ranged s q
 
-  within-taken : (t : Taking) (own a : Addresses) (s : State) → Within patterns names s → OfResult (Within patterns names) (taken t own a s)
+  within-taken : (t : Taking) (own a : Addresses) (s : State) → Within patterns names s → IfOk (taken t own a s) (Within patterns names)
   within-taken many.NoAddress own a s q = q
   within-taken many.Place own a s q = within-last_given a s q
   within-taken many.FirstPlace own a s q = within-last_given a s q
   within-taken many.OneLine own a s q = needed (Within patterns names) _ _ _ (within-last_given a s q)
-  within-taken many.Lines own a s q = bind (Within patterns names) (Within patterns names) _ ranged (needed (Within patterns names) _ _ _ q) (λ t h. within-ranged t h)
+  within-taken many.Lines own a s q =
+      IfOk-bind (Within patterns names) (Within patterns names) _ ranged (needed (Within patterns names) _ _ _ q) (λ t h. within-ranged t h)
   within-taken many.Range own a s q = within-ranged s q
   within-taken many.Whole own a s q = within-whole own s q
 
@@ -243,8 +256,9 @@ module _ (patterns names : List Choice) where
   within-joined_given (Comma a b) listed start s q = within-joined listed start s q
   within-joined_given (Semicolon a b) listed start s q = within-joined listed start s q
 
-  within-moved_lines : (listed : Bool) (start s : State) → Within patterns names s → OfResult (Within patterns names) (moved_lines listed start s)
-  within-moved_lines listed start s q = bind-any (Within patterns names) (moved_zone s.marks s.zone) _ (λ zone. q)
+  within-moved_lines : (listed : Bool) (start s : State) → Within patterns names s →
+      IfOk (moved_lines listed start s) (Within patterns names)
+  within-moved_lines listed start s q = IfOk-after (Within patterns names) (moved_zone s.marks s.zone) _ (λ zone. q)
 
   -- SUBSTITUTION
 
@@ -268,25 +282,29 @@ module _ (patterns names : List Choice) where
   unfolding partly_substituted
   within-partly listed start s q = within-marks_substituted false s q
 
-  within-substituted_if : (sure listed : Bool) (start s : State) → Within patterns names s → OfResult (Within patterns names) (substituted_if sure listed start s)
+  within-substituted_if : (sure listed : Bool) (start s : State) → Within patterns names s →
+      IfOk (substituted_if sure listed start s) (Within patterns names)
   within-substituted_if true listed start s q = within-surely listed start s q
   within-substituted_if false true start s q = within-join s _ q (within-partly true start s q)
   within-substituted_if false false start s q = tt
 
-  within-pattern_used : (pattern : Option (List ℕ)) (s : State) → are_choices (given pattern) patterns ≡ true → Within patterns names s → OfResult (Within patterns names) (pattern_used pattern s)
+  within-pattern_used : (pattern : Option (List ℕ)) (s : State) → are_choices (given pattern) patterns ≡ true → Within patterns names s →
+      IfOk (pattern_used pattern s) (Within patterns names)
   within-pattern_used pattern s g q =
-      bind (λ (set : List Choice). are_choices set patterns ≡ true) (Within patterns names) (possible_patterns pattern s) _ (within-possible pattern s g q) (λ possible p. (p, q.1))
+      IfOk-bind (λ (set : List Choice). are_choices set patterns ≡ true) (Within patterns names) (possible_patterns pattern s) _
+      (within-possible pattern s g q) (λ possible p. (p, q.1))
 
   within-substituted : (listed : Bool) (pattern : Option (List ℕ)) (replacement : Option (List Part)) (choice : Which) (start s : State) → are_choices (given pattern) patterns ≡ true → Within patterns names s →
-      OfResult (Within patterns names) (substituted listed pattern replacement choice start s)
+      IfOk (substituted listed pattern replacement choice start s) (Within patterns names)
   within-substituted listed pattern replacement choice start s g q =
-      bind (Within patterns names) (Within patterns names) _ _
-      (bind (Within patterns names) (Within patterns names) (replacement_used listed replacement s) (pattern_used pattern) (needed (Within patterns names) _ _ _ q) (λ t u. within-pattern_used pattern t g u))
+      IfOk-bind (Within patterns names) (Within patterns names) _ _
+      (IfOk-bind (Within patterns names) (Within patterns names) (replacement_used listed replacement s) (pattern_used pattern)
+      (needed (Within patterns names) _ _ _ q) (λ t u. within-pattern_used pattern t g u))
       (λ t u. within-substituted_if _ listed start t u)
 
   -- FILES
 
-  within-named : (path : Option (List ℕ)) (s : State) → Within patterns names s → OfResult (Within patterns names) (named path s)
+  within-named : (path : Option (List ℕ)) (s : State) → Within patterns names s → IfOk (named path s) (Within patterns names)
   within-named None s q = needed (Within patterns names) _ _ s q
   within-named (Some path) s q = q
 
@@ -298,25 +316,39 @@ module _ (patterns names : List Choice) where
   within-named_anew None s g q = q
   within-named_anew (Some path) s g q = (q.0, g)
 
-  within-read : (listed : Bool) (path : Option (List ℕ)) (start s : State) → are_choices (given path) names ≡ true → Within patterns names s → OfResult (Within patterns names) (file_read listed path start s)
-  within-read listed path start s g q = bind (Within patterns names) (Within patterns names) (named path s) _ (within-named path s q) (λ t u. within-named_first path t g u)
+  within-read : (listed : Bool) (path : Option (List ℕ)) (start s : State) → are_choices (given path) names ≡ true →
+      Within patterns names s → IfOk (file_read listed path start s) (Within patterns names)
+  within-read listed path start s g q =
+      IfOk-bind (Within patterns names) (Within patterns names) (named path s) _ (within-named path s q)
+      (λ t u. within-named_first path t g u)
 
-  within-written : (own : Addresses) (path : Option (List ℕ)) (s : State) → are_choices (given path) names ≡ true → Within patterns names s → OfResult (Within patterns names) (file_written own path s)
-  within-written own path s g q = bind (Within patterns names) (Within patterns names) (named path s) _ (within-named path s q) (λ t u. within-named_first path t g u)
+  within-written : (own : Addresses) (path : Option (List ℕ)) (s : State) → are_choices (given path) names ≡ true →
+      Within patterns names s → IfOk (file_written own path s) (Within patterns names)
+  within-written own path s g q =
+      IfOk-bind (Within patterns names) (Within patterns names) (named path s) _ (within-named path s q)
+      (λ t u. within-named_first path t g u)
 
-  within-edited_anyway : (path : Option (List ℕ)) (s : State) → are_choices (given path) names ≡ true → Within patterns names s → OfResult (Within patterns names) (edited_anyway path s)
-  within-edited_anyway path s g q = bind (Within patterns names) (Within patterns names) (named path s) _ (within-named path s q) (λ t u. within-named_anew path (loaded t) g u)
+  within-edited_anyway : (path : Option (List ℕ)) (s : State) → are_choices (given path) names ≡ true → Within patterns names s →
+      IfOk (edited_anyway path s) (Within patterns names)
+  within-edited_anyway path s g q =
+      IfOk-bind (Within patterns names) (Within patterns names) (named path s) _ (within-named path s q)
+      (λ t u. within-named_anew path (loaded t) g u)
 
-  within-saved : (s : State) → Within patterns names s → OfResult (Within patterns names) (saved s)
+  within-saved : (s : State) → Within patterns names s → IfOk (saved s) (Within patterns names)
   within-saved s q = needed (Within patterns names) _ _ s q
 
-  within-edited : (path : Option (List ℕ)) (s : State) → are_choices (given path) names ≡ true → Within patterns names s → OfResult (Within patterns names) (edited path s)
+  within-edited : (path : Option (List ℕ)) (s : State) → are_choices (given path) names ≡ true → Within patterns names s →
+      IfOk (edited path s) (Within patterns names)
   within-edited path s g q =
-      bind (Within patterns names) (Within patterns names) (named path s) _ (within-named path s q) (λ t u.
-      bind (Within patterns names) (Within patterns names) (saved t) _ (within-saved t u) (λ v w. within-named_anew path (loaded v) g w))
+      IfOk-bind (Within patterns names) (Within patterns names) (named path s) _ (within-named path s q) (λ t u.
+      IfOk-bind (Within patterns names) (Within patterns names) (saved t) _ (within-saved t u)
+      (λ v w. within-named_anew path (loaded v) g w))
 
-  within-file_named : (path : Option (List ℕ)) (s : State) → are_choices (given path) names ≡ true → Within patterns names s → OfResult (Within patterns names) (file_named path s)
-  within-file_named path s g q = bind (Within patterns names) (Within patterns names) (named path s) _ (within-named path s q) (λ t u. within-named_anew path t g u)
+  within-file_named : (path : Option (List ℕ)) (s : State) → are_choices (given path) names ≡ true → Within patterns names s →
+      IfOk (file_named path s) (Within patterns names)
+  within-file_named path s g q =
+      IfOk-bind (Within patterns names) (Within patterns names) (named path s) _ (within-named path s q)
+      (λ t u. within-named_anew path t g u)
 
   -- UNDO
 
@@ -328,7 +360,7 @@ module _ (patterns names : List Choice) where
   -- RULES
 
   within-effect : (listed : Bool) (own : Addresses) (v : Verb) (start s : State) → are_choices (verb_patterns v) patterns ≡ true → are_choices (verb_paths v) names ≡ true → Within patterns names s →
-      OfResult (Within patterns names) (effect listed own v start s)
+      IfOk (effect listed own v start s) (Within patterns names)
   within-effect listed own (ed.Append text) start s g f q = within-text_after listed start _ s q
   within-effect listed own (ed.Insert text) start s g f q = within-put_before listed start _ s q
   within-effect listed own (ed.Change text) start s g f q = within-replaced _ s q
@@ -354,22 +386,26 @@ module _ (patterns names : List Choice) where
   within-effect listed own ed.Quit start s g f q = within-saved s q
   within-effect listed own ed.QuitAnyway start s g f q = q
 
-  within-suffixed : (suffix : Option Form) (s : State) → Within patterns names s → OfResult (Within patterns names) (suffixed suffix s)
+  within-suffixed : (suffix : Option Form) (s : State) → Within patterns names s → IfOk (suffixed suffix s) (Within patterns names)
   within-suffixed None s q = q
   within-suffixed (Some form) s q = needed (Within patterns names) _ _ s q
 
   within-step_at : (a : Addresses) (c : Command) (s : State) → are_choices (addresses_patterns a) patterns ≡ true → are_choices (verb_patterns c.verb) patterns ≡ true → are_choices (verb_paths c.verb) names ≡ true →
-      Within patterns names s → OfResult (Within patterns names) (step_at a c s)
+      Within patterns names s → IfOk (step_at a c s) (Within patterns names)
   within-step_at a c s d g f q =
-      bind (Within patterns names) (Within patterns names) (addressed a s) _ (within-addressed a s d q) (λ t h.
-      bind (Within patterns names) (Within patterns names) (targeted (takes c.verb).target t) _ (within-targeted (takes c.verb).target t (target-patterns patterns c.verb g) h) (λ p i.
-      bind (Within patterns names) (Within patterns names) (taken (takes c.verb).taking c.addresses a p) _ (within-taken (takes c.verb).taking c.addresses a p i) (λ u j.
-      bind (Within patterns names) (Within patterns names) (effect c.listed c.addresses c.verb s u) _ (within-effect c.listed c.addresses c.verb s u g f j) (λ r l.
+      IfOk-bind (Within patterns names) (Within patterns names) (addressed a s) _ (within-addressed a s d q) (λ t h.
+      IfOk-bind (Within patterns names) (Within patterns names) (targeted (takes c.verb).target t) _
+      (within-targeted (takes c.verb).target t (target-patterns patterns c.verb g) h) (λ p i.
+      IfOk-bind (Within patterns names) (Within patterns names) (taken (takes c.verb).taking c.addresses a p) _
+      (within-taken (takes c.verb).taking c.addresses a p i) (λ u j.
+      IfOk-bind (Within patterns names) (Within patterns names) (effect c.listed c.addresses c.verb s u) _
+      (within-effect c.listed c.addresses c.verb s u g f j) (λ r l.
       within-suffixed c.suffix _ l))))
 
   pub within-step : (c : Command) (s : State) → are_choices (command_patterns c) patterns ≡ true → are_choices (verb_paths c.verb) names ≡ true → Within patterns names s →
-      OfResult (Within patterns names) (step c s)
+      IfOk (step c s) (Within patterns names)
   within-step c s g f q =
       let both = append-all (has_choice patterns) (addresses_patterns c.addresses) (verb_patterns c.verb) g in
-      bind (Within patterns names) (Within patterns names) _ (step_at (given_or c.addresses (standing (takes c.verb).default)) c) (needed (Within patterns names) _ _ s q)
+      IfOk-bind (Within patterns names) (Within patterns names) _ (step_at (given_or c.addresses (standing (takes c.verb).default)) c)
+      (needed (Within patterns names) _ _ s q)
       (λ t h. within-step_at (given_or c.addresses (standing (takes c.verb).default)) c t (own-patterns patterns c.addresses c.verb both.0) both.1 f h)

@@ -29,7 +29,7 @@ use Rattle.cert_check.specs.Covering.{zone_covers, allows, are_among, old_covers
 use Rattle.cert_check.proofs.Covering.{below-each}
 use Rattle.analyser.specs.Rounds.{next_invariant}
 use Rattle.analyser.specs.Walking.{OldIsZone, HasZones}
-use Rattle.analyser.proofs.Stepping.{either}
+use Rattle.analyser.proofs.Results.{either}
 
 -- a room doesn't grow, and it falls where the old part doesn't cover the other
 pub record Falls (covered : Bool) (new old : ℕ) : Type 0 where

@@ -1,5 +1,5 @@
 -- The rounds of a list, one further.
-use Rattle.std.proofs.Common.{◌≡◌, ◌<◌, ◌+◌, ℕ, suc, min, Bool, true, false, not, List, [], ◌∷◌, ◌++◌, length, get_or, map, drop, Option, None, Some, is_none, option_map, Result, Ok, Err, inl, inr, refl, sym, ap, subst, ◌∙◌, arith}
+use Rattle.std.proofs.Common.{◌≡◌, ◌<◌, ◌+◌, ℕ, suc, min, Bool, true, false, not, List, [], ◌∷◌, ◌++◌, length, get_or, map, drop, Option, None, Some, is_none, option_map, Result, Ok, Err, IfOk, inl, inr, refl, sym, ap, subst, ◌∙◌, arith}
 use Rattle.std.specs.Prelude.{nat_lt, if◌then◌else◌, IfSome}
 use Rattle.std.proofs.lemmas.Bool.{cases_lt, le-ltb}
 use Rattle.ed_base.specs.declared.fault.Fault.{Fault}
@@ -22,10 +22,9 @@ use Rattle.analyser.specs.Rounds.{all_met, left_by_list, AreInner, InnerFail, tu
 use Rattle.analyser.specs.Following.{IsKnownOfList, IsNote, ListFails}
 use Rattle.analyser.specs.Walking.{AreKnown, IsRound, invariant_after, HasZones, IsLastRound, IsTaken}
 use Rattle.analyser.proofs.Going.{at-place, counted-none}
-use Rattle.analyser.proofs.Keeping.{OfResult}
+use Rattle.analyser.proofs.Results.{either}
 use Rattle.analyser.proofs.Sets.{append-all, are-front, are-back, are-same}
 use Rattle.analyser.proofs.Remembering.{command_patterns, verb_paths, Within, within-step, within-join, within-widen}
-use Rattle.analyser.proofs.Stepping.{either}
 use Rattle.analyser.proofs.Rooms.{state_room, falls-next}
 
 -- ONE COMMAND
@@ -56,7 +55,8 @@ abbrev pub list_names : List Command → List Choice
 list_names [] = []
 list_names (c ∷ cs) = verb_paths c.verb ++ list_names cs
 
-left-within : (patterns names : List Choice) (s : State) (r : Result State Fault) → Within patterns names s → OfResult (Within patterns names) r →
+left-within : (patterns names : List Choice) (s : State) (r : Result State Fault) → Within patterns names s →
+    IfOk r (Within patterns names) →
     Within patterns names (elim r as (λ _. State) [ Ok t ↦ t | Err f ↦ s ])
 left-within patterns names s (Ok t) h q = q
 left-within patterns names s (Err f) h q = h

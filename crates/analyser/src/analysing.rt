@@ -19,7 +19,7 @@ use ed_base::Fault;
 use ed_rules::{KeptState, State, states_stay_formed};
 use ed_syntax::Script;
 use std::alloc::AllocError;
-use zones::{covering_is_an_order, steps_are_formulas, steps_keep_diagonals_low};
+use zones::covering_is_an_order;
 
 /// The fault that may come at the end of a script.
 fn end_fault(quit: bool, fault: Option<usize>, last: &KeptState) -> Option<Fault>
@@ -50,8 +50,6 @@ fn answer(script: &Script, start: Start, walk: Walk) -> Analysis
     states_stay_formed();
     covering_is_decided();
     covering_is_an_order();
-    steps_are_formulas();
-    steps_keep_diagonals_low();
     let Walk {
         notes,
         writes,

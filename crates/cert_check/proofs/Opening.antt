@@ -4,25 +4,24 @@ use Rattle.std.proofs.lemmas.Int.{ints}
 use Rattle.std.proofs.lemmas.List.{length-map}
 use Rattle.ed_base.specs.Buffer.{Line, plain_line}
 use Rattle.ed_base.specs.Lines.{lines_of}
-use Rattle.ed_base.proofs.LineLemmas.{HoldsLines-lines, HoldsLines-lines_of}
 use Rattle.zones.specs.Zone.{Bounds, Numbers, Holds, updated}
 use Rattle.zones.specs.Steps.{any_zone, after_guard}
 use Rattle.zones.proofs.Known.{updated-other}
 use Rattle.zones.proofs.Soundness.{Holds-any_zone, Holds-after_guard, Holds-after_set}
+use Rattle.ed_syntax.specs.CommandLaws.{FilesAreWellMarked, FilesAreWhole}
 use Rattle.ed_rules.specs.States.{limited, start}
 use Rattle.cert_check.specs.Opening.{IsAtMost, StartIsSound}
 use Rattle.ed_rules.proofs.Choosing.{has_choice-only}
-use Rattle.ed_rules.proofs.Keeping.{marks_of-plain, once-by_count}
-use Rattle.ed_rules.proofs.Whole.{whole-plain}
-use Rattle.ed_rules.proofs.LettersInLines.{no_letter, KnowLetters-plain}
+use Rattle.ed_rules.proofs.LettersInLines.{no_letter}
+use Rattle.ed_rules.proofs.Lettered.{lettered}
 
 limited-holds : (max : Option ℕ) (zone : Bounds) (count : ℕ) (v : Numbers) → IsAtMost count max → v 0 ≡ pos 0 → v 2 ≡ pos count → Holds zone v → Holds (limited max zone) v
 limited-holds None zone count v h zero_is last_is holds = holds
 limited-holds (Some max) zone count v h zero_is last_is holds = Holds-after_guard zone 2 0 (pos max) v (omega arith) (omega arith) holds (omega (arith, ints))
 
-pub start-sound : StartIsSound
+pub start-sound : FilesAreWellMarked → FilesAreWhole → StartIsSound
 unfolding start
-start-sound path min max bytes within =
+start-sound marked whole path min max bytes within =
     let texts : List (List ℕ) = lines_of bytes in
     let lines : List Line = map plain_line texts in
     let count : ℕ = length lines in
@@ -47,6 +46,6 @@ start-sound path min max bytes within =
         changed = refl;
         past = refl;
       };
-      lines = record { whole = whole-plain texts (HoldsLines-lines (HoldsLines-lines_of bytes)); known = KnowLetters-plain texts; once = once-by_count lines (λ x. let q = marks_of-plain x texts in omega arith) };
+      lines = lettered lines (marked bytes) (whole bytes);
       kept = tt;
     }

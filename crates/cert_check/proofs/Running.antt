@@ -1,5 +1,5 @@
 -- Accepted commands run to their end, from each state that what comes in stands for.
-use Rattle.std.proofs.Common.{◌≡◌, ◌<◌, ◌≤◌, inl, inr, ℕ, suc, ℤ, pos, neg_ℤ, ◌-ℤ◌, ◌≤ℤ◌, Bool, true, false, not, List, [], ◌∷◌, length, Option, None, Some, Result, Ok, Err, IsTrue, ◌↔◌, arith, refl, sym, ap, subst}
+use Rattle.std.proofs.Common.{◌≡◌, ◌<◌, ◌≤◌, inl, inr, ℕ, suc, ℤ, pos, neg_ℤ, ◌-ℤ◌, ◌≤ℤ◌, Bool, true, false, not, List, [], ◌∷◌, length, Option, None, Some, Result, Ok, Err, IfOk, IsTrue, ◌↔◌, arith, refl, sym, ap, subst}
 use Rattle.std.specs.Prelude.{nat_eq}
 use Rattle.std.specs.List.{All, Contains, list_any}
 use Rattle.std.specs.Cmp.Lexicographic.{pointwise, bytes_decides}
@@ -26,7 +26,8 @@ use Rattle.ed_rules.specs.Soundness.{MayAskFor, IsDone, CommandIsSound}
 use Rattle.ed_rules.specs.Files.{written_paths}
 use Rattle.ed_rules.specs.Globals.{is_global, body_entry, loop_end}
 use Rattle.ed_rules.specs.GlobalSoundness as global
-use Rattle.ed_rules.specs.GlobalSoundness.{TurnIsSound, ChangesAreNoted, EndIsSound}
+use Rattle.ed_syntax.specs.CommandLaws.{CommandsArePlaced, ListsNoteChanges}
+use Rattle.ed_rules.specs.GlobalSoundness.{TurnIsSound, EndIsSound}
 use Rattle.ed_rules.proofs.Choosing.{or-cases, has_choice-all}
 use Rattle.ed_rules.specs.StandsFor.{StandsFor, allows_change}
 use Rattle.cert_check.specs.Opening.{IsAtMost, IsWithin, StartIsSound}
@@ -34,14 +35,15 @@ use Rattle.cert_check.specs.Certificates.{Certificate}
 use Rattle.cert_check.specs.Valid.{quits, counted, are_met, left_by, is_listed, are_listed, knows_least, knows_most}
 use Rattle.cert_check.specs.Sound.{MayAsk, StopsWell}
 use Rattle.cert_check.proofs.Checks.{EndsSo, met-gives}
-use Rattle.cert_check.proofs.Quitting.{OnValue, SameMade, SavedMade, quit-leaves, saved-leaves}
+use Rattle.cert_check.proofs.Quitting.{SameMade, SavedMade, quit-leaves, saved-leaves}
 
 -- the laws of the crates below
 pub record Laws : Type 0 where
   pub command : CommandIsSound
   pub begun : global.StartIsSound
   pub turn : (invariant : State) → TurnIsSound invariant (body_entry invariant)
-  pub changes : ChangesAreNoted
+  pub placed : CommandsArePlaced
+  pub changes : ListsNoteChanges
   pub over : (x : Step) (before invariant : State) → EndIsSound x before invariant (loop_end x before invariant)
   pub decided : (weak strong : State) → IsTrue (covers weak strong) ↔ Covers weak strong
   pub started : StartIsSound
@@ -166,7 +168,8 @@ going-on (ed.Global sense pattern) x m go answers e single = absurd cc
 going-on _ x m go answers e single = refl
 
 -- the lines of what its rule stands for are those of the run
-quit-within : (c : Certificate) (x : Command) (s t : State) (e : editor.State) (y : Result Effect Fault) → IsDone x s t e None y → OnValue (SameMade e) y →
+quit-within : (c : Certificate) (x : Command) (s t : State) (e : editor.State) (y : Result Effect Fault) → IsDone x s t e None y →
+    IfOk y (SameMade e) →
     ((u : editor.State) → StandsFor t u → IsWithin c.low c.high (length u.lines)) → IsWithin c.low c.high (length e.lines)
 quit-within c x s t e (Err f) a same h = absurd a
 quit-within c x s t e (Ok (Asks r)) a same h = absurd same
@@ -175,11 +178,13 @@ quit-within c x s t e (Ok (Makes o)) a same h =
     subst (λ (n : ℕ). IsWithin c.low c.high n) (ap length lines) (h o.state a)
 
 -- a command without a fault that is refused where the buffer is changed
-saved-made : (x : Command) (s t : State) (e : editor.State) (y : Result Effect Fault) → IsDone x s t e None y → OnValue (SavedMade e) y → OnValue (SameMade e) y × (e.changed ≡ false)
+saved-made : (x : Command) (s t : State) (e : editor.State) (y : Result Effect Fault) → IsDone x s t e None y → IfOk y (SavedMade e) →
+    IfOk y (SameMade e) × (e.changed ≡ false)
 saved-made x s t e (Err f) a made = absurd a
 saved-made x s t e (Ok f) a made = made
 
-quit-well : Laws → (quit : Bool) (bad : Option ℕ) (c : Certificate) (x : Command) (s : State) (m : Present) → OnValue (SameMade m.state) (command m.state x None) → are_met x s ≡ true → StandsFor s m.state →
+quit-well : Laws → (quit : Bool) (bad : Option ℕ) (c : Certificate) (x : Command) (s : State) (m : Present) →
+    IfOk (command m.state x None) (SameMade m.state) → are_met x s ≡ true → StandsFor s m.state →
     EndsSo quit bad c (left_by x s) → RunsWell c (ending m)
 quit-well k quit bad c x s m same met st h =
     let t : State = left_by x s in
@@ -196,12 +201,16 @@ pub ended-well : Laws → (quit : Bool) (bad : Option ℕ) (c : Certificate) (x 
 ended-well k quit bad c x s m go answers ed.QuitAnyway is e met st h =
     let d : Command = x.command in
     quit-well k quit bad c d s m
-    (subst (λ (v : Verb). OnValue (SameMade m.state) (command m.state (record { addresses = d.addresses; verb = v; suffix = d.suffix; listed = d.listed }) None)) (sym is)
-    (quit-leaves d.addresses d.suffix d.listed m.state None)) met st h
+    (subst (λ (v : Verb).
+    IfOk (command m.state (record { addresses = d.addresses; verb = v; suffix = d.suffix; listed = d.listed }) None) (SameMade m.state))
+    (sym is)
+    (quit-leaves k.placed d.addresses d.suffix d.listed m.state None)) met st h
 ended-well k quit bad c x s m go answers ed.Quit is e met st h =
     let d : Command = x.command in
     let made = saved-made d s (left_by d s) m.state (command m.state d None) (k.command d s (left_by d s) m.state None st (met-gives d s met))
-    (subst (λ (v : Verb). OnValue (SavedMade m.state) (command m.state (record { addresses = d.addresses; verb = v; suffix = d.suffix; listed = d.listed }) None)) (sym is)
-    (saved-leaves d.addresses d.suffix d.listed m.state None)) in
+    (subst (λ (v : Verb).
+    IfOk (command m.state (record { addresses = d.addresses; verb = v; suffix = d.suffix; listed = d.listed }) None) (SavedMade m.state))
+    (sym is)
+    (saved-leaves k.placed d.addresses d.suffix d.listed m.state None)) in
     subst (λ (p : Progress). RunsWell c p) (sym (quitting-saved m made.1)) (quit-well k quit bad c d s m made.0 met st h)
 ended-well k quit bad c x s m go answers _ is e met st h = absurd cc

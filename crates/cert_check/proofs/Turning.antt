@@ -3,15 +3,16 @@ use Rattle.std.proofs.Common.{◌≡◌, inl, inr, ℕ, zero, suc, ◌+◌, true
 use Rattle.std.specs.List.{list_all}
 use Rattle.ed_syntax.specs.declared.request.Answer.{Answer}
 use Rattle.ed_syntax.specs.Commands.{Verb, Command, Step}
+use Rattle.ed_syntax.specs.CommandLaws.{Notes}
 use Rattle.ed_syntax.specs.Verbs as verbs
+use Rattle.ed_syntax.specs.Verbs.{may_alter}
 use Rattle.ed_syntax.specs.States as editor
 use Rattle.ed_syntax.specs.States.{Open, kept, noted}
 use Rattle.ed_syntax.specs.Globals.{flags, opened, taken_at, next_taken, closed}
 use Rattle.ed_syntax.specs.Progress.{Present}
 use Rattle.ed_syntax.specs.Runs.{Further, with_state, one, listed, turn, turns, global}
 use Rattle.ed_rules.specs.declared.state.State.{State}
-use Rattle.ed_rules.specs.Globals.{body_entry, may_alter, list_may_alter, loop_end}
-use Rattle.ed_rules.specs.GlobalSoundness.{Notes}
+use Rattle.ed_rules.specs.Globals.{body_entry, list_may_alter, loop_end}
 use Rattle.ed_rules.specs.StandsFor.{StandsFor}
 use Rattle.ed_rules.proofs.Choosing.{or-left, or-right}
 use Rattle.cert_check.specs.Covering.{covers}
@@ -35,7 +36,8 @@ noted-inside list v e f g may (inr (m, is)) i = record { here = noted i.here; is
 -- after a command of the list it is so
 leads-inside : Laws → (list : List Command) (x : Command) → verbs.is_listed x ≡ true → (may_alter x.verb ≡ true → list_may_alter list ≡ true) → (e f g : editor.State) → Leads x f g → Inside list e f → Inside list e g
 leads-inside k list x is_listed may e f g leads i =
-    noted-inside list x.verb e f g may (subst (λ (u : editor.State). Notes x.verb f.global u.global) leads.3 (k.changes x f leads.0 leads.1 leads.2 is_listed)) i
+    noted-inside list x.verb e f g may
+    (subst (λ (u : editor.State). Notes x.verb f.global u.global) leads.3 (k.changes f x leads.0 leads.1 leads.2 is_listed)) i
 
 -- and once a line is taken
 taken-global : (e f : editor.State) (p : Option ℕ) → option_map (taken_at e) p ≡ Some f → f.global ≡ e.global

@@ -16,6 +16,7 @@ ghost use Rattle.cert_check.specs.Opening.{StartIsSound};
 ghost use Rattle.cert_check.specs.Sound.{CannotFail};
 
 use ed_rules::{commands_are_sound, globals_are_sound, weaker_states_stand_for_more};
+use ed_syntax::{commands_are_placed, files_have_lines, lists_note_changes};
 use zones::known_bounds_are_true;
 
 /// The test of covering says whether one state covers another.
@@ -26,7 +27,9 @@ pub fn covering_is_decided()
 /// The start of the rules stands for each editor that was opened over a file of as many lines as it allows.
 pub fn starts_are_sound()
     ensures sound { StartIsSound }
-{}
+{
+    files_have_lines();
+}
 
 /// A script with a valid certificate can't fail; just the commands of lists are listed, as in each script that is read.
 pub fn accepted_scripts_cannot_fail()
@@ -35,6 +38,8 @@ pub fn accepted_scripts_cannot_fail()
 {
     commands_are_sound();
     globals_are_sound();
+    commands_are_placed();
+    lists_note_changes();
     covering_is_decided();
     starts_are_sound();
     weaker_states_stand_for_more();

@@ -1,10 +1,10 @@
 -- One command: addresses, what it takes, what it does, its end, one after another on both sides.
-use Rattle.std.proofs.Common.{◌≡◌, ◌<◌, ◌≤◌, ◌+◌, ℕ, zero, suc, pos, negsuc, Bool, true, false, List, [], length, Option, Some, Result, Ok, arith, refl, ◌∙◌, sym, ap, subst, ◌&&◌, nat_lt, max}
+use Rattle.std.proofs.Common.{◌≡◌, ◌<◌, ◌≤◌, ◌+◌, ℕ, zero, suc, pos, negsuc, Bool, true, false, List, [], length, Option, Some, Result, Ok, IfOk, arith, refl, ◌∙◌, sym, ap, subst, ◌&&◌, nat_lt, max}
 use Rattle.std.proofs.lemmas.Int.{ints}
 use Rattle.std.proofs.lemmas.Bool.{le-leb}
 use Rattle.ed_base.specs.declared.fault.Fault.{Fault}
 use Rattle.ed_base.specs.declared.fault.Fault.TheVariants as fault
-use Rattle.ed_base.specs.Buffer.{Line, KnowLetters, AtMostOnce}
+use Rattle.ed_base.specs.Buffer.{Line, KnowLetters}
 use Rattle.zones.specs.Zone.{Bounds, Numbers, updated}
 use Rattle.zones.specs.Steps.{after_set, after_guard}
 use Rattle.ed_syntax.specs.declared.verbs.Taking.{Taking}
@@ -17,6 +17,7 @@ use Rattle.ed_syntax.specs.States.{kept}
 use Rattle.ed_syntax.specs.Verbs.{takes, given_or}
 use Rattle.ed_syntax.specs.Values.{◌>>◌, value, values}
 use Rattle.ed_syntax.specs.Values as concrete
+use Rattle.ed_syntax.specs.CommandLaws.{AreWhole, WellMarked, InOrder, SpansAreInOrder}
 use Rattle.ed_syntax.specs.Ranges.{Span, span, first_of_two, last_of_two, spanned, ordered, single, from_first}
 use Rattle.ed_syntax.specs.Effects as effects
 use Rattle.ed_syntax.specs.Effects.{Effect, Makes, Asks}
@@ -24,7 +25,7 @@ use Rattle.ed_syntax.specs.Applied.{making, completed, targeted, effect_of, comm
 use Rattle.ed_rules.specs.declared.state.State.{State}
 use Rattle.ed_rules.specs.Lines.{lifted_range, joined, joined_given, marked, copied_lines}
 use Rattle.ed_rules.specs.Addresses as addresses
-use Rattle.ed_rules.specs.StandsFor.{StandsBy, AreWhole, AreLettered}
+use Rattle.ed_rules.specs.StandsFor.{StandsBy, AreLettered}
 use Rattle.ed_rules.specs.Move.{moved_lines}
 use Rattle.ed_rules.specs.Substituting.{pattern_used, substituted}
 use Rattle.ed_rules.specs.Undoing.{undone}
@@ -39,7 +40,7 @@ use Rattle.std.proofs.lemmas.Bool.{ltb-true}
 use Rattle.ed_rules.proofs.Lifting.{Holds-lifted}
 use Rattle.ed_rules.proofs.Finishing.{Final, Follows, finish-sound}
 use Rattle.ed_rules.proofs.SubstitutionEffects.{substitute-follows}
-use Rattle.ed_rules.proofs.Orders.{InOrder, spanned-order, value-is}
+use Rattle.ed_rules.proofs.Lettered.{lettered-marked}
 use Rattle.ed_rules.proofs.GlobalEffects.{flag-follows, undo-follows}
 use Rattle.ed_rules.proofs.Answering.{Does, Comes, does-agreed, does-bind, finish-does}
 use Rattle.ed_rules.proofs.Filing.{Written, all-written, whole-range, ranges-written, read-does, write-does, edit-does, edit_anyway-does, name-does, quit-does}
@@ -383,7 +384,9 @@ is_on_files ed.Quit = true
 is_on_files _ = false
 
 -- the phases after the addresses, a verb at a time
-module _ (c : Command) (answer : Option Answer) (given d : Addresses) (s : State) (e : editor.State) (start : Stands s e) (whole : AreWhole e.lines) (known_letters : KnowLetters e.lines) (once : AtMostOnce e.lines) (t : State) (p : editor.State × List ℕ) (same_lines : p.0.lines ≡ e.lines) (h : Addressed (NamesOf (given_or given d)) t p) where
+module _ (order : SpansAreInOrder) (c : Command) (answer : Option Answer) (given d : Addresses) (s : State) (e : editor.State)
+    (start : Stands s e) (whole : AreWhole e.lines) (marked_well : WellMarked e.lines) (t : State) (p : editor.State × List ℕ)
+    (same_lines : p.0.lines ≡ e.lines) (h : Addressed (NamesOf (given_or given d)) t p) where
   abbrev rule_after : Verb → Result State Fault
   rule_after verb =
       addresses.targeted (takes verb).target t >> λ q. taken (takes verb).taking given (given_or given d) q >> λ u. effect c.listed given verb s u >> λ r. suffixed c.suffix (with_zone (ended r.marks r.zone) r)
@@ -412,14 +415,15 @@ module _ (c : Command) (answer : Option Answer) (given d : Addresses) (s : State
       (λ u x r. Agrees-need_then Final (nat_lt letter 26 && known u.zone 3 2 (pos 0)) fault.Address (marked letter u) (λ w. suffixed c.suffix (with_zone (ended w.marks w.zone) w)) (completed c e (Makes (effects.mark letter x p.0)))
       (λ k. finish-sound c e (marked letter u) (Makes (effects.mark letter x p.0))
       (mark-follows c.listed letter e u p.0 x r.0 r.1 (ltb-true letter 26 (and-both (nat_lt letter 26) (known u.zone 3 2 (pos 0)) k).0)
-      (subst (λ (ls : List Line). KnowLetters ls) (sym same_lines) known_letters))))
+      (subst (λ (ls : List Line). KnowLetters ls) (sym same_lines) marked_well.known))))
   after_addresses (ed.Move to) f g =
       let n = names-given (given_or given d) (given_or-given given d g) p.1 p.0.lines h.numbers h.names in
       Agrees-bind (Targeted p.0 p.1) Final (evaluated 5 to t) (targeted (Some to) p.0) _ _ (targeted-sound to t p.0 p.1 h.numbers h.stands n)
       (λ u q k. Agrees-bind (RangeWith (At_target q.1) q.0) Final (ranged u) (spanned many.Range (length e.lines) p.1) _ _
       (range-with (At_target q.1) u q.0 p.1 k.numbers (length e.lines) k.stands k.names k.target_is)
       (λ w x r. Agrees-bind (Follows c.listed e) Final (moved_lines c.listed s w) (making (effects.move x q.1 q.0)) _ _
-      (move-follows c.listed s e start w q.0 x q.1 r.0 r.1 k.target_in (subst (λ (ls : List Line). AtMostOnce ls) (sym (k.same_lines ∙ same_lines)) once))
+      (move-follows c.listed s e start w q.0 x q.1 r.0 r.1 k.target_in
+      (subst (λ (ls : List Line). WellMarked ls) (sym (k.same_lines ∙ same_lines)) marked_well))
       (λ m f i. finish-sound c e m f i)))
   after_addresses (ed.Copy to) f g =
       let n = names-given (given_or given d) (given_or-given given d g) p.1 p.0.lines h.numbers h.names in
@@ -458,7 +462,7 @@ module _ (c : Command) (answer : Option Answer) (given d : Addresses) (s : State
       Agrees-bind (λ u x. Written given p.0 u x × InOrder x) Final (whole_or_ranged given t) (spanned many.Whole (length e.lines) p.1) _ _
       (Agrees-also (Written given p.0) InOrder (whole_or_ranged given t) (spanned many.Whole (length e.lines) p.1)
       (subst (λ (ls : List Line). Agrees (Written given p.0) (whole_or_ranged given t) (spanned many.Whole (length ls) p.1)) same_lines (whole-sound given d g t p h))
-      (value-is InOrder (spanned many.Whole (length e.lines) p.1) (spanned-order many.Whole (length e.lines) p.1)))
+      (λ x is. let o = order many.Whole (length e.lines) p.1 in subst (λ (y : Result Span Fault). IfOk y InOrder) is o))
       (λ u x r. Agrees-bind (Follows c.listed e) Final (pattern_used pattern u) (flagged sense pattern x p.0 >> λ q. Ok (Makes (effects.only q []))) _ _
       (flag-follows c.listed sense pattern e u p.0 x r.0.0 r.1)
       (λ m f i. finish-sound c e m f i))
@@ -505,11 +509,13 @@ command-is c e answer =
     chain (values (given_or c.addresses (takes c.verb).default) e) (λ v. targeted (takes c.verb).target v.0) (λ v q. spanned (takes c.verb).taking (length e.lines) v.1)
     (λ v q x. record { state = q.0; span = x; target = q.1 }) (λ r. effect_of c.verb c.listed r.span r.target r.state answer >> completed c e)
 
-pub phases_sound : (c : Command) (s : State) (e : editor.State) (answer : Option Answer) → AreLettered e.lines → Stands s e →
+pub phases_sound : SpansAreInOrder → (c : Command) (s : State) (e : editor.State) (answer : Option Answer) → AreLettered e.lines →
+    Stands s e →
     Does Comes answer (step_at (given_or c.addresses (standing (takes c.verb).default)) c s) (command e c answer)
-phases_sound c s e answer letters st =
+phases_sound order c s e answer letters st =
     let d : Addresses = standing (takes c.verb).default in
     let a : Addresses = given_or c.addresses d in
     subst (λ (y : Result Effect Fault). Does Comes answer (step_at a c s) y) (sym (command-is c e answer))
     (does-bind (AddressedIn e.lines (NamesOf a)) Comes answer (addressed a s) (values (given_or c.addresses (takes c.verb).default) e) _ _ (command_addressed c.addresses c.verb s e st)
-    (λ t p h. all_after_addresses c answer c.addresses d s e st letters.whole letters.known letters.once t p h.1 h.0 c.verb (suits c.verb)))
+    (λ t p h. all_after_addresses order c answer c.addresses d s e st letters.whole (lettered-marked e.lines letters) t p h.1 h.0 c.verb
+    (suits c.verb)))

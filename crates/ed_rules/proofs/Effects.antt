@@ -14,7 +14,6 @@ use Rattle.ed_syntax.specs.Applied.{making}
 use Rattle.ed_syntax.specs.Values.{◌>>◌}
 use Rattle.ed_base.specs.declared.fault.Fault.{Fault}
 use Rattle.ed_base.specs.declared.fault.Fault.TheVariants as fault
-use Rattle.ed_base.specs.Buffer.{AtMostOnce}
 use Rattle.ed_rules.specs.Move.{moved_up, moved_down, moved_lines}
 use Rattle.ed_rules.proofs.Basics.{Agrees}
 use Rattle.ed_rules.proofs.Basics.{Agrees-ok}
@@ -45,6 +44,7 @@ use Rattle.ed_rules.specs.Order.{join}
 use Rattle.zones.proofs.Known.{updated-same, updated-other, known-true, Obeys-twice_negative}
 use Rattle.ed_rules.proofs.Basics.{Obeys-lowered}
 use Rattle.ed_base.specs.Parts as parts
+use Rattle.ed_syntax.specs.CommandLaws.{WellMarked}
 
 -- what undo keeps of a change
 past-after : (listed : Bool) (s u : State) (start e : editor.State) → Stands s start → AllowsPast u.undo e.past →
@@ -358,7 +358,8 @@ HoldsBy-moved marks lines v u current zone q u0 u1 u2 inside = (
   },
 )
 
-module _ (listed : Bool) (s : State) (start : editor.State) (st : Stands s start) (t : State) (e : editor.State) (x : Span) (target : ℕ) (r : Ranges t e x) (v5 : r.spans.numbers 5 ≡ pos target) (target_in : target ≤ length e.lines) (once : AtMostOnce e.lines) where
+module _ (listed : Bool) (s : State) (start : editor.State) (st : Stands s start) (t : State) (e : editor.State) (x : Span) (target : ℕ)
+    (r : Ranges t e x) (v5 : r.spans.numbers 5 ≡ pos target) (target_in : target ≤ length e.lines) (marked : WellMarked e.lines) where
   move-up : target < x.first → Agrees (Follows listed start) (Ok (modified listed s (with_zone (moved_up t.marks t.zone) t))) (making (effects.move x target e))
   move-up h =
       let v : Numbers = r.spans.numbers in
@@ -373,7 +374,8 @@ module _ (listed : Bool) (s : State) (start : editor.State) (st : Stands s start
       let many : length (parts.between x.first x.last e.lines) ≡ x.last + 1 - x.first = length-between x.first x.last e.lines from order inside in
       let same : current ≡ target + (x.last - a) = omega arith in
       let size : length lines ≡ length e.lines = length-carried e.lines a x.last target (omega arith) inside (omega arith) in
-      let q = up-all e.lines a x.last target (omega arith) inside once t.marks t.zone v b.holds f r.spans.last_is v5 (λ y hy k. OnLine-reads y e.lines v (b.reads.marks_are y hy k)) (omega arith) in
+      let q = up-all e.lines a x.last target (omega arith) inside marked t.marks t.zone v b.holds f r.spans.last_is v5
+      (λ y hy k. OnLine-reads y e.lines v (b.reads.marks_are y hy k)) (omega arith) in
       let u : Numbers = updated v 1 (pos (target + (x.last - a))) in
       let o = HoldsBy-moved t.marks lines v u current (moved_up t.marks t.zone) q b.reads.zero_is (ap pos (sym same)) (b.reads.last_is ∙ ap pos (sym size)) (omega arith) in
       Agrees-ok (Follows listed start) _ (Makes (effects.altered lines current e)) (making (effects.move x target e)) (ap (λ (y : Result effects.Outcome Fault). making y) (move-up-is x target e h order))
@@ -394,7 +396,8 @@ module _ (listed : Bool) (s : State) (start : editor.State) (st : Stands s start
       let many : length (parts.between x.first x.last e.lines) ≡ x.last + 1 - x.first = length-between x.first x.last e.lines from order inside in
       let same : current ≡ target = omega arith in
       let size : length lines ≡ length e.lines = length-carried e.lines a x.last (target - (x.last + 1 - x.first)) (omega arith) inside (omega arith) in
-      let q = down-all e.lines a x.last target (omega arith) inside once t.marks t.zone v b.holds f r.spans.last_is v5 (λ y hy k. OnLine-reads y e.lines v (b.reads.marks_are y hy k)) h target_in in
+      let q = down-all e.lines a x.last target (omega arith) inside marked t.marks t.zone v b.holds f r.spans.last_is v5
+      (λ y hy k. OnLine-reads y e.lines v (b.reads.marks_are y hy k)) h target_in in
       let u : Numbers = updated v 1 (pos target) in
       let at : Pushed t.marks lines u 26 (moved_down t.marks t.zone) = subst (λ (n : ℕ). Pushed t.marks (parts.carried a x.last (target - n) e.lines) u 26 (moved_down t.marks t.zone)) (sym away) q in
       let o = HoldsBy-moved t.marks lines v u current (moved_down t.marks t.zone) at b.reads.zero_is (ap pos (sym same)) (b.reads.last_is ∙ ap pos (sym size)) (omega arith) in

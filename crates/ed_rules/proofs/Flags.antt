@@ -13,11 +13,11 @@ use Rattle.ed_syntax.specs.States.{Past, Was, Kept, kept, unflagged}
 use Rattle.ed_syntax.specs.Globals.{flagged_line}
 use Rattle.ed_syntax.specs.declared.command.Sense.{Sense}
 use Rattle.ed_rules.specs.declared.state.State.{State}
-use Rattle.ed_rules.specs.StandsFor.{Reads, HoldsBy, AllowsKept, AreWhole, AreLettered}
+use Rattle.ed_syntax.specs.CommandLaws.{FlagsMarkNothing, FlagsAreNoBytes}
+use Rattle.ed_rules.specs.StandsFor.{Reads, HoldsBy, AllowsKept, AreLettered}
 use Rattle.ed_rules.specs.States.{old_of}
-use Rattle.ed_rules.proofs.Keeping.{marks_of, once-by_count, count-by_once}
 use Rattle.ed_rules.proofs.Standing.{Stands}
-use Rattle.ed_rules.proofs.Whole.{IsWhole}
+use Rattle.ed_rules.proofs.Lettered.{lettered, lettered-marked}
 
 -- the same lines, apart from their flags
 abbrev pub Alike : List Line → List Line → Type 0
@@ -35,10 +35,6 @@ position-unflagged x i (l ∷ ls) = ap (cond (has_letter x l) (Some i)) (positio
 place-unflagged : (x : ℕ) (ls : List Line) → marked_place x (unflagged ls) ≡ marked_place x ls
 place-unflagged x ls = position_from-zero (has_letter x) (unflagged ls) ∙ position-unflagged x 0 ls ∙ sym (position_from-zero (has_letter x) ls)
 
-marks-unflagged : (x : ℕ) (ls : List Line) → marks_of x (unflagged ls) ≡ marks_of x ls
-marks-unflagged x [] = refl
-marks-unflagged x (l ∷ ls) = ap (λ n. cond (has_letter x l) 1 0 + n) (marks-unflagged x ls)
-
 unflagged-twice : (ls : List Line) → Alike (unflagged ls) ls
 unflagged-twice [] = refl
 unflagged-twice (l ∷ ls) = ap (λ (ms : List Line). with_flag false l ∷ ms) (unflagged-twice ls)
@@ -50,9 +46,6 @@ same-length ls ms h = sym (length-unflagged ls) ∙ ap length h ∙ length-unfla
 
 same-place : (x : ℕ) (ls ms : List Line) → Alike ls ms → marked_place x ls ≡ marked_place x ms
 same-place x ls ms h = sym (place-unflagged x ls) ∙ ap (marked_place x) h ∙ place-unflagged x ms
-
-same-marks : (x : ℕ) (ls ms : List Line) → Alike ls ms → marks_of x ls ≡ marks_of x ms
-same-marks x ls ms h = sym (marks-unflagged x ls) ∙ ap (marks_of x) h ∙ marks-unflagged x ms
 
 reads-alike : (sure : List Bool) (ls ms : List Line) (current : ℕ) (v : Numbers) → Alike ls ms → Reads sure ls current v → Reads sure ms current v
 reads-alike sure ls ms current v h r = record {
@@ -69,37 +62,14 @@ HoldsBy-alike zone sure ls ms current v h b = record {
   inside = subst (λ (n : ℕ). current ≤ n) (same-length ls ms h) b.inside;
 }
 
-known-unflagged : (ls : List Line) → KnowLetters ls → KnowLetters (unflagged ls)
-known-unflagged [] h = h
-known-unflagged (l ∷ ls) h =
-    let P = λ (line : Line). length line.letters ≡ 26 in
-    All-cons P (with_flag false l) (unflagged ls) (All-head P l ls h) (known-unflagged ls (All-tail P l ls h))
-
-known-flagged : (ls : List Line) → KnowLetters (unflagged ls) → KnowLetters ls
-known-flagged [] h = h
-known-flagged (l ∷ ls) h =
-    let P = λ (line : Line). length line.letters ≡ 26 in
-    All-cons P l ls (All-head P (with_flag false l) (unflagged ls) h) (known-flagged ls (All-tail P (with_flag false l) (unflagged ls) h))
-
-whole-unflagged : (ls : List Line) → AreWhole ls → AreWhole (unflagged ls)
-whole-unflagged [] h = h
-whole-unflagged (l ∷ ls) h = All-cons IsWhole (with_flag false l) (unflagged ls) (All-head IsWhole l ls h) (whole-unflagged ls (All-tail IsWhole l ls h))
-
-whole-flagged : (ls : List Line) → AreWhole (unflagged ls) → AreWhole ls
-whole-flagged [] h = h
-whole-flagged (l ∷ ls) h = All-cons IsWhole l ls (All-head IsWhole (with_flag false l) (unflagged ls) h) (whole-flagged ls (All-tail IsWhole (with_flag false l) (unflagged ls) h))
-
-pub lettered-alike : (ls ms : List Line) → Alike ls ms → AreLettered ls → AreLettered ms
-lettered-alike ls ms h l = record {
-  whole = whole-flagged ms (subst (λ (ns : List Line). AreWhole ns) h (whole-unflagged ls l.whole));
-  known = known-flagged ms (subst (λ (ns : List Line). KnowLetters ns) h (known-unflagged ls l.known));
-  once = once-by_count ms (λ x. let q = same-marks x ls ms h in let c = count-by_once ls l.once x in omega arith);
-}
+-- lines that differ in their flags alone are lettered alike
+pub lettered-alike : FlagsMarkNothing → FlagsAreNoBytes → (ls ms : List Line) → Alike ls ms → AreLettered ls → AreLettered ms
+lettered-alike marks bytes ls ms h l = lettered ms (marks ls ms h (lettered-marked ls l)) (bytes ls ms h l.whole)
 
 -- what undo keeps
 
-pub lettered-kept : (ls : List Line) → AreLettered ls → AreLettered (unflagged ls)
-lettered-kept ls h = lettered-alike ls (unflagged ls) (sym (unflagged-twice ls)) h
+pub lettered-kept : FlagsMarkNothing → FlagsAreNoBytes → (ls : List Line) → AreLettered ls → AreLettered (unflagged ls)
+lettered-kept marks bytes ls h = lettered-alike marks bytes ls (unflagged ls) (sym (unflagged-twice ls)) h
 
 -- a state stands for the buffer that undo would keep of the editor
 pub kept-allowed : (s : State) (e : editor.State) → Stands s e → AllowsKept (Some (old_of s)) (kept e)

@@ -13,11 +13,12 @@ use Rattle.ed_rules.specs.declared.state.Undo.{Undo}
 use Rattle.ed_rules.specs.declared.state.State.{State}
 use Rattle.ed_rules.specs.Choices.{Choice}
 use Rattle.ed_rules.specs.Marks.{both_sure}
-use Rattle.ed_rules.specs.Formed.{has_name, OldIsFormed, OldIsLow, SetIsFormed, StateIsFormed, IsFormed}
+use Rattle.ed_rules.specs.Formed.{has_name, OldIsFormed, OldIsLow, SetIsFormed, StateIsFormed, IsFormed, IsCounted, IsEnded}
 use Rattle.ed_rules.specs.States.{changed}
 use Rattle.ed_rules.specs.Order.{old_of_both, undo_of_both, united, join, widen}
 use Rattle.ed_rules.specs.Pieces.{needing, with_zone, undo_after, modified}
 use Rattle.ed_rules.specs.Globals.{finished}
+use Rattle.ed_rules.proofs.CountedLines.{ended-counted}
 use Rattle.ed_rules.proofs.Speaking.{Speaks, IsOfBoth, Speaks-join, Speaks-widening}
 use Rattle.ed_rules.proofs.Naming.{is_spoken, Speaks-spoken, length-both_sure, spoken-both, named-both}
 use Rattle.ed_rules.proofs.Saying.{formed-Speaks, Speaks-formed}
@@ -138,8 +139,18 @@ pub Forming-modified : (listed : Bool) (start s : State) → Closed start → Fo
 Forming-modified true start s c h = forming-change s changed s.undo refl h.aside.past h.aside.old h
 Forming-modified false start s c h = forming-change s changed (undo_after false start s.undo) refl refl (c.letters, c.zone) h
 
-pub Closed-finished : (s : State) → Forming s → Closed (finished s)
-Closed-finished s h = record { letters = h.letters; zone = Speaks-ended s.marks s.zone h.zone; aside = h.aside }
+-- a closed state that knows that there are at least 0 lines
+abbrev pub AtEnd : State → Type 0
+AtEnd s = Closed s × IsCounted s.zone
+
+pub finished-AtEnd : (s : State) → Forming s → AtEnd (finished s)
+finished-AtEnd s h = (
+  record { letters = h.letters; zone = Speaks-ended s.marks s.zone h.zone; aside = h.aside },
+  ended-counted s.marks s.zone h.zone.low,
+)
+
+pub AtEnd-ended : (s : State) → AtEnd s → IsEnded s
+AtEnd-ended s h = record { formed = Closed-formed s h.0; counted = h.1 }
 
 -- JOIN AND WIDENING
 
@@ -213,10 +224,6 @@ Closed-widen old new h k =
 
 -- RESULTS
 
-pub IfOk-bind : {A B : Type 0} (P : A → Type 0) (Q : B → Type 0) (x : Result A Fault) (f : A → Result B Fault) → IfOk x P → ((a : A) → P a → IfOk (f a) Q) → IfOk (x >> f) Q
-IfOk-bind P Q (Ok a) f h k = k a h
-IfOk-bind P Q (Err e) f h k = tt
-
 pub IfOk-needing : {A : Type 0} (P : A → Type 0) (b : Bool) (f : Fault) (a : A) → (b ≡ true → P a) → IfOk (needing b f a) P
 IfOk-needing P true f a h = h refl
 IfOk-needing P false f a h = tt
@@ -224,7 +231,3 @@ IfOk-needing P false f a h = tt
 pub IfOk-need_then : {A B : Type 0} (P : B → Type 0) (b : Bool) (f : Fault) (a : A) (k : A → Result B Fault) → (b ≡ true → IfOk (k a) P) → IfOk (needing b f a >> k) P
 IfOk-need_then P true f a k h = h refl
 IfOk-need_then P false f a k h = tt
-
-pub IfOk-weaker : {A : Type 0} (P Q : A → Type 0) (x : Result A Fault) → ((a : A) → P a → Q a) → IfOk x P → IfOk x Q
-IfOk-weaker P Q (Ok a) f h = f a h
-IfOk-weaker P Q (Err e) f h = tt

@@ -24,7 +24,8 @@ use Rattle.ed_rules.proofs.Speaking.{IsNamed, Speaks-set}
 use Rattle.ed_rules.proofs.Naming.{is_spoken, letter-spoken}
 use Rattle.ed_rules.proofs.SpeakingPieces.{IsLow, spoken, Inner-set, Inner-found, Inner-lifted, Inner-lifted_range}
 use Rattle.ed_rules.proofs.RisingChoices.{SetIsFormed-only}
-use Rattle.ed_rules.proofs.Forming.{Forming, forming-zone, forming-patterns, IfOk-bind, IfOk-needing, IfOk-need_then}
+use Rattle.ed_syntax.proofs.ResultLemmas.{IfOk-bind}
+use Rattle.ed_rules.proofs.Forming.{Forming, forming-zone, forming-patterns, IfOk-needing, IfOk-need_then}
 
 pub possible-formed : (text : Option (List ℕ)) (s : State) → ChoiceIsBytes text → Forming s → IfOk (possible_patterns text s) SetIsFormed
 possible-formed None s b h = IfOk-needing SetIsFormed (not (has_choice s.patterns None)) fault.Pattern s.patterns (λ e. h.aside.patterns_are)

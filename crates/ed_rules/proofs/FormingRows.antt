@@ -35,7 +35,8 @@ use Rattle.ed_rules.proofs.Speaking.{IsNamed, Speaks-shift}
 use Rattle.ed_rules.proofs.Naming.{is_spoken, letter-spoken, Speaks-spoken, Speaks-without_addresses, Speaks-lost, Speaks-marked}
 use Rattle.ed_rules.proofs.SpeakingPieces.{Inner, IsLow, Inner-guard, Inner-set, Inner-shift, Inner-forget, Inner-inserted, Inner-current_inserted, Inner-left_over, Inner-current_replaced, Inner-moved_up, Inner-moved_down, Inner-current_substituted, Inner-current_read, Inner-zone_loaded}
 use Rattle.ed_rules.proofs.RisingChoices.{SetIsFormed-only, SetIsFormed-filled}
-use Rattle.ed_rules.proofs.Forming.{OldSpeaks, IsChange, IsKind, Forming, Closed, forming-zone, forming-patterns, forming-kind, forming-names, forming-change, forming-flag, Forming-modified, past-both, old-both, Forming-join, IfOk-bind, IfOk-needing}
+use Rattle.ed_syntax.proofs.ResultLemmas.{IfOk-bind}
+use Rattle.ed_rules.proofs.Forming.{OldSpeaks, IsChange, IsKind, Forming, Closed, forming-zone, forming-patterns, forming-kind, forming-names, forming-change, forming-flag, Forming-modified, past-both, old-both, Forming-join, IfOk-needing}
 use Rattle.ed_rules.proofs.FormingAddresses.{possible-formed}
 
 -- SURE LETTERS, ONE AFTER ANOTHER

@@ -148,31 +148,6 @@ line_with-inserted_after x ls new a i e n h =
 pub length-inserted : (ls new : List Line) (a : ℕ) → a ≤ length ls → length (inserted a new ls) ≡ length ls + length new
 length-inserted ls new a h = grind (arith, length-take-le, length-append, length-drop)
 
--- each line still has 26 places for letters
-pub KnowLetters-plain : (ts : List (List ℕ)) → KnowLetters (map plain_line ts)
-KnowLetters-plain ts = All-map (λ (line : Line). length line.letters ≡ 26) plain_line ts (λ k d h. refl)
-
-pub KnowLetters-inserted : (a : ℕ) (new ls : List Line) → KnowLetters new → KnowLetters ls → KnowLetters (inserted a new ls)
-KnowLetters-inserted a new ls n h =
-    let P = λ (line : Line). length line.letters ≡ 26 in
-    All-append P (take a ls) (new ++ drop a ls) (All-take P a ls h) (All-append P new (drop a ls) n (All-drop P a ls h))
-
-pub KnowLetters-replaced : (a b : ℕ) (new ls : List Line) → KnowLetters new → KnowLetters ls → KnowLetters (replaced a b new ls)
-KnowLetters-replaced a b new ls n h =
-    let P = λ (line : Line). length line.letters ≡ 26 in
-    All-append P (take (a - 1) ls) (new ++ drop b ls) (All-take P (a - 1) ls h) (All-append P new (drop b ls) n (All-drop P b ls h))
-
-pub KnowLetters-marked : (place letter : ℕ) (ls : List Line) → KnowLetters ls → KnowLetters (marked_at place letter ls)
-KnowLetters-marked place letter ls h =
-    let P = λ (line : Line). length line.letters ≡ 26 in
-    let others : List Line = map (with_letter letter false) ls in
-    let o : KnowLetters others = All-map P (with_letter letter false) ls (All-weaker P (λ (line : Line). P (with_letter letter false line)) (λ (line : Line) (q : P line). length-set line.letters letter false ∙ q) ls h) in
-    let one : P (get_or others place (plain_line [])) = elim (cases_lt place (length others)) [
-      | inl l ↦ All-get_or P others place (plain_line []) l o
-      | inr l ↦ ap (λ (line : Line). length line.letters) (get_or_past others place (plain_line []) l)
-    ] in
-    All-set P others place (with_letter letter true (get_or others place (plain_line []))) (length-set (get_or others place (plain_line [])).letters letter true ∙ one) o
-
 -- a letter that is taken from all lines, and the others
 pub set-off : (letters : List Bool) (x : ℕ) → get_or (set letters x false) x false ≡ false
 set-off letters x = elim (cases_lt x (length letters)) [
@@ -220,11 +195,3 @@ line_with-marked_other x y ls place n =
 
 pub length-marked : (x : ℕ) (ls : List Line) (place : ℕ) → length (marked_at place x ls) ≡ length ls
 length-marked x ls place = length-set (map (with_letter x false) ls) place _ ∙ length-map ls (with_letter x false)
-
-pub KnowLetters-carried : (a b place : ℕ) (ls : List Line) → KnowLetters ls → KnowLetters (parts.carried a b place ls)
-KnowLetters-carried a b place ls h =
-    let P = λ (line : Line). length line.letters ≡ 26 in
-    let rest : List Line = take a ls ++ ([] ++ drop b ls) in
-    let r : KnowLetters rest = All-append P (take a ls) ([] ++ drop b ls) (All-take P a ls h) (All-drop P b ls h) in
-    let m : KnowLetters (drop a (take b ls)) = All-drop P a (take b ls) (All-take P b ls h) in
-    All-append P (take place rest) (drop a (take b ls) ++ drop place rest) (All-take P place rest r) (All-append P (drop a (take b ls)) (drop place rest) m (All-drop P place rest r))

@@ -14,9 +14,10 @@ use Rattle.ed_base.specs.declared.fault.Fault.{Fault}
 use Rattle.ed_syntax.specs.Effects.{Outcome, Effect, Makes}
 use Rattle.ed_syntax.specs.declared.request.Answer.{Answer}
 use Rattle.ed_syntax.specs.Applied.{command}
+use Rattle.ed_syntax.specs.CommandLaws.{FlagsMarkNothing, FlagsAreNoBytes}
 use Rattle.ed_rules.specs.Rules.{step}
 use Rattle.ed_rules.specs.declared.state.Undo.{Undo}
-use Rattle.ed_rules.specs.Soundness.{IsDone}
+use Rattle.ed_rules.specs.Soundness.{IsDone, CommandIsSound}
 use Rattle.ed_syntax.specs.Globals.{opened, taken_at, past_of_global, closed}
 use Rattle.ed_rules.specs.declared.state.State.{State}
 use Rattle.ed_rules.specs.StandsFor.{HoldsBy, StandsBy, StandsFor, AllowsPast, AllowsKept, KeepsLettered, AreLettered}
@@ -27,7 +28,11 @@ use Rattle.ed_rules.specs.GlobalSoundness.{StartIsSound, TurnIsSound, EndIsSound
 use Rattle.ed_rules.proofs.Standing.{Reads-current}
 use Rattle.ed_rules.proofs.Finishing.{StandsBy-ended}
 use Rattle.ed_rules.proofs.Flags.{HoldsBy-alike, kept-allowed, lettered-kept, lettered-alike, same-length, alike-flagged_at}
-use Rattle.ed_rules.proofs.Sound.{command_sound}
+
+-- the laws of flags that this rests on
+pub record Laws : Type 0 where
+  pub marks : FlagsMarkNothing
+  pub bytes : FlagsAreNoBytes
 
 -- the start: no state speaks of a global command that is open
 
@@ -39,9 +44,9 @@ opened-stands t e before st = record {
   kept = st.kept;
 }
 
-pub start-sound : StartIsSound
-start-sound c s t e given o before st is makes =
-    opened-stands t o.state before (subst (λ (y : Result Effect Fault). IsDone c s t e given y) makes (command_sound c s t e given st is))
+pub start-sound : CommandIsSound → StartIsSound
+start-sound sound c s t e given o before st is makes =
+    opened-stands t o.state before (subst (λ (y : Result Effect Fault). IsDone c s t e given y) makes (sound c s t e given st is))
 
 -- a line is taken
 
@@ -73,13 +78,14 @@ StandsBy-taken s e v place h st =
       past = st.past;
     }
 
-taken-stands : (s : State) (e : editor.State) (place : ℕ) → place < length e.lines → StandsFor s e → StandsFor (body_entry s) (taken_at e place)
-taken-stands s e place h st =
+taken-stands : Laws → (s : State) (e : editor.State) (place : ℕ) → place < length e.lines → StandsFor s e →
+    StandsFor (body_entry s) (taken_at e place)
+taken-stands k s e place h st =
     let v : Numbers = updated st.numbers 1 (pos (place + 1)) in
     record {
       numbers = v;
       stands = StandsBy-ended (with_zone (line_taken s.zone) s) (taken_at e place) v (StandsBy-taken s e st.numbers place h st.stands);
-      lines = lettered-alike e.lines (flagged_at place false e.lines) (alike-flagged_at place false e.lines) st.lines;
+      lines = lettered-alike k.marks k.bytes e.lines (flagged_at place false e.lines) (alike-flagged_at place false e.lines) st.lines;
       kept = st.kept;
     }
 
@@ -88,11 +94,11 @@ taken-from : (e f : editor.State) (p : Option ℕ) → option_map (taken_at e) p
 taken-from e f None is = absurd cc
 taken-from e f (Some place) is = (place, refl, cc)
 
-pub turn-sound : (s : State) → TurnIsSound s (body_entry s)
-turn-sound s e f st is =
+pub turn-sound : Laws → (s : State) → TurnIsSound s (body_entry s)
+turn-sound k s e f st is =
     let q = taken-from e f (flagged_place e.lines) is in
     let h = (position-Some (λ (line : Line). line.flag) e.lines q.0 (plain_line []) q.1).0 in
-    subst (λ (g : editor.State). StandsFor (body_entry s) g) q.2 (taken-stands s e q.0 h st)
+    subst (λ (g : editor.State). StandsFor (body_entry s) g) q.2 (taken-stands k s e q.0 h st)
 
 -- the end
 
@@ -104,7 +110,8 @@ closed-is : (f : editor.State) (g : Open) → f.global ≡ Some g → closed f �
 closed-is f g is = ap (λ (o : Option Open). elim o as (λ _. editor.State) [ None ↦ f | Some h ↦ over f h ]) is
 
 -- it is over with the old buffer where its list may have changed it
-module _ (before : State) (e : editor.State) (st : StandsFor before e) (list : List Command) (g : Open) (begun : g.before ≡ kept e) (may : g.altered ≡ true → list_may_alter list ≡ true) where
+module _ (k : Laws) (before : State) (e : editor.State) (st : StandsFor before e) (list : List Command) (g : Open)
+    (begun : g.before ≡ kept e) (may : g.altered ≡ true → list_may_alter list ≡ true) where
   old-allowed : AllowsKept (Some (old_of before)) g.before
   old-allowed = subst (λ (k : Kept). AllowsKept (Some (old_of before)) k) (sym begun) (kept-allowed before e (st.numbers, st.stands))
 
@@ -118,7 +125,7 @@ module _ (before : State) (e : editor.State) (st : StandsFor before e) (list : L
   past-lettered : KeepsLettered (past_of_global g)
   past-lettered =
       elim g.altered as (λ b. KeepsLettered (elim b as (λ _. Past) [ true ↦ Was g.before | false ↦ Same ])) [
-        | true ↦ subst (λ (k : Kept). AreLettered k.lines) (sym begun) (lettered-kept e.lines st.lines)
+        | true ↦ subst (λ (k : Kept). AreLettered k.lines) (sym begun) (lettered-kept k.marks k.bytes e.lines st.lines)
         | false ↦ tt
       ]
 
@@ -136,20 +143,23 @@ over-stands s f g undo past kept st = record {
   kept = kept;
 }
 
-pub end-sound : (x : Step) (before invariant : State) → EndIsSound x before invariant (loop_end x before invariant)
-end-sound x before invariant e f g st after is begun may =
+pub end-sound : Laws → (x : Step) (before invariant : State) → EndIsSound x before invariant (loop_end x before invariant)
+end-sound k x before invariant e f g st after is begun may =
     subst (λ (h : editor.State). StandsFor (loop_end x before invariant) h) (sym (closed-is f g is))
-    (over-stands invariant f g (undo_of_global x.list before) (past-allowed before e st x.list g begun may) (past-lettered before e st x.list g begun may) after)
+    (over-stands invariant f g (undo_of_global x.list before) (past-allowed k before e st x.list g begun may)
+    (past-lettered k before e st x.list g begun may) after)
 
 -- of states that are given by their equations
 
-pub start-by : {E : Type 0} (c : Command) (s : State) (r : Result State E) → IfOk r (λ t. step c s ≡ Ok t) →
-    IfOk r (λ t. (e : editor.State) (given : Option Answer) (o : Outcome) (before : Kept) → StandsFor s e → command e c given ≡ Ok (Makes o) → StandsFor t (opened before o.state))
-start-by c s (Ok t) h = λ e given o before st makes. start-sound c s t e given o before st h makes
-start-by c s (Err f) h = tt
+pub start-by : {E : Type 0} → StartIsSound → (c : Command) (s : State) (r : Result State E) → IfOk r (λ t. step c s ≡ Ok t) →
+    IfOk r (λ t. (e : editor.State) (given : Option Answer) (o : Outcome) (before : Kept) → StandsFor s e →
+    command e c given ≡ Ok (Makes o) → StandsFor t (opened before o.state))
+start-by sound c s (Ok t) h = λ e given o before st makes. sound c s t e given o before st h makes
+start-by sound c s (Err f) h = tt
 
-pub turn-by : (s entry : State) → entry ≡ body_entry s → TurnIsSound s entry
-turn-by s entry is = subst (λ (t : State). TurnIsSound s t) (sym is) (turn-sound s)
+pub turn-by : (s entry : State) → TurnIsSound s (body_entry s) → entry ≡ body_entry s → TurnIsSound s entry
+turn-by s entry sound is = subst (λ (t : State). TurnIsSound s t) (sym is) sound
 
-pub end-by : (x : Step) (before invariant end : State) → end ≡ loop_end x before invariant → EndIsSound x before invariant end
-end-by x before invariant end is = subst (λ (t : State). EndIsSound x before invariant t) (sym is) (end-sound x before invariant)
+pub end-by : (x : Step) (before invariant end : State) → EndIsSound x before invariant (loop_end x before invariant) →
+    end ≡ loop_end x before invariant → EndIsSound x before invariant end
+end-by x before invariant end sound is = subst (λ (t : State). EndIsSound x before invariant t) (sym is) sound

@@ -5,6 +5,8 @@ use Rattle.std.proofs.lemmas.Bool.{cases_lt}
 use Rattle.std.proofs.lemmas.List.{length-take-le, get_or_append_left, get_or-append_right, get_or-take, get_or-drop}
 use Rattle.ed_base.specs.Buffer.{Line, plain_line, has_letter, AtMostOnce}
 use Rattle.ed_base.specs.Parts as parts
+use Rattle.ed_syntax.specs.CommandLaws.{WellMarked}
+use Rattle.ed_syntax.proofs.MarkLemmas.{well-carried}
 use Rattle.zones.specs.Bound.{Obeys, sum_of, negative_of}
 use Rattle.zones.specs.Zone.{Bounds, Numbers, Holds, bound, updated}
 use Rattle.zones.specs.Steps.{after_shift, after_set, after_forget}
@@ -15,7 +17,6 @@ use Rattle.ed_rules.specs.Marks.{mark_name}
 use Rattle.ed_rules.specs.Move.{less, mark_moved_up, moved_up, mark_moved_down, moved_down}
 use Rattle.ed_rules.proofs.Basics.{and-both, Obeys-lowered}
 use Rattle.ed_rules.proofs.LettersInLines.{line_with, one_more, one_more-some, line_with-range, no_letter}
-use Rattle.ed_rules.proofs.Keeping.{marks_of, marks_of-here, marks_of-at, count-by_once, once-moved}
 use Rattle.ed_rules.proofs.Finishing.{for_each_sure-by}
 use Rattle.ed_rules.proofs.Inserting.{OnLine, Pushed, Pushed-more}
 
@@ -90,22 +91,32 @@ line_with-has x (l ∷ ls) i e =
           let z : i - 1 ≡ suc (o.0 - 1) = omega arith in rw z h
     ]) refl e
 
-line_with-at : (x : ℕ) (ls : List Line) (i : ℕ) → marks_of x ls ≤ 1 → has_letter x (get_or ls i (plain_line [])) ≡ true → line_with x ls ≡ Some (i + 1)
-line_with-at x [] i h e = let f : false ≡ true = sym (no_letter 26 x) ∙ e in absurd cc
-line_with-at x (l ∷ ls) zero h e = rw e refl
-line_with-at x (l ∷ ls) (suc i) h e =
-    (elim (has_letter x l) as (λ b. has_letter x l ≡ b → cond b (Some 1) (one_more (line_with x ls)) ≡ Some (suc i + 1)) [
-      | true ↦ λ q. let c = marks_of-here x l ls q in let r = marks_of-at x ls i e in absurd (omega arith)
-      | false ↦ λ q. rw (line_with-at x ls i (omega arith) e) (ap Some (omega arith))
-    ]) refl
+line_with-some : (x : ℕ) (ls : List Line) (i : ℕ) → has_letter x (get_or ls i (plain_line [])) ≡ true → (j : ℕ) × (line_with x ls ≡ Some j)
+line_with-some x [] i e = let f : false ≡ true = sym (no_letter 26 x) ∙ e in absurd cc
+line_with-some x (l ∷ ls) zero e = (1, rw e refl)
+line_with-some x (l ∷ ls) (suc i) e =
+    let later = line_with-some x ls i e in
+    elim (has_letter x l) as (λ b. (j : ℕ) × (cond b (Some 1) (one_more (line_with x ls)) ≡ Some j)) [
+      | true ↦ (1, refl)
+      | false ↦ (later.0 + 1, ap one_more later.1)
+    ]
+
+line_with-at : (x : ℕ) (ls : List Line) (i : ℕ) → AtMostOnce ls → has_letter x (get_or ls i (plain_line [])) ≡ true →
+    line_with x ls ≡ Some (i + 1)
+line_with-at x ls i once e =
+    let r = line_with-some x ls i e in
+    let range = line_with-range x ls r.0 r.1 in
+    let same : r.0 - 1 ≡ i = once x (r.0 - 1) i (line_with-has x ls r.0 r.1) e in
+    r.1 ∙ ap Some (omega arith)
 
 -- a letter's line after a move
-module _ (ls : List Line) (a b place : ℕ) (ab : a ≤ b) (inside : b ≤ length ls) (at : place + (b - a) ≤ length ls) (once : AtMostOnce ls) where
+module _ (ls : List Line) (a b place : ℕ) (ab : a ≤ b) (inside : b ≤ length ls) (at : place + (b - a) ≤ length ls)
+    (marked : WellMarked ls) where
   pub line_with-moved : (x i j : ℕ) → line_with x ls ≡ Some i → 1 ≤ j → get_or (parts.carried a b place ls) (j - 1) (plain_line []) ≡ get_or ls (i - 1) (plain_line []) →
       line_with x (parts.carried a b place ls) ≡ Some j
   line_with-moved x i j e one same =
       let has : has_letter x (get_or (parts.carried a b place ls) (j - 1) (plain_line [])) ≡ true = rw same (line_with-has x ls i e) in
-      line_with-at x (parts.carried a b place ls) (j - 1) (count-by_once (parts.carried a b place ls) (once-moved ls a b place ab once) x) has ∙ ap Some (omega arith)
+      line_with-at x (parts.carried a b place ls) (j - 1) (well-carried a b place ls ab marked).once has ∙ ap Some (omega arith)
 
   -- up: the place is before the lines
   pub up-above : (x i : ℕ) → line_with x ls ≡ Some i → place ≤ a → i ≤ place → line_with x (parts.carried a b place ls) ≡ Some i
@@ -175,7 +186,8 @@ or-either true q e = inl refl
 or-either false q e = inr e
 
 -- a command's first address is a + 1, its second b, its target t
-module _ (ls : List Line) (a b t : ℕ) (ab : a < b) (inside : b ≤ length ls) (once : AtMostOnce ls) (sure : List Bool) (before : Bounds) (v : Numbers) (holds : Holds before v)
+module _ (ls : List Line) (a b t : ℕ) (ab : a < b) (inside : b ≤ length ls) (marked : WellMarked ls) (sure : List Bool) (before : Bounds)
+    (v : Numbers) (holds : Holds before v)
     (v3 : v 3 ≡ pos (a + 1)) (v4 : v 4 ≡ pos b) (v5 : v 5 ≡ pos t) (on : (x : ℕ) → x < 26 → get_or sure x false ≡ true → OnLine x ls v) where
   module _ (up : t ≤ a) where
     up-step : (k : ℕ) (z : Bounds) → k < 26 → get_or sure k false ≡ true → Pushed sure (parts.carried a b t ls) (updated v 1 (pos (t + (b - a)))) k z →
@@ -201,10 +213,10 @@ module _ (ls : List Line) (a b t : ℕ) (ab : a < b) (inside : b ≤ length ls) 
           | true ↦ λ p. elim (or-either (known before x 5 (pos 0)) (known before 4 x (negsuc 0)) p) [
             | inl y ↦
                 let d = known-true before v x 5 (pos 0) y (omega arith) (omega arith) holds in
-                kept-at sure N u k z q i ui (up-above ls a b t le inside at once k i o.1 up (omega (arith, ints)))
+                kept-at sure N u k z q i ui (up-above ls a b t le inside at marked k i o.1 up (omega (arith, ints)))
             | inr y ↦
                 let d = known-true before v 4 x (negsuc 0) y (omega arith) (omega arith) holds in
-                kept-at sure N u k z q i ui (up-below ls a b t le inside at once k i o.1 up (omega (arith, ints)))
+                kept-at sure N u k z q i ui (up-below ls a b t le inside at marked k i o.1 up (omega (arith, ints)))
           ]
           | false ↦ λ _.
               (elim (known before 5 x (negsuc 0) && known before x 3 (negsuc 0)) as (λ c. known before 5 x (negsuc 0) && known before x 3 (negsuc 0) ≡ c →
@@ -215,7 +227,7 @@ module _ (ls : List Line) (a b t : ℕ) (ab : a < b) (inside : b ≤ length ls) 
                     let d2 = known-true before v x 3 (negsuc 0) both.1 (omega arith) (omega arith) holds in
                     let j : ℕ = i + (b - a) in
                     shifted-to sure N u k z q i j (sum_of (least before 4 3) (Some (pos 1))) (sum_of (greatest before 4 3) (Some (pos 1))) h ui
-                    (up-passed ls a b t le inside at once k i o.1 up (omega (arith, ints)) (omega (arith, ints)))
+                    (up-passed ls a b t le inside at marked k i o.1 up (omega (arith, ints)) (omega (arith, ints)))
                     (Obeys-sum_of (v 4 -ℤ v 3) (pos 1) (pos j -ℤ pos i) (bound before 4 3) (Some (pos 1)) (Obeys-bound before 4 3 v (omega arith) (omega arith) holds) (omega (arith, ints)) (omega (arith, ints)))
                     (Obeys-lowered (v 3 -ℤ v 4) (pos 1) (pos i -ℤ pos j) (bound before 3 4) (Obeys-bound before 3 4 v (omega arith) (omega arith) holds) (omega (arith, ints)))
                 | false ↦ λ _.
@@ -228,18 +240,18 @@ module _ (ls : List Line) (a b t : ℕ) (ab : a < b) (inside : b ≤ length ls) 
                           let low : a < i = omega (arith, ints) in
                           let high : i ≤ b = omega (arith, ints) in
                           shifted-to sure N u k z q i j (less (pos 1) (greatest before 3 5)) (less (pos 1) (least before 3 5)) h ui
-                          (moved-lines ls a b t le inside at once k i o.1 low high)
+                          (moved-lines ls a b t le inside at marked k i o.1 low high)
                           (Obeys-sum_of (v 5 -ℤ v 3) (pos 1) (pos j -ℤ pos i) (negative_of (negative_of (bound before 5 3))) (Some (pos 1))
                           (Obeys-twice_negative (v 5 -ℤ v 3) (v 5 -ℤ v 3) (bound before 5 3) (Obeys-bound before 5 3 v (omega arith) (omega arith) holds) refl) (omega (arith, ints)) (omega (arith, ints)))
                           (Obeys-lowered (v 3 -ℤ v 5) (pos 1) (pos i -ℤ pos j) (bound before 3 5) (Obeys-bound before 3 5 v (omega arith) (omega arith) holds) (omega (arith, ints)))
                       | false ↦ λ _.
                           elim (cases_lt t i) [
-                            | inr y ↦ forgotten-to sure N u k z q i h (up-above ls a b t le inside at once k i o.1 up y)
+                            | inr y ↦ forgotten-to sure N u k z q i h (up-above ls a b t le inside at marked k i o.1 up y)
                             | inl y ↦ elim (cases_lt a i) [
-                              | inr w ↦ forgotten-to sure N u k z q (i + (b - a)) h (up-passed ls a b t le inside at once k i o.1 up y w)
+                              | inr w ↦ forgotten-to sure N u k z q (i + (b - a)) h (up-passed ls a b t le inside at marked k i o.1 up y w)
                               | inl w ↦ elim (cases_lt b i) [
-                                | inr s ↦ forgotten-to sure N u k z q (t + (i - a)) h (moved-lines ls a b t le inside at once k i o.1 w s)
-                                | inl s ↦ forgotten-to sure N u k z q i h (up-below ls a b t le inside at once k i o.1 up s)
+                                | inr s ↦ forgotten-to sure N u k z q (t + (i - a)) h (moved-lines ls a b t le inside at marked k i o.1 w s)
+                                | inl s ↦ forgotten-to sure N u k z q i h (up-below ls a b t le inside at marked k i o.1 up s)
                               ]
                             ]
                           ]
@@ -292,10 +304,11 @@ module _ (ls : List Line) (a b t : ℕ) (ab : a < b) (inside : b ≤ length ls) 
           | true ↦ λ p. elim (or-either (known before x 3 (negsuc 0)) (known before 5 x (negsuc 0)) p) [
             | inl y ↦
                 let d = known-true before v x 3 (negsuc 0) y (omega arith) (omega arith) holds in
-                kept-at sure N u k z q i ui (down-above ls a b place le inside at once k i o.1 from (omega (arith, ints)))
+                kept-at sure N u k z q i ui (down-above ls a b place le inside at marked k i o.1 from (omega (arith, ints)))
             | inr y ↦
                 let d = known-true before v 5 x (negsuc 0) y (omega arith) (omega arith) holds in
-                kept-at sure N u k z q i ui (down-below ls a b place le inside at once k i o.1 from (let l : t < i = omega (arith, ints) in omega arith))
+                kept-at sure N u k z q i ui
+                (down-below ls a b place le inside at marked k i o.1 from (let l : t < i = omega (arith, ints) in omega arith))
           ]
           | false ↦ λ _.
               (elim (known before 4 x (negsuc 0) && known before x 5 (pos 0)) as (λ c. known before 4 x (negsuc 0) && known before x 5 (pos 0) ≡ c →
@@ -308,7 +321,7 @@ module _ (ls : List Line) (a b t : ℕ) (ab : a < b) (inside : b ≤ length ls) 
                     let low : b < i = omega (arith, ints) in
                     let high : i ≤ t = omega (arith, ints) in
                     shifted-to sure N u k z q i j (less (negsuc 0) (greatest before 4 3)) (less (negsuc 0) (least before 4 3)) h ui
-                    (down-passed ls a b place le inside at once k i o.1 from low (omega arith))
+                    (down-passed ls a b place le inside at marked k i o.1 from low (omega arith))
                     (Obeys-sum_of (v 3 -ℤ v 4) (negsuc 0) (pos j -ℤ pos i) (negative_of (negative_of (bound before 3 4))) (Some (negsuc 0))
                     (Obeys-twice_negative (v 3 -ℤ v 4) (v 3 -ℤ v 4) (bound before 3 4) (Obeys-bound before 3 4 v (omega arith) (omega arith) holds) refl) (omega (arith, ints)) (omega (arith, ints)))
                     (Obeys-lowered (v 4 -ℤ v 3) (negsuc 0) (pos i -ℤ pos j) (bound before 4 3) (Obeys-bound before 4 3 v (omega arith) (omega arith) holds) (omega (arith, ints)))
@@ -323,17 +336,20 @@ module _ (ls : List Line) (a b t : ℕ) (ab : a < b) (inside : b ≤ length ls) 
                           let high : i ≤ b = omega (arith, ints) in
                           let up : pos j -ℤ pos i ≡ v 5 -ℤ v 4 = omega (arith, ints) in
                           shifted-to sure N u k z q i j (least before 5 4) (greatest before 5 4) h ui
-                          (moved-lines ls a b place le inside at once k i o.1 low high)
+                          (moved-lines ls a b place le inside at marked k i o.1 low high)
                           (subst (λ (d : ℤ). Obeys d (bound before 5 4)) (sym up) (Obeys-bound before 5 4 v (omega arith) (omega arith) holds))
                           (Obeys-twice_negative (v 4 -ℤ v 5) (pos i -ℤ pos j) (bound before 4 5) (Obeys-bound before 4 5 v (omega arith) (omega arith) holds) (omega (arith, ints)))
                       | false ↦ λ _.
                           elim (cases_lt a i) [
-                            | inr y ↦ forgotten-to sure N u k z q i h (down-above ls a b place le inside at once k i o.1 from y)
+                            | inr y ↦ forgotten-to sure N u k z q i h (down-above ls a b place le inside at marked k i o.1 from y)
                             | inl y ↦ elim (cases_lt b i) [
-                              | inr w ↦ forgotten-to sure N u k z q (place + (i - a)) h (moved-lines ls a b place le inside at once k i o.1 y w)
+                              | inr w ↦ forgotten-to sure N u k z q (place + (i - a)) h
+                                  (moved-lines ls a b place le inside at marked k i o.1 y w)
                               | inl w ↦ elim (cases_lt t i) [
-                                | inr s ↦ forgotten-to sure N u k z q (i - (b - a)) h (down-passed ls a b place le inside at once k i o.1 from w (omega arith))
-                                | inl s ↦ forgotten-to sure N u k z q i h (down-below ls a b place le inside at once k i o.1 from (omega arith))
+                                | inr s ↦ forgotten-to sure N u k z q (i - (b - a)) h
+                                    (down-passed ls a b place le inside at marked k i o.1 from w (omega arith))
+                                | inl s ↦ forgotten-to sure N u k z q i h
+                                    (down-below ls a b place le inside at marked k i o.1 from (omega arith))
                               ]
                             ]
                           ]

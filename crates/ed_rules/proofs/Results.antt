@@ -1,5 +1,5 @@
--- What a substitution makes of lines: how many there are, which letters mark them, and where the last one that was made is.
-use Rattle.std.proofs.Common.{◌≡◌, ◌≤◌, ℕ, suc, ◌+◌, ◌-◌, Bool, true, false, cond, ◌||◌, List, [], ◌∷◌, ◌++◌, map, take, drop, length, length-append, Option, None, Some, option_map, Ok, Err, arith, refl, sym, ◌∙◌, ap, subst, nat_le, IsSome, IsTrue}
+-- What a substitution makes of lines: how many there are, which letters mark none, and where the last one that was made is.
+use Rattle.std.proofs.Common.{◌≡◌, ◌≢◌, ◌≤◌, ℕ, suc, ◌+◌, ◌-◌, Bool, true, false, cond, ◌||◌, List, [], ◌∷◌, ◌++◌, map, take, drop, length, length-append, Option, None, Some, option_map, Ok, Err, arith, refl, sym, ◌∙◌, ap, subst, nat_le, IsSome, IsTrue}
 use Rattle.std.specs.Prelude.{unwrap_or, slice_index_or}
 use Rattle.std.specs.List.{list_any, flat_map}
 use Rattle.std.proofs.lemmas.Bool.{eqb-false, leb-true, le-leb}
@@ -22,11 +22,18 @@ use Rattle.ed_syntax.specs.declared.replacement.Which.TheVariants as which
 use Rattle.ed_syntax.specs.Substitution.{Found, is_empty, taken_first, taken_from, taken, picked, group_bytes, expanded, rewritten, replaced_in, split_at_newlines, substituted}
 use Rattle.ed_syntax.specs.SubstitutedLines.{made_of, Results, onto, each}
 use Rattle.ed_rules.specs.Addresses.{is_always}
-use Rattle.ed_rules.specs.StandsFor.{ends_line, AreWhole}
+use Rattle.ed_syntax.specs.CommandLaws.{AreWhole}
+use Rattle.ed_rules.specs.StandsFor.{ends_line}
 use Rattle.ed_rules.specs.Substituting.{takes_first}
-use Rattle.ed_rules.proofs.LettersInLines.{line_with, one_more, one_more-none, line_with-plain, KnowLetters-plain}
-use Rattle.ed_rules.proofs.Keeping.{marks_of, marks_of-append, marks_of-plain}
-use Rattle.ed_rules.proofs.Whole.{IsOther, IsWhole, whole-plain}
+use Rattle.ed_rules.proofs.LettersInLines.{line_with, one_more, one_more-none, line_with-plain}
+
+-- a byte that is no newline
+abbrev IsOther : ℕ → Type 0
+IsOther byte = byte ≢ newline
+
+-- a line whose bytes are a line's
+abbrev IsWhole : Line → Type 0
+IsWhole line = IsLine line.bytes
 
 -- what comes of a line, if anything does
 abbrev pub Maker : Type 0
@@ -35,26 +42,6 @@ Maker = List ℕ → Option (List (List ℕ))
 -- ANY WAY TO MAKE LINES OF A LINE
 
 module _ (f : Maker) where
-  -- of each line it is known which letters mark it
-  known-onto : (line : Line) (o : Option (List (List ℕ))) (later : Results) → length line.letters ≡ 26 → KnowLetters later.0 → KnowLetters (onto line o later).0
-  known-onto line None later h k = All-cons (λ (l : Line). length l.letters ≡ 26) line later.0 h k
-  known-onto line (Some texts) later h k = All-append (λ (l : Line). length l.letters ≡ 26) (map plain_line texts) later.0 (KnowLetters-plain texts) k
-
-  pub results-known : (ls : List Line) → KnowLetters ls → KnowLetters (each f ls).0
-  results-known [] h = h
-  results-known (line ∷ ls) h =
-      let P = λ (l : Line). length l.letters ≡ 26 in
-      known-onto line (f line.bytes) (each f ls) (All-head P line ls h) (results-known ls (All-tail P line ls h))
-
-  -- no letter marks more lines than before
-  few-onto : (x : ℕ) (line : Line) (o : Option (List (List ℕ))) (later : Results) (ls : List Line) → marks_of x later.0 ≤ marks_of x ls → marks_of x (onto line o later).0 ≤ marks_of x (line ∷ ls)
-  few-onto x line None later ls h = omega arith
-  few-onto x line (Some texts) later ls h = let p = marks_of-plain x texts in let q = marks_of-append x (map plain_line texts) later.0 in omega arith
-
-  pub results-few : (x : ℕ) (ls : List Line) → marks_of x (each f ls).0 ≤ marks_of x ls
-  results-few x [] = omega arith
-  results-few x (line ∷ ls) = few-onto x line (f line.bytes) (each f ls) ls (results-few x ls)
-
   -- a letter that marks none marks none of what comes of them
   none-after : (x : ℕ) (s t : List Line) → line_with x s ≡ None → line_with x t ≡ None → line_with x (s ++ t) ≡ None
   none-after x [] t e h = h
@@ -147,16 +134,6 @@ module _ (f : Maker) where
         subst (λ (o : Option (List (List ℕ))). (onto line o (each f ls)).1 ≡ Some (length (onto line o (each f ls)).0)) (sym q.1)
         (all-onto line q.0 (each f ls) (results-unwrapped ls))
 
-  -- lines hold no newline
-  whole-onto : (line : Line) (o : Option (List (List ℕ))) (later : Results) → ((ts : List (List ℕ)) → o ≡ Some ts → AreLines ts) → IsWhole line → AreWhole later.0 → AreWhole (onto line o later).0
-  whole-onto line None later h k l = All-cons IsWhole line later.0 k l
-  whole-onto line (Some ts) later h k l = All-append IsWhole (map plain_line ts) later.0 (whole-plain ts (h ts refl)) l
-
-  pub results-whole : ((line : List ℕ) (ts : List (List ℕ)) → f line ≡ Some ts → AreLines ts) → (ls : List Line) → AreWhole ls → AreWhole (each f ls).0
-  results-whole lines [] h = h
-  results-whole lines (line ∷ ls) h =
-      whole-onto line (f line.bytes) (each f ls) (lines line.bytes) (All-head IsWhole line ls h) (results-whole lines ls (All-tail IsWhole line ls h))
-
 -- SUBSTITUTION ON ONE LINE
 
 -- what comes of a line is cut from a text in which some matches were replaced
@@ -172,11 +149,6 @@ module _ (text : List ℕ) (parts : List Part) (choice : Which) where
         | Ok tree ↦ λ e. from-replaced parts line (picked choice (taken tree line)) ts e
         | Err f ↦ λ e. cc
       ]
-
-  pub made-lines : (line : List ℕ) (ts : List (List ℕ)) → made_of text parts choice line ≡ Some ts → AreLines ts
-  made-lines line ts e =
-      let q = made-from line ts e in
-      subst (λ (l : List (List ℕ)). AreLines l) q.1 (HoldsLines-lines (HoldsLines-lines_of (rewritten parts line 0 q.0 ++ newline ∷ [])))
 
   pub made-some : (line : List ℕ) (ts : List (List ℕ)) → made_of text parts choice line ≡ Some ts → 1 ≤ length ts
   made-some line ts e =

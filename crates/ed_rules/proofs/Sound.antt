@@ -5,8 +5,9 @@ use Rattle.ed_base.specs.declared.fault.Fault.TheVariants as fault
 use Rattle.ed_syntax.specs.declared.request.Answer.{Answer}
 use Rattle.ed_syntax.specs.Commands.{Command}
 use Rattle.ed_syntax.specs.States as editor
-use Rattle.ed_syntax.specs.Effects.{Effect, Makes, Asks}
+use Rattle.ed_syntax.specs.Effects.{Outcome, Effect, Makes, Asks}
 use Rattle.ed_syntax.specs.Applied.{command}
+use Rattle.ed_syntax.specs.CommandLaws.{SpansAreInOrder, CommandsKeepMarks, CommandsKeepLines}
 use Rattle.ed_syntax.specs.Values.{◌>>◌}
 use Rattle.ed_syntax.specs.Verbs.{takes, given_or}
 use Rattle.ed_rules.specs.declared.state.State.{State}
@@ -18,17 +19,26 @@ use Rattle.ed_rules.specs.Soundness.{IsUnserved, IsDone, CommandIsSound}
 use Rattle.ed_rules.specs.StandsFor.{StandsFor}
 use Rattle.ed_rules.proofs.Answering.{Does, Comes}
 use Rattle.ed_rules.proofs.Commanding.{phases_sound}
-use Rattle.ed_rules.proofs.Lettered.{OnMade, LeavesLettered, command-lettered}
+use Rattle.ed_rules.proofs.Lettered.{LeavesLettered, command-lettered}
+use Rattle.ed_rules.proofs.Asking as asking
 use Rattle.ed_rules.proofs.Asking.{may-ask, is-unserved}
+
+-- the laws of commands that this rests on
+pub record Laws : Type 0 where
+  pub answers : asking.Laws
+  pub order : SpansAreInOrder
+  pub marks : CommandsKeepMarks
+  pub lines : CommandsKeepLines
 
 -- a text that holds a newline is refused by the rule
 abbrev Entered : Command → Type 0
 Entered c = enters_lines c.verb ≡ true
 
-step-does : (c : Command) (s : State) (e : editor.State) (given : Option Answer) → StandsFor s e → Does Comes given (step c s) (command e c given)
-step-does c s e given st =
+step-does : SpansAreInOrder → (c : Command) (s : State) (e : editor.State) (given : Option Answer) → StandsFor s e →
+    Does Comes given (step c s) (command e c given)
+step-does order c s e given st =
     elim (enters_lines c.verb) as (λ b. Does Comes given (needing b fault.Syntax s >> step_at (given_or c.addresses (standing (takes c.verb).default)) c) (command e c given)) [
-      | true ↦ phases_sound c s e given st.lines (st.numbers, st.stands)
+      | true ↦ phases_sound order c s e given st.lines (st.numbers, st.stands)
       | false ↦ tt
     ]
 
@@ -45,22 +55,26 @@ never-fails t (Err g) f h is = h
 never-fails t (Ok (Makes o)) f h is = absurd cc
 never-fails t (Ok (Asks r)) f h is = absurd cc
 
-module _ (c : Command) (s t : State) (e : editor.State) (st : StandsFor s e) (is : step c s ≡ Ok t) where
+module _ (k : Laws) (c : Command) (s t : State) (e : editor.State) (st : StandsFor s e) (is : step c s ≡ Ok t) where
   does : (given : Option Answer) → Does Comes given (Ok t) (command e c given)
-  does given = subst (λ (x : Result State Fault). Does Comes given x (command e c given)) is (step-does c s e given st)
+  does given = subst (λ (x : Result State Fault). Does Comes given x (command e c given)) is (step-does k.order c s e given st)
 
   fails-well : (given : Option Answer) (f : Fault) → Does Comes given (Ok t) (Err f) → command e c given ≡ Err f → IsUnserved c e given f
   fails-well None f h same = h
-  fails-well (Some a) f h same = is-unserved c e a f (λ g. never-fails t (command e c None) g (does None)) h same
+  fails-well (Some a) f h same = is-unserved k.answers c e a f (λ g. never-fails t (command e c None) g (does None)) h same
 
-  done-by : (given : Option Answer) (y : Result Effect Fault) → command e c given ≡ y → Does Comes given (Ok t) y → OnMade LeavesLettered y → IsDone c s t e given y
+  done-by : (given : Option Answer) (y : Result Effect Fault) → command e c given ≡ y → Does Comes given (Ok t) y →
+      ((o : Outcome) → y ≡ Ok (Makes o) → LeavesLettered o) → IsDone c s t e given y
   done-by given (Err f) same h l = fails-well given f h same
-  done-by given (Ok (Asks r)) same h l = may-ask c s e given r st.stands.remembered.2 same
-  done-by given (Ok (Makes o)) same h l = record { numbers = h.0; stands = h.1; lines = l.0; kept = l.1 }
+  done-by given (Ok (Asks r)) same h l = may-ask k.answers c s e given r st.stands.remembered.2 same
+  done-by given (Ok (Makes o)) same h l =
+      let left = l o refl in
+      record { numbers = h.0; stands = h.1; lines = left.0; kept = left.1 }
 
-pub command_sound : CommandIsSound
-command_sound c s t e given st is =
-    done-by c s t e st is given (command e c given) refl (does c s t e st is given) (command-lettered c e given (entered c s t is) st.lines st.kept)
+pub command_sound : Laws → CommandIsSound
+command_sound k c s t e given st is =
+    done-by k c s t e st is given (command e c given) refl (does k c s t e st is given)
+    (λ o makes. command-lettered k.marks k.lines c e given o makes (entered c s t is) st.lines st.kept)
 
 -- where the needs hold, the command meets no fault but that of a file
 fault-unserved : (c : Command) (s t : State) (e : editor.State) (given : Option Answer) (y : Result Effect Fault) → IsDone c s t e given y → IfErr y (IsUnserved c e given)
@@ -71,7 +85,8 @@ value-of : (x : Result State Fault) → fault_of x ≡ None → (t : State) × (
 value-of (Err f) h = absurd cc
 value-of (Ok t) h = (t, refl)
 
-pub needs-met : (c : Command) (s : State) (e : editor.State) (given : Option Answer) → fault_of (step c s) ≡ None → StandsFor s e → IfErr (command e c given) (IsUnserved c e given)
-needs-met c s e given h st =
+pub needs-met : CommandIsSound → (c : Command) (s : State) (e : editor.State) (given : Option Answer) → fault_of (step c s) ≡ None →
+    StandsFor s e → IfErr (command e c given) (IsUnserved c e given)
+needs-met sound c s e given h st =
     let v = value-of (step c s) h in
-    fault-unserved c s v.0 e given (command e c given) (command_sound c s v.0 e given st v.1)
+    fault-unserved c s v.0 e given (command e c given) (sound c s v.0 e given st v.1)

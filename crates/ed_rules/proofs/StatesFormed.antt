@@ -10,7 +10,7 @@ use Rattle.ed_rules.specs.declared.state.Undo.{Undo}
 use Rattle.ed_rules.specs.declared.state.State.{State}
 use Rattle.ed_rules.specs.Choices.{Choice}
 use Rattle.ed_rules.specs.Marks.{no_marks}
-use Rattle.ed_rules.specs.Formed.{ChoiceIsBytes, AddressesAreBytes, VerbIsBytes, TextsAreBytes, IsFormed}
+use Rattle.ed_rules.specs.Formed.{ChoiceIsBytes, AddressesAreBytes, VerbIsBytes, TextsAreBytes, IsFormed, IsEnded}
 use Rattle.ed_rules.specs.States.{start}
 use Rattle.ed_rules.specs.Order.{join, widen}
 use Rattle.ed_rules.specs.Pieces.{with_zone, ended}
@@ -20,7 +20,10 @@ use Rattle.ed_rules.specs.Rules.{taken, effect, suffixed, step_at, step}
 use Rattle.ed_rules.specs.Globals.{finished, line_taken, body_entry, list_may_alter, old_if, undo_of_global, loop_end}
 use Rattle.ed_rules.proofs.SpeakingPieces.{Speaks-start, Inner-line_taken}
 use Rattle.ed_rules.proofs.RisingChoices.{SetIsFormed-only}
-use Rattle.ed_rules.proofs.Forming.{OldSpeaks, Forming, Closed, Closed-forming, formed-Closed, Closed-formed, forming-zone, forming-change, Closed-finished, Closed-join, Closed-widen, IfOk-bind, IfOk-needing, IfOk-need_then, IfOk-weaker}
+use Rattle.ed_rules.proofs.CountedLines.{start-counted}
+use Rattle.ed_syntax.proofs.ResultLemmas.{IfOk-bind}
+use Rattle.std.proofs.lemmas.Result.{IfOk-weaker}
+use Rattle.ed_rules.proofs.Forming.{OldSpeaks, Forming, Closed, Closed-forming, formed-Closed, Closed-formed, forming-zone, forming-change, AtEnd, finished-AtEnd, AtEnd-ended, Closed-join, Closed-widen, IfOk-needing, IfOk-need_then}
 use Rattle.ed_rules.proofs.FormingAddresses.{addressed-formed, targeted-formed, given-bytes, own-bytes, target-bytes, taken-formed}
 use Rattle.ed_rules.proofs.FormingRows.{appended-formed, inserted-formed, changed_to-formed, joined_given-formed, mark-formed, current_at-formed, copied_lines-formed, moved_lines-formed, pattern-formed, substituted-formed, read-formed, written-formed, saved-formed, edited_anyway-formed, edited-formed, file_named-formed, undone-formed}
 
@@ -32,8 +35,10 @@ Closed-start path min max b = record {
   aside = record { patterns_are = SetIsFormed-only None tt; kind = refl; names_are = SetIsFormed-only path b; flag = refl; past = refl; old = tt };
 }
 
-pub start-formed : (path : Choice) (min : ℕ) (max : Option ℕ) → ChoiceIsBytes path → IsFormed (start path min max)
-start-formed path min max b = Closed-formed (start path min max) (Closed-start path min max b)
+pub start-formed : (path : Choice) (min : ℕ) (max : Option ℕ) → ChoiceIsBytes path → IsEnded (start path min max)
+unfolding start
+start-formed path min max b =
+    record { formed = Closed-formed (start path min max) (Closed-start path min max b); counted = start-counted min max }
 
 pub join-formed : (one other : State) → IsFormed one → IsFormed other → IsFormed (join one other)
 join-formed one other h k = Closed-formed (join one other) (Closed-join one other (formed-Closed one h) (formed-Closed other k))
@@ -43,23 +48,25 @@ widen-formed old new h k = Closed-formed (widen old new) (Closed-widen old new (
 
 -- THE LIST OF A GLOBAL COMMAND
 
-pub entry-formed : (invariant : State) → IsFormed invariant → IsFormed (body_entry invariant)
+pub entry-formed : (invariant : State) → IsFormed invariant → IsEnded (body_entry invariant)
 entry-formed invariant h =
     let f : Forming invariant = Closed-forming invariant (formed-Closed invariant h) in
     let t : State = with_zone (line_taken invariant.zone) invariant in
-    Closed-formed (finished t) (Closed-finished t (forming-zone invariant (line_taken invariant.zone) (Inner-line_taken invariant.marks invariant.zone f.zone) f))
+    AtEnd-ended (finished t)
+    (finished-AtEnd t (forming-zone invariant (line_taken invariant.zone) (Inner-line_taken invariant.marks invariant.zone f.zone) f))
 
 old_if-speaks : (b : Bool) (before : State) → Closed before → OldSpeaks (old_if b before)
 old_if-speaks true before h = (h.letters, h.zone)
 old_if-speaks false before h = tt
 
-pub end-formed : (x : Step) (before invariant : State) → IsFormed before → IsFormed invariant → IsFormed (loop_end x before invariant)
+pub end-formed : (x : Step) (before invariant : State) → IsFormed before → IsFormed invariant → IsEnded (loop_end x before invariant)
 end-formed x before invariant h k =
     let f : Forming invariant = Closed-forming invariant (formed-Closed invariant k) in
     let u : Undo = undo_of_global x.list before in
     let t : State = record invariant { undo = u } in
-    Closed-formed (finished t)
-    (Closed-finished t (forming-change invariant invariant.changed u f.aside.flag refl (old_if-speaks (list_may_alter x.list) before (formed-Closed before h)) f))
+    AtEnd-ended (finished t)
+    (finished-AtEnd t (forming-change invariant invariant.changed u f.aside.flag refl
+    (old_if-speaks (list_may_alter x.list) before (formed-Closed before h)) f))
 
 -- ONE COMMAND
 
@@ -89,24 +96,25 @@ effect-formed listed given ed.PromptMode start s b c h = h
 effect-formed listed given ed.Quit start s b c h = saved-formed s h
 effect-formed listed given ed.QuitAnyway start s b c h = h
 
-suffixed-formed : (suffix : Option Form) (s : State) → Closed s → IfOk (suffixed suffix s) Closed
+suffixed-formed : (suffix : Option Form) (s : State) → AtEnd s → IfOk (suffixed suffix s) AtEnd
 suffixed-formed None s h = h
-suffixed-formed (Some form) s h = IfOk-needing Closed (known s.zone 0 1 (negsuc 0)) fault.Address s (λ e. h)
+suffixed-formed (Some form) s h = IfOk-needing AtEnd (known s.zone 0 1 (negsuc 0)) fault.Address s (λ e. h)
 
-step_at-formed : (a : Addresses) (c : Command) (s : State) → AddressesAreBytes a → VerbIsBytes c.verb → Closed s → IfOk (step_at a c s) Closed
+step_at-formed : (a : Addresses) (c : Command) (s : State) → AddressesAreBytes a → VerbIsBytes c.verb → Closed s →
+    IfOk (step_at a c s) AtEnd
 step_at-formed a c s b v h =
-    IfOk-bind Forming Closed (addressed a s) _ (addressed-formed a s b (Closed-forming s h))
+    IfOk-bind Forming AtEnd (addressed a s) _ (addressed-formed a s b (Closed-forming s h))
     (λ t f.
-    IfOk-bind Forming Closed (targeted (takes c.verb).target t) _ (targeted-formed (takes c.verb).target t (target-bytes c.verb v) f)
+    IfOk-bind Forming AtEnd (targeted (takes c.verb).target t) _ (targeted-formed (takes c.verb).target t (target-bytes c.verb v) f)
     (λ p g.
-    IfOk-bind Forming Closed (taken (takes c.verb).taking c.addresses a p) _ (taken-formed (takes c.verb).taking c.addresses a p g)
+    IfOk-bind Forming AtEnd (taken (takes c.verb).taking c.addresses a p) _ (taken-formed (takes c.verb).taking c.addresses a p g)
     (λ u k.
-    IfOk-bind Forming Closed (effect c.listed c.addresses c.verb s u) _ (effect-formed c.listed c.addresses c.verb s u v h k)
-    (λ r q. suffixed-formed c.suffix (with_zone (ended r.marks r.zone) r) (Closed-finished r q)))))
+    IfOk-bind Forming AtEnd (effect c.listed c.addresses c.verb s u) _ (effect-formed c.listed c.addresses c.verb s u v h k)
+    (λ r q. suffixed-formed c.suffix (with_zone (ended r.marks r.zone) r) (finished-AtEnd r q)))))
 
-pub command-formed : (c : Command) (s : State) → TextsAreBytes c → IsFormed s → IfOk (step c s) IsFormed
+pub command-formed : (c : Command) (s : State) → TextsAreBytes c → IsFormed s → IfOk (step c s) IsEnded
 command-formed c s b h =
     let a : Addresses = given_or c.addresses (standing (takes c.verb).default) in
-    IfOk-weaker Closed IsFormed (step c s) Closed-formed
-    (IfOk-need_then Closed (enters_lines c.verb) fault.Syntax s (step_at a c)
+    IfOk-weaker (step c s) AtEnd IsEnded AtEnd-ended
+    (IfOk-need_then AtEnd (enters_lines c.verb) fault.Syntax s (step_at a c)
     (λ e. step_at-formed a c s (given-bytes c.addresses (standing (takes c.verb).default) b.0 (own-bytes c.verb)) b.1 (formed-Closed s h)))

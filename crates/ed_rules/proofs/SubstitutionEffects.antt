@@ -3,10 +3,11 @@ use Rattle.std.proofs.Common.{◌≡◌, ℕ, zero, suc, ◌+◌, ◌-◌, pos, 
 use Rattle.std.specs.Prelude.{not, ok_or}
 use Rattle.std.specs.List.{list_any, list_all}
 use Rattle.std.proofs.lemmas.List.{length-take-le}
+use Rattle.std.proofs.lemmas.List.Elements.{All-take, All-drop}
 use Rattle.ed_base.specs.declared.fault.Fault.{Fault}
 use Rattle.ed_base.specs.declared.fault.Fault.TheVariants as fault
 use Rattle.ed_base.specs.Buffer.{Line, has_letter}
-use Rattle.ed_base.specs.Lines.{newline}
+use Rattle.ed_base.specs.Lines.{newline, IsLine}
 use Rattle.ed_base.specs.Parts as parts
 use Rattle.zones.specs.Steps.{after_set, after_guard, after_forget}
 use Rattle.ed_syntax.specs.declared.replacement.Part.{Part}
@@ -24,7 +25,8 @@ use Rattle.ed_syntax.specs.SubstitutedLines.{made_of, Results, each, used_replac
 use Rattle.ed_rules.specs.declared.state.Replacements.{Replacements}
 use Rattle.ed_rules.specs.declared.state.State.{State}
 use Rattle.ed_rules.specs.Choices.{Choice, has_choice}
-use Rattle.ed_rules.specs.StandsFor.{ends_line, allows_replacement, AreWhole}
+use Rattle.ed_syntax.specs.CommandLaws.{AreWhole}
+use Rattle.ed_rules.specs.StandsFor.{ends_line, allows_replacement}
 use Rattle.ed_rules.specs.Order.{join}
 use Rattle.ed_rules.specs.Pieces.{with_zone, modified}
 use Rattle.ed_rules.specs.Addresses.{is_always, possible_patterns}
@@ -38,7 +40,6 @@ use Rattle.ed_rules.proofs.Spans.{Ranges, Ranges-by}
 use Rattle.ed_rules.proofs.Joining.{Stands-join, Stands-join_other}
 use Rattle.ed_rules.proofs.Finishing.{Follows}
 use Rattle.ed_rules.proofs.Effects.{altered-aside}
-use Rattle.ed_rules.proofs.Whole.{whole-block}
 use Rattle.ed_rules.proofs.Results.{results-none, results-within, results-least, results-same, results-all, made-some, made-one, always-makes}
 use Rattle.ed_rules.proofs.Substituting.{Exchanges, exchanged-last, exchanged-some, exchanged-split}
 
@@ -144,7 +145,9 @@ module _ (text : List ℕ) (replacement : List Part) (choice : Which) (s : State
   exchanges : (splits : Bool) → (splits ≡ false → list_any ends_line replacement ≡ false) → Exchanges splits x.first x.last e.lines new.0
   exchanges splits plain = record {
     least = let q = results-least (made_of text replacement choice) (made-some text replacement choice) block in let z = block-size in omega arith;
-    same = λ k. results-same (made_of text replacement choice) (made-one text replacement choice (plain k)) block (whole-block (x.first - 1) x.last e.lines whole) ∙ block-size;
+    same = λ k. results-same (made_of text replacement choice) (made-one text replacement choice (plain k)) block
+        (All-drop (λ (line : Line). IsLine line.bytes) (x.first - 1) (take x.last e.lines)
+        (All-take (λ (line : Line). IsLine line.bytes) x.last e.lines whole)) ∙ block-size;
     none = λ letter line h after.
         results-none (made_of text replacement choice) letter block (none-dropped letter (take x.last e.lines) (x.first - 1) (line_with-take_before letter e.lines x.last line h after));
   }

@@ -2,8 +2,10 @@
 -- rises.
 use Rattle.std.specs.Prelude.{◌≡◌, ℕ, ◌-◌, ◌<◌, ◌/◌, ◌%◌, ◌==◌, zero, ℤ, pos, Bool, true, false, not, ◌&&◌, ◌||◌, List, [], ◌∷◌, length, get_or, Option, Some, None, is_some, nat_le, nat_lt, All}
 use Rattle.std.specs.Ordering.{is_lt}
-use Rattle.zones.specs.Zone.{Bounds}
-use Rattle.zones.specs.Limits.{IsZone, HasLowDiagonal}
+use Rattle.zones.specs.Name as name
+use Rattle.zones.specs.Name.{last_line}
+use Rattle.zones.specs.Zone.{Bounds, bound}
+use Rattle.zones.specs.Limits.{IsZone, IsAtMostZero, HasLowDiagonal}
 use Rattle.ed_syntax.specs.Commands as ed
 use Rattle.ed_syntax.specs.Commands.{Base, Addresses, Without, One, Comma, Semicolon, Verb, Command}
 use Rattle.ed_rules.specs.declared.state.Old.{Old}
@@ -74,6 +76,15 @@ pub record IsFormed (s : State) : Type 0 where
   pub formed : StateIsFormed s
   pub low : HasLowDiagonal s.zone
   pub old_low : OldIsLow s.undo.was
+
+-- it is known that there are at least 0 lines
+abbrev pub IsCounted : Bounds → Type 0
+IsCounted zone = IsAtMostZero (bound zone name.zero last_line)
+
+-- A state at the start or at a rule's end. What a widening makes needn't be one: it may give up how many lines there are at least.
+pub record IsEnded (s : State) : Type 0 where
+  pub formed : IsFormed s
+  pub counted : IsCounted s.zone
 
 -- the pattern of a search is bytes
 abbrev pub BaseIsBytes : Base → Type 0

@@ -1,17 +1,16 @@
--- Why the rules of a global command may be trusted, part by part: its start, the line that is taken, a command of its list, its end.
-use Rattle.std.specs.Prelude.{◌≡◌, ◌⊎◌, true, Option, Some, option_map, Ok, IsTrue}
+-- Why the rules of a global command may be trusted, part by part: its start, the line that is taken, its end.
+use Rattle.std.specs.Prelude.{◌≡◌, true, Option, Some, Ok}
 use Rattle.ed_syntax.specs.declared.request.Answer.{Answer}
-use Rattle.ed_syntax.specs.Commands.{Verb, Command, Step}
-use Rattle.ed_syntax.specs.Verbs.{is_listed}
+use Rattle.ed_syntax.specs.Commands.{Command, Step}
 use Rattle.ed_syntax.specs.States as editor
-use Rattle.ed_syntax.specs.States.{Kept, Open, kept, noted}
+use Rattle.ed_syntax.specs.States.{Kept, Open, kept}
 use Rattle.ed_syntax.specs.Effects.{Outcome, Makes}
 use Rattle.ed_syntax.specs.Globals.{opened, next_taken, closed}
 use Rattle.ed_syntax.specs.Applied.{command}
 use Rattle.ed_rules.specs.declared.state.State.{State}
 use Rattle.ed_rules.specs.StandsFor.{StandsFor}
 use Rattle.ed_rules.specs.Rules.{step}
-use Rattle.ed_rules.specs.Globals.{may_alter, list_may_alter}
+use Rattle.ed_rules.specs.Globals.{list_may_alter}
 
 -- the state of a global command's rule stands for the editor that has flagged its lines and begins with its list
 abbrev pub StartIsSound : Type 0
@@ -21,15 +20,6 @@ StartIsSound = (c : Command) (s t : State) (e : editor.State) (given : Option An
 -- where the invariant stands for the editor, the list's first state stands for it once the next line is taken
 abbrev pub TurnIsSound : (invariant entry : State) → Type 0
 TurnIsSound invariant entry = (e f : editor.State) → StandsFor invariant e → next_taken e ≡ Some f → StandsFor entry f
-
--- what a global command that is open knows after a command of its list: what it knew, or also that the buffer was changed
-abbrev pub Notes : Verb → (before after : Option Open) → Type 0
-Notes verb before after = (after ≡ before) ⊎ ((may_alter verb ≡ true) × (after ≡ option_map noted before))
-
--- only a command that may change the buffer makes it know of a change
-abbrev pub ChangesAreNoted : Type 0
-ChangesAreNoted = (c : Command) (e : editor.State) (given : Option Answer) (o : Outcome) → command e c given ≡ Ok (Makes o) → IsTrue (is_listed c) →
-    Notes c.verb e.global o.state.global
 
 -- Where one state stands for the editor before a global command and the invariant for it after the last line, the state at the end
 -- stands for it once the global command is over; a change is known only where a command of the list may make one.

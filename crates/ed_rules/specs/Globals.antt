@@ -9,6 +9,7 @@ use Rattle.zones.specs.Zone.{Bounds}
 use Rattle.zones.specs.Steps.{after_guard, after_forget}
 use Rattle.ed_syntax.specs.Commands as ed
 use Rattle.ed_syntax.specs.Commands.{Verb, Command, Step}
+use Rattle.ed_syntax.specs.Verbs.{may_alter}
 use Rattle.ed_rules.specs.declared.state.Old.{Old}
 use Rattle.ed_rules.specs.declared.state.Undo.{Undo}
 use Rattle.ed_rules.specs.declared.state.State.{State}
@@ -32,19 +33,6 @@ line_taken zone =
 -- the state in which the list is run for a line that was taken
 abbrev pub body_entry : State → State
 body_entry invariant = finished (with_zone (line_taken invariant.zone) invariant)
-
--- a command that may change the buffer, as part of a list
-abbrev pub may_alter : Verb → Bool
-may_alter (ed.Append text) = true
-may_alter (ed.Change text) = true
-may_alter ed.Delete = true
-may_alter (ed.Insert text) = true
-may_alter ed.Join = true
-may_alter (ed.Move to) = true
-may_alter (ed.Copy to) = true
-may_alter (ed.Substitute pattern replacement choice form) = true
-may_alter (ed.ReadFile path) = true
-may_alter _ = false
 
 -- a command of the list may change the buffer
 abbrev pub list_may_alter : List Command → Bool

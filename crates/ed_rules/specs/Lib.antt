@@ -19,5 +19,5 @@ pub mod LineBounds
 pub mod Exact
 pub mod Globals
 pub mod GlobalSoundness
--- what a law says that only proofs above use
+-- what the law on exact commands says
 pub mod ExactRules

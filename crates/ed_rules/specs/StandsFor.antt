@@ -1,12 +1,13 @@
 -- What a state stands for: the editor's states of which all that it says is true.
-use Rattle.std.specs.Prelude.{◌≡◌, ℕ, ◌+◌, ◌<◌, ◌≤◌, pos, Bool, true, false, List, length, Option, Some, None, nat_eq, All, if◌then◌else◌}
+use Rattle.std.specs.Prelude.{◌≡◌, ℕ, ◌+◌, ◌<◌, ◌≤◌, pos, Bool, true, false, List, length, Option, Some, None, nat_eq, if◌then◌else◌}
 use Rattle.std.specs.List.{list_any}
 use Rattle.zones.specs.Name as name
 use Rattle.zones.specs.Zone.{Bounds, Numbers, Holds}
 use Rattle.ed_base.specs.Buffer.{Line, marked_place, KnowLetters, AtMostOnce}
-use Rattle.ed_base.specs.Lines.{newline, IsLine}
+use Rattle.ed_base.specs.Lines.{newline}
 use Rattle.ed_syntax.specs.declared.replacement.Part.{Part}
 use Rattle.ed_syntax.specs.declared.replacement.Part.TheVariants.{Literal, Split}
+use Rattle.ed_syntax.specs.CommandLaws.{AreWhole, OfPast}
 use Rattle.ed_syntax.specs.States as editor
 use Rattle.ed_syntax.specs.States.{Past, Nothing, Same, Was, Kept}
 use Rattle.ed_rules.specs.declared.state.Old.{Old}
@@ -69,20 +70,15 @@ pub record StandsBy (s : State) (e : editor.State) (number : Numbers) : Type 0 w
   pub changed : allows_change s.changed e.changed ≡ true
   pub past : AllowsPast s.undo e.past
 
--- no line holds a newline
-abbrev pub AreWhole : List Line → Type 0
-AreWhole lines = All (λ line. IsLine line.bytes) lines
-
 -- lines as an editor has them: none holds a newline, of each it is known which letters mark it, and each letter marks one line at most
 pub record AreLettered (lines : List Line) : Type 0 where
   pub whole : AreWhole lines
   pub known : KnowLetters lines
   pub once : AtMostOnce lines
 
+-- so are the lines that undo would bring back
 abbrev pub KeepsLettered : Past → Type 0
-KeepsLettered Nothing = Unit {0}
-KeepsLettered Same = Unit {0}
-KeepsLettered (Was kept) = AreLettered kept.lines
+KeepsLettered past = OfPast AreLettered past
 
 -- a state stands for an editor's of which all that it says is true, for some numbers of the names that it says nothing of
 pub record StandsFor (s : State) (e : editor.State) : Type 0 where

@@ -10,9 +10,11 @@ ghost use Rattle.ed_syntax.specs.Applied as editing;
 ghost use Rattle.ed_syntax.specs.declared.request.Answer.{Answer};
 ghost use Rattle.ed_rules.specs.Rules.{step, fault_of};
 ghost use Rattle.ed_rules.specs.StandsFor.{StandsFor};
-ghost use Rattle.ed_rules.specs.Globals.{is_global, line_taken, body_entry, may_alter, list_may_alter, loop_end};
+ghost use Rattle.ed_syntax.specs.Verbs.{may_alter};
+ghost use Rattle.ed_rules.specs.Globals.{is_global, line_taken, body_entry, list_may_alter, loop_end};
 ghost use Rattle.ed_rules.specs.GlobalSoundness.{TurnIsSound, EndIsSound};
 
+use crate::laws::globals_are_sound;
 use crate::pieces::end;
 use crate::rules::after;
 use crate::state::{State, Undo};
@@ -72,6 +74,7 @@ pub fn loop_start(command: &Command, state: &State) -> Result<State, AllocError>
         StandsFor state.now e → editing.command e (command_value command.now) given ≡ Ok (Makes o) →
         StandsFor start (opened before o.state)) }
 {
+    globals_are_sound();
     after(command, state)
 }
 
@@ -80,6 +83,7 @@ pub fn body_entry(invariant: &State) -> Result<State, AllocError>
     ensures exact { IfOk result (λ entry. entry ≡ body_entry invariant.now) }
     ensures sound { IfOk result (λ entry. TurnIsSound invariant.now entry) }
 {
+    globals_are_sound();
     let mut entry = invariant.try_copy()?;
     take_line(&mut entry.zone);
     end(&mut entry.zone, &entry.marks);
@@ -93,6 +97,7 @@ pub fn loop_end(command: &Command, before: &State, invariant: &State) -> Result<
     ensures exact { IfOk result (λ end. end ≡ loop_end (step_value command.now) before.now invariant.now) }
     ensures sound { IfOk result (λ end. EndIsSound (step_value command.now) before.now invariant.now end) }
 {
+    globals_are_sound();
     let mut after = invariant.try_copy()?;
     let was = if list_may_alter(command) {
         Some(before.old())

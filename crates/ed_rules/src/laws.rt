@@ -4,7 +4,7 @@ ghost use Rattle.ed_syntax.specs.States as editor;
 ghost use Rattle.ed_rules.specs.declared.state.State.{State};
 ghost use Rattle.ed_rules.specs.Choices.{Choice};
 ghost use Rattle.ed_rules.specs.States.{start};
-ghost use Rattle.ed_rules.specs.Formed.{ChoiceIsBytes, IsFormed, TextsAreBytes};
+ghost use Rattle.ed_rules.specs.Formed.{ChoiceIsBytes, IsFormed, IsEnded, TextsAreBytes};
 ghost use Rattle.ed_rules.specs.Order.{join, widen, Covers};
 ghost use Rattle.ed_rules.specs.Rules.{step};
 ghost use Rattle.ed_rules.specs.StandsFor.{StandsFor};
@@ -13,21 +13,33 @@ ghost use Rattle.ed_syntax.specs.Commands.{Command, Step};
 ghost use Rattle.ed_rules.specs.Soundness.{CommandIsSound};
 ghost use Rattle.ed_rules.specs.ExactRules.{CommandIsExact, StartIsExact};
 ghost use Rattle.ed_rules.specs.Globals.{body_entry, loop_end};
-ghost use Rattle.ed_rules.specs.GlobalSoundness.{StartIsSound, TurnIsSound, ChangesAreNoted, EndIsSound};
+ghost use Rattle.ed_rules.specs.GlobalSoundness.{StartIsSound, TurnIsSound, EndIsSound};
+
+use ed_syntax::{
+    answers_are_asked_for, commands_are_placed, commands_keep_lines, commands_keep_marks,
+    flags_change_no_line,
+};
 
 /// A command whose needs hold meets no fault, and the state of its rule stands for what it leaves.
 pub fn commands_are_sound()
     ensures sound { CommandIsSound }
-{}
+{
+    answers_are_asked_for();
+    commands_are_placed();
+    commands_keep_marks();
+    commands_keep_lines();
+}
 
-/// What the rules of a global command say of its parts: its start, a line that is taken, a command of its list, its end.
+/// What the rules of a global command say of its parts: its start, a line that is taken, its end.
 pub fn globals_are_sound()
     ensures start { StartIsSound }
     ensures turn { (invariant : State) → TurnIsSound invariant (body_entry invariant) }
-    ensures changes { ChangesAreNoted }
     ensures end { (x : Step) (before invariant : State) →
         EndIsSound x before invariant (loop_end x before invariant) }
-{}
+{
+    commands_are_sound();
+    flags_change_no_line();
+}
 
 /// What is joined or widened stands for all that either state stands for, and so does what covers a state.
 pub fn weaker_states_stand_for_more()
@@ -41,18 +53,18 @@ pub fn weaker_states_stand_for_more()
         StandsFor weak e }
 {}
 
-/// The start is formed, and so is what each rule makes of formed states.
+/// The start is formed, and so is what each rule makes of formed states. At its end it is known that there are at least 0 lines.
 pub fn states_stay_formed()
     ensures start { (path : Choice) (min : ℕ) (max : Option ℕ) → ChoiceIsBytes path →
-        IsFormed (start path min max) }
-    ensures command { (c : Command) (s : State) → TextsAreBytes c → IsFormed s → IfOk (step c s) IsFormed }
+        IsEnded (start path min max) }
+    ensures command { (c : Command) (s : State) → TextsAreBytes c → IsFormed s → IfOk (step c s) IsEnded }
     ensures join { (one other : State) → IsFormed one → IsFormed other → IsFormed (join one other) }
     ensures widen { (old new : State) → IsFormed old → IsFormed new → IsFormed (widen old new) }
 
     // Of a global command: the state in which its list is run, and that after its last line.
-    ensures entry { (invariant : State) → IsFormed invariant → IsFormed (body_entry invariant) }
+    ensures entry { (invariant : State) → IsFormed invariant → IsEnded (body_entry invariant) }
     ensures end { (x : Step) (before invariant : State) → IsFormed before → IsFormed invariant →
-        IsFormed (loop_end x before invariant) }
+        IsEnded (loop_end x before invariant) }
 {}
 
 /// Where a state tells the number of lines and what else an exact command looks at, a need fails just where the command meets a fault,

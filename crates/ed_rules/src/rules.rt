@@ -14,6 +14,7 @@ ghost use Rattle.ed_rules.specs.Soundness.{IsUnserved, IsDone};
 ghost use Rattle.ed_rules.specs.declared.state.State.{State};
 
 use crate::addresses::standing;
+use crate::laws::commands_are_sound;
 use crate::pieces::{end, lift};
 use crate::state::State;
 use ed_base::{Fault, Text};
@@ -206,6 +207,7 @@ pub fn needs(command: &Command, state: &State) -> Result<Option<Fault>, AllocErr
         StandsFor state.now e →
         IfErr (editing.command e (command_value command.now) given) (IsUnserved (command_value command.now) e given)) }
 {
+    commands_are_sound();
     let mut after = state.try_copy()?;
     outcome_into(command, state, &mut after)
 }
@@ -220,6 +222,7 @@ pub fn after(command: &Command, state: &State) -> Result<State, AllocError>
     ensures sound { IfOk result (λ after. (e : editor.State) (given : Option Answer) → StandsFor state.now e →
         IsDone (command_value command.now) state.now after e given (editing.command e (command_value command.now) given)) }
 {
+    commands_are_sound();
     let mut after = state.try_copy()?;
     match after.step_from(state, command) {
         Ok(()) => Ok(after),

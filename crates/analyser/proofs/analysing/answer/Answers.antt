@@ -5,12 +5,11 @@ use Rattle.cert_check.specs.Certificates.{note_value}
 use Rattle.cert_check.specs.Valid.{counted}
 use Rattle.analyser.specs.Following.{begun, paths_from}
 use Rattle.analyser.specs.Walking.{IsOutcome}
-use Rattle.analyser.proofs.Lowering as low
 use Rattle.analyser.proofs.Listing.{listed-by}
 use Rattle.ed_rules.specs.Formed.{ChoiceIsBytes}
 use Rattle.std.specs.List.{All}
 use Rattle.analyser.proofs.Texting as text
-use Rattle.analyser.proofs.Texting.{has-text}
+use Rattle.analyser.proofs.Texting.{script-formed, has-text}
 use Rattle.analyser.proofs.Accepting.{Laws, accepted}
 use Rattle.analyser.proofs.Answering.{end-is, stops-at, stops-at_end}
 use Rattle.analyser.proofs.analysing.answer.Goals as goal
@@ -50,21 +49,18 @@ returns-in-None-clause-exact c =
 
 pub returns-in-None-clause-valid : goal.returns-in-None-clause-valid
 returns-in-None-clause-valid c =
-    let steps : low.Laws = record {
-      any = c.steps_keep_diagonals_low.ensures.any;
-      kept = record {
-        guard = c.steps_keep_diagonals_low.ensures.guard;
-        set = c.steps_keep_diagonals_low.ensures.set;
-        shift = c.steps_keep_diagonals_low.ensures.shift;
-        forget = c.steps_keep_diagonals_low.ensures.forget;
-        join = c.steps_keep_diagonals_low.ensures.join;
-        widen = c.steps_keep_diagonals_low.ensures.widen;
-      };
-      guard = c.steps_are_formulas.ensures.guard;
-      set = c.steps_are_formulas.ensures.set;
+    let laws : Laws = record { same = c.covering_is_an_order.ensures.same; decided = c.covering_is_decided.ensures.exact } in
+    let formed : text.Laws = record {
+      start = c.states_stay_formed.ensures.start;
+      command = c.states_stay_formed.ensures.command;
+      join = c.states_stay_formed.ensures.join;
+      widen = c.states_stay_formed.ensures.widen;
+      entry = c.states_stay_formed.ensures.entry;
+      end = c.states_stay_formed.ensures.end;
     } in
-    let laws : Laws = record { bounds = steps; same = c.covering_is_an_order.ensures.same; decided = c.covering_is_decided.ensures.exact } in
-    accepted laws (script_value c.args.script.now) c.args.start _ (returns-in-None-clause-exact c)
+    let is = returns-in-None-clause-exact c in
+    accepted laws (script_value c.args.script.now) c.args.start _ is
+    (script-formed formed (script_value c.args.script.now) c.args.start _ c.requires.bytes c.path_is_bytes.ensures.bytes is.notes).1.counted
 
 pub returns-in-None-clause-texts : goal.returns-in-None-clause-texts
 returns-in-None-clause-texts c =

@@ -2,4 +2,4 @@ use Rattle.cert_check.proofs.Opening.{start-sound}
 use Rattle.cert_check.proofs.laws.starts_are_sound.Goals as goal
 
 pub returns : goal.returns
-returns c = record { sound = start-sound }
+returns c = record { sound = start-sound c.files_have_lines.ensures.marks c.files_have_lines.ensures.lines }

@@ -4,4 +4,5 @@ use Rattle.ed_rules.proofs.Looping.{end-by}
 use Rattle.ed_rules.proofs.globals.loop_end.Goals as goal
 
 pub returns-clause-sound : goal.returns-clause-sound
-returns-clause-sound c = end-by (step_value c.args.command.now) c.args.before.now c.args.invariant.now _ (search rules)
+returns-clause-sound c = end-by (step_value c.args.command.now) c.args.before.now c.args.invariant.now _
+    (c.globals_are_sound.ensures.end (step_value c.args.command.now) c.args.before.now c.args.invariant.now) (search rules)

@@ -3,4 +3,5 @@ use Rattle.ed_rules.proofs.Looping.{start-by}
 use Rattle.ed_rules.proofs.globals.loop_start.Goals as goal
 
 pub returns-clause-sound : goal.returns-clause-sound
-returns-clause-sound c = start-by (command_value c.args.command.now) c.args.state.now c.after.result c.after.ensures.exact
+returns-clause-sound c =
+    start-by c.globals_are_sound.ensures.start (command_value c.args.command.now) c.args.state.now c.after.result c.after.ensures.exact

@@ -1,6 +1,7 @@
-use Rattle.ed_rules.proofs.Noting.{changes-noted}
-use Rattle.ed_rules.proofs.Looping.{start-sound, turn-sound, end-sound}
+use Rattle.ed_rules.proofs.Looping.{Laws, start-sound, turn-sound, end-sound}
 use Rattle.ed_rules.proofs.laws.globals_are_sound.Goals as goal
 
 pub returns : goal.returns
-returns c = record { start = start-sound; turn = turn-sound; changes = changes-noted; end = end-sound }
+returns c =
+    let flags : Laws = record { marks = c.flags_change_no_line.ensures.marks; bytes = c.flags_change_no_line.ensures.lines } in
+    record { start = start-sound c.commands_are_sound.ensures.sound; turn = turn-sound flags; end = end-sound flags }

@@ -1,7 +1,7 @@
 use Rattle.ed_syntax.specs.PublicTypes.{command_value}
-use Rattle.ed_rules.proofs.Sound.{command_sound}
 use Rattle.ed_rules.proofs.rules.after.Goals as goal
 
 pub returns-in-Ok-clause-sound : goal.returns-in-Ok-clause-sound
 returns-in-Ok-clause-sound c e given st =
-    command_sound (command_value c.args.command.now) c.args.state.now c.step_from.new.self e given st c.in-Ok.ensures.exact
+    c.commands_are_sound.ensures.sound
+    (command_value c.args.command.now) c.args.state.now c.step_from.new.self e given st c.in-Ok.ensures.exact
