@@ -26,7 +26,7 @@ sys.dont_write_bytecode = True
 import exact_rows
 from exact_scripts import Command, Maker, end_of
 
-PROGRAM = os.path.join(os.path.dirname(os.path.abspath(__file__)), '../../crates/ed_main/out/ed_main')
+PROGRAM = os.path.abspath(os.path.join(os.path.dirname(__file__), '../../crates/ed_main/out/ed_main'))
 COUNT, SEED, PROCESSES = 20_000, 1, 2
 SHOWN = 10
 SECONDS = 120
@@ -105,7 +105,7 @@ def run_without_fault(start, commands):
     others = start.reported(['ed', '-s'], commands[:end])
     if others is not None and others != lines:
         raise Wrong(f'the run leaves {lines} lines, and that of ed {others}')
-    return lines, 'ed leaves as many lines' if others is not None else 'ed refuses a command'
+    return lines, 'ed leaves as many lines' if others is not None else 'ed refuses a command, or the missing file'
 
 
 def compared_end(start, commands, script, certificate, cannot):

@@ -169,6 +169,8 @@ class Maker:
 
     def __init__(self, chance, last, name, most):
         self.chance, self.state, self.most, self.commands = chance, Counted(last, name), most, []
+        # Half of the scripts lack what `ed` refuses, and this editor doesn't.
+        self.is_for_ed = chance.random() < 0.5
 
     def offset(self, amount):
         """An offset as it may be spelled: signs alone, numbers, or a chain of both that comes to this amount."""
@@ -272,6 +274,10 @@ class Maker:
         finally:
             self.state.current = before
 
+    def is_refused_by_ed(self, command):
+        """`i` and `c` at line 0, where it stands for line 1."""
+        return command.letter in ('i', 'c') and 0 in copy.copy(self.state).values(command.addresses or DEFAULTS[command.letter])
+
     def add(self, risk):
         """One command more, which meets a fault by this chance; whether the script goes on after it."""
         chance, is_wild = self.chance, self.chance.random() < risk
@@ -285,6 +291,8 @@ class Maker:
                 is_fault = False
             except Fault:
                 is_fault = True
+            if not is_fault and self.is_for_ed and self.is_refused_by_ed(command):
+                continue
             if is_fault == is_wild and state.last <= self.most:
                 self.commands.append(command)
                 self.state = state
