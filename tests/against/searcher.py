@@ -37,6 +37,10 @@ SECONDS = 600
 LONG = 50_000_000
 
 
+class Ended(Exception):
+    """A run that did not end as it has to."""
+
+
 class Case:
     """A pattern, its tree where it has one, its texts, and the questions: each the number of a text, and a place or None."""
 
@@ -114,7 +118,7 @@ WIDE = (r'a.\{%d\}b', r'a.\{%d\}c', r'a[ab]\{%d\}c', r'\(a.\{%d\}a\)*c', r'[ab]*
 
 def wide(chance):
     """A pattern with up to 2^12 states. Texts without a `c` are scanned to their ends by most of them."""
-    pattern = chance.choice(WIDE) % chance.randint(4, 12)
+    pattern = chance.choice(WIDE) % chance.randint(5, 12)
     texts = [letters(chance, size, chance.choice(('ab', 'ab', 'aab', 'abbb', 'aaabbc'))) for size in (0, 3, 8, 20, 40, 100, 300, 300, 1000, 3000, 6000)]
     chance.shuffle(texts)
     return Case('patterns with many states', pattern.encode(), None, texts, chance)
@@ -139,7 +143,7 @@ def grepped(case):
 def ran(word, blocks):
     done = subprocess.run([PROGRAM, word], input=b''.join(blocks), capture_output=True, timeout=SECONDS)
     if done.returncode != 0:
-        raise SystemExit(f'{PROGRAM} {word}: status {done.returncode}, {done.stderr[:300]}')
+        raise Ended(f'{word}: status {done.returncode}, {done.stderr[:300]}')
     return done.stdout.splitlines()
 
 
@@ -148,10 +152,10 @@ def answers(cases_and_questions, word):
     told = iter(ran(word, [case.block(questions) for case, questions in cases_and_questions]))
     found = []
     for _, questions in cases_and_questions:
-        first = next(told)
-        found.append(None if first == b'not a pattern' else dict(zip(questions, [first, *(next(told) for _ in questions[1:])])))
+        first = next(told, b'')
+        found.append(None if first == b'not a pattern' else dict(zip(questions, [first, *(next(told, b'') for _ in questions[1:])])))
     if next(told, None) is not None:
-        raise SystemExit(f'{word}: more lines than were asked for')
+        raise Ended(f'{word}: more lines than were asked for')
     return found
 
 
@@ -187,8 +191,14 @@ def judged(case, alone, searched):
     return wrong, counts
 
 
-def batch(first_and_count_and_seed):
-    first, count, seed = first_and_count_and_seed
+def batch(part):
+    try:
+        return compared(*part)
+    except (Ended, subprocess.TimeoutExpired) as ended:
+        return collections.Counter(WRONG=1), [f'patterns from number {part[0]} on: {ended}']
+
+
+def compared(first, count, seed):
     cases, tally, wrong = [], collections.Counter(), []
     for number in range(first, first + count):
         chance = random.Random(seed * 1000003 + number)
