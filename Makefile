@@ -1,11 +1,11 @@
 # `make` builds the program and shows it at work. `make check` is what one runs while working, `make test` the merge gate,
-# `make wrong-bodies` tries the wrong bodies that the gate leaves out, and `make bench` measures: docs/GATE.md says more.
+# `make wrong-bodies` and `make wrong-rules` try the mistakes that the gate leaves out, and `make bench` measures: docs/GATE.md says more.
 # Each does all set-up on a fresh machine that has the toolchain's command `rt`.
 
 PREFIX ?= /usr/local
 PROGRAM = crates/ed_main/out/ed_main
 
-.PHONY: all program install check test wrong-bodies bench
+.PHONY: all program install check test wrong-bodies wrong-rules bench
 
 all: program
 	examples/run --show
@@ -30,6 +30,10 @@ test:
 # CRATE names one or more crates; with none, all are tried.
 wrong-bodies:
 	tests/wrong-bodies $(CRATE)
+
+# RULE names one or more rules; with none, all are tried.
+wrong-rules:
+	tests/wrong-rules/run $(RULE)
 
 bench: program
 	bench/run

@@ -6,8 +6,8 @@
 An exact script has only commands that look at nothing of the buffer but its number of lines. Over a start file of a known number of lines
 it has to be vouched for just where `edit` runs it to its end. Then `check` accepts the certificate, and both its final bounds are the number
 of lines that the run leaves. That number is told by files: the script up to its end is run once more with `w REPORT` for its end, by
-our program and by GNU `ed`, and the newlines of REPORT are counted. `ed` refuses some commands that aren't refused here; such a script is
-counted, and not compared with `ed`.
+our program and, where it is installed, by GNU `ed`, and the newlines of REPORT are counted. `ed` refuses some commands that aren't
+refused here; such a script is counted, and not compared with `ed`.
 Where the run ends by a fault, `vouch` has to name that fault and its command. The fault is told by a run in help mode; that it is that
 command's, by two runs that end by `Q`, right before the command without a fault, right after it with one.
 The two numbers of exact_scripts.py have to agree with both. One of a hundred scripts has a thousand commands. The rows of
@@ -31,6 +31,7 @@ COUNT, SEED, PROCESSES = 20_000, 1, 2
 SHOWN = 10
 SECONDS = 120
 SOME_LINES, MANY_LINES = 2_000, 100_000
+ED = shutil.which('ed')
 Q = Command('Q')
 
 
@@ -102,7 +103,9 @@ def run_without_fault(start, commands):
     """The number of lines that a run leaves, as our program and `ed` tell, and what `ed` had to say."""
     end = next((place for place, command in enumerate(commands) if command.letter in ('q', 'Q')), len(commands))
     lines = start.reported([PROGRAM, 'edit', '-s'], commands[:end])
-    others = start.reported(['ed', '-s'], commands[:end])
+    if ED is None:
+        return lines, 'ed is not installed'
+    others = start.reported([ED, '-s'], commands[:end])
     if others is not None and others != lines:
         raise Wrong(f'the run leaves {lines} lines, and that of ed {others}')
     return lines, 'ed leaves as many lines' if others is not None else 'ed refuses a command, or the missing file'

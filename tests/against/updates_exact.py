@@ -4,9 +4,10 @@
     updates_exact.py [PAIRS [SEED [FOLDER..]]]
 
 PAIRS pairs of files are random, the second made from the first by removing, entering and changing lines. As many are text files of this
-machine (of FOLDER.., if any is named), those that bench/verifier/updates.py takes first. `diff -e` makes the script, `w` and `q` are added. A script is exact if it has only commands that look at nothing but the number of lines; `diff -e` writes one
-that isn't, `s/.//`, for a line that is a full stop alone. Each exact script has to be vouched for over just the lines of the first file, its
-final bounds have to be the lines of the second, and `run` has to write the second file. Build the program first.
+machine (of FOLDER.., if any is named), those that verifier/updates.py takes first. `diff -e` makes the script, `w` and `q` are added. A
+script is exact if it has only commands that look at nothing but the number of lines; `diff -e` writes one that isn't, `s/.//`, for a line
+that is a full stop alone. Each exact script has to be vouched for over just the lines of the first file, its final bounds have to be the
+lines of the second, and `run` has to write the second file. Build the program first.
 """
 import collections
 import os
@@ -18,7 +19,7 @@ import tempfile
 
 sys.dont_write_bytecode = True
 HERE = os.path.dirname(os.path.abspath(__file__))
-sys.path.append(os.path.join(HERE, '../../bench/diff'))
+sys.path.append(os.path.join(HERE, 'diff'))
 import compare
 
 PROGRAM = os.path.abspath(os.path.join(HERE, '../../crates/ed_main/out/ed_main'))
