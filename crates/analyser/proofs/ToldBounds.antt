@@ -1,5 +1,5 @@
 -- The bounds that a certificate tells are known.
-use Rattle.std.proofs.Common.{◌≡◌, ℕ, zero, suc, ℤ, pos, negsuc, neg_ℤ, true, false, cond, Option, None, Some, refl, arith}
+use Rattle.std.proofs.Common.{◌≡◌, zero, suc, ℤ, pos, negsuc, neg_ℤ, true, false, cond, Option, None, Some, refl, arith}
 use Rattle.std.specs.Prelude.{nat_lt}
 use Rattle.std.proofs.lemmas.Int.{ints}
 use Rattle.zones.specs.Bound.{negative_of}

@@ -1,5 +1,5 @@
 -- A command that ends the run leaves the lines as they are.
-use Rattle.std.proofs.Common.{◌≡◌, Bool, true, false, List, [], Option, Result, Ok, Err, IfOk, ◌∙◌, sym, ap}
+use Rattle.std.proofs.Common.{◌≡◌, Bool, true, false, [], Option, Result, Ok, Err, IfOk, refl, ◌∙◌, sym, ap}
 use Rattle.ed_base.specs.declared.fault.Fault.{Fault}
 use Rattle.ed_base.specs.declared.fault.Fault.TheVariants as fault
 use Rattle.ed_syntax.specs.declared.request.Answer.{Answer}

@@ -2,14 +2,13 @@
 use Rattle.std.proofs.Common.{◌≡◌, ◌≤◌, ℕ, zero, suc, pos, ◌+◌, ◌-◌, Bool, false, cond, List, [], ◌∷◌, ◌++◌, map, take, drop, length, Some, arith, refl, ◌∙◌, sym, ap, subst}
 use Rattle.std.specs.List.{position_from}
 use Rattle.std.proofs.lemmas.List.{length-map, map-append}
-use Rattle.std.proofs.lemmas.List.Elements.{All-cons, All-head, All-tail}
 use Rattle.std.proofs.lemmas.Iterator.Adapters.{position_from-zero}
-use Rattle.ed_base.specs.Buffer.{Line, has_letter, with_flag, flagged_at, marked_place, KnowLetters}
+use Rattle.ed_base.specs.Buffer.{Line, has_letter, with_flag, flagged_at, marked_place}
 use Rattle.ed_base.specs.Parts.{between, replaced}
 use Rattle.ed_base.proofs.PartLemmas.{whole}
 use Rattle.zones.specs.Zone.{Bounds, Numbers}
 use Rattle.ed_syntax.specs.States as editor
-use Rattle.ed_syntax.specs.States.{Past, Was, Kept, kept, unflagged}
+use Rattle.ed_syntax.specs.States.{kept, unflagged}
 use Rattle.ed_syntax.specs.Globals.{flagged_line}
 use Rattle.ed_syntax.specs.declared.command.Sense.{Sense}
 use Rattle.ed_rules.specs.declared.state.State.{State}

@@ -1,5 +1,5 @@
 -- Formed states: on the way through a rule, and at its end.
-use Rattle.std.proofs.Common.{◌≡◌, ◌||◌, inl, inr, ℕ, Bool, true, false, List, length, Option, None, Some, Result, Ok, Err, refl}
+use Rattle.std.proofs.Common.{◌≡◌, ◌||◌, inl, inr, ℕ, Bool, true, false, List, length, Option, None, Some, Result, refl}
 use Rattle.std.specs.Prelude.{is_some, IfOk}
 use Rattle.ed_base.specs.declared.fault.Fault.{Fault}
 use Rattle.std.proofs.lemmas.Bool.{or_cases, or_left, or_right}

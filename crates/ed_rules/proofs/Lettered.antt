@@ -1,5 +1,5 @@
 -- A command leaves lines that know their letters, each letter on one line at most, and that hold no newline.
-use Rattle.std.proofs.Common.{◌≡◌, true, List, Option, Some, Ok}
+use Rattle.std.proofs.Common.{◌≡◌, true, List, Option, Ok}
 use Rattle.ed_base.specs.Buffer.{Line}
 use Rattle.ed_syntax.specs.declared.request.Answer.{Answer}
 use Rattle.ed_syntax.specs.Commands.{Command}

@@ -2,11 +2,10 @@
 use Rattle.std.proofs.Common.{◌≡◌, ◌≢◌, inl, inr, set, get_or-set_same, get_or-set_other, length-set, ◌<◌, ◌≤◌, ℕ, zero, suc, ◌+◌, ◌-◌, Bool, true, false, cond, get_or, replicate, map, List, [], ◌∷◌, ◌++◌, take, drop, length, Option, None, Some, arith, ◌∙◌, ap, refl, sym, length-append, length-drop}
 use Rattle.std.proofs.lemmas.List.{length-take-le, length-map, get_or_past}
 use Rattle.std.proofs.lemmas.Bool.{cases_lt}
-use Rattle.std.proofs.lemmas.List.Elements.{All-append, All-take, All-drop, All-map, All-set, All-get_or, All-weaker}
+use Rattle.std.proofs.lemmas.List.Elements.{All-map, All-get_or, All-weaker}
 use Rattle.std.proofs.lemmas.Iterator.Adapters.{position_from-zero}
 use Rattle.std.specs.List.{position_from}
 use Rattle.ed_base.specs.Buffer.{Line, plain_line, has_letter, with_letter, marked_place, marked_at, KnowLetters}
-use Rattle.ed_base.specs.Parts as parts
 use Rattle.ed_base.specs.Parts.{replaced, inserted}
 
 -- the line that has the letter, counted from 1

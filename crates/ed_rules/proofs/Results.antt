@@ -12,9 +12,9 @@ use Rattle.bre_parse.specs.Match.{match_from}
 use Rattle.bre_parse.specs.Grammar.{pattern}
 use Rattle.bre_parse.specs.Always.{always}
 use Rattle.bre_parse.proofs.AlwaysLaw.{pattern_matches}
-use Rattle.ed_base.specs.Buffer.{Line, plain_line, has_letter, KnowLetters}
-use Rattle.ed_base.specs.Lines.{newline, IsLine, AreLines}
-use Rattle.ed_base.proofs.LineLemmas.{lines_of-whole, length-lines_of, HoldsLines-lines, HoldsLines-lines_of}
+use Rattle.ed_base.specs.Buffer.{Line, plain_line, has_letter}
+use Rattle.ed_base.specs.Lines.{newline, IsLine}
+use Rattle.ed_base.proofs.LineLemmas.{lines_of-whole, length-lines_of}
 use Rattle.ed_syntax.specs.declared.replacement.Part.{Part}
 use Rattle.ed_syntax.specs.declared.replacement.Part.TheVariants as part
 use Rattle.ed_syntax.specs.declared.replacement.Which.{Which}
