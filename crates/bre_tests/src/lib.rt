@@ -5,3 +5,5 @@
 mod matching;
 #[cfg(test)]
 mod reading;
+#[cfg(test)]
+mod searching;
