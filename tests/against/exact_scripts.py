@@ -31,7 +31,10 @@ class Address:
 
 ONE, HERE, NEXT, LAST = Address(1, 0, '1'), Address('.', 0, '.'), Address('.', 1, '+'), Address('$', 0, '$')
 # The addresses of a command that is given none: what separates them, and they themselves.
-DEFAULTS = {'a': ('', HERE), 'i': ('', HERE), '=': ('', LAST), '': ('', NEXT), 'j': (',', HERE, NEXT), **{letter: (',', HERE, HERE) for letter in 'cdlnpmt'}}
+DEFAULTS = {
+    'a': ('', HERE), 'i': ('', HERE), '=': ('', LAST), '': ('', NEXT), 'j': (',', HERE, NEXT),
+    **{letter: (',', HERE, HERE) for letter in 'cdlnpmt'},
+}
 
 
 @dataclasses.dataclass

@@ -105,7 +105,8 @@ def item(chance, some, depth):
 
 def of_bytes(chance):
     some = [chance.choice(BYTES) for _ in range(4)] + [0, 255]
-    pattern = b'^' * (chance.random() < 0.1) + b''.join(item(chance, some, 2) for _ in range(chance.choice((1, 2, 3, 4)))) + b'$' * (chance.random() < 0.1)
+    items = b''.join(item(chance, some, 2) for _ in range(chance.choice((1, 2, 3, 4))))
+    pattern = b'^' * (chance.random() < 0.1) + items + b'$' * (chance.random() < 0.1)
     texts = []
     for size in (0, 1, 2, 3, 5, 8, 12, 20, 40, 300, 300):
         texts.append(bytes(chance.choice(some if chance.random() < 0.7 else BYTES) for _ in range(size)))
@@ -113,13 +114,17 @@ def of_bytes(chance):
     return Case('patterns over any bytes', pattern, None, texts, chance)
 
 
-WIDE = (r'a.\{%d\}b', r'a.\{%d\}c', r'a[ab]\{%d\}c', r'\(a.\{%d\}a\)*c', r'[ab]*a[ab]\{%d\}c', r'b.\{%d\}c$', r'\(a\)*b.\{%d\}cc', r'^.*a.\{%d\}c', r'a.\{%d\}bc*$')
+WIDE = (
+    r'a.\{%d\}b', r'a.\{%d\}c', r'a[ab]\{%d\}c', r'\(a.\{%d\}a\)*c', r'[ab]*a[ab]\{%d\}c', r'b.\{%d\}c$', r'\(a\)*b.\{%d\}cc',
+    r'^.*a.\{%d\}c', r'a.\{%d\}bc*$',
+)
 
 
 def wide(chance):
     """A pattern with up to 2^12 states. Texts without a `c` are scanned to their ends by most of them."""
     pattern = chance.choice(WIDE) % chance.randint(5, 12)
-    texts = [letters(chance, size, chance.choice(('ab', 'ab', 'aab', 'abbb', 'aaabbc'))) for size in (0, 3, 8, 20, 40, 100, 300, 300, 1000, 3000, 6000)]
+    sizes = (0, 3, 8, 20, 40, 100, 300, 300, 1000, 3000, 6000)
+    texts = [letters(chance, size, chance.choice(('ab', 'ab', 'aab', 'abbb', 'aaabbc'))) for size in sizes]
     chance.shuffle(texts)
     return Case('patterns with many states', pattern.encode(), None, texts, chance)
 
@@ -242,7 +247,11 @@ def long_line(name, case):
     found, seconds = [], []
     for word in ('blocks', 'blocks_searched'):
         began = time.time()
-        found.append(answers([(case, case.questions)], word)[0])
+        try:
+            found.append(answers([(case, case.questions)], word)[0])
+        except (Ended, subprocess.TimeoutExpired) as ended:
+            print(f'{case.pattern.decode()} on 50 MB of {name}: {ended}', flush=True)
+            return False
         seconds.append(time.time() - began)
     print(f'{case.pattern.decode():12} on 50 MB of {name}: alone {seconds[0]:.1f} s, by a searcher {seconds[1]:.1f} s', flush=True)
     if found[0] != found[1]:

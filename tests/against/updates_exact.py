@@ -4,8 +4,8 @@
     updates_exact.py [PAIRS [SEED [FOLDER..]]]
 
 PAIRS pairs of files are random, the second made from the first by removing, entering and changing lines. As many are text files of this
-machine (of FOLDER.., if any is named), those that verifier/updates.py takes first. `diff -e` makes the script, `w` and `q` are added. A
-script is exact if it has only commands that look at nothing but the number of lines; `diff -e` writes one that isn't, `s/.//`, for a line
+machine (of FOLDER.., if any is named), those that verifier/updates.py takes first. `diff -e` makes the script, `w` and `q` are added.
+A script is exact if it has only commands that look at nothing but the number of lines; `diff -e` writes one that isn't, `s/.//`, for a line
 that is a full stop alone. Each exact script has to be vouched for over just the lines of the first file, its final bounds have to be the
 lines of the second, and `run` has to write the second file. Build the program first.
 """
