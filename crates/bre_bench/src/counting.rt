@@ -1,12 +1,9 @@
 //! Counts over the lines of standard input: the lines in which a pattern has a match, or all its matches.
 
-ghost use Rattle.std.specs.Prelude.{◌≤◌, length};
-
+use crate::finder::{Finder, Means};
 use crate::pattern;
-use bre_match::{Match, Searcher, find, matches};
-use bre_parse::Bre;
 use memchr::memchr;
-use std::alloc::{AllocError, Global};
+use std::alloc::AllocError;
 use std::io;
 use std::io::Read;
 
@@ -17,59 +14,6 @@ pub(crate) enum Counted {
     Lines,
     /// The matches of each line, one after the other.
     Matches,
-}
-
-/// How a pattern is looked for.
-#[derive(Clone, Copy)]
-pub(crate) enum Means {
-    /// By the functions for one text.
-    Alone,
-    /// By one searcher for all lines.
-    Searcher,
-    /// By a new searcher for each line.
-    NewSearchers,
-}
-
-// A pattern, looked for in one line after another.
-#[derive(Drop)]
-struct Finder<'a> {
-    alloc: Global,
-    means: Means,
-    pattern: &'a Bre,
-    searcher: Searcher<'a>,
-}
-
-impl<'a> Finder<'a> {
-    fn new(alloc: Global, means: Means, pattern: &'a Bre) -> Self {
-        Finder {
-            alloc,
-            means,
-            pattern,
-            searcher: Searcher::new(alloc, pattern),
-        }
-    }
-
-    fn begin_line(&mut self) {
-        if let Means::NewSearchers = self.means {
-            self.searcher = Searcher::new(self.alloc, self.pattern);
-        }
-    }
-
-    fn matches(&mut self, line: &[u8]) -> Result<bool, AllocError> {
-        match self.means {
-            Means::Alone => matches(self.alloc, self.pattern, line),
-            Means::Searcher | Means::NewSearchers => self.searcher.matches(line),
-        }
-    }
-
-    fn find(&mut self, line: &[u8], from: usize) -> Result<Option<Match>, AllocError>
-        requires place { from ≤ length line.now }
-    {
-        match self.means {
-            Means::Alone => find(self.alloc, self.pattern, line, from),
-            Means::Searcher | Means::NewSearchers => self.searcher.find(line, from),
-        }
-    }
 }
 
 // How many matches a line has, one after the other.
@@ -111,7 +55,7 @@ fn count_in(finder: &mut Finder<'_>, counted: Counted, text: &[u8]) -> Result<us
             Some(size) => size,
             None => rest.len(),
         };
-        finder.begin_line();
+        finder.begin();
         let more = count_line(finder, counted, &rest[..size])?;
         count = count.saturating_add(more);
         start += size + 1;

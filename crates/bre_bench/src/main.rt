@@ -1,15 +1,18 @@
 //! Counts the lines of standard input in which a pattern has a match, or tells where patterns match texts.
 #![tactic(auto)]
 
+mod blocks;
 mod counting;
+mod finder;
 mod pattern;
 mod places;
 
-use crate::counting::{Counted, Means};
+use crate::counting::Counted;
+use crate::finder::Means;
 use std::{env, io};
 
 const USAGE: &str =
-    "usage: bre_bench {count|count_searched|count_anew|all|all_searched} PATTERN | bre_bench {places|places_searched}";
+    "usage: bre_bench {count|count_searched|count_anew|all|all_searched} PATTERN | bre_bench {places|places_searched|blocks|blocks_searched}";
 
 // What a task counts, and how, if it counts.
 fn count_task(task: &str) -> Option<(Counted, Means)> {
@@ -34,6 +37,12 @@ fn main(rt: HostRuntime) -> io::Result<()> {
     }
     if task.as_str() == "places_searched" {
         return places::tell(&rt, Means::Searcher);
+    }
+    if task.as_str() == "blocks" {
+        return blocks::tell(&rt, Means::Alone);
+    }
+    if task.as_str() == "blocks_searched" {
+        return blocks::tell(&rt, Means::Searcher);
     }
     if let Some((counted, means)) = count_task(task.as_str()) {
         if let Some(pattern) = words.next() {

@@ -2,7 +2,7 @@
 
 ghost use Rattle.std.specs.Prelude.{◌≤◌, length};
 
-use crate::counting::Means;
+use crate::finder::Means;
 use crate::pattern;
 use bre_match::{Match, Searcher, find};
 use bre_parse::Bre;
@@ -10,8 +10,8 @@ use std::alloc::{AllocError, Global};
 use std::io;
 use std::io::{BufRead, BufReader};
 
-// `START-END` of the match, and of each group, or `-` where it is not set.
-fn spelled(alloc: Global, found: Match) -> Result<String, AllocError> {
+/// `START-END` of the match, and of each group, or `-` where it is not set.
+pub(crate) fn spelled(alloc: Global, found: Match) -> Result<String, AllocError> {
     let mut told = format!(in alloc; "{}-{}", found.start, found.end)?;
     let groups = found.groups;
     for group in groups.as_slice() {
