@@ -1,6 +1,7 @@
 #!/bin/sh
 # Refuses each allocation of bre_bench in turn, while it tells where patterns match: each run has to print nothing at all or,
-# where the library under it can do without, the match with its groups, as the run does in which none is refused.
+# where the library under it can do without, the match with its groups, as the run does in which none is refused. A searcher is asked
+# again where memory ran out, and has to find the match then.
 # It runs the program that `make test` or `make bench` built, from anywhere, and needs a C compiler. The last line counts the runs.
 cd "$(dirname "$0")" || exit 1
 program=$(cd ../.. && pwd)/crates/bre_bench/out/bre_bench
@@ -23,7 +24,7 @@ each_is_refused() { # PATTERN LINE SPANS
     refused=0
     while :; do
         printf '0\t%s\t%s\n' "$1" "$2" |
-            REFUSE=$((refused + 1)) LD_PRELOAD="$work/refuse.so" "$program" places > "$work/out" 2> "$work/err"
+            REFUSE=$((refused + 1)) LD_PRELOAD="$work/refuse.so" "$program" "$task" > "$work/out" 2> "$work/err"
         grep -q '^refused$' "$work/err" || break
         refused=$((refused + 1))
         if [ -s "$work/out" ] && ! is_told "$3"; then return 1; fi
@@ -41,10 +42,20 @@ on() { # PATTERN LINE SPANS
     fi
 }
 
+task=places
 on '\(ab\)*\1' ababab '0-6 2-4 -'
 on '\(a*\)*b' caaab '1-5 1-4 -'
 on 'a\{0,1\}\(ab\)\{0,1\}' ab '0-2 0-2 -'
 on '\(a\{0,1\}\(ab\)\{0,1\}\)b*' abb '0-3 0-2 0-2'
 on '\(.*\)=\(.*\)=\1$' ab=c=ab '0-7 0-2 3-4'
+
+# A searcher makes its automaton on a text of 256 bytes and more.
+task=places_searched
+blanks=$(printf '%300s' '')
+on 'x.*y.*z' "${blanks}xayz" '300-304 - -'
+on '\(ab*\)*c[0-9]' "${blanks}abac7" '300-305 302-303 -'
+on '\(x\)*[yz]$' "${blanks}xy" '300-302 300-301 -'
+on '[ab]\{2,3\}c' "${blanks}aabc" '300-304 - -'
+on '\(a\)*\(bc\)*d' "${blanks}aabcd" '300-305 301-302 302-304'
 echo "$passed passed, $failed failed"
 [ "$failed" -eq 0 ]
