@@ -19,17 +19,17 @@ failed=0
 printf '?\n' > brief
 printf '?\nout of memory\n' > full
 
-is_behind_front() { # REPORT OUTPUT: the output is a front of the whole one with this report behind it
+is_after_front() { # REPORT OUTPUT: the output is a front of the whole one with this report after it
     size=$(($(wc -c < "$2") - $(wc -c < "$1")))
     [ "$size" -ge 0 ] || return 1
     head -c "$size" whole | cat - "$1" | cmp -s - "$2"
 }
 
-# The output is a front of the whole one, or that with the report of want of memory behind it.
+# The output is a front of the whole one, or that with the report of want of memory after it.
 is_front() {
     head -c "$(wc -c < "$1")" whole | cmp -s - "$1" && return 0
-    is_behind_front brief "$1" && return 0
-    grep -q '^H$' script && is_behind_front full "$1"
+    is_after_front brief "$1" && return 0
+    grep -q '^H$' script && is_after_front full "$1"
 }
 
 # A file whose last line has no newline, which scripts read.

@@ -137,8 +137,8 @@ none_before part s from n u c h p y low lt r =
       | inl before ↦ (
           let is : y ≡ from + (y - from) = omega arith in
           reached_out part s from (y - from) p y low up is (h (y - from) (omega arith)) r)
-      | inr behind ↦ (
-          let st = columns_stand part s from any_start n p y 0 low lt behind (0, refl, omega arith) r in
+      | inr after ↦ (
+          let st = columns_stand part s from any_start n p y 0 low lt after (0, refl, omega arith) r in
           none_pending part s (from + n) y st.0 u (subst (λ q. Pending q s (from + n) y st.0) c st.2))
     ]
 

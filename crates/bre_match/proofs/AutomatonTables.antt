@@ -75,8 +75,8 @@ entry_put part states table new state symbol slot entry s x h lt le is good tell
     length_set = length-set table slot entry
 
     fresh_still : (k : ℕ) → 512 * length states ≤ k → get_or (set table slot entry) k 65535 ≡ 65535
-    fresh_still k behind =
-        get_or-set_other table slot k entry 65535 (λ same. let few = h.few in omega arith) ∙ h.fresh k behind
+    fresh_still k after =
+        get_or-set_other table slot k entry 65535 (λ same. let few = h.few in omega arith) ∙ h.fresh k after
 
     put : (k : ℕ) → k ≡ slot → get_or (set table slot entry) k 65535 ≡ entry
     put k same = ap (λ j. get_or (set table slot entry) j 65535) same ∙ get_or-set_same table slot entry 65535 within
@@ -128,7 +128,7 @@ grown part old new table wider begun room grows same large h = record {
   first = grows.2 0 (omega arith) ∙ h.first;
   second = grows.2 1 (omega arith) ∙ h.second;
   room = large;
-  fresh = λ k behind. same k ∙ h.fresh k (let b = grows.0 in omega arith);
+  fresh = λ k after. same k ∙ h.fresh k (let b = grows.0 in omega arith);
   entries = λ k. subst (λ v. IsEntry new v) (sym (same k)) (good_still k);
   hold = hold_still;
 }
@@ -149,7 +149,7 @@ grown part old new table wider begun room grows same large h = record {
           | inl before ↦
               ap (λ r. transition part r t y) (grows.2 i before)
               ∙ h.hold i b answer t y before low (said_before i b answer tells_it) high byte first
-          | inr behind ↦ (
+          | inr after ↦ (
               let unknown : entry_at wider i b ≡ 65535 = same (512 * i + b) ∙ h.fresh (512 * i + b) (omega arith) in
               let e = sym (ap (λ v. meaning_of new v) unknown) ∙ tells_it in
               absurd (cc))

@@ -24,13 +24,13 @@ none_taken n rs s p g e =
     ∙ row_there 0 p 0 g (omega arith)
     ∙ ap (λ q. (q, g) ∷ []) same
 
--- the ways behind the empty one alone
-behind_empty : (a b : Tree) (s : List ℕ) (p : ℕ) (g : Groups) → ways a s p g ≡ (p, g) ∷ [] → ways b s p g ≡ [] → ways (Then a b) s p g ≡ []
-behind_empty a b s p g e none =
+-- the ways after the empty one alone
+after_empty : (a b : Tree) (s : List ℕ) (p : ℕ) (g : Groups) → ways a s p g ≡ (p, g) ∷ [] → ways b s p g ≡ [] → ways (Then a b) s p g ≡ []
+after_empty a b s p g e none =
     ap (λ l. flat_map (from_way (ways b s)) (by_end l)) e ∙ append-nil (ways b s p g) ∙ none
 
-behind_none : (a b : Tree) (s : List ℕ) (p : ℕ) (g : Groups) → ways a s p g ≡ [] → ways (Then a b) s p g ≡ []
-behind_none a b s p g e = ap (λ l. flat_map (from_way (ways b s)) (by_end l)) e
+after_none : (a b : Tree) (s : List ℕ) (p : ℕ) (g : Groups) → ways a s p g ≡ [] → ways (Then a b) s p g ≡ []
+after_none a b s p g e = ap (λ l. flat_map (from_way (ways b s)) (by_end l)) e
 
 -- a part that begins in no way has none, and one that begins so has the empty one alone
 abbrev Begins : Beginning → Tree → List ℕ → ℕ → Groups → Type 0
@@ -78,8 +78,8 @@ no_way (Then a b) s p g e = by_beginning (begins a s p) (as_told a s p g) e (λ 
   where
     by_beginning : (how : Beginning) → Begins how a s p g → has_no_way how (cannot_begin b s p) ≡ true → (cannot_begin b s p ≡ true → ways b s p g ≡ []) → ways (Then a b) s p g ≡ []
     by_beginning kind.Any is f rest = absurd cc
-    by_beginning kind.Nothing is f rest = behind_none a b s p g is
-    by_beginning kind.Empty is f rest = behind_empty a b s p g is (rest f)
+    by_beginning kind.Nothing is f rest = after_none a b s p g is
+    by_beginning kind.Empty is f rest = after_empty a b s p g is (rest f)
 no_way Empty s p g e = absurd cc
 no_way (Set n rs) s p g e = absurd cc
 no_way TextStart s p g e = absurd cc

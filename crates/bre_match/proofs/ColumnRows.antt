@@ -217,7 +217,7 @@ more_at l most' more most c ms now next m d n e =
     e ∙ ap (λ z. past (up_to z c) now) d ∙ ap (λ z. past (up_to (most' - l) c) z) n ∙ sym (needed_past l c (up_to (most' - l) c) ms)
     ∙ ap (λ z. past (written_out l z c) ms) (sym m)
 
--- only asked what comes out behind it, the turn puts no marks
+-- only asked what comes out after it, the turn puts no marks
 pub star_marks : (asked : Asked) (l : ℕ) (most : Option ℕ) (c : Part) (s : List ℕ) (x : ℕ) (ms now : List (Option ℕ)) (w begun turn new : Option ℕ) (old out same all : List (Option ℕ)) → most ≡ None → begun ≡ peek (fill (needed l c Nothing) ms) s x w → now ≡ past (needed l c Nothing) ms → turn ≡ peek (fill c now) s x begun → new ≡ less_of begun turn → out ≡ old ++ marks_put asked (fill (needed l c Nothing) ms) s x w → same ≡ out ++ [] → all ≡ same ++ marks_put asked (fill c now) s x new → all ≡ old ++ marks_put asked (fill (written_out l most c) ms) s x w
 star_marks asked l most c s x ms now w begun turn new old out same all m b n t e o k a =
     a

@@ -22,7 +22,7 @@ Pending (Star content) text x y weight = (m : ℕ) × Pending content text x m w
 abbrev pub AtMost : Option ℕ → ℕ → Type 0
 AtMost weight most = (w : ℕ) × (weight ≡ Some w) × (w ≤ most)
 
--- what a weight behind a part at place y comes from: a mark, or the entry at place x
+-- what a weight after a part at place y comes from: a mark, or the entry at place x
 abbrev pub Comes : Part → List ℕ → (x y : ℕ) → (entry : Option ℕ) → ℕ → Type 0
 Comes part text x y entry weight = Pending part text x y weight ⊎ ((entry ≡ Some weight) × Reaches part text x y)
 

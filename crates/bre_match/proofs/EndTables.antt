@@ -22,15 +22,15 @@ last_ends t back s w b e x y here table turn v u told place low high =
     let size = v.size in
     case_of (get_or table (e - place) None) (told (e - place) (omega arith))
   where
-    none_behind : (n : ℕ) → n ≤ e → Reaches t s place n → here (e - n) ≡ true → AtMost (out_of back w 0 (entered here) (e - place)) (e - n)
-    none_behind n le r h =
+    none_after : (n : ℕ) → n ≤ e → Reaches t s place n → here (e - n) ≡ true → AtMost (out_of back w 0 (entered here) (e - place)) (e - n)
+    none_after n le r h =
         let up = forth t s place n r in
         out_least back w 0 (entered here) (e - place) (e - n) (e - n) (omega arith) (omega arith) (let_in (here (e - n)) (e - n) h)
         (subst (λ z. Reaches back w (e - n) z) (let l : e - place ≡ 0 + (e - place) = omega arith in l) (turn.back_there s w b e v place n low le r))
 
     case_of : (o : Option ℕ) → o ≡ out_of back w 0 (entered here) (e - place) → LastEnd t (λ n. here (e - n) ≡ true) s e place o
     case_of None is = λ n le r h.
-        let a = none_behind n le r h in
+        let a = none_after n le r h in
         let f = a.1 in
         cc
     case_of (Some d) is =
@@ -45,7 +45,7 @@ last_ends t back s w b e x y here table turn v u told place low high =
               (subst (λ z. Reaches t s (e - (0 + (e - place))) (e - z)) same r),
           subst (λ z. here z ≡ true) (let k : c.0 ≡ e - (e - d) = omega arith in k) there.0,
           (λ n lt le h g.
-              let a = none_behind n le h g in
+              let a = none_after n le h g in
               let same2 : a.0 ≡ d = let f = a.1 in cc in
               let at_most = a.2 in
               omega arith),

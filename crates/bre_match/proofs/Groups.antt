@@ -35,8 +35,8 @@ groups_in_sequence a b free order s p m q g v le is on last =
 busy_after : (least done p : ℕ) (again : Body) (w : Way) → (eqb w.0 p && leb least done) ≡ false → after_turn least done p again w ≡ again w.0 w.1
 busy_after least done p again w e = ap (λ b. stopped_or_on b done again w) e
 
-behind_is_busy : (least done p n : ℕ) → p < n → (eqb n p && leb least done) ≡ false
-behind_is_busy least done p n lt = let e : eqb n p ≡ false = grind (arith, nat_tests) in rw e refl
+after_is_busy : (least done p n : ℕ) → p < n → (eqb n p && leb least done) ≡ false
+after_is_busy least done p n lt = let e : eqb n p ≡ false = grind (arith, nat_tests) in rw e refl
 
 -- A repeat: a turn that isn't idle goes to its greatest end from which the repeat, with one more turn done, reaches the end.
 pub groups_in_turn : (c : Tree) → refers c ≡ false → repeats_in_order c ≡ true → (s : List ℕ) (least : ℕ) (most : Option ℕ) (fuel done p m q : ℕ) (g : Groups) (v : Way) → p ≤ length s → below done most ≡ true → first_to m (ways c s p (cleared c g)) ≡ Some v → (eqb m p && leb least done) ≡ false → suc ((least - (done + 1)) + (length s - m)) ≤ fuel → Turned (Reaches (part_of c) s) least most (done + 1) m q → ((n : ℕ) → m < n → Reaches (part_of c) s p n → Turned (Reaches (part_of c) s) least most (done + 1) n q → ⊥) → first_to q (turns (suc fuel) (fresh_turn c (ways c s)) least most done p g) ≡ first_to q (turns fuel (fresh_turn c (ways c s)) least most (done + 1) m v.1)
@@ -57,7 +57,7 @@ groups_in_turn c free order s least most fuel done p m q g v le may is busy room
     (subst (λ l. Has q l) (sym (busy_after least done p again v busy_v)) goes)
     (λ w lt i j. last w.0 lt (ways_reach c free order s p w.0 (cleared c g) i)
     (turns_reach (Reaches (part_of c) s) body (λ x y k h. ways_reach c free order s x y (cleared c k) h) least most fuel (done + 1) w.0 q w.1 (within_next most done may)
-    (subst (λ l. Has q l) (busy_after least done p again w (behind_is_busy least done p w.0 (omega arith))) j)))
+    (subst (λ l. Has q l) (busy_after least done p again w (after_is_busy least done p w.0 (omega arith))) j)))
     ∙ ap (λ l. first_to q l) (busy_after least done p again v busy_v)
     ∙ ap (λ x. first_to q (turns fuel body least most (done + 1) x v.1)) there.0
 
@@ -89,7 +89,7 @@ groups_at_stop c free order s least most fuel done p g le not_idle in_most =
               not_idle (grind (arith, nat_tests, k.0)) i.0 (subst (λ x. Reaches (part_of c) s p x) same r))
           | inr on ↦ (
               let t = turns_reach (Reaches (part_of c) s) (fresh_turn c (ways c s)) (λ x y k h. ways_reach c free order s x y (cleared c k) h) least most fuel (done + 1) w.0 p w.1 (within_next most done i.0)
-              (subst (λ l. Has p l) (busy_after least done p (turns fuel (fresh_turn c (ways c s)) least most (done + 1)) w (behind_is_busy least done p w.0 on)) j) in
+              (subst (λ l. Has p l) (busy_after least done p (turns fuel (fresh_turn c (ways c s)) least most (done + 1)) w (after_is_busy least done p w.0 on)) j) in
               let back = turned_forth (Reaches (part_of c) s) (forth (part_of c) s) t.0 w.0 p t.3 in
               absurd (omega arith))
         ]
@@ -105,7 +105,7 @@ groups_of_idle c free order s most fuel p g v may is =
     first_with_turn body 0 most fuel 0 p p p g v may is (subst (λ l. Has p l) (sym one) (inl there.0))
     (λ w lt i j.
     let t = turns_reach (Reaches (part_of c) s) body (λ x y k h. ways_reach c free order s x y (cleared c k) h) 0 most fuel 1 w.0 p w.1 (within_next most 0 may)
-    (subst (λ l. Has p l) (busy_after 0 0 p again w (behind_is_busy 0 0 p w.0 lt)) j) in
+    (subst (λ l. Has p l) (busy_after 0 0 p again w (after_is_busy 0 0 p w.0 lt)) j) in
     let back = turned_forth (Reaches (part_of c) s) (forth (part_of c) s) t.0 w.0 p t.3 in
     absurd (omega arith))
     ∙ ap (λ l. first_to p l) one

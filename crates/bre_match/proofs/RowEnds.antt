@@ -16,7 +16,7 @@ use Rattle.bre_match.specs.declared.row_end.RowEnd.TheVariants as row
 use Rattle.bre_match.specs.declared.row_search.RowMatch.TheVariants as matched
 use Rattle.bre_match.specs.Runs.{closed, shorter_ways, members}
 use Rattle.bre_match.specs.Starts.{one_byte_of}
-use Rattle.bre_match.specs.RowEnds.{end_if, behind_end, or_other, step_end, fixed_end, last_end, counts_of, repeat_of_set, behind_bytes, item_end, row_end, EndsAs, TellsMatch}
+use Rattle.bre_match.specs.RowEnds.{end_if, after_end, or_other, step_end, fixed_end, last_end, counts_of, repeat_of_set, after_bytes, item_end, row_end, EndsAs, TellsMatch}
 use Rattle.bre_match.proofs.PartKinds.{one_byte_is}
 use Rattle.bre_match.proofs.Rows.{bytes_row, row_there, row_none, by_end_shorter}
 use Rattle.bre_match.proofs.Sorting.{longest_first}
@@ -55,26 +55,26 @@ step_alone (BackReference i) s p g = tt
 step_alone (Group i a) s p g = tt
 step_alone (Repeat l m a) s p g = tt
 
--- what stands behind the only way of a part
-behind_alone : (how : RowEnd) (a b : Tree) (s : List ℕ) (p q : ℕ) (g : Groups) → ways a s p g ≡ (q, g) ∷ [] → Alone how g (ways b s q g) → Alone how g (ways (Then a b) s p g)
-behind_alone how a b s p q g e h =
+-- what stands after the only way of a part
+after_alone : (how : RowEnd) (a b : Tree) (s : List ℕ) (p q : ℕ) (g : Groups) → ways a s p g ≡ (q, g) ∷ [] → Alone how g (ways b s q g) → Alone how g (ways (Then a b) s p g)
+after_alone how a b s p q g e h =
     let f : ways (Then a b) s p g ≡ ways b s q g = ap (λ l. flat_map (from_way (ways b s)) (by_end l)) e ∙ append-nil (ways b s q g) in
     subst (Alone how g) (sym f) h
 
-behind_longest : (how : RowEnd) (a b : Tree) (s : List ℕ) (p q : ℕ) (g : Groups) → ways a s p g ≡ (q, g) ∷ [] → Longest how g (ways b s q g) → Longest how g (ways (Then a b) s p g)
-behind_longest how a b s p q g e h =
+after_longest : (how : RowEnd) (a b : Tree) (s : List ℕ) (p q : ℕ) (g : Groups) → ways a s p g ≡ (q, g) ∷ [] → Longest how g (ways b s q g) → Longest how g (ways (Then a b) s p g)
+after_longest how a b s p q g e h =
     let f : ways (Then a b) s p g ≡ ways b s q g = ap (λ l. flat_map (from_way (ways b s)) (by_end l)) e ∙ append-nil (ways b s q g) in
     subst (Longest how g) (sym f) h
 
-behind_none : (a b : Tree) (s : List ℕ) (p : ℕ) (g : Groups) → ways a s p g ≡ [] → ways (Then a b) s p g ≡ []
-behind_none a b s p g e = ap (λ l. flat_map (from_way (ways b s)) (by_end l)) e
+after_none : (a b : Tree) (s : List ℕ) (p : ℕ) (g : Groups) → ways a s p g ≡ [] → ways (Then a b) s p g ≡ []
+after_none a b s p g e = ap (λ l. flat_map (from_way (ways b s)) (by_end l)) e
 
 fixed_alone : (t : Tree) (s : List ℕ) (p : ℕ) (g : Groups) → Alone (fixed_end t s p) g (ways t s p g)
 fixed_alone (Then a b) s p g = by_step (step_end a s p) (step_alone a s p g) (λ q. fixed_alone b s q g)
   where
-    by_step : (how : RowEnd) → Alone how g (ways a s p g) → ((q : ℕ) → Alone (fixed_end b s q) g (ways b s q g)) → Alone (behind_end how (fixed_end b s)) g (ways (Then a b) s p g)
-    by_step (row.At q) e rest = behind_alone (fixed_end b s q) a b s p q g e (rest q)
-    by_step row.Nowhere e rest = behind_none a b s p g e
+    by_step : (how : RowEnd) → Alone how g (ways a s p g) → ((q : ℕ) → Alone (fixed_end b s q) g (ways b s q g)) → Alone (after_end how (fixed_end b s)) g (ways (Then a b) s p g)
+    by_step (row.At q) e rest = after_alone (fixed_end b s q) a b s p q g e (rest q)
+    by_step row.Nowhere e rest = after_none a b s p g e
     by_step row.Untold e rest = tt
 fixed_alone Empty s p g = refl
 fixed_alone (Set n rs) s p g = tt
@@ -113,7 +113,7 @@ step_earlier (Repeat l m a) s p e q high g f le is h = absurd cc
 fixed_earlier : (t : Tree) (s : List ℕ) (p e q : ℕ) (g : Groups) → p ≤ e → fixed_end t s e ≡ row.At q → EndBetween 0 q (ways t s p g)
 fixed_earlier (Then a b) s p e q g le is = by_step (step_end a s e) refl is (λ r m low told. fixed_earlier b s r m q g low told)
   where
-    by_step : (how : RowEnd) → step_end a s e ≡ how → behind_end how (fixed_end b s) ≡ row.At q → ((r m : ℕ) → r ≤ m → fixed_end b s m ≡ row.At q → EndBetween 0 q (ways b s r g)) → EndBetween 0 q (ways (Then a b) s p g)
+    by_step : (how : RowEnd) → step_end a s e ≡ how → after_end how (fixed_end b s) ≡ row.At q → ((r m : ℕ) → r ≤ m → fixed_end b s m ≡ row.At q → EndBetween 0 q (ways b s r g)) → EndBetween 0 q (ways (Then a b) s p g)
     by_step (row.At m) step told rest =
         step_earlier a s p e m q g (from_way (ways b s)) le step (λ r low. rest r m low told)
     by_step row.Nowhere step told rest = absurd cc
@@ -153,9 +153,9 @@ last_longest t s p (suc n) g = by_end_here (fixed_end t s p) refl (fixed_alone t
         subst (λ ws. Longest (last_end (fixed_end t s) (p - 1) n) g (ws ++ flat_map (from_way (ways t s)) (shorter_ways (p - 1) n (closed None g)))) (sym alone) later
     by_end_here row.Untold is alone later = tt
 
--- A repeat of a set and what stands behind it
+-- A repeat of a set and what stands after it
 
-bytes_longest : (t : Tree) (s : List ℕ) (p least : ℕ) (most : Option ℕ) (n : Bool) (rs : List (ℕ × ℕ)) (g : Groups) → Longest (behind_bytes least (members most 0 n rs (drop p s)) (fixed_end t s) p) g (ways (Then (Repeat least most (Set n rs)) t) s p g)
+bytes_longest : (t : Tree) (s : List ℕ) (p least : ℕ) (most : Option ℕ) (n : Bool) (rs : List (ℕ × ℕ)) (g : Groups) → Longest (after_bytes least (members most 0 n rs (drop p s)) (fixed_end t s) p) g (ways (Then (Repeat least most (Set n rs)) t) s p g)
 bytes_longest t s p least most n rs g = by_count (leb least (members most 0 n rs (drop p s))) refl
   where
     by_count : (b : Bool) → leb least (members most 0 n rs (drop p s)) ≡ b → Longest (end_if b (last_end (fixed_end t s) (p + members most 0 n rs (drop p s)) (members most 0 n rs (drop p s) - least))) g (ways (Then (Repeat least most (Set n rs)) t) s p g)
@@ -168,17 +168,17 @@ bytes_longest t s p least most n rs g = by_count (leb least (members most 0 n rs
     by_count false b =
         let m = members most 0 n rs (drop p s) in
         let lt : m < least = grind (arith, nat_tests) in
-        behind_none (Repeat least most (Set n rs)) t s p g (bytes_row s n rs least most p g ∙ row_none least p m g lt)
+        after_none (Repeat least most (Set n rs)) t s p g (bytes_row s n rs least most p g ∙ row_none least p m g lt)
 
-repeat_longest : (a t : Tree) (s : List ℕ) (p : ℕ) (bytes : ℕ × Option ℕ × (Bool × List (ℕ × ℕ))) (g : Groups) → repeat_of_set a ≡ Some bytes → Longest (behind_bytes bytes.0 (members bytes.1 0 bytes.2.0 bytes.2.1 (drop p s)) (fixed_end t s) p) g (ways (Then a t) s p g)
+repeat_longest : (a t : Tree) (s : List ℕ) (p : ℕ) (bytes : ℕ × Option ℕ × (Bool × List (ℕ × ℕ))) (g : Groups) → repeat_of_set a ≡ Some bytes → Longest (after_bytes bytes.0 (members bytes.1 0 bytes.2.0 bytes.2.1 (drop p s)) (fixed_end t s) p) g (ways (Then a t) s p g)
 repeat_longest (Repeat least most content) t s p bytes g is = by_set (one_byte_of content) refl is
   where
-    by_set : (set : Option (Bool × List (ℕ × ℕ))) → one_byte_of content ≡ set → counts_of least most set ≡ Some bytes → Longest (behind_bytes bytes.0 (members bytes.1 0 bytes.2.0 bytes.2.1 (drop p s)) (fixed_end t s) p) g (ways (Then (Repeat least most content) t) s p g)
+    by_set : (set : Option (Bool × List (ℕ × ℕ))) → one_byte_of content ≡ set → counts_of least most set ≡ Some bytes → Longest (after_bytes bytes.0 (members bytes.1 0 bytes.2.0 bytes.2.1 (drop p s)) (fixed_end t s) p) g (ways (Then (Repeat least most content) t) s p g)
     by_set None e told = absurd cc
     by_set (Some set) e told =
         let told_is : (least, most, set) ≡ bytes = cc in
-        subst (λ (b : ℕ × Option ℕ × (Bool × List (ℕ × ℕ))). Longest (behind_bytes b.0 (members b.1 0 b.2.0 b.2.1 (drop p s)) (fixed_end t s) p) g (ways (Then (Repeat least most content) t) s p g)) told_is
-        (subst (λ (c : Tree). Longest (behind_bytes least (members most 0 set.0 set.1 (drop p s)) (fixed_end t s) p) g (ways (Then (Repeat least most c) t) s p g)) (sym (one_byte_is content set.0 set.1 (sym e)))
+        subst (λ (b : ℕ × Option ℕ × (Bool × List (ℕ × ℕ))). Longest (after_bytes b.0 (members b.1 0 b.2.0 b.2.1 (drop p s)) (fixed_end t s) p) g (ways (Then (Repeat least most content) t) s p g)) told_is
+        (subst (λ (c : Tree). Longest (after_bytes least (members most 0 set.0 set.1 (drop p s)) (fixed_end t s) p) g (ways (Then (Repeat least most c) t) s p g)) (sym (one_byte_is content set.0 set.1 (sym e)))
         (bytes_longest t s p least most set.0 set.1 g))
 repeat_longest Empty t s p bytes g is = absurd cc
 repeat_longest (Then a b) t s p bytes g is = absurd cc
@@ -191,9 +191,9 @@ repeat_longest (Group i a) t s p bytes g is = absurd cc
 row_longest : (t : Tree) (s : List ℕ) (p : ℕ) (g : Groups) → Longest (row_end t s p) g (ways t s p g)
 row_longest (Then a b) s p g = by_repeat (repeat_of_set a) refl (λ q. row_longest b s q g)
   where
-    by_step : (how : RowEnd) → Alone how g (ways a s p g) → ((q : ℕ) → Longest (row_end b s q) g (ways b s q g)) → Longest (behind_end how (row_end b s)) g (ways (Then a b) s p g)
-    by_step (row.At q) e rest = behind_longest (row_end b s q) a b s p q g e (rest q)
-    by_step row.Nowhere e rest = behind_none a b s p g e
+    by_step : (how : RowEnd) → Alone how g (ways a s p g) → ((q : ℕ) → Longest (row_end b s q) g (ways b s q g)) → Longest (after_end how (row_end b s)) g (ways (Then a b) s p g)
+    by_step (row.At q) e rest = after_longest (row_end b s q) a b s p q g e (rest q)
+    by_step row.Nowhere e rest = after_none a b s p g e
     by_step row.Untold e rest = tt
 
     by_repeat : (bytes : Option (ℕ × Option ℕ × (Bool × List (ℕ × ℕ)))) → repeat_of_set a ≡ bytes → ((q : ℕ) → Longest (row_end b s q) g (ways b s q g)) → Longest (item_end bytes a (fixed_end b s) (row_end b s) s p) g (ways (Then a b) s p g)
@@ -218,9 +218,9 @@ row_told t s p how e =
 
 -- Item after item
 
-pub fixed_step : (items : List Node) (i : ℕ) (item : Node) (s : List ℕ) (at : ℕ) (how whole : RowEnd) → i < length items → item ≡ get_or items i item → how ≡ step_end (tree_of item) s at → fixed_end (sequence_of (drop i items)) s at ≡ whole → behind_end how (fixed_end (sequence_of (drop (i + 1) items)) s) ≡ whole
+pub fixed_step : (items : List Node) (i : ℕ) (item : Node) (s : List ℕ) (at : ℕ) (how whole : RowEnd) → i < length items → item ≡ get_or items i item → how ≡ step_end (tree_of item) s at → fixed_end (sequence_of (drop i items)) s at ≡ whole → after_end how (fixed_end (sequence_of (drop (i + 1) items)) s) ≡ whole
 fixed_step items i item s at how whole lt there is so_far =
-    ap (λ h. behind_end h (fixed_end (sequence_of (drop (i + 1) items)) s)) is
+    ap (λ h. after_end h (fixed_end (sequence_of (drop (i + 1) items)) s)) is
     ∙ sym (ap (λ t. fixed_end t s at) (sequence_of-drop items i item lt there))
     ∙ so_far
 
@@ -228,10 +228,10 @@ pub fixed_done : (items : List Node) (i : ℕ) (s : List ℕ) (at : ℕ) (whole 
 fixed_done items i s at whole le so_far =
     sym (ap (λ t. fixed_end t s at) (sequence_of-all items i le)) ∙ so_far
 
-pub row_step : (items : List Node) (i : ℕ) (item : Node) (s : List ℕ) (at : ℕ) (how whole : RowEnd) → i < length items → item ≡ get_or items i item → None ≡ repeat_of_set (tree_of item) → how ≡ step_end (tree_of item) s at → row_end (sequence_of (drop i items)) s at ≡ whole → behind_end how (row_end (sequence_of (drop (i + 1) items)) s) ≡ whole
+pub row_step : (items : List Node) (i : ℕ) (item : Node) (s : List ℕ) (at : ℕ) (how whole : RowEnd) → i < length items → item ≡ get_or items i item → None ≡ repeat_of_set (tree_of item) → how ≡ step_end (tree_of item) s at → row_end (sequence_of (drop i items)) s at ≡ whole → after_end how (row_end (sequence_of (drop (i + 1) items)) s) ≡ whole
 row_step items i item s at how whole lt there none is so_far =
     let rest = sequence_of (drop (i + 1) items) in
-    ap (λ h. behind_end h (row_end rest s)) is
+    ap (λ h. after_end h (row_end rest s)) is
     ∙ ap (λ b. item_end b (tree_of item) (fixed_end rest s) (row_end rest s) s at) none
     ∙ sym (ap (λ t. row_end t s at) (sequence_of-drop items i item lt there))
     ∙ so_far
@@ -240,13 +240,13 @@ pub row_done : (items : List Node) (i : ℕ) (s : List ℕ) (at : ℕ) (whole : 
 row_done items i s at whole le so_far =
     sym (ap (λ t. row_end t s at) (sequence_of-all items i le)) ∙ so_far
 
-pub row_behind_bytes : (items : List Node) (i : ℕ) (item : Node) (s : List ℕ) (at least : ℕ) (most : Option ℕ) (n : Bool) (rs : List (ℕ × ℕ)) (how whole : RowEnd) → i < length items → item ≡ get_or items i item → Some (least, most, (n, rs)) ≡ repeat_of_set (tree_of item) → how ≡ behind_bytes least (members most 0 n rs (drop at s)) (fixed_end (sequence_of (take (length items - (i + 1)) (drop (i + 1) items))) s) at → row_end (sequence_of (drop i items)) s at ≡ whole → how ≡ whole
-row_behind_bytes items i item s at least most n rs how whole lt there told is so_far =
+pub row_after_bytes : (items : List Node) (i : ℕ) (item : Node) (s : List ℕ) (at least : ℕ) (most : Option ℕ) (n : Bool) (rs : List (ℕ × ℕ)) (how whole : RowEnd) → i < length items → item ≡ get_or items i item → Some (least, most, (n, rs)) ≡ repeat_of_set (tree_of item) → how ≡ after_bytes least (members most 0 n rs (drop at s)) (fixed_end (sequence_of (take (length items - (i + 1)) (drop (i + 1) items))) s) at → row_end (sequence_of (drop i items)) s at ≡ whole → how ≡ whole
+row_after_bytes items i item s at least most n rs how whole lt there told is so_far =
     let rest = sequence_of (drop (i + 1) items) in
     let all : take (length items - (i + 1)) (drop (i + 1) items) ≡ drop (i + 1) items =
     take_all (length items - (i + 1)) (drop (i + 1) items) (let m = length-drop (i + 1) items in omega arith) in
     is
-    ∙ ap (λ l. behind_bytes least (members most 0 n rs (drop at s)) (fixed_end (sequence_of l) s) at) all
+    ∙ ap (λ l. after_bytes least (members most 0 n rs (drop at s)) (fixed_end (sequence_of l) s) at) all
     ∙ ap (λ b. item_end b (tree_of item) (fixed_end rest s) (row_end rest s) s at) told
     ∙ sym (ap (λ t. row_end t s at) (sequence_of-drop items i item lt there))
     ∙ so_far

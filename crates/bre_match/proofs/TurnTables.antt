@@ -349,7 +349,7 @@ both_of : (a b : Bool) → (a && b) ≡ true → (a ≡ true) × (b ≡ true)
 both_of true b h = (refl, h)
 both_of false b h = absurd (cc)
 
--- an idle turn behind others is none
+-- an idle turn after others is none
 pub repeat_idle : (c : Tree) (s : List ℕ) (least : ℕ) (most : Option ℕ) (low high done place left end : ℕ) (idle : Bool) (old groups : Groups) → LeadsThere (Repeat least most c) s low high → TurnsRead c s least most low high done place old groups → LastEnd (part_of c) (λ n. (below done most ≡ true) × Turned (Reaches (part_of c) s) least most (done + 1) n high) s high place (Some left) → end ≡ high - left → idle ≡ (eqb end place && leb least done) → idle ≡ true → 0 < done → first_to high (ways (Repeat least most c) s low old) ≡ Some (high, groups)
 repeat_idle c s least most low high done place left end idle old groups l h last e is idles later =
     let test = both_of (eqb end place) (leb least done) (sym is ∙ idles) in

@@ -14,9 +14,9 @@ has_before : (q : ℕ) (xs ys : List Way) → Has q xs → Has q (xs ++ ys)
 has_before q [] ys h = absurd h
 has_before q (x ∷ xs) ys h = elim h [ inl e ↦ inl e | inr i ↦ inr (has_before q xs ys i) ]
 
-has_behind : (q : ℕ) (xs ys : List Way) → Has q ys → Has q (xs ++ ys)
-has_behind q [] ys h = h
-has_behind q (x ∷ xs) ys h = inr (has_behind q xs ys h)
+has_after : (q : ℕ) (xs ys : List Way) → Has q ys → Has q (xs ++ ys)
+has_after q [] ys h = h
+has_after q (x ∷ xs) ys h = inr (has_after q xs ys h)
 
 has_either : (q : ℕ) (xs ys : List Way) → Has q (xs ++ ys) → Has q xs ⊎ Has q ys
 has_either q [] ys h = inr h
@@ -68,7 +68,7 @@ has_by_way m q f [] h all = absurd h
 has_by_way m q f (w ∷ ws) h all =
     elim h [
       | inl e ↦ has_before q (f w) (flat_map f ws) (all w e)
-      | inr i ↦ has_behind q (f w) (flat_map f ws) (has_by_way m q f ws i all)
+      | inr i ↦ has_after q (f w) (flat_map f ws) (has_by_way m q f ws i all)
     ]
 
 pub has_mapped : (q : ℕ) (f : Way → Way) (ws : List Way) → ((w : Way) → (f w).0 ≡ w.0) → Has q ws → Has q (map f ws)
@@ -180,7 +180,7 @@ busy_moves m p least done e le = by_cases (eqb m p) (leb least done) refl refl e
 pub reach_turns : (R : ℕ → ℕ → Type 0) (body : Body) (n : ℕ) → ((p q : ℕ) → p ≤ n → R p q → (p ≤ q) × (q ≤ n)) → ((p q : ℕ) (g : Groups) → p ≤ n → R p q → Has q (body p g)) → (least : ℕ) (most : Option ℕ) (k fuel done p q : ℕ) (g : Groups) → p ≤ n → suc ((least - done) + (n - p)) ≤ fuel → least ≤ done + k → Within most (done + k) → Power R k p q → Has q (turns fuel body least most done p g)
 reach_turns R body n lies all least most k zero done p q g le room need in_most h = absurd (omega arith)
 reach_turns R body n lies all least most zero (suc f) done p q g le room need in_most h =
-    has_sorted q _ (has_behind q (flat_map (after_turn least done p (turns f body least most (done + 1))) (next_turn (below done most) body p g)) (only_if (leb least done) (p, g))
+    has_sorted q _ (has_after q (flat_map (after_turn least done p (turns f body least most (done + 1))) (next_turn (below done most) body p g)) (only_if (leb least done) (p, g))
     (has_if q (leb least done) (p, g) (grind (arith, nat_tests)) h))
 reach_turns R body n lies all least most (suc k) (suc f) done p q g le room need in_most h =
     elim (idle_or_busy h.0 p least done) [

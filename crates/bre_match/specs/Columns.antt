@@ -1,4 +1,4 @@
--- A search by columns: for one place after another, which byte sets of a part one stands just behind, and what for.
+-- A search by columns: for one place after another, which byte sets of a part one stands just after, and what for.
 use Rattle.std.specs.Prelude.{ℕ, Bool, true, false, List, length, Option, Some, None, nat_le, nat_eq, slice_get, if◌then◌else◌}
 use Rattle.bre_parse.specs.Ways.{has_byte_in}
 use Rattle.bre_match.specs.Parts.{AtEnd, AtStart, Both, Maybe, Never, Nothing, One, Part, Star}
@@ -14,7 +14,7 @@ abbrev pub where_true : Bool → Option ℕ → Option ℕ
 where_true true weight = weight
 where_true false weight = None
 
--- The least weight behind a part at a place, where one enters it there with this weight.
+-- The least weight after a part at a place, where one enters it there with this weight.
 abbrev pub peek : Part → List ℕ → (place : ℕ) → Option ℕ → Option ℕ
 peek Nothing text place weight = weight
 peek Never text place weight = None

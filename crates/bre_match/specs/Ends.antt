@@ -24,11 +24,11 @@ leads_on stops table distance = stops && nat_eq distance 0 || is_some (get_or ta
 abbrev pub entered : (ℕ → Bool) → ℕ → Option ℕ
 entered here place = where_true (here place) (Some place)
 
--- the column so many places behind the first, where one enters at each place with its weight, if it has one
+-- the column so many places after the first, where one enters at each place with its weight, if it has one
 abbrev pub columns : Part → List ℕ → (from : ℕ) → (entry : ℕ → Option ℕ) → ℕ → Part
 columns part text from entry zero = part
 columns part text from entry (suc n) = step (columns part text from entry n) text (from + n) (entry (from + n))
 
--- the least weight with which one gets behind the part there
+-- the least weight with which one gets after the part there
 abbrev pub out_of : Part → List ℕ → (from : ℕ) → (entry : ℕ → Option ℕ) → ℕ → Option ℕ
 out_of part text from entry n = peek (columns part text from entry n) text (from + n) (entry (from + n))

@@ -12,7 +12,7 @@ abbrev pub other_marks : List (Option ℕ) → List (Option ℕ)
 other_marks [] = []
 other_marks (mark ∷ marks) = marks
 
--- the marks behind those of a part
+-- the marks after those of a part
 abbrev pub past : Part → List (Option ℕ) → List (Option ℕ)
 past (One negated ranges mark) marks = other_marks marks
 past (Both first rest) marks = past rest (past first marks)

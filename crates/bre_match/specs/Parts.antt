@@ -4,7 +4,7 @@ use Rattle.bre_parse.specs.Tree.{Tree, Empty, Then, Set, TextStart, TextEnd, Bac
 use Rattle.bre_parse.specs.Ways.{has_byte_in}
 
 -- A part as a search takes it: without groups, and with the turns of a repeat written out. A set carries a mark: the
--- least weight with which one stands just behind it.
+-- least weight with which one stands just after it.
 pub data Part : Type 0 where
   Nothing : Part
   Never : Part

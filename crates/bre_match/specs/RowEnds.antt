@@ -16,11 +16,11 @@ abbrev pub end_if : Bool → RowEnd → RowEnd
 end_if true end = end
 end_if false end = row.Nowhere
 
--- what comes behind such an end
-abbrev pub behind_end : RowEnd → (ℕ → RowEnd) → RowEnd
-behind_end (row.At place) rest = rest place
-behind_end row.Nowhere rest = row.Nowhere
-behind_end row.Untold rest = row.Untold
+-- what comes after such an end
+abbrev pub after_end : RowEnd → (ℕ → RowEnd) → RowEnd
+after_end (row.At place) rest = rest place
+after_end row.Nowhere rest = row.Nowhere
+after_end row.Untold rest = row.Untold
 
 -- the first of two that isn't nowhere
 abbrev pub or_other : (one other : RowEnd) → RowEnd
@@ -37,7 +37,7 @@ step_end _ text place = row.Untold
 
 -- where such parts end, one after another
 abbrev pub fixed_end : Tree → List ℕ → (place : ℕ) → RowEnd
-fixed_end (Then first rest) text place = behind_end (step_end first text place) (fixed_end rest text)
+fixed_end (Then first rest) text place = after_end (step_end first text place) (fixed_end rest text)
 fixed_end Empty text place = row.At place
 fixed_end _ text place = row.Untold
 
@@ -55,15 +55,15 @@ abbrev pub repeat_of_set : Tree → Option (ℕ × Option ℕ × (Bool × List (
 repeat_of_set (Repeat least most content) = counts_of least most (one_byte_of content)
 repeat_of_set _ = None
 
--- where the rest ends behind so many bytes in a row, of which this many at least are taken
-abbrev pub behind_bytes : (least taken : ℕ) → (rest : ℕ → RowEnd) → (place : ℕ) → RowEnd
-behind_bytes least taken rest place = end_if (nat_le least taken) (last_end rest (place + taken) (taken - least))
+-- where the rest ends after so many bytes in a row, of which this many at least are taken
+abbrev pub after_bytes : (least taken : ℕ) → (rest : ℕ → RowEnd) → (place : ℕ) → RowEnd
+after_bytes least taken rest place = end_if (nat_le least taken) (last_end rest (place + taken) (taken - least))
 
--- where an item ends that takes bytes of a set, as this says, or else one byte or none, and the rest behind it
+-- where an item ends that takes bytes of a set, as this says, or else one byte or none, and the rest after it
 abbrev pub item_end : Option (ℕ × Option ℕ × (Bool × List (ℕ × ℕ))) → Tree → (fixed rest : ℕ → RowEnd) → List ℕ → (place : ℕ) → RowEnd
-item_end None first fixed rest text place = behind_end (step_end first text place) rest
+item_end None first fixed rest text place = after_end (step_end first text place) rest
 item_end (Some bytes) first fixed rest text place =
-    behind_bytes bytes.0 (members bytes.1 0 bytes.2.0 bytes.2.1 (drop place text)) fixed place
+    after_bytes bytes.0 (members bytes.1 0 bytes.2.0 bytes.2.1 (drop place text)) fixed place
 
 -- where the longest way of a row ends, the first repeat of which is its last
 abbrev pub row_end : Tree → List ℕ → (place : ℕ) → RowEnd

@@ -24,6 +24,6 @@ is_over (Some best) marks = none_up_to best.0 marks
 abbrev pub start_and_end : ℕ × Way → ℕ × ℕ
 start_and_end found = (found.0, found.1.0)
 
--- start and end lie in order behind a place and within a text of this length
+-- start and end lie in order after a place and within a text of this length
 abbrev pub SpansWithin : (from length : ℕ) → ℕ × ℕ → Type 0
 SpansWithin from length found = (from ≤ found.0) × (found.0 ≤ found.1) × (found.1 ≤ length)

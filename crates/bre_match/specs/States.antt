@@ -18,7 +18,7 @@ none_marked (Some weight ∷ marks) = false
 abbrev pub as_state : List (Option ℕ) → List (Option ℕ)
 as_state marks = if none_marked marks then [] else marks
 
--- the marks of the next place, or None where one gets out behind the part
+-- the marks of the next place, or None where one gets out after the part
 abbrev pub marks_unless : (out : Option ℕ) → List (Option ℕ) → Option (List (Option ℕ))
 marks_unless None marks = Some marks
 marks_unless (Some weight) marks = None

@@ -24,7 +24,7 @@ RowTable items text low high item table =
     (node : Node) → slice_get items item ≡ Some node →
     LastEnds (part_of (tree_of node)) (λ place. Reaches (part_of (sequence_of (drop (item + 1) items))) text place high) text low high table
 
--- the tables of a row's items, the last one's first, behind an empty one
+-- the tables of a row's items, the last one's first, after an empty one
 pub record IsRow (items : List Node) (text : List ℕ) (low high : ℕ) (tables : List (Vec (Option ℕ) Global)) : Type 0 where
   pub size : length tables ≡ length items + 1
   pub each : (item : ℕ) (table : Vec (Option ℕ) Global) → item < length items → slice_get tables (length items - item) ≡ Some table → RowTable items text low high item table.items
@@ -39,7 +39,7 @@ abbrev pub told_turns : (least : ℕ) → (most : Option ℕ) → ℕ
 told_turns least None = least
 told_turns least (Some most) = most
 
--- the tables of a repeat's turns, the last one's first, behind one for all further turns
+-- the tables of a repeat's turns, the last one's first, after one for all further turns
 pub record IsTurns (content : Part) (least : ℕ) (most : Option ℕ) (text : List ℕ) (low high : ℕ) (tables : List (Vec (Option ℕ) Global)) : Type 0 where
   pub size : length tables ≡ told_turns least most + 1
   pub each : (done : ℕ) (table : Vec (Option ℕ) Global) → slice_get tables (told_turns least most - done) ≡ Some table → TurnTable content least most text low high done table.items

@@ -1,4 +1,4 @@
-//! Columns: at a place of a text the least weight with which one stands just behind each byte set of a part, the turns of
+//! Columns: at a place of a text the least weight with which one stands just after each byte set of a part, the turns of
 //! its repeats written out. A place costs one step of each of them, whatever the text.
 
 ghost use Rattle.std.specs.Prelude.{◌≡◌, ℕ, ◌≤◌, ◌∷◌, ◌++◌, [], List, Option, Some, drop, IfOk, OnOk, length, slice_get};
@@ -12,14 +12,14 @@ use crate::run::has_byte_in;
 use bre_parse::tree::{ByteSet, Node};
 use std::alloc::AllocError;
 
-/// What is asked of a part at a place: only what comes out behind it, or its marks at the next place too.
+/// What is asked of a part at a place: only what comes out after it, or its marks at the next place too.
 #[derive(Clone, Copy)]
 pub(crate) enum Asked {
     Weight,
     Marks,
 }
 
-/// What comes out before or behind a part: the least weight, and the place of the next part's marks.
+/// What comes out before or after a part: the least weight, and the place of the next part's marks.
 #[derive(Clone, Copy)]
 pub(crate) struct Passed {
     pub weight: Option<usize>,
@@ -46,14 +46,14 @@ fn mark_at(marks: &[Option<usize>], at: usize) -> Option<usize>
     if at < marks.len() { marks[at] } else { None }
 }
 
-// The place behind a mark.
-fn behind_mark(marks: &[Option<usize>], at: usize) -> usize
+// The place after a mark.
+fn after_mark(marks: &[Option<usize>], at: usize) -> usize
     ensures value { drop result marks.now ≡ other_marks (drop at marks.now) }
 {
     if at < marks.len() { at + 1 } else { at }
 }
 
-// What comes out behind a part that takes no byte: what came out before it, where it may.
+// What comes out after a part that takes no byte: what came out before it, where it may.
 fn passed_if(may: bool, before: Passed) -> Passed
     ensures weight { result.weight ≡ where_true may before.weight }
     ensures at { result.at ≡ before.at }
@@ -64,7 +64,7 @@ fn passed_if(may: bool, before: Passed) -> Passed
     }
 }
 
-// Puts the mark of a byte set at the next place behind others, if it is asked for.
+// Puts the mark of a byte set at the next place after others, if it is asked for.
 fn put_mark(
     out: &mut Vec<Option<usize>>,
     asked: Asked,
@@ -89,8 +89,8 @@ fn put_mark(
     }
 }
 
-/// What comes out behind a part at a place, where one enters it there with what came out before it. If they are asked for,
-/// its marks at the next place are put behind others.
+/// What comes out after a part at a place, where one enters it there with what came out before it. If they are asked for,
+/// its marks at the next place are put after others.
 #[cycle(step)]
 pub(crate) fn step(
     out: &mut Vec<Option<usize>>,
@@ -113,7 +113,7 @@ pub(crate) fn step(
         Node::Set(set) => {
             put_mark(out, asked, set, text, place, before.weight)?;
             let weight = mark_at(marks, before.at);
-            let at = behind_mark(marks, before.at);
+            let at = after_mark(marks, before.at);
             Ok(Passed { weight, at })
         }
         Node::TextStart => Ok(passed_if(place == 0, before)),

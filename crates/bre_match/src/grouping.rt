@@ -63,7 +63,7 @@ fn is_idle(place: usize, end: usize, least: u8, done: usize) -> bool
     end == place && least as usize <= done
 }
 
-// The tables of a row's items, the last one's first, behind an empty one.
+// The tables of a row's items, the last one's first, after an empty one.
 fn tables_of_row(
     alloc: Global,
     items: &[Node],
@@ -127,7 +127,7 @@ fn table_of_further_turns(
     }
 }
 
-// The tables of a repeat's turns, the last one's first, behind one for all further turns.
+// The tables of a repeat's turns, the last one's first, after one for all further turns.
 fn tables_of_turns(
     alloc: Global,
     content: &Node,

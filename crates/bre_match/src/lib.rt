@@ -50,7 +50,7 @@ use std::alloc::{AllocError, Global};
 pub struct Match {
     /// The place of the first byte, counted from 0.
     pub start: usize,
-    /// The place behind the last byte.
+    /// The place after the last byte.
     pub end: usize,
     /// For each of the first nine groups, where it begins and ends, if it is set.
     pub groups: Groups,

@@ -87,7 +87,7 @@ fn only_end(run: &Run, size: usize, bytes: usize) -> Option<(usize, usize)>
     Some((end, 0))
 }
 
-// Of a run's ways all but those at its head behind which no byte of the set stands. The last one always stays.
+// Of a run's ways all but those at its head after which no byte of the set stands. The last one always stays.
 fn ends_before(run: &Run, set: &ByteSet, text: &[u8]) -> (usize, usize)
     ensures value { (f : Way → List Way) → ((end : ℕ) → has_byte_in set.now.negated set.now.ranges.items (slice_get text.now end) ≡ false → f (end, groups_at run.now end) ≡ []) → flat_map f (kept_of (Some result) (groups_at run.now)) ≡ flat_map f (ways_of run.now) }
     ensures fewer { (f : Way → ℕ) → weight f (kept_of (Some result) (groups_at run.now)) ≤ weight f (ways_of run.now) }
@@ -101,7 +101,7 @@ fn ends_before(run: &Run, set: &ByteSet, text: &[u8]) -> (usize, usize)
     (end, shorter)
 }
 
-/// The last end of those ways of a run that can lead on through these items, and how many more there are. Behind bytes,
+/// The last end of those ways of a run that can lead on through these items, and how many more there are. After bytes,
 /// anchors and back-references to known groups `$` leaves one end.
 pub(crate) fn narrowed(items: &[Node], text: &[u8], run: &Run) -> Option<(usize, usize)>
     ensures value { flat_map (from_way (ways (sequence_of items.now) text.now)) (kept_of result (groups_at run.now)) ≡ flat_map (from_way (ways (sequence_of items.now) text.now)) (ways_of run.now) }

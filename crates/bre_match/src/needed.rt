@@ -5,7 +5,7 @@ ghost use Rattle.std.specs.List.{list_any};
 ghost use Rattle.bre_parse.specs.Tree.{in_set, tree_of, sequence_of};
 ghost use Rattle.bre_parse.specs.Match.{longest_from, match_from};
 ghost use Rattle.bre_match.specs.Starts.{one_byte_of};
-ghost use Rattle.bre_match.specs.Needs.{behind_first, behind_item, lacks_needed};
+ghost use Rattle.bre_match.specs.Needs.{after_first, after_item, lacks_needed};
 
 use crate::start::one_byte_of;
 use bre_parse::tree::{ByteSet, Node};
@@ -22,9 +22,9 @@ fn only_range(set: &ByteSet) -> Option<(u8, u8)>
     }
 }
 
-// The place behind the first such byte.
-fn behind_byte(byte: u8, text: &[u8], from: usize) -> Option<usize>
-    ensures value { result ≡ behind_first false ((byte, byte) ∷ []) from (drop from text.now) }
+// The place after the first such byte.
+fn after_byte(byte: u8, text: &[u8], from: usize) -> Option<usize>
+    ensures value { result ≡ after_first false ((byte, byte) ∷ []) from (drop from text.now) }
 {
     if from >= text.len() {
         return None;
@@ -38,7 +38,7 @@ fn behind_byte(byte: u8, text: &[u8], from: usize) -> Option<usize>
 // How many bytes are looked at together: enough for the compiler to compare them at once, and few beside a line's.
 const BLOCK: usize = 16;
 
-// Whether a byte is in a range. It goes on behind one that is, so that nothing hangs on the byte before.
+// Whether a byte is in a range. It goes on after one that is, so that nothing hangs on the byte before.
 fn has_in_range(low: u8, high: u8, bytes: &[u8]) -> bool
     ensures value { result ≡ list_any (in_set false ((low, high) ∷ [])) bytes.now }
 {
@@ -52,8 +52,8 @@ fn has_in_range(low: u8, high: u8, bytes: &[u8]) -> bool
 }
 
 // The first place from one on that isn't passed over by whole blocks without a byte in a range.
-fn behind_blocks(low: u8, high: u8, text: &[u8], from: usize) -> usize
-    ensures value { behind_first false ((low, high) ∷ []) result (drop result text.now) ≡ behind_first false ((low, high) ∷ []) from (drop from text.now) }
+fn after_blocks(low: u8, high: u8, text: &[u8], from: usize) -> usize
+    ensures value { after_first false ((low, high) ∷ []) result (drop result text.now) ≡ after_first false ((low, high) ∷ []) from (drop from text.now) }
 {
     let mut at = from;
     'skipped: while BLOCK <= text.len().saturating_sub(at) {
@@ -65,11 +65,11 @@ fn behind_blocks(low: u8, high: u8, text: &[u8], from: usize) -> usize
     at
 }
 
-// The place behind the first byte in a range.
-fn behind_range(low: u8, high: u8, text: &[u8], from: usize) -> Option<usize>
-    ensures value { result ≡ behind_first false ((low, high) ∷ []) from (drop from text.now) }
+// The place after the first byte in a range.
+fn after_range(low: u8, high: u8, text: &[u8], from: usize) -> Option<usize>
+    ensures value { result ≡ after_first false ((low, high) ∷ []) from (drop from text.now) }
 {
-    let start = behind_blocks(low, high, text, from);
+    let start = after_blocks(low, high, text, from);
     for at in start..text.len() {
         if low <= text[at] && text[at] <= high {
             return Some(at + 1);
@@ -78,9 +78,9 @@ fn behind_range(low: u8, high: u8, text: &[u8], from: usize) -> Option<usize>
     None
 }
 
-// The place behind the first byte of any set.
-fn behind_member(set: &ByteSet, text: &[u8], from: usize) -> Option<usize>
-    ensures value { result ≡ behind_first set.now.negated set.now.ranges.items from (drop from text.now) }
+// The place after the first byte of any set.
+fn after_member(set: &ByteSet, text: &[u8], from: usize) -> Option<usize>
+    ensures value { result ≡ after_first set.now.negated set.now.ranges.items from (drop from text.now) }
 {
     for at in from..text.len() {
         if set.contains(text[at]) {
@@ -90,26 +90,26 @@ fn behind_member(set: &ByteSet, text: &[u8], from: usize) -> Option<usize>
     None
 }
 
-// The place behind the first byte of a set, from a place on.
-fn behind_first(set: &ByteSet, text: &[u8], from: usize) -> Option<usize>
-    ensures value { result ≡ behind_first set.now.negated set.now.ranges.items from (drop from text.now) }
+// The place after the first byte of a set, from a place on.
+fn after_first(set: &ByteSet, text: &[u8], from: usize) -> Option<usize>
+    ensures value { result ≡ after_first set.now.negated set.now.ranges.items from (drop from text.now) }
 {
     match only_range(set) {
         Some((low, high)) => if low == high {
-            behind_byte(low, text, from)
+            after_byte(low, text, from)
         } else {
-            behind_range(low, high, text, from)
+            after_range(low, high, text, from)
         },
-        None => behind_member(set, text, from),
+        None => after_member(set, text, from),
     }
 }
 
 // Where what comes after an item is looked for.
-fn behind_item(item: &Node, text: &[u8], from: usize) -> Option<usize>
-    ensures value { result ≡ behind_item (one_byte_of (tree_of item.now)) text.now from }
+fn after_item(item: &Node, text: &[u8], from: usize) -> Option<usize>
+    ensures value { result ≡ after_item (one_byte_of (tree_of item.now)) text.now from }
 {
     match one_byte_of(item) {
-        Some(set) => behind_first(set, text, from),
+        Some(set) => after_first(set, text, from),
         None => Some(from),
     }
 }
@@ -121,8 +121,8 @@ pub(crate) fn lacks_needed(items: &[Node], text: &[u8], from: usize) -> bool
 {
     let mut at = from;
     for item in items {
-        match behind_item(item, text, at) {
-            Some(behind) => at = behind,
+        match after_item(item, text, at) {
+            Some(after) => at = after,
             None => return true,
         }
     }
@@ -132,7 +132,7 @@ pub(crate) fn lacks_needed(items: &[Node], text: &[u8], from: usize) -> bool
 /// The first start from a place on that doesn't lack the first item's byte, as far as that is told.
 pub(crate) fn first_start(items: &[Node], text: &[u8], from: usize) -> usize
     requires place { from ≤ length text.now }
-    ensures behind { from ≤ result }
+    ensures after { from ≤ result }
     ensures within { result ≤ length text.now }
     ensures sound { (start : ℕ) → from ≤ start → start < result → longest_from (sequence_of items.now) text.now start ≡ None }
 {
@@ -141,9 +141,9 @@ pub(crate) fn first_start(items: &[Node], text: &[u8], from: usize) -> usize
     }
     match one_byte_of(&items[0]) {
         None => from,
-        Some(set) => match behind_first(set, text, from) {
+        Some(set) => match after_first(set, text, from) {
             None => from,
-            Some(behind) => behind.saturating_sub(1).min(text.len()).max(from),
+            Some(after) => after.saturating_sub(1).min(text.len()).max(from),
         },
     }
 }

@@ -4,7 +4,7 @@ use crate::run::only_item;
 use crate::start::{any_number_of, one_byte_of, same_set};
 use bre_parse::tree::{ByteSet, Node};
 
-// Whether the rest of a row of bytes is looked at from no other start: the repeat comes first, or right behind a byte of
+// Whether the rest of a row of bytes is looked at from no other start: the repeat comes first, or right after a byte of
 // its own set, so that its whole row is passed over, or it can't take the byte with which each start begins.
 fn is_seen_once(items: &[Node], at: usize, set: &ByteSet) -> bool {
     if at >= items.len() {
@@ -162,7 +162,7 @@ fn bytes_taken(item: &Node) -> Option<ItemBytes<'_>> {
     }
 }
 
-// Whether no byte of the set can be taken by the items that may come right behind one.
+// Whether no byte of the set can be taken by the items that may come right after one.
 fn gives_way(set: &ByteSet, rest: &[Node]) -> bool {
     for item in rest {
         if let Some(next) = bytes_taken(item) {

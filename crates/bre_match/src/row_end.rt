@@ -3,7 +3,7 @@
 ghost use Rattle.std.specs.Prelude.{◌≡◌, drop, option_map};
 ghost use Rattle.bre_parse.specs.Tree.{tree_of, sequence_of};
 ghost use Rattle.bre_parse.specs.Match.{longest_from};
-ghost use Rattle.bre_match.specs.RowEnds.{behind_bytes, end_if, fixed_end, last_end, repeat_of_set, row_end, step_end, EndsAs};
+ghost use Rattle.bre_match.specs.RowEnds.{after_bytes, end_if, fixed_end, last_end, repeat_of_set, row_end, step_end, EndsAs};
 ghost use Rattle.bre_match.specs.Runs.{members};
 
 use crate::run::{count_members, has_byte_in};
@@ -54,7 +54,7 @@ fn fixed_end(items: &[Node], text: &[u8], place: usize) -> RowEnd
     let mut at = place;
     for item in items {
         match step_end(item, text, at) {
-            RowEnd::At(behind) => at = behind,
+            RowEnd::At(after) => at = after,
             RowEnd::Nowhere => return RowEnd::Nowhere,
             RowEnd::Untold => return RowEnd::Untold,
         }
@@ -92,8 +92,8 @@ fn repeat_of_set(part: &Node) -> Option<(usize, Option<u8>, &ByteSet)>
     }
 }
 
-// Where the rest ends behind bytes of a set in a row.
-fn behind_bytes(
+// Where the rest ends after bytes of a set in a row.
+fn after_bytes(
     least: usize,
     most: Option<u8>,
     set: &ByteSet,
@@ -101,7 +101,7 @@ fn behind_bytes(
     text: &[u8],
     place: usize,
 ) -> RowEnd
-    ensures value { result ≡ behind_bytes least (members most 0 set.now.negated set.now.ranges.items (drop place text.now)) (fixed_end (sequence_of rest.now) text.now) place }
+    ensures value { result ≡ after_bytes least (members most 0 set.now.negated set.now.ranges.items (drop place text.now)) (fixed_end (sequence_of rest.now) text.now) place }
 {
     let taken = count_members(set, most, text, place);
     if taken < least {
@@ -119,10 +119,10 @@ pub(crate) fn row_end(items: &[Node], text: &[u8], start: usize) -> RowEnd
     for i in 0..items.len() {
         let item = &items[i];
         if let Some((least, most, set)) = repeat_of_set(item) {
-            return behind_bytes(least, most, set, &items[i + 1..], text, at);
+            return after_bytes(least, most, set, &items[i + 1..], text, at);
         }
         match step_end(item, text, at) {
-            RowEnd::At(behind) => at = behind,
+            RowEnd::At(after) => at = after,
             RowEnd::Nowhere => return RowEnd::Nowhere,
             RowEnd::Untold => return RowEnd::Untold,
         }

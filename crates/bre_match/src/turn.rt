@@ -6,7 +6,7 @@ ghost use Rattle.bre_match.specs.Turns.{after_way};
 use crate::run::Way;
 use std::alloc::AllocError;
 
-/// What is left to do in a repeat: the next turn behind a way, with so many turns done, or to hand out a way.
+/// What is left to do in a repeat: the next turn after a way, with so many turns done, or to hand out a way.
 #[derive(Clone, Copy)]
 pub(crate) enum Turn {
     Next(usize, Way),

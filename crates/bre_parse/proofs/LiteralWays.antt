@@ -85,7 +85,7 @@ is_alone (other ∷ another ∷ bytes) byte e = absurd cc
 pub record Stands (text : List ℕ) (place byte : ℕ) (rest : List ℕ) : Type 0 where
   pub there : drop place text ≡ byte ∷ rest
   pub got : slice_get text place ≡ Some byte
-  pub behind : drop (place + 1) text ≡ rest
+  pub after : drop (place + 1) text ≡ rest
   pub is_byte : byte < 256
 
 abbrev Over : List ℕ → ℕ → Type 0
@@ -97,12 +97,12 @@ all_later byte text all k d lt = all (suc k) d (omega arith)
 stands : (text : List ℕ) (place : ℕ) → All (λ byte. byte < 256) text → Over text place ⊎ ((byte : ℕ) × (rest : List ℕ) × Stands text place byte rest)
 stands [] zero all = inl (refl, refl)
 stands [] (suc place) all = inl (refl, refl)
-stands (byte ∷ text) zero all = inr (byte, text, record { there = refl; got = refl; behind = refl; is_byte = all zero 0 (omega arith) })
+stands (byte ∷ text) zero all = inr (byte, text, record { there = refl; got = refl; after = refl; is_byte = all zero 0 (omega arith) })
 stands (byte ∷ text) (suc place) all =
     ⊎_elim
     (λ (over : Over text place). inl over)
     (λ (found : (byte : ℕ) × (rest : List ℕ) × Stands text place byte rest).
-    inr (found.0, found.1, record { there = found.2.there; got = found.2.got; behind = ap (λ n. drop n (byte ∷ text)) (next place) ∙ ap (λ n. drop n text) (sym (add-one place)) ∙ found.2.behind; is_byte = found.2.is_byte }))
+    inr (found.0, found.1, record { there = found.2.there; got = found.2.got; after = ap (λ n. drop n (byte ∷ text)) (next place) ∙ ap (λ n. drop n text) (sym (add-one place)) ∙ found.2.after; is_byte = found.2.is_byte }))
     (stands text place (all_later byte text all))
   where
     next : (n : ℕ) → suc n + 1 ≡ suc (suc n)
@@ -137,7 +137,7 @@ set_then negated ranges byte rest word text e all later place groups =
     (λ (found : (head : ℕ) × (bytes : List ℕ) × Stands text place head bytes).
     ap (λ at. cond (has_byte_in negated ranges at) (ways rest text (place + 1) groups) []) found.2.got
     ∙ ap (λ test. cond test (ways rest text (place + 1) groups) []) (only_below 256 negated ranges byte e found.0 found.2.is_byte)
-    ∙ ap (λ more. cond (nat_eq found.0 byte) more []) (later (place + 1) groups ∙ ap (λ bytes. only_if (begins_with bytes word) (place + 1 + length word, groups)) found.2.behind)
+    ∙ ap (λ more. cond (nat_eq found.0 byte) more []) (later (place + 1) groups ∙ ap (λ bytes. only_if (begins_with bytes word) (place + 1 + length word, groups)) found.2.after)
     ∙ both_tests (nat_eq found.0 byte) (begins_with found.1 word) (place + 1 + length word, groups)
     ∙ end_moved (nat_eq found.0 byte && begins_with found.1 word) (place + 1 + length word) (place + length (byte ∷ word)) groups (omega arith)
     ∙ ap (λ bytes. only_if (begins_with bytes (byte ∷ word)) (place + length (byte ∷ word), groups)) (sym found.2.there))

@@ -7,7 +7,7 @@ use Rattle.bre_parse.specs.Tree.{Tree, TextStart, BackReference, Group, Repeat, 
 use Rattle.bre_parse.specs.Reading.{Read, ◌>>=◌, starts_with, starts_with_pair}
 use Rattle.bre_parse.specs.Brackets.{Ranges, element_or_range, range_follows, after_ranges, more_elements, bracket}
 use Rattle.bre_parse.specs.Intervals.{Bounds, interval}
-use Rattle.bre_parse.specs.Grammar.{Head, Finish, Anchor, Open, Refer, Matches, itself, may_be_escaped, escaped, at_end, head_of, nesting, deepest, bounds_at, repeated, repeats, ReadSequence, ReadItem, with_repeats, then_rest, from_start, group_item, item_at, items_behind, items}
+use Rattle.bre_parse.specs.Grammar.{Head, Finish, Anchor, Open, Refer, Matches, itself, may_be_escaped, escaped, at_end, head_of, nesting, deepest, bounds_at, repeated, repeats, ReadSequence, ReadItem, with_repeats, then_rest, from_start, group_item, item_at, items_after, items}
 use Rattle.bre_parse.specs.declared.fault.BreFault.{BreFault}
 use Rattle.bre_parse.specs.declared.fault.BreFault.TheVariants as fault
 use Rattle.bre_parse.proofs.Choices.{chosen}
@@ -77,7 +77,7 @@ same_repeats (suc one) (suc other) depth part text lt lt' = by (bounds_at text) 
 pub repeats_ignore_count : (most depth : ℕ) (tree : Tree) (text : List ℕ) → length text < most → repeats most depth tree text ≡ repeats (length text + 1) depth tree text
 repeats_ignore_count most depth tree text lt = same_repeats most (length text + 1) depth tree text lt (omega arith)
 
--- What is left behind a part has at most so many bytes.
+-- What is left after a part has at most so many bytes.
 
 abbrev ShortRead : ℕ → Read Tree → Type 0
 ShortRead bytes (Ok found) = length found.1 ≤ bytes
@@ -110,7 +110,7 @@ with_repeats_short depth opened bytes part text le = by (repeats (length text + 
     by (Ok item) short = short
     by (Err wrong) short = tt
 
--- what stands behind the head of a text of so many bytes
+-- what stands after the head of a text of so many bytes
 abbrev ShortHead : ℕ → Head → Type 0
 ShortHead bytes Finish = Unit {0}
 ShortHead bytes (Anchor rest) = length rest < bytes
@@ -182,16 +182,16 @@ item_short items all inside opened bytes (Open rest) short =
     (λ _. group_short bytes (length inside) opened (from_start (items (inside ++ opened ∷ [])) (opened + 1) rest) (start_short (items (inside ++ opened ∷ [])) (all (inside ++ opened ∷ [])) (opened + 1) bytes rest (omega arith)))
     (λ _. tt)
 
-behind_short : (items : ℕ → List ℕ → ReadSequence) → AllShort items → (opened less bytes : ℕ) (text : List ℕ) (read : ReadItem) → length text ≤ bytes → less ≤ bytes → ShortItem less read → ShortSequence bytes (read >>= items_behind items opened text)
-behind_short items all opened less bytes text (Ok None) le fits short = le
-behind_short items all opened less bytes text (Ok (Some item)) le fits short = then_short bytes item.0 (items item.1.0 item.1.1) (all item.1.0 bytes item.1.1 (omega arith))
-behind_short items all opened less bytes text (Err wrong) le fits short = tt
+after_short : (items : ℕ → List ℕ → ReadSequence) → AllShort items → (opened less bytes : ℕ) (text : List ℕ) (read : ReadItem) → length text ≤ bytes → less ≤ bytes → ShortItem less read → ShortSequence bytes (read >>= items_after items opened text)
+after_short items all opened less bytes text (Ok None) le fits short = le
+after_short items all opened less bytes text (Ok (Some item)) le fits short = then_short bytes item.0 (items item.1.0 item.1.1) (all item.1.0 bytes item.1.1 (omega arith))
+after_short items all opened less bytes text (Err wrong) le fits short = tt
 
 items_short : (most : ℕ) (inside : List ℕ) → AllShort (items most inside)
 items_short zero inside opened bytes text le = tt
 items_short (suc most) inside opened bytes [] le = omega arith
 items_short (suc most) inside opened bytes (byte ∷ rest) le =
-    behind_short (items most inside) (λ opened' bytes' text' le'. items_short most inside opened' bytes' text' le') opened (length rest) bytes (byte ∷ rest) (item_at (items most) inside opened (head_of (byte ∷ rest))) le (omega arith)
+    after_short (items most inside) (λ opened' bytes' text' le'. items_short most inside opened' bytes' text' le') opened (length rest) bytes (byte ∷ rest) (item_at (items most) inside opened (head_of (byte ∷ rest))) le (omega arith)
     (item_short (items most) (λ inside' opened' bytes' text' le'. items_short most inside' opened' bytes' text' le') inside opened (length rest) (head_of (byte ∷ rest)) (head_short (byte ∷ rest)))
 
 -- two counts that are great enough for all shorter texts
@@ -213,10 +213,10 @@ same_item one other bytes inside opened (Open rest) alike short =
     ap (λ (read : ReadSequence). chosen (nat_lt (length inside) deepest) (read >>= group_item (length inside) opened) (Err fault.Depth))
     (same_start one other bytes (inside ++ opened ∷ []) (opened + 1) rest alike (omega arith))
 
-same_behind : (one other bytes : ℕ) (inside : List ℕ) (opened : ℕ) (text : List ℕ) (read : ReadItem) → Alike one other bytes → ShortItem bytes read → read >>= items_behind (items one inside) opened text ≡ read >>= items_behind (items other inside) opened text
-same_behind one other bytes inside opened text (Ok None) alike short = refl
-same_behind one other bytes inside opened text (Ok (Some item)) alike short = ap (then_rest item.0) (alike inside item.1.0 item.1.1 short)
-same_behind one other bytes inside opened text (Err wrong) alike short = refl
+same_after : (one other bytes : ℕ) (inside : List ℕ) (opened : ℕ) (text : List ℕ) (read : ReadItem) → Alike one other bytes → ShortItem bytes read → read >>= items_after (items one inside) opened text ≡ read >>= items_after (items other inside) opened text
+same_after one other bytes inside opened text (Ok None) alike short = refl
+same_after one other bytes inside opened text (Ok (Some item)) alike short = ap (then_rest item.0) (alike inside item.1.0 item.1.1 short)
+same_after one other bytes inside opened text (Err wrong) alike short = refl
 
 same_items : (one other : ℕ) (inside : List ℕ) (opened : ℕ) (text : List ℕ) → length text < one → length text < other → items one inside opened text ≡ items other inside opened text
 same_items zero other inside opened text lt lt' = absurd (omega arith)
@@ -224,8 +224,8 @@ same_items (suc one) zero inside opened text lt lt' = absurd (omega arith)
 same_items (suc one) (suc other) inside opened [] lt lt' = refl
 same_items (suc one) (suc other) inside opened (byte ∷ rest) lt lt' =
     let alike : Alike one other (length rest) = λ inside' opened' text' le. same_items one other inside' opened' text' (omega arith) (omega arith) in
-    ap (λ (read : ReadItem). read >>= items_behind (items one inside) opened (byte ∷ rest)) (same_item one other (length rest) inside opened (head_of (byte ∷ rest)) alike (head_short (byte ∷ rest)))
-    ∙ same_behind one other (length rest) inside opened (byte ∷ rest) (item_at (items other) inside opened (head_of (byte ∷ rest))) alike
+    ap (λ (read : ReadItem). read >>= items_after (items one inside) opened (byte ∷ rest)) (same_item one other (length rest) inside opened (head_of (byte ∷ rest)) alike (head_short (byte ∷ rest)))
+    ∙ same_after one other (length rest) inside opened (byte ∷ rest) (item_at (items other) inside opened (head_of (byte ∷ rest))) alike
     (item_short (items other) (items_short other) inside opened (length rest) (head_of (byte ∷ rest)) (head_short (byte ∷ rest)))
 
 pub items_ignore_count : (most : ℕ) (inside : List ℕ) (opened : ℕ) (text : List ℕ) → length text < most → items most inside opened text ≡ items (length text + 1) inside opened text

@@ -69,7 +69,7 @@ abbrev pub ElementsIgnoreCount : Type 0
 ElementsIgnoreCount =
     (most : ℕ) (text : List ℕ) → length text < most → more_elements most text ≡ more_elements (length text + 1) text
 
--- Nor do the repeats behind a part.
+-- Nor do the repeats after a part.
 abbrev pub RepeatsIgnoreCount : Type 0
 RepeatsIgnoreCount =
     (most depth : ℕ) (tree : Tree) (text : List ℕ) → length text < most →

@@ -21,7 +21,7 @@ mod spelling;
 pub mod tree;
 
 pub use always::always_matches;
-pub use bracket::behind_bracket;
+pub use bracket::after_bracket;
 use fault::BreFault;
 use item::whole;
 pub use laws::{

@@ -214,8 +214,8 @@ pub record Same (a b c p q r : Bool) : Type 0 where
 pub three-same : (u v w : Word) → pointwise nat_eq u v ≡ false → pointwise nat_eq u w ≡ false → pointwise nat_eq v w ≡ false → (a b c p q r : Bool) →
     possible a u ++ possible b v ++ possible c w ≡ possible p u ++ possible q v ++ possible r w → Same a b c p q r
 three-same u v w uv uw vw a b c p q r e =
-    let behind : Bool → Bool → List Word = λ y z. possible y v ++ possible z w in
-    let lacks : (y z : Bool) → Lacks u (behind y z) = λ y z. lacks-other u v y (possible z w) uv (lacks-one u w z uw) in
-    let first = first-same u a p (behind b c) (behind q r) (lacks b c) (lacks q r) (sym (append_assoc (possible a u) _ _) ∙ e ∙ append_assoc (possible p u) _ _) in
+    let after : Bool → Bool → List Word = λ y z. possible y v ++ possible z w in
+    let lacks : (y z : Bool) → Lacks u (after y z) = λ y z. lacks-other u v y (possible z w) uv (lacks-one u w z uw) in
+    let first = first-same u a p (after b c) (after q r) (lacks b c) (lacks q r) (sym (append_assoc (possible a u) _ _) ∙ e ∙ append_assoc (possible p u) _ _) in
     let later = two-same v w vw b c q r first.1 in
     record { first = first.0; second = later.0; third = later.1 }

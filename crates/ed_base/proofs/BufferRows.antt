@@ -17,7 +17,7 @@ no_line_is_marked = refl
 second_line_is_marked : map (λ letter. marked_place letter (marked_at 1 25 plain)) (0 ∷ 25 ∷ []) ≡ None ∷ Some 1 ∷ []
 second_line_is_marked = refl
 
--- the letter leaves the line that it marked, whether that stands behind or before
+-- the letter leaves the line that it marked, whether that stands after or before
 letter_moves_on : marked_at 2 3 (marked_at 0 3 plain) ≡ marked_at 2 3 plain
 letter_moves_on = refl
 

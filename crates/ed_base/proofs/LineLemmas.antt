@@ -90,7 +90,7 @@ length-onto_first byte (line ∷ lines) some = refl
 abbrev ones : ℕ → ℕ
 ones byte = cond (nat_eq byte newline) 1 0
 
--- behind each newline but a last one stands a line
+-- after each newline but a last one stands a line
 pub length-lines_of : (front : List ℕ) (last : ℕ) → length (lines_of (front ++ last ∷ [])) ≡ count_by (is_byte newline) front + 1
 length-lines_of [] last =
     ⊎_elim
@@ -135,7 +135,7 @@ IsLine-take bytes end le none =
     let short : k < end = omega (arith, length-take-le end bytes le) in
     none k (omega arith) short (eq-eqb _ _ (sym (get_or-take end bytes k 0 short) ∙ is)))
 
--- the first newline stands behind the first line
+-- the first newline stands after the first line
 pub at_newline : (bytes : List ℕ) (end : ℕ) → end < length bytes → Passes (is_byte newline) bytes end → bytes ≡ take end bytes ++ newline ∷ drop (end + 1) bytes
 at_newline bytes end lt is =
     sym (take-append-drop end bytes)

@@ -13,15 +13,15 @@ pub part-grown : (file bytes : List ℕ) (start end place : ℕ) → start ≤ e
     true ≡ starts_with nat_eq (slice_range file place (length file)) bytes →
     slice_range file start (end + length bytes) ≡ slice_range file start end ++ bytes
 part-grown file bytes start end place h e follows =
-    let behind : List ℕ = drop place file in
-    let there : behind ≡ bytes ++ drop (length bytes) behind =
-    (starts_is Decides-eqb behind bytes true (follows ∙ ap (λ b. starts_with nat_eq b bytes) (take_rest file place))).0 refl in
+    let later : List ℕ = drop place file in
+    let there : later ≡ bytes ++ drop (length bytes) later =
+    (starts_is Decides-eqb later bytes true (follows ∙ ap (λ b. starts_with nat_eq b bytes) (take_rest file place))).0 refl in
     let size : end + length bytes - start ≡ (end - start) + length bytes = omega (arith, h) in
     let seam : start + (end - start) ≡ place = omega (arith, h, e) in
     ap (λ n. take n (drop start file)) size
     ∙ take-add (end - start) (length bytes) (drop start file)
     ∙ ap (λ t. slice_range file start end ++ take (length bytes) t) (drop-drop (end - start) start file ∙ ap (λ n. drop n file) seam ∙ there)
-    ∙ ap (λ t. slice_range file start end ++ t) (take_at bytes (drop (length bytes) behind) (length bytes) refl)
+    ∙ ap (λ t. slice_range file start end ++ t) (take_at bytes (drop (length bytes) later) (length bytes) refl)
 
 -- one more piece at the end
 pub concat-more : (pieces : List (List ℕ)) (piece rest : List ℕ) → concat (pieces ++ piece ∷ []) ++ rest ≡ concat pieces ++ (piece ++ rest)
@@ -37,7 +37,7 @@ own-closed before after piece own left e same none =
     ∙ ap (λ t. concat before ++ (piece ++ t)) none
     ∙ ap (λ t. concat before ++ t) (append-nil piece ∙ same)
 
--- a part that became a piece, behind the bytes before it
+-- a part that became a piece, after the bytes before it
 pub part-closed : (before between after : List (List ℕ)) (own left piece : List ℕ) (last gone : Option (List ℕ)) →
     concat between ++ left ≡ concat before ++ own → left ≡ [] → after ≡ between ++ piece ∷ [] → last ≡ Some piece → gone ≡ None →
     concat after ++ (left ++ bytes_or_none gone) ≡ concat before ++ (own ++ bytes_or_none last)

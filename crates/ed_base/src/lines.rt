@@ -6,7 +6,7 @@ use crate::{Bytes, Text};
 use memchr::{memchr, memchr_iter};
 use std::alloc::{AllocError, Global};
 
-/// The first line and the bytes behind its newline; a last line may lack the newline. It takes no memory.
+/// The first line and the bytes after its newline; a last line may lack the newline. It takes no memory.
 pub fn next_line(bytes: &[u8]) -> Option<(&[u8], &[u8])>
     ensures ended { IsNone result ↔ (bytes.now ≡ []) }
     ensures line { IfSome result (λ (line, rest). IsLine line.now) }
@@ -67,7 +67,7 @@ pub fn count_lines(bytes: &[u8]) -> usize
 {
     match bytes {
         [] => 0,
-        // Behind each newline but a last one stands a line.
+        // After each newline but a last one stands a line.
         [front @ .., _] => memchr_iter(b'\n', front).count() + 1,
     }
 }

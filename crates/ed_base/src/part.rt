@@ -73,8 +73,8 @@ impl Part {
         if self.end != place {
             return false;
         }
-        let behind = &self.block.as_slice()[place..];
-        if !behind.starts_with(bytes) {
+        let after = &self.block.as_slice()[place..];
+        if !after.starts_with(bytes) {
             return false;
         }
         self.end += bytes.len();

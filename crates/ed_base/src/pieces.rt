@@ -20,9 +20,9 @@ pub struct Pieces {
     alloc: Global,
     // The pieces that stay as they are.
     closed: Vec<Part>,
-    // Behind them bytes that are only here,
+    // After them bytes that are only here,
     own: Bytes,
-    // and behind these a part that may still grow.
+    // and after these a part that may still grow.
     last: Option<Part>,
     count: usize,
 }

@@ -31,7 +31,7 @@ impl<'a> Walk<'a> {
         Walk { closed, own, last }
     }
 
-    /// The next piece, which isn't empty; none behind the last one.
+    /// The next piece, which isn't empty; none after the last one.
     pub fn next_piece(&mut self) -> Option<&'a [u8]>
         ensures ended { IfNone result (self.old ≡ []) }
         ensures some { IfSome result (λ piece. 0 < length piece.now) }
@@ -56,7 +56,7 @@ impl<'a> Walk<'a> {
 pub(crate) struct ByteWalk<'a> {
     // What is left of the piece that was begun,
     piece: &'a [u8],
-    // and the pieces behind it.
+    // and the pieces after it.
     walk: Walk<'a>,
 }
 
@@ -76,7 +76,7 @@ impl<'a> ByteWalk<'a> {
         ByteWalk { piece: &[], walk }
     }
 
-    /// The next byte; none behind the last one.
+    /// The next byte; none after the last one.
     pub(crate) fn next_byte(&mut self) -> Option<u8>
         ensures ended { IfNone result (self.old ≡ []) }
         ensures first { IfSome result (λ byte. self.old ≡ byte ∷ self.new) }

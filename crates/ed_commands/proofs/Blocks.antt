@@ -26,14 +26,14 @@ block-more a i xs d h k =
 pub front : {X : Type 0} (a b : ℕ) (xs : List X) → a ≤ b → take a xs ++ block a b xs ≡ take b xs
 front a b xs h = ap (λ t. t ++ block a b xs) (sym (take-take a b xs h)) ∙ take-append-drop a (take b xs)
 
--- a part stands between what is before it and what is behind it
+-- a part stands between what is before it and what is after it
 pub whole : {X : Type 0} (a b : ℕ) (xs : List X) → a ≤ b → take a xs ++ (block a b xs ++ drop b xs) ≡ xs
 whole a b xs h =
     sym (append_assoc (take a xs) (block a b xs) (drop b xs))
     ∙ ap (λ t. t ++ drop b xs) (front a b xs h)
     ∙ take-append-drop b xs
 
--- the elements behind a place are those up to a later one, and those behind it
+-- the elements after a place are those up to a later one, and those after it
 pub rear : {X : Type 0} (a b : ℕ) (xs : List X) → a ≤ b → b ≤ length xs → drop a xs ≡ block a b xs ++ drop b xs
 rear a b xs h k =
     ap (drop a) (sym (take-append-drop b xs)) ∙ drop-append-le a (take b xs) (drop b xs) (omega (arith, length-take-le b xs k))
@@ -81,13 +81,13 @@ carried-back a b place xs h k l =
     ∙ put-there a b moved xs (omega arith)
     ∙ whole a b xs h
 
--- an element of a list into which others were put: one in front of them, and one behind them
+-- an element of a list into which others were put: one in front of them, and one after them
 pub get_or-before : {X : Type 0} (a i : ℕ) (new xs : List X) (d : X) → i < a → a ≤ length xs → get_or (inserted a new xs) i d ≡ get_or xs i d
 get_or-before a i new xs d h k =
     get_or_append_left (take a xs) (new ++ drop a xs) d i (omega (arith, length-take-le a xs k)) ∙ get_or-take a xs i d h
 
-pub get_or-behind : {X : Type 0} (a i j : ℕ) (new xs : List X) (d : X) → a ≤ i → a ≤ length xs → j ≡ i + length new → get_or (inserted a new xs) j d ≡ get_or xs i d
-get_or-behind a i j new xs d h k e =
+pub get_or-after : {X : Type 0} (a i j : ℕ) (new xs : List X) (d : X) → a ≤ i → a ≤ length xs → j ≡ i + length new → get_or (inserted a new xs) j d ≡ get_or xs i d
+get_or-after a i j new xs d h k e =
     get_or-append_right (take a xs) (new ++ drop a xs) a j d (length-take-le a xs k) (omega arith)
     ∙ get_or-append_right new (drop a xs) (length new) (j - a) d refl (omega arith)
     ∙ get_or-drop a xs (j - a - length new) d
@@ -145,7 +145,7 @@ one-line : (line : List ℕ) → IsLine line → AreLines (line ∷ [])
 one-line line h zero d b = h
 one-line line h (suc k) d b = absurd (omega arith)
 
--- one more line's text copied behind the others
+-- one more line's text copied after the others
 pub copied-more : (a i : ℕ) (lines : List Line) (text : List ℕ) → a ≤ i → i < length lines → text ≡ (get_or lines i (plain_line [])).bytes →
     bytes_of (texts (block a (i + 1) lines)) ≡ (bytes_of (texts (block a i lines)) ++ text) ++ newline ∷ []
 copied-more a i lines text h k e = ap bytes_of (texts-more a i lines text h k e) ∙ bytes-more (texts (block a i lines)) text

@@ -5,9 +5,9 @@ use Rattle.std.proofs.lemmas.List.{take_at, drop_at, take_all, drop_all, take-ta
 use Rattle.ed_base.specs.Parts.{block, exchanged, carried}
 use Rattle.ed_commands.proofs.Blocks.{length-block, front, whole, rear}
 
--- a block of which the elements before place m stand in front of others, and the rest behind them
-abbrev pub parted : {X : Type 0} → (before block others behind : List X) → ℕ → List X
-parted before block others behind m = before ++ (take m block ++ (others ++ (drop m block ++ behind)))
+-- a block of which the elements before place m stand in front of others, and the rest after them
+abbrev pub parted : {X : Type 0} → (before block others after : List X) → ℕ → List X
+parted before block others after m = before ++ (take m block ++ (others ++ (drop m block ++ after)))
 
 -- an element taken out from between p and q, and put between p' and q'
 step : {X : Type 0} (xs p q p' q' : List X) (x d : X) (i j : ℕ) → xs ≡ p ++ x ∷ q → p ++ q ≡ p' ++ q' → length p ≡ i → length p' ≡ j →
@@ -23,46 +23,46 @@ step xs p q p' q' x d i j h k e f =
     ∙ ap (λ t. p' ++ x ∷ t) (drop_at p' q' j f)
 
 -- the element at place m, at the end of the front part, and at the beginning of the rest
-at-end : {X : Type 0} (before block others behind : List X) (m : ℕ) (d : X) → m < length block →
-    parted before block others behind (m + 1) ≡ (before ++ take m block) ++ get_or block m d ∷ (others ++ (drop (m + 1) block ++ behind))
-at-end before block others behind m d h =
-    ap (λ t. before ++ (t ++ (others ++ (drop (m + 1) block ++ behind)))) (take_more block m d h)
-    ∙ ap (λ t. before ++ t) (append_assoc (take m block) (get_or block m d ∷ []) (others ++ (drop (m + 1) block ++ behind)))
-    ∙ sym (append_assoc before (take m block) (get_or block m d ∷ (others ++ (drop (m + 1) block ++ behind))))
+at-end : {X : Type 0} (before block others after : List X) (m : ℕ) (d : X) → m < length block →
+    parted before block others after (m + 1) ≡ (before ++ take m block) ++ get_or block m d ∷ (others ++ (drop (m + 1) block ++ after))
+at-end before block others after m d h =
+    ap (λ t. before ++ (t ++ (others ++ (drop (m + 1) block ++ after)))) (take_more block m d h)
+    ∙ ap (λ t. before ++ t) (append_assoc (take m block) (get_or block m d ∷ []) (others ++ (drop (m + 1) block ++ after)))
+    ∙ sym (append_assoc before (take m block) (get_or block m d ∷ (others ++ (drop (m + 1) block ++ after))))
 
-at-start : {X : Type 0} (before block others behind : List X) (m : ℕ) (d : X) → m < length block →
-    parted before block others behind m ≡ ((before ++ take m block) ++ others) ++ get_or block m d ∷ (drop (m + 1) block ++ behind)
-at-start before block others behind m d h =
-    ap (λ t. before ++ (take m block ++ (others ++ (t ++ behind)))) (drop_more block m d h)
-    ∙ sym (append_assoc before (take m block) (others ++ get_or block m d ∷ (drop (m + 1) block ++ behind)))
-    ∙ sym (append_assoc (before ++ take m block) others (get_or block m d ∷ (drop (m + 1) block ++ behind)))
+at-start : {X : Type 0} (before block others after : List X) (m : ℕ) (d : X) → m < length block →
+    parted before block others after m ≡ ((before ++ take m block) ++ others) ++ get_or block m d ∷ (drop (m + 1) block ++ after)
+at-start before block others after m d h =
+    ap (λ t. before ++ (take m block ++ (others ++ (t ++ after)))) (drop_more block m d h)
+    ∙ sym (append_assoc before (take m block) (others ++ get_or block m d ∷ (drop (m + 1) block ++ after)))
+    ∙ sym (append_assoc (before ++ take m block) others (get_or block m d ∷ (drop (m + 1) block ++ after)))
 
 length-before : {X : Type 0} (before block : List X) (m : ℕ) → m ≤ length block → length (before ++ take m block) ≡ length before + m
 length-before before block m h = length-append before (take m block) ∙ ap (λ n. length before + n) (length-take-le m block h)
 
 -- one more element in front of the others
-pub turn-up : {X : Type 0} (xs before block others behind : List X) (m i j : ℕ) (d : X) → xs ≡ parted before block others behind m → m < length block →
+pub turn-up : {X : Type 0} (xs before block others after : List X) (m i j : ℕ) (d : X) → xs ≡ parted before block others after m → m < length block →
     i ≡ length before + (length others + m) → j ≡ length before + m →
-    insert (remove xs i) j (get_or xs i d) ≡ parted before block others behind (m + 1)
-turn-up xs before block others behind m i j d h b e f =
+    insert (remove xs i) j (get_or xs i d) ≡ parted before block others after (m + 1)
+turn-up xs before block others after m i j d h b e f =
     let long : length (before ++ take m block) ≡ length before + m = length-before before block m (omega arith) in
-    step xs ((before ++ take m block) ++ others) (drop (m + 1) block ++ behind) (before ++ take m block) (others ++ (drop (m + 1) block ++ behind))
-    (get_or block m d) d i j (h ∙ at-start before block others behind m d b) (append_assoc (before ++ take m block) others (drop (m + 1) block ++ behind))
+    step xs ((before ++ take m block) ++ others) (drop (m + 1) block ++ after) (before ++ take m block) (others ++ (drop (m + 1) block ++ after))
+    (get_or block m d) d i j (h ∙ at-start before block others after m d b) (append_assoc (before ++ take m block) others (drop (m + 1) block ++ after))
     (omega (arith, length-append (before ++ take m block) others)) (omega arith)
-    ∙ sym (at-end before block others behind m d b)
+    ∙ sym (at-end before block others after m d b)
 
--- one more element behind the others
-pub turn-down : {X : Type 0} (xs before block others behind : List X) (m i j : ℕ) (d : X) → xs ≡ parted before block others behind (m + 1) → m < length block →
+-- one more element after the others
+pub turn-down : {X : Type 0} (xs before block others after : List X) (m i j : ℕ) (d : X) → xs ≡ parted before block others after (m + 1) → m < length block →
     i ≡ length before + m → j ≡ length before + (length others + m) →
-    insert (remove xs i) j (get_or xs i d) ≡ parted before block others behind m
-turn-down xs before block others behind m i j d h b e f =
+    insert (remove xs i) j (get_or xs i d) ≡ parted before block others after m
+turn-down xs before block others after m i j d h b e f =
     let long : length (before ++ take m block) ≡ length before + m = length-before before block m (omega arith) in
-    step xs (before ++ take m block) (others ++ (drop (m + 1) block ++ behind)) ((before ++ take m block) ++ others) (drop (m + 1) block ++ behind)
-    (get_or block m d) d i j (h ∙ at-end before block others behind m d b) (sym (append_assoc (before ++ take m block) others (drop (m + 1) block ++ behind)))
+    step xs (before ++ take m block) (others ++ (drop (m + 1) block ++ after)) ((before ++ take m block) ++ others) (drop (m + 1) block ++ after)
+    (get_or block m d) d i j (h ∙ at-end before block others after m d b) (sym (append_assoc (before ++ take m block) others (drop (m + 1) block ++ after)))
     (omega arith) (omega (arith, length-append (before ++ take m block) others))
-    ∙ sym (at-start before block others behind m d b)
+    ∙ sym (at-start before block others after m d b)
 
--- A block is carried up behind a place before it.
+-- A block is carried up after a place before it.
 abbrev pub going_up : {X : Type 0} → (a b place : ℕ) → List X → ℕ → List X
 going_up a b place xs m = parted (take place xs) (block a b xs) (block place a xs) (drop b xs) m
 
@@ -89,7 +89,7 @@ up-turn a b place m i j before xs d h k l b' e f =
     (omega (arith, length-take-le place before (omega arith), length-block place a before (omega arith)))
     (omega (arith, length-take-le place before (omega arith)))
 
--- A block is carried down behind a place behind it.
+-- A block is carried down after a place after it.
 abbrev pub going_down : {X : Type 0} → (a b target : ℕ) → List X → ℕ → List X
 going_down a b target xs m = parted (take a xs) (block a b xs) (block b target xs) (drop target xs) m
 

@@ -5,7 +5,7 @@ use Rattle.std.proofs.lemmas.List.{drop_more, length-append, length-take-le, tak
 use Rattle.std.proofs.lemmas.List.Edits.{insert-append_right}
 use Rattle.ed_base.specs.Parts.{inserted}
 
--- an element put behind the second of three parts
+-- an element put after the second of three parts
 pub insert-between : {X : Type 0} (xs ys zs : List X) (n : ℕ) (x : X) → n ≡ length xs + length ys → insert (xs ++ (ys ++ zs)) n x ≡ xs ++ ((ys ++ x ∷ []) ++ zs)
 insert-between xs ys zs n x h =
     insert-append_right xs (ys ++ zs) (length xs) n x refl (omega arith)

@@ -22,7 +22,7 @@ use Rattle.ed_commands.specs.Rewriting.{earlier_of_rewritten}
 use Rattle.ed_commands.proofs.Blocks.{block-more, length-exchanged, taken-back}
 use Rattle.ed_commands.proofs.Changes.{made-new}
 
--- what results of lines, and of one more behind them
+-- what results of lines, and of one more after them
 abbrev pub with_last : Line → Option (List (List ℕ)) → Results → Results
 with_last line None earlier = (earlier.0 ++ line ∷ [], earlier.1)
 with_last line (Some texts) earlier = (earlier.0 ++ map plain_line texts, Some (length earlier.0 + length texts))
@@ -53,15 +53,15 @@ pub each-further : (f : List ℕ → Option (List (List ℕ))) (a i : ℕ) (line
 each-further f a i lines d h k = ap (each f) (block-more a i lines d h k) ∙ each-more f (block a i lines) (get_or lines i d)
 
 -- where the next line stands once those before it were exchanged for these
-pub stands-behind : (a i : ℕ) (made lines : List Line) (d : Line) → i < length lines →
+pub stands-after : (a i : ℕ) (made lines : List Line) (d : Line) → i < length lines →
     exchanged a i made lines ≡ (take a lines ++ made) ++ get_or lines i d ∷ drop (i + 1) lines
-stands-behind a i made lines d h =
+stands-after a i made lines d h =
     ap (λ t. take a lines ++ (made ++ t)) (drop_more lines i d h) ∙ sym (append_assoc (take a lines) made (get_or lines i d ∷ drop (i + 1) lines))
 
 pub next-line : (a i place : ℕ) (made lines now : List Line) (d : Line) → a ≤ i → i < length lines → now ≡ exchanged a i made lines →
     place ≡ a + length made → get_or now place d ≡ get_or lines i d
 next-line a i place made lines now d h k e p =
-    ap (λ t. get_or t place d) (e ∙ stands-behind a i made lines d k)
+    ap (λ t. get_or t place d) (e ∙ stands-after a i made lines d k)
     ∙ get_or_at (take a lines ++ made) (get_or lines i d) (drop (i + 1) lines) d place
     (omega (arith, length-append (take a lines) made, length-take-le a lines (omega arith)))
 
@@ -77,7 +77,7 @@ stands-at a i count n made lines now h k e f g = omega (arith, ap length e, leng
 -- it stays
 pub stayed : (a i : ℕ) (made lines : List Line) (d : Line) → i < length lines → exchanged a i made lines ≡ exchanged a (i + 1) (made ++ get_or lines i d ∷ []) lines
 stayed a i made lines d h =
-    stands-behind a i made lines d h
+    stands-after a i made lines d h
     ∙ append_assoc (take a lines) made (get_or lines i d ∷ drop (i + 1) lines)
     ∙ ap (λ t. take a lines ++ t) (sym (append_assoc made (get_or lines i d ∷ []) (drop (i + 1) lines)))
 
@@ -85,7 +85,7 @@ stayed a i made lines d h =
 pub gone : (a i place : ℕ) (made new lines now : List Line) (d : Line) → a ≤ i → i < length lines → now ≡ exchanged a i made lines →
     place ≡ a + length made → exchanged place (place + 1) new now ≡ exchanged a (i + 1) (made ++ new) lines
 gone a i place made new lines now d h k e p =
-    ap (exchanged place (place + 1) new) (e ∙ stands-behind a i made lines d k)
+    ap (exchanged place (place + 1) new) (e ∙ stands-after a i made lines d k)
     ∙ taken-back (take a lines ++ made) (get_or lines i d ∷ []) new (drop (i + 1) lines) place (place + 1)
     (omega (arith, length-append (take a lines) made, length-take-le a lines (omega arith))) refl
     ∙ append_assoc (take a lines) made (new ++ drop (i + 1) lines)

@@ -26,7 +26,7 @@ told text tree lines i line answer h e k =
     ∙ matched-by text line tree h
     ∙ sym k
 
--- the numbers behind i up to b, one by one
+-- the numbers after i up to b, one by one
 first-of : (i b : ℕ) → i < b → count_from (i + 1) (b - i) ≡ (i + 1) ∷ count_from (i + 1 + 1) (b - (i + 1))
 first-of i b h = let e : b - i ≡ suc (b - (i + 1)) = omega arith in ap (count_from (i + 1)) e
 
@@ -43,7 +43,7 @@ last-of : (a n : ℕ) → count_from a (suc n) ≡ count_from a n ++ (a + n) ∷
 last-of a zero = ap (λ t. t ∷ []) (let e : a ≡ a + 0 = omega arith in e)
 last-of a (suc n) = ap (λ t. a ∷ t) (last-of (a + 1) n ∙ ap (λ t. count_from (a + 1) n ++ t ∷ []) (let e : a + 1 + n ≡ a + suc n = omega arith in e))
 
--- the numbers behind a up to j, downwards
+-- the numbers after a up to j, downwards
 last-first : (a i j : ℕ) → a ≤ i → j ≡ i + 1 → reverse (count_from (a + 1) (j - a)) ≡ j ∷ reverse (count_from (a + 1) (i - a))
 last-first a i j h e =
     ap (λ t. reverse (count_from (a + 1) t)) (let f : j - a ≡ suc (i - a) = omega arith in f)
@@ -57,7 +57,7 @@ passed-down p a i j h e fails = ap (find p) (last-first a i j h e) ∙ ap (λ t.
 pub found-down : (p : ℕ → Bool) (a i j : ℕ) → a ≤ i → j ≡ i + 1 → p (i + 1) ≡ true → find p (reverse (count_from (a + 1) (j - a))) ≡ Some (i + 1)
 found-down p a i j h e passes = ap (find p) (last-first a i j h e) ∙ ap (λ t. cond t (Some j) (find p (reverse (count_from (a + 1) (i - a))))) (ap p e ∙ passes) ∙ ap (λ n. Some n) e
 
--- the lines behind the current one, and those up to it
+-- the lines after the current one, and those up to it
 pub forward : (s : State) → s.current ≤ last s → lines_forward s ≡ count_from (s.current + 1) (last s - s.current) ++ count_from (0 + 1) (s.current - 0)
 forward s h =
     ap (λ n. count_from (s.current + 1) n ++ upwards 1 s.current) (let e : last s + 1 - (s.current + 1) ≡ last s - s.current = omega arith in e)

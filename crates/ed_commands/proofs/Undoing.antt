@@ -20,7 +20,7 @@ use Rattle.ed_commands.specs.Earlier.{Earlier, GlobalWithin, HeldWithin, PastVal
 use Rattle.ed_commands.proofs.Blocks.{length-exchanged}
 use Rattle.ed_commands.proofs.Kept.{kept-own, rewound-more}
 
--- a place behind the end is the end
+-- a place after the end is the end
 drop-cut : {X : Type 0} (a n : ℕ) (xs : List X) → length xs ≤ n → drop (min a n) xs ≡ drop a xs
 drop-cut a n xs h = ⊎_elim
     (λ l. ap (λ k. drop k xs) (let e : min a n ≡ a = omega arith in e))

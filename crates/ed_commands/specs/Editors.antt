@@ -99,7 +99,7 @@ Fits many.Whole x last = (1 ≤ x.first) × (x.first ≤ x.last + 1) × (x.last 
 abbrev pub AreNew : List Line → Type 0
 AreNew lines = map plain_line (texts lines) ≡ lines
 
--- the line of the others behind which the lines of a span go, where the target isn't one of them
+-- the line of the others after which the lines of a span go, where the target isn't one of them
 abbrev pub place_beside : ranges.Span → (target : ℕ) → Result ℕ Fault
 place_beside x target = elim (nat_le x.first target && nat_le target x.last) [ true ↦ Err Destination | false ↦ Ok (place_left x target) ]
 

@@ -17,7 +17,7 @@ vouch min max path = Some (job.Vouch (record { path = path; min = min; max = max
 abbrev run : List ℕ → Bool → Option (List ℕ) → Option Job
 run certificate silent path = Some (job.Run certificate (record { silent = silent; prompt = None; path = path }))
 
--- the job of words behind the program's name
+-- the job of words after the program's name
 abbrev job_given : List (List ℕ) → Option Job
 job_given words = job_of (codes "ed_main" ∷ words)
 

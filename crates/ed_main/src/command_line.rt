@@ -13,7 +13,7 @@ pub fn line_of_command(
     if !begins(alloc, script, number)? {
         return Ok(None);
     }
-    // The command begins at `low` or behind it, and before `high`. Two steps at most halve what lies between.
+    // The command begins at `low` or after it, and before `high`. Two steps at most halve what lies between.
     let mut low = 0;
     let mut high = script.len();
     for _ in 0..128 {
@@ -36,7 +36,7 @@ fn begins(alloc: Global, lines: &[u8], number: usize) -> Result<bool, AllocError
     Ok(number <= read.fault.unwrap_or(read.commands.len()))
 }
 
-// Where a line begins behind `low` and before `high`, one near the middle.
+// Where a line begins after `low` and before `high`, one near the middle.
 fn line_between(script: &[u8], low: usize, high: usize) -> Option<usize> {
     let middle = low.checked_add(high.checked_sub(low)? / 2)?;
     let upper = script.get(middle..high)?;

@@ -37,14 +37,14 @@ told_written file files log request within =
 pub found_here : (path : List ℕ) (files : Files) (i left : ℕ) (file : List ℕ × List ℕ) → left + i ≡ length files → i < length files →
     file ≡ get_or files i file → pointwise nat_eq file.0 path ≡ true → file_at path (drop i files) ≡ bytes_at left files
 found_here path files i left file sum within is equal =
-    let behind : drop i files ≡ file ∷ drop (suc i) files = drop-cons files i file within ∙ ap (λ f. f ∷ drop (suc i) files) (sym is) in
+    let after : drop i files ≡ file ∷ drop (suc i) files = drop-cons files i file within ∙ ap (λ f. f ∷ drop (suc i) files) (sym is) in
     let at : slice_get files i ≡ Some file = slice_get_read files (length files) i file refl within is in
     let place : length files - left ≡ i = omega (arith, sum) in
-    rw (behind, equal, file_at, place, at) refl
+    rw (after, equal, file_at, place, at) refl
 
 -- its bytes
 pub file_here : (path : List ℕ) (files : Files) (i : ℕ) (file : List ℕ × List ℕ) → i < length files → file ≡ get_or files i file → pointwise nat_eq file.0 path ≡ true →
     file_at path (drop i files) ≡ Some file.1
 file_here path files i file within is equal =
-    let behind : drop i files ≡ file ∷ drop (suc i) files = drop-cons files i file within ∙ ap (λ f. f ∷ drop (suc i) files) (sym is) in
-    rw (behind, equal, file_at) refl
+    let after : drop i files ≡ file ∷ drop (suc i) files = drop-cons files i file within ∙ ap (λ f. f ∷ drop (suc i) files) (sym is) in
+    rw (after, equal, file_at) refl

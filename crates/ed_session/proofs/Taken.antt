@@ -17,25 +17,25 @@ pub Appends-none : (a : Option (List ℕ)) → Appends a a []
 Appends-none None = tt
 Appends-none (Some a) = grind (arith, common_steps)
 
--- what is kept behind a piece that was taken
+-- what is kept after a piece that was taken
 pub Appends-keeps : (a b c : Option (List ℕ)) (x : List ℕ) → Appends a b x → Keeps b c → Appends a c x
 Appends-keeps None b c x p q = tt
 Appends-keeps (Some a) None c x p q = absurd p
 Appends-keeps (Some a) (Some b) None x p q = absurd q
 Appends-keeps (Some a) (Some b) (Some c) x p q = q ∙ p
 
--- the first n bytes are a front, behind which there are more
+-- the first n bytes are a front, after which there are more
 pub front-taken : (old new : Option (List ℕ)) (bytes : List ℕ) (n : ℕ) → n < length bytes → Appends old new (take n bytes) → AppendsFront old new bytes
 front-taken old new bytes n h taken =
     let some : drop n bytes ≢ [] = λ e. let none : length (drop n bytes) ≡ 0 = ap length e in omega (arith, length-drop n bytes) in
     (take n bytes, (drop n bytes, sym (take-append-drop n bytes), some), taken)
 
--- a list that goes on behind some bytes isn't at its end there
+-- a list that goes on after some bytes isn't at its end there
 pub some-more : (x y : List ℕ) → x ≢ [] → x ++ y ≢ []
 some-more [] y h = λ e. h refl
 some-more (b ∷ x) y h = λ e. cc
 
--- the next n bytes of bs, which stand behind the first i
+-- the next n bytes of bs, which stand after the first i
 pub take-next : (bs : List ℕ) (i n : ℕ) → i ≤ length bs → n ≤ length bs - i → take (i + n) bs ≡ take i bs ++ take n (take (length bs - i) (drop i bs))
 take-next bs i n h k =
     sym (take-append-drop i (take (i + n) bs))

@@ -181,7 +181,7 @@ base-complete (SpellsBase.backward text more rest pattern is closes) =
 abbrev AddressRead : List ℕ → Parsed (Option Address) → Type 0
 AddressRead text read = (r : Option Address × List ℕ) → read ≡ Some r → SpellsAddress text r.1 r.0
 
--- offsets behind a base
+-- offsets after a base
 offset-sound : (text more : List ℕ) (base : Base) → ((rest : List ℕ) (offset : ℤ) → SpellsOffsets more rest offset → SpellsAddress text rest (Some (record { base = base; offset = offset }))) →
     AddressRead text (with_offsets (Some base) more)
 offset-sound text more base spells r is =

@@ -26,8 +26,8 @@ blank_within_a_mark = refl
 blanks_around_a_semicolon : edited letters (codes "1\t; \t2 p\nQ\n") ≡ ends (codes "a\nb\n") 3
 blanks_around_a_semicolon = refl
 
-blank_behind_a_search : edited letters (codes "/b/ \tp\nQ\n") ≡ ends (codes "b\n") 3
-blank_behind_a_search = refl
+blank_after_a_search : edited letters (codes "/b/ \tp\nQ\n") ≡ ends (codes "b\n") 3
+blank_after_a_search = refl
 
 blank_belongs_to_an_open_pattern : edited (codes "a\nb \nb\n") (codes "/b \n.=\nQ\n") ≡ ends (codes "b \n2\n") 3
 unfolding digits
@@ -36,14 +36,14 @@ blank_belongs_to_an_open_pattern = refl
 blank_belongs_to_a_pattern : edited letters (codes "/b /p\n") ≡ fails (codes "?\n") fault.NoMatch
 blank_belongs_to_a_pattern = refl
 
-blank_behind_a_sign : edited letters (codes "1p\n+ 1p\n") ≡ fails (codes "a\n?\n") fault.Syntax
-blank_behind_a_sign = refl
+blank_after_a_sign : edited letters (codes "1p\n+ 1p\n") ≡ fails (codes "a\n?\n") fault.Syntax
+blank_after_a_sign = refl
 
 blanks_before_text : edited letters (codes " 1\ta \t\nx\n.\n2p\nQ\n") ≡ ends (codes "x\n") 4
 blanks_before_text = refl
 
-no_word_behind_a_letter : edited letters (codes "ax\nx\n.\n") ≡ fails (codes "?\n") fault.Syntax
-no_word_behind_a_letter = refl
+no_word_after_a_letter : edited letters (codes "ax\nx\n.\n") ≡ fails (codes "?\n") fault.Syntax
+no_word_after_a_letter = refl
 
 carriage_return_is_no_blank : edited letters (codes "1p" ++ 13 ∷ codes "\n") ≡ fails (codes "?\n") fault.Syntax
 carriage_return_is_no_blank = refl
@@ -63,7 +63,7 @@ nul_is_no_command = refl
 high_byte_is_no_blank : edited letters (codes "1p" ++ 160 ∷ codes "\n") ≡ fails (codes "?\n") fault.Syntax
 high_byte_is_no_blank = refl
 
--- `;`, and the current line behind it
+-- `;`, and the current line after it
 
 semicolon_before_search : edited repeated (codes "1;/a/p\nQ\n") ≡ ends repeated 3
 semicolon_before_search = refl
@@ -96,9 +96,9 @@ semicolon_moves_for_empty_text : edited letters (codes "1;3a\n.\n.=\nQ\n") ≡ e
 unfolding digits
 semicolon_moves_for_empty_text = refl
 
-sum_behind_semicolon : edited letters (codes "$;-2=\n.=\nQ\n") ≡ ends (codes "1\n3\n") 3
+sum_after_semicolon : edited letters (codes "$;-2=\n.=\nQ\n") ≡ ends (codes "1\n3\n") 3
 unfolding digits
-sum_behind_semicolon = refl
+sum_after_semicolon = refl
 
 semicolon_with_second_alone : edited letters (codes "1p\n;+1p\nQ\n") ≡ ends (codes "a\na\nb\n") 3
 semicolon_with_second_alone = refl
@@ -124,11 +124,11 @@ null_command_of_a_pair : edited letters (codes "1,2\n.=\n0,1\nQ\n") ≡ ends (co
 unfolding digits
 null_command_of_a_pair = refl
 
-text_behind_comma_alone : edited letters (codes ",a\nx\n.\n,p\nQ\n") ≡ ends (codes "a\nb\nc\nx\n") 4
-text_behind_comma_alone = refl
+text_after_comma_alone : edited letters (codes ",a\nx\n.\n,p\nQ\n") ≡ ends (codes "a\nb\nc\nx\n") 4
+text_after_comma_alone = refl
 
-text_behind_line_zero_and_semicolon : edited letters (codes "0;a\nx\n.\n,p\nQ\n") ≡ ends (codes "x\na\nb\nc\n") 4
-text_behind_line_zero_and_semicolon = refl
+text_after_line_zero_and_semicolon : edited letters (codes "0;a\nx\n.\n,p\nQ\n") ≡ ends (codes "x\na\nb\nc\n") 4
+text_after_line_zero_and_semicolon = refl
 
 range_from_a_search_at_line_zero : edited repeated (codes "0;/a/p\n") ≡ fails (codes "?\n") fault.Address
 range_from_a_search_at_line_zero = refl
@@ -142,8 +142,8 @@ no_separator_twice = refl
 no_omitted_third : edited letters (codes "1,2;p\n") ≡ fails (codes "?\n") fault.Syntax
 no_omitted_third = refl
 
-no_comma_behind_comma_alone : edited letters (codes ",,p\n") ≡ fails (codes "?\n") fault.Syntax
-no_comma_behind_comma_alone = refl
+no_comma_after_comma_alone : edited letters (codes ",,p\n") ≡ fails (codes "?\n") fault.Syntax
+no_comma_after_comma_alone = refl
 
 -- the first fault, from left to right
 
@@ -179,11 +179,11 @@ dropped_first_search = refl
 
 -- offsets
 
-offset_behind_a_search_without_number : edited letters (codes "1p\n/b/+p\nQ\n") ≡ ends (codes "a\nc\n") 3
-offset_behind_a_search_without_number = refl
+offset_after_a_search_without_number : edited letters (codes "1p\n/b/+p\nQ\n") ≡ ends (codes "a\nc\n") 3
+offset_after_a_search_without_number = refl
 
-offsets_behind_a_search : edited letters (codes "/b/ - -\t+ p\nQ\n") ≡ ends (codes "a\n") 3
-offsets_behind_a_search = refl
+offsets_after_a_search : edited letters (codes "/b/ - -\t+ p\nQ\n") ≡ ends (codes "a\n") 3
+offsets_after_a_search = refl
 
 offset_to_line_zero : edited letters (codes "/b/-2=\n/b/-3+2=\nQ\n") ≡ ends (codes "0\n1\n") 3
 unfolding digits
@@ -192,14 +192,14 @@ offset_to_line_zero = refl
 offset_before_line_zero : edited letters (codes "/b/-3=\n") ≡ fails (codes "?\n") fault.Address
 offset_before_line_zero = refl
 
-offset_behind_a_backward_search : edited letters (codes "?b?+1p\nQ\n") ≡ ends (codes "c\n") 3
-offset_behind_a_backward_search = refl
+offset_after_a_backward_search : edited letters (codes "?b?+1p\nQ\n") ≡ ends (codes "c\n") 3
+offset_after_a_backward_search = refl
 
-offset_behind_a_mark : edited letters (codes "1ka\n'a+1p\n'a++p\nQ\n") ≡ ends (codes "b\nc\n") 3
-offset_behind_a_mark = refl
+offset_after_a_mark : edited letters (codes "1ka\n'a+1p\n'a++p\nQ\n") ≡ ends (codes "b\nc\n") 3
+offset_after_a_mark = refl
 
-offset_behind_the_remembered_pattern : edited letters (codes "/b/,//+1p\nQ\n") ≡ ends (codes "b\nc\n") 3
-offset_behind_the_remembered_pattern = refl
+offset_after_the_remembered_pattern : edited letters (codes "/b/,//+1p\nQ\n") ≡ ends (codes "b\nc\n") 3
+offset_after_the_remembered_pattern = refl
 
 number_outside_with_offset : edited letters (codes "9-7p\nQ\n") ≡ ends (codes "b\n") 3
 number_outside_with_offset = refl
@@ -211,23 +211,23 @@ line_zero_with_offsets : edited letters (codes "0+1p\n0-1+1=\n+0p\n-000000000p\n
 unfolding digits
 line_zero_with_offsets = refl
 
-number_behind_current_line : edited letters (codes ".1p\n") ≡ fails (codes "?\n") fault.Syntax
-number_behind_current_line = refl
+number_after_current_line : edited letters (codes ".1p\n") ≡ fails (codes "?\n") fault.Syntax
+number_after_current_line = refl
 
-number_behind_a_search : edited letters (codes "/b/1p\n") ≡ fails (codes "?\n") fault.Syntax
-number_behind_a_search = refl
+number_after_a_search : edited letters (codes "/b/1p\n") ≡ fails (codes "?\n") fault.Syntax
+number_after_a_search = refl
 
-number_behind_a_mark : edited letters (codes "1ka\n'a1p\n") ≡ fails (codes "?\n") fault.Syntax
-number_behind_a_mark = refl
+number_after_a_mark : edited letters (codes "1ka\n'a1p\n") ≡ fails (codes "?\n") fault.Syntax
+number_after_a_mark = refl
 
-ten_digits_behind_a_line : edited letters (codes "1p\n+0000000001p\n") ≡ fails (codes "a\n?\n") fault.Syntax
-ten_digits_behind_a_line = refl
+ten_digits_after_a_line : edited letters (codes "1p\n+0000000001p\n") ≡ fails (codes "a\n?\n") fault.Syntax
+ten_digits_after_a_line = refl
 
-ten_digits_behind_semicolon : edited letters (codes "1;0000000002p\n") ≡ fails (codes "?\n") fault.Syntax
-ten_digits_behind_semicolon = refl
+ten_digits_after_semicolon : edited letters (codes "1;0000000002p\n") ≡ fails (codes "?\n") fault.Syntax
+ten_digits_after_semicolon = refl
 
-ten_digits_behind_a_search : edited letters (codes "/b/+0000000000p\n") ≡ fails (codes "?\n") fault.Syntax
-ten_digits_behind_a_search = refl
+ten_digits_after_a_search : edited letters (codes "/b/+0000000000p\n") ≡ fails (codes "?\n") fault.Syntax
+ten_digits_after_a_search = refl
 
 -- the remembered pattern
 
@@ -276,9 +276,9 @@ escaped_backslash_before_delimiter : edited (codes "a/\na\\\n") (codes "1p\n/a\\
 unfolding digits
 escaped_backslash_before_delimiter = refl
 
-escaped_delimiter_behind_escaped_backslash : edited (codes "\\\n\\/\n") (codes "1p\n/\\\\\\//=\nQ\n") ≡ ends (codes "\\\n2\n") 2
+escaped_delimiter_after_escaped_backslash : edited (codes "\\\n\\/\n") (codes "1p\n/\\\\\\//=\nQ\n") ≡ ends (codes "\\\n2\n") 2
 unfolding digits
-escaped_delimiter_behind_escaped_backslash = refl
+escaped_delimiter_after_escaped_backslash = refl
 
 escaped_question_mark : edited (codes "ab\na?b\n") (codes "?a\\?b?=\nQ\n") ≡ ends (codes "2\n") 2
 unfolding digits
@@ -295,9 +295,9 @@ slash_escaped_in_a_backward_search : edited (codes "ab\na/b\n") (codes "?a\\/b?=
 unfolding digits
 slash_escaped_in_a_backward_search = refl
 
-delimiter_behind_unpaired_backslash_at_the_end : edited (codes "a/\na\n") (codes "1p\n/a\\/\n.=\nQ\n") ≡ ends (codes "a/\na/\n1\n") 2
+delimiter_after_unpaired_backslash_at_the_end : edited (codes "a/\na\n") (codes "1p\n/a\\/\n.=\nQ\n") ≡ ends (codes "a/\na/\n1\n") 2
 unfolding digits
-delimiter_behind_unpaired_backslash_at_the_end = refl
+delimiter_after_unpaired_backslash_at_the_end = refl
 
 question_mark_in_a_bracket : edited (codes "a\n?\n") (codes "?[?]?=\nQ\n") ≡ ends (codes "2\n") 2
 unfolding digits tree.covers_below
@@ -311,12 +311,12 @@ backslash_closes_no_bracket : edited (codes "x\n\\\n/\n") (codes "1p\n/[\\]/=\nQ
 unfolding digits tree.covers_below
 backslash_closes_no_bracket = refl
 
-bracket_closed_behind_a_backslash : edited (codes "x\n\\\n/\n") (codes "/[\\]/]/=\n") ≡ fails (codes "?\n") fault.Syntax
-bracket_closed_behind_a_backslash = refl
+bracket_closed_after_a_backslash : edited (codes "x\n\\\n/\n") (codes "/[\\]/]/=\n") ≡ fails (codes "?\n") fault.Syntax
+bracket_closed_after_a_backslash = refl
 
-delimiter_behind_first_right_bracket : edited (codes "x\n]\n/\n") (codes "1p\n/[]/]/=\n2p\n/[]/]/=\nQ\n") ≡ ends (codes "x\n2\n]\n3\n") 3
+delimiter_after_first_right_bracket : edited (codes "x\n]\n/\n") (codes "1p\n/[]/]/=\n2p\n/[]/]/=\nQ\n") ≡ ends (codes "x\n2\n]\n3\n") 3
 unfolding digits tree.covers_below
-delimiter_behind_first_right_bracket = refl
+delimiter_after_first_right_bracket = refl
 
 delimiter_in_a_nonmatching_list : edited (codes "/\nx\n") (codes "/[^/]/=\n/[^]/]/=\nQ\n") ≡ ends (codes "2\n2\n") 2
 unfolding digits tree.covers_below
@@ -330,13 +330,13 @@ right_bracket_as_a_collating_symbol : edited (codes "x\n/\n") (codes "1p\n/[[.].
 unfolding digits tree.covers_below
 right_bracket_as_a_collating_symbol = refl
 
-delimiter_behind_a_class : edited (codes "x\n/\n") (codes "1p\n/[[:digit:]/]/=\nQ\n") ≡ ends (codes "x\n2\n") 2
+delimiter_after_a_class : edited (codes "x\n/\n") (codes "1p\n/[[:digit:]/]/=\nQ\n") ≡ ends (codes "x\n2\n") 2
 unfolding digits tree.covers_below
-delimiter_behind_a_class = refl
+delimiter_after_a_class = refl
 
-delimiter_behind_an_escaped_bracket : edited (codes "x\n[\n") (codes "1p\n/\\[/=\nQ\n") ≡ ends (codes "x\n2\n") 2
+delimiter_after_an_escaped_bracket : edited (codes "x\n[\n") (codes "1p\n/\\[/=\nQ\n") ≡ ends (codes "x\n2\n") 2
 unfolding digits tree.covers_below
-delimiter_behind_an_escaped_bracket = refl
+delimiter_after_an_escaped_bracket = refl
 
 bracket_that_is_not_closed : edited letters (codes "/[]/\n") ≡ fails (codes "?\n") fault.Syntax
 bracket_that_is_not_closed = refl
@@ -427,9 +427,9 @@ pair_of_marks = refl
 marks_out_of_order : edited letters (codes "1ka\n3kb\n'b,'ap\n") ≡ fails (codes "?\n") fault.Address
 marks_out_of_order = refl
 
-mark_behind_appended_lines : edited letters (codes "2ka\n0a\nx\ny\n.\n'a=\nQ\n") ≡ ends (codes "4\n") 5
+mark_after_appended_lines : edited letters (codes "2ka\n0a\nx\ny\n.\n'a=\nQ\n") ≡ ends (codes "4\n") 5
 unfolding digits
-mark_behind_appended_lines = refl
+mark_after_appended_lines = refl
 
 mark_before_appended_lines : edited letters (codes "2ka\n2a\nx\n.\n'a=\n'ap\nQ\n") ≡ ends (codes "2\nb\n") 4
 unfolding digits
@@ -439,8 +439,8 @@ two_letters_on_a_line : edited letters (codes "2ka\n2kb\n'a,'bp\n1ka\n'a=\n'b=\n
 unfolding digits
 two_letters_on_a_line = refl
 
-mark_set_again_behind_delete : edited letters (codes "2ka\n2d\nka\n'ap\nQ\n") ≡ ends (codes "c\n") 2
-mark_set_again_behind_delete = refl
+mark_set_again_after_delete : edited letters (codes "2ka\n2d\nka\n'ap\nQ\n") ≡ ends (codes "c\n") 2
+mark_set_again_after_delete = refl
 
 marks_in_a_deleted_range : edited letters (codes "1ka\n3kb\n1,2d\n'b=\n'a=\n") ≡ fails (codes "1\n?\n") fault.Mark
 unfolding digits
@@ -459,8 +459,8 @@ no_marking_letter = refl
 no_digit_marks : edited letters (codes "1k1\n") ≡ fails (codes "?\n") fault.Syntax
 no_digit_marks = refl
 
-no_letter_behind_apostrophe : edited letters (codes "'\n") ≡ fails (codes "?\n") fault.Syntax
-no_letter_behind_apostrophe = refl
+no_letter_after_apostrophe : edited letters (codes "'\n") ≡ fails (codes "?\n") fault.Syntax
+no_letter_after_apostrophe = refl
 
 brace_is_no_letter : edited letters (codes "1k{\n") ≡ fails (codes "?\n") fault.Syntax
 brace_is_no_letter = refl
@@ -523,15 +523,15 @@ deleted_one_by_one : edited letters (codes "d\nd\nd\n.=\n=\nd\n") ≡ fails (cod
 unfolding digits
 deleted_one_by_one = refl
 
-text_behind_all_deleted : edited letters (codes "1ka\n,d\na\nx\n.\n,p\n'a\n") ≡ fails (codes "x\n?\n") fault.Mark
-text_behind_all_deleted = refl
+text_after_all_deleted : edited letters (codes "1ka\n,d\na\nx\n.\n,p\n'a\n") ≡ fails (codes "x\n?\n") fault.Mark
+text_after_all_deleted = refl
 
 deleted_by_searches : edited repeated (codes "/a/,//d\n.=\n,p\nQ\n") ≡ ends (codes "1\nb\na\n") 2
 unfolding digits
 deleted_by_searches = refl
 
-deleted_behind_semicolon : edited repeated (codes "1;//\n") ≡ fails (codes "?\n") fault.Pattern
-deleted_behind_semicolon = refl
+deleted_after_semicolon : edited repeated (codes "1;//\n") ≡ fails (codes "?\n") fault.Pattern
+deleted_after_semicolon = refl
 
 quit_with_a_letter : edited letters (codes "Qp\n") ≡ fails (codes "?\n") fault.Syntax
 quit_with_a_letter = refl

@@ -1,10 +1,10 @@
--- What stands behind a bracket expression is the end of its text.
+-- What stands after a bracket expression is the end of its text.
 use Rattle.std.proofs.Common.{◌≡◌, ℕ, ◌-◌, List, [], ◌∷◌, ◌++◌, length, take, Option, Some, None, Ok, Err, refl, sym, ap, ◌∙◌, subst, arith, append_assoc}
 use Rattle.std.proofs.lemmas.List.{take_at, length-append}
 use Rattle.bre_parse.specs.Bytes.{hyphen, period, colon, equals_sign, left_square_bracket, right_square_bracket, circumflex}
 use Rattle.bre_parse.specs.Tree.{Tree}
 use Rattle.bre_parse.specs.Reading.{Read}
-use Rattle.bre_parse.specs.Brackets.{Ranges, bracket, behind_bracket}
+use Rattle.bre_parse.specs.Brackets.{Ranges, bracket, after_bracket}
 use Rattle.bre_parse.specs.SpelledBrackets.{SpellsEnd, SpellsElement, SpellsElements, SpellsList, SpellsBracket}
 use Rattle.bre_parse.proofs.SpelledBrackets.{bracket_spelled}
 use Rattle.bre_parse.proofs.ReadBrackets.{bracket_read}
@@ -13,9 +13,9 @@ use Rattle.bre_parse.proofs.ReadBrackets.{bracket_read}
 abbrev pub Front : (text rest : List ℕ) → Type 0
 Front text rest = (front : List ℕ) × (text ≡ front ++ rest)
 
--- one front behind another
-joined : {text behind rest : List ℕ} → Front text behind → Front behind rest → Front text rest
-joined {text} {behind} {rest} one other = (one.0 ++ other.0, one.1 ∙ ap (λ bs. one.0 ++ bs) other.1 ∙ sym (append_assoc one.0 other.0 rest))
+-- one front after another
+joined : {text after rest : List ℕ} → Front text after → Front after rest → Front text rest
+joined {text} {after} {rest} one other = (one.0 ++ other.0, one.1 ∙ ap (λ bs. one.0 ++ bs) other.1 ∙ sym (append_assoc one.0 other.0 rest))
 
 end_front : {text rest : List ℕ} {byte : ℕ} → SpellsEnd text rest byte → Front text rest
 end_front (SpellsEnd.itself byte rest lone) = (byte ∷ [], refl)
@@ -23,7 +23,7 @@ end_front (SpellsEnd.collating_symbol byte rest) = (left_square_bracket ∷ peri
 
 element_front : {text rest : List ℕ} {ranges : Ranges} → SpellsElement text rest ranges → Front text rest
 element_front (SpellsElement.single text rest byte is no_range) = end_front is
-element_front (SpellsElement.range text behind rest low high from open_end to order) = joined (end_front from) (joined (hyphen ∷ [], refl) (end_front to))
+element_front (SpellsElement.range text after rest low high from open_end to order) = joined (end_front from) (joined (hyphen ∷ [], refl) (end_front to))
 element_front (SpellsElement.equivalence_class byte rest no_range) =
     (left_square_bracket ∷ equals_sign ∷ byte ∷ equals_sign ∷ right_square_bracket ∷ [], refl)
 element_front (SpellsElement.character_class name rest ranges known no_range) = (
@@ -33,10 +33,10 @@ element_front (SpellsElement.character_class name rest ranges known no_range) = 
 
 elements_front : {text rest : List ℕ} {ranges : Ranges} → SpellsElements text rest ranges → Front text rest
 elements_front (SpellsElements.closing rest) = (right_square_bracket ∷ [], refl)
-elements_front (SpellsElements.more text behind rest ranges others not_over no_range is later) = joined (element_front is) (elements_front later)
+elements_front (SpellsElements.more text after rest ranges others not_over no_range is later) = joined (element_front is) (elements_front later)
 
 list_front : {text rest : List ℕ} {ranges : Ranges} → SpellsList text rest ranges → Front text rest
-list_front (SpellsList.first text behind rest ranges others is later) = joined (element_front is) (elements_front later)
+list_front (SpellsList.first text after rest ranges others is later) = joined (element_front is) (elements_front later)
 
 pub bracket_front : {text rest : List ℕ} {set : Tree} → SpellsBracket text rest set → Front text rest
 bracket_front (SpellsBracket.matching text rest ranges other is) = list_front is
@@ -46,20 +46,20 @@ bracket_front (SpellsBracket.nonmatching text rest ranges is) = joined (circumfl
 pub take_front : (front rest : List ℕ) → take (length (front ++ rest) - length rest) (front ++ rest) ≡ front
 take_front front rest = take_at front rest (length (front ++ rest) - length rest) (omega (arith, length-append front rest))
 
--- what stands behind a bracket expression, where it was read
-abbrev behind : Read Tree → Option (List ℕ)
-behind found = elim found [ Ok read ↦ Some read.1 | Err fault ↦ None ]
+-- what stands after a bracket expression, where it was read
+abbrev after : Read Tree → Option (List ℕ)
+after found = elim found [ Ok read ↦ Some read.1 | Err fault ↦ None ]
 
-behind_read : (text rest : List ℕ) (found : Read Tree) → bracket text ≡ found → behind found ≡ Some rest → (set : Tree) × SpellsBracket text rest set
-behind_read text rest (Ok read) is same =
+after_read : (text rest : List ℕ) (found : Read Tree) → bracket text ≡ found → after found ≡ Some rest → (set : Tree) × SpellsBracket text rest set
+after_read text rest (Ok read) is same =
     let last : read.1 ≡ rest = cc in
     (read.0, subst (λ rest. SpellsBracket text rest read.0) last (bracket_spelled text read.1 read.0 is))
-behind_read text rest (Err fault) is same = cc
+after_read text rest (Err fault) is same = cc
 
 -- a bracket expression stands where one is read
-pub bracket-sound : (text rest : List ℕ) → behind_bracket text ≡ Some rest → (set : Tree) × SpellsBracket text rest set
-bracket-sound text rest is = behind_read text rest (bracket text) refl is
+pub bracket-sound : (text rest : List ℕ) → after_bracket text ≡ Some rest → (set : Tree) × SpellsBracket text rest set
+bracket-sound text rest is = after_read text rest (bracket text) refl is
 
 -- a bracket expression is read where one stands
-pub bracket-complete : (text rest : List ℕ) (set : Tree) → SpellsBracket text rest set → behind_bracket text ≡ Some rest
-bracket-complete text rest set is = ap behind (bracket_read text rest set is)
+pub bracket-complete : (text rest : List ℕ) (set : Tree) → SpellsBracket text rest set → after_bracket text ≡ Some rest
+bracket-complete text rest set is = ap after (bracket_read text rest set is)

@@ -13,7 +13,7 @@ use Rattle.ed_syntax.specs.Parameters.{SpellsText, SpellsForm, SpellsPath}
 use Rattle.ed_syntax.specs.Spellings.{SpellsVerb, SpellsCommand}
 use Rattle.ed_syntax.specs.Addressing.{SpellsAddresses}
 use Rattle.ed_syntax.specs.Tokens.{Parsed, ◌>>=◌, addresses}
-use Rattle.ed_syntax.specs.ReadCommands.{Heading, Headed, text, with_text, heading_behind, finished, Behind, command_behind, command_at}
+use Rattle.ed_syntax.specs.ReadCommands.{Heading, Headed, text, with_text, heading_after_addresses, finished, After, command_after_addresses, command_at}
 use Rattle.ed_syntax.specs.ReadGlobals.{sense_at}
 use Rattle.ed_syntax.proofs.StepLemmas.{Some-same, bind-some}
 use Rattle.ed_syntax.proofs.LineParts.{bytes_of-append, same_lines, taken-length}
@@ -79,7 +79,7 @@ verb-sound (SpellsLetter.move own more target is) lines are = verb_alone (letter
 verb-sound (SpellsLetter.copy own more target is) lines are = verb_alone (letter_t ∷ own) more (ed.Copy target) lines are (SpellsVerb.copy own more (bytes_of lines) target is)
 verb-sound (SpellsLetter.file b own path verb is spells) lines are = file-sound is own spells lines are
 
--- a letter with its parameters and its text, read from the lines behind the parameters
+-- a letter with its parameters and its text, read from the lines after the parameters
 pub record ReadsHead (own more before : List ℕ) (lines : List (List ℕ)) (r : Verb × List (List ℕ)) : Type 0 where
   pub bytes : List ℕ
   pub split : bytes_of lines ≡ bytes ++ bytes_of r.1
@@ -106,11 +106,11 @@ pub record VerbRead (own more : List ℕ) (verb : Verb) (lines : List (List ℕ)
   pub entered : Verb
   pub before : List ℕ
   pub head : SpellsHead own more before entered
-  pub behind : List (List ℕ)
-  pub behind_are : AreLines behind
-  pub split : before ++ bytes_of behind ≡ bytes_of lines
+  pub after : List (List ℕ)
+  pub after_are : AreLines after
+  pub split : before ++ bytes_of after ≡ bytes_of lines
   pub left : LeftLines rest
-  pub read : with_text entered behind ≡ (verb, left.lines)
+  pub read : with_text entered after ≡ (verb, left.lines)
 
 -- the verb of a letter that no text follows
 alone_read : (own more : List ℕ) (verb : Verb) (lines : List (List ℕ)) (rest : List ℕ) → AreLines lines → rest ≡ bytes_of lines → SpellsLetter own more verb → with_text verb lines ≡ (verb, lines) →
@@ -119,8 +119,8 @@ alone_read own more verb lines rest are same is read = record {
   entered = verb;
   before = [];
   head = SpellsHead.plain own more verb is;
-  behind = lines;
-  behind_are = are;
+  after = lines;
+  after_are = are;
   split = refl;
   left = record { lines = lines; split = same; are = are };
   read = read;
@@ -144,8 +144,8 @@ entered_read b more of bytes rest entered lines is are same plain with_text_is =
       entered = of [];
       before = [];
       head = SpellsHead.plain (b ∷ more) more (of []) (SpellsLetter.plain b more (of []) plain);
-      behind = lines;
-      behind_are = are;
+      after = lines;
+      after_are = are;
       split = refl;
       left = read.0;
       read = with_text_is ∙ ap (λ r. (of r.0, r.1)) read.1;
@@ -159,8 +159,8 @@ substitute_read {own} {more} {before} {rest} {verb} is lines are same unchanged 
       entered = verb;
       before = before;
       head = SpellsHead.substitution own more before verb is;
-      behind = left.lines;
-      behind_are = left.are;
+      after = left.lines;
+      after_are = left.are;
       split = ap (λ bytes. before ++ bytes) (sym left.split) ∙ same;
       left = left;
       read = unchanged left.lines;
@@ -211,7 +211,7 @@ pub record ReadsFirst {A : Type 0} (Spells : List ℕ → List ℕ → A → Typ
   pub counted : length (lines_of bytes) + length r.1 ≡ length lines
   pub are : AreLines r.1
 
--- what was read behind addresses, with its text, is spelled so
+-- what was read after addresses, with its text, is spelled so
 finished-sound : (listed : Bool) (line own : List ℕ) (given : Addresses) (later : List (List ℕ)) (h : Headed) → IsLine line → SpellsAddresses line own given → ReadsHeading listed given own later h →
     ReadsFirst (SpellsCommand listed) (line ∷ later) (finished listed h.0 h.1)
 finished-sound listed line own given later h is_line addressed is =
@@ -233,11 +233,11 @@ finished-sound listed line own given later h is_line addressed is =
       are = text.are;
     }
 
--- a command that is read behind its addresses is spelled so
-pub command_behind-sound : (listed : Bool) (line own : List ℕ) (given : Addresses) (later : List (List ℕ)) (r : Command × List (List ℕ)) → AreLines (line ∷ later) → SpellsAddresses line own given →
-    command_behind listed given own later ≡ Some r → ReadsFirst (SpellsCommand listed) (line ∷ later) r
-command_behind-sound listed line own given later r are addressed is =
-    let h = bind-some (heading_behind listed given own later) (λ h. Some (finished listed h.0 h.1)) r is in
+-- a command that is read after its addresses is spelled so
+pub command_after_addresses-sound : (listed : Bool) (line own : List ℕ) (given : Addresses) (later : List (List ℕ)) (r : Command × List (List ℕ)) → AreLines (line ∷ later) → SpellsAddresses line own given →
+    command_after_addresses listed given own later ≡ Some r → ReadsFirst (SpellsCommand listed) (line ∷ later) r
+command_after_addresses-sound listed line own given later r are addressed is =
+    let h = bind-some (heading_after_addresses listed given own later) (λ h. Some (finished listed h.0 h.1)) r is in
     subst (ReadsFirst (SpellsCommand listed) (line ∷ later)) (Some-same (finished listed h.0.0 h.0.1) r h.2)
     (finished-sound listed line own given later h.0 (All-head IsLine line later are) addressed (heading-sound listed given own later h.0 (All-tail IsLine line later are) h.1))
 
@@ -245,11 +245,11 @@ command_behind-sound listed line own given later r are addressed is =
 pub command-sound : (listed : Bool) (line : List ℕ) (later : List (List ℕ)) (r : Command × List (List ℕ)) → AreLines (line ∷ later) → command_at listed line later ≡ Some r →
     ReadsFirst (SpellsCommand listed) (line ∷ later) r
 command-sound listed line later r are is =
-    let given = bind-some (addresses line) (λ a. command_behind listed a.0 a.1 later) r is in
-    command_behind-sound listed line given.0.1 given.0.0 later r are (addresses-sound line given.0 given.1) given.2
+    let given = bind-some (addresses line) (λ a. command_after_addresses listed a.0 a.1 later) r is in
+    command_after_addresses-sound listed line given.0.1 given.0.0 later r are (addresses-sound line given.0 given.1) given.2
 
 -- what is spelled so: the lines from its own on, and what is read there
-pub record FirstRead {A : Type 0} (read_at : List ℕ → List (List ℕ) → Behind A) (lines : List (List ℕ)) (rest : List ℕ) (x : A) : Type 0 where
+pub record FirstRead {A : Type 0} (read_at : List ℕ → List (List ℕ) → Taken A) (lines : List (List ℕ)) (rest : List ℕ) (x : A) : Type 0 where
   pub line : List ℕ
   pub later : List (List ℕ)
   pub split : lines ≡ line ∷ later
@@ -257,7 +257,7 @@ pub record FirstRead {A : Type 0} (read_at : List ℕ → List (List ℕ) → Be
   pub left : LeftLines rest
   pub read : read_at line later ≡ Some (x, left.lines)
 
--- a command that is spelled so: the lines from its own on, its addresses, and what is read behind them
+-- a command that is spelled so: the lines from its own on, its addresses, and what is read after them
 pub record CommandRead (listed : Bool) (lines : List (List ℕ)) (rest : List ℕ) (c : Command) : Type 0 where
   pub line : List ℕ
   pub own : List ℕ
@@ -268,7 +268,7 @@ pub record CommandRead (listed : Bool) (lines : List (List ℕ)) (rest : List �
   pub left : LeftLines rest
   pub addressed : addresses line ≡ Some (given, own)
   pub unsensed : sense_at own ≡ None
-  pub read : command_behind listed given own later ≡ Some (c, left.lines)
+  pub read : command_after_addresses listed given own later ≡ Some (c, left.lines)
 
 -- no letter but `g` and `v` is that of a global command
 form-unsensed : {letter : ℕ} {form : Form} (more : List ℕ) → SpellsForm letter form → sense_at (letter ∷ more) ≡ None
@@ -304,20 +304,20 @@ verb-unsensed (SpellsVerb.quit_anyway more rest) = refl
 abbrev command_with : Bool → Addresses → Option Form → Verb × List (List ℕ) → Command × List (List ℕ)
 command_with listed given suffix r = (record { addresses = given; verb = r.0; suffix = suffix; listed = listed }, r.1)
 
--- a command that is spelled so is read behind its addresses
-pub command_behind-complete : (listed : Bool) {bytes rest : List ℕ} {c : Command} → SpellsCommand listed bytes rest c → (lines : List (List ℕ)) → AreLines lines → bytes ++ rest ≡ bytes_of lines →
+-- a command that is spelled so is read after its addresses
+pub command_after_addresses-complete : (listed : Bool) {bytes rest : List ℕ} {c : Command} → SpellsCommand listed bytes rest c → (lines : List (List ℕ)) → AreLines lines → bytes ++ rest ≡ bytes_of lines →
     CommandRead listed lines rest c
-command_behind-complete listed (SpellsCommand.command line own more text rest given verb suffix is_line addressed is allowed standing end) lines are same =
+command_after_addresses-complete listed (SpellsCommand.command line own more text rest given verb suffix is_line addressed is allowed standing end) lines are same =
     let first = first_line line (text ++ rest) lines is_line are (sym (append_assoc line (newline ∷ text) rest) ∙ same) in
-    let behind = verb-complete is first.later first.are first.behind in
-    let fits : may_have given behind.entered ≡ true = sym (may_have-text given behind.entered behind.behind) ∙ ap (λ r. may_have given r.0) behind.read ∙ allowed in
-    let stands : may_stand listed behind.entered ≡ true = sym (may_stand-text listed behind.entered behind.behind) ∙ ap (λ r. may_stand listed r.0) behind.read ∙ standing in
-    let suffixed : (takes behind.entered).suffix ≡ (takes verb).suffix = sym (suffix-text behind.entered behind.behind) ∙ ap (λ r. (takes r.0).suffix) behind.read in
-    let h : Heading = record { addresses = given; verb = behind.entered; suffix = suffix } in
-    let spells : SpellsHeading listed own behind.before h =
-    record { more = more; head = behind.head; allowed = fits; standing = stands; end = suffix-same end behind.entered suffixed } in
-    let read = heading-complete listed own behind.before h spells first.later (bytes_of behind.behind) first.are behind.split in
-    let left : read.0.lines ≡ behind.behind = same_lines read.0.lines behind.behind read.0.are behind.behind_are (sym read.0.split) in
+    let after = verb-complete is first.later first.are first.after in
+    let fits : may_have given after.entered ≡ true = sym (may_have-text given after.entered after.after) ∙ ap (λ r. may_have given r.0) after.read ∙ allowed in
+    let stands : may_stand listed after.entered ≡ true = sym (may_stand-text listed after.entered after.after) ∙ ap (λ r. may_stand listed r.0) after.read ∙ standing in
+    let suffixed : (takes after.entered).suffix ≡ (takes verb).suffix = sym (suffix-text after.entered after.after) ∙ ap (λ r. (takes r.0).suffix) after.read in
+    let h : Heading = record { addresses = given; verb = after.entered; suffix = suffix } in
+    let spells : SpellsHeading listed own after.before h =
+    record { more = more; head = after.head; allowed = fits; standing = stands; end = suffix-same end after.entered suffixed } in
+    let read = heading-complete listed own after.before h spells first.later (bytes_of after.after) first.are after.split in
+    let left : read.0.lines ≡ after.after = same_lines read.0.lines after.after read.0.are after.after_are (sym read.0.split) in
     record {
       line = line;
       own = own;
@@ -325,22 +325,22 @@ command_behind-complete listed (SpellsCommand.command line own more text rest gi
       later = first.later;
       split = first.split;
       are = All-cons IsLine line first.later is_line first.are;
-      left = behind.left;
+      left = after.left;
       addressed = addresses-complete addressed;
       unsensed = verb-unsensed is;
-      read = ap (λ (o : Option Headed). o >>= λ h. Some (finished listed h.0 h.1)) (read.1 ∙ ap (λ lines. Some (h, lines)) left) ∙ ap (λ r. Some (command_with listed given suffix r)) behind.read;
+      read = ap (λ (o : Option Headed). o >>= λ h. Some (finished listed h.0 h.1)) (read.1 ∙ ap (λ lines. Some (h, lines)) left) ∙ ap (λ r. Some (command_with listed given suffix r)) after.read;
     }
 
 -- a command that is spelled so is read
 pub command-complete : (listed : Bool) {bytes rest : List ℕ} {c : Command} → SpellsCommand listed bytes rest c → (lines : List (List ℕ)) → AreLines lines → bytes ++ rest ≡ bytes_of lines →
     FirstRead (command_at listed) lines rest c
 command-complete listed is lines are same =
-    let found = command_behind-complete listed is lines are same in
+    let found = command_after_addresses-complete listed is lines are same in
     record {
       line = found.line;
       later = found.later;
       split = found.split;
       are = found.are;
       left = found.left;
-      read = ap (λ (o : Parsed Addresses). o >>= λ r. command_behind listed r.0 r.1 found.later) found.addressed ∙ found.read;
+      read = ap (λ (o : Parsed Addresses). o >>= λ r. command_after_addresses listed r.0 r.1 found.later) found.addressed ∙ found.read;
     }

@@ -86,7 +86,7 @@ module _ (verb : Verb) (s : State) where
   unaltered : false ≡ true → may_alter verb ≡ true
   unaltered same = absurd (false≢true same)
 
-  -- lines entered behind a line
+  -- lines entered after a line
   entered-within : (a : ℕ) (text : List (List ℕ)) → may_alter verb ≡ true → (enters_lines verb ≡ true → AreWhole s.lines → AreLines text) →
       Within verb s (entered a text s)
   entered-within a [] may lines = record { lines = shape.stay; past = refl; global = refl; alters = unaltered }

@@ -12,9 +12,9 @@ counts_of_a_read_and_a_write : ran (codes "$a\nd\n.\nw\nq\n") (options false Non
 unfolding digits
 counts_of_a_read_and_a_write = refl
 
-file_read_behind_a_line : ran (codes "1r G\n,p\nQ\n") (options false None) (answer.Bytes (codes "a\nb\n") ∷ answer.Bytes (codes "x") ∷ []) ≡ ended (codes "4\n1\na\nx\nb\n") (request.Read (codes "F") ∷ request.Read (codes "G") ∷ []) 3
+file_read_after_a_line : ran (codes "1r G\n,p\nQ\n") (options false None) (answer.Bytes (codes "a\nb\n") ∷ answer.Bytes (codes "x") ∷ []) ≡ ended (codes "4\n1\na\nx\nb\n") (request.Read (codes "F") ∷ request.Read (codes "G") ∷ []) 3
 unfolding digits
-file_read_behind_a_line = refl
+file_read_after_a_line = refl
 
 start_file_missing : ran (codes "a\nx\n.\nw\nq\n") (options false None) (answer.Missing ∷ answer.Done ∷ []) ≡ ended (codes "2\n") (request.Read (codes "F") ∷ request.Write (codes "F") (codes "x\n") ∷ []) 1
 unfolding digits
@@ -117,8 +117,8 @@ read_refused = refl
 address_before_an_edit : edited (codes "a\n") (codes "1e G\n") ≡ fails (codes "?\n") fault.Syntax
 address_before_an_edit = refl
 
-suffix_behind_quit : edited (codes "a\n") (codes "qp\n") ≡ fails (codes "?\n") fault.Syntax
-suffix_behind_quit = refl
+suffix_after_quit : edited (codes "a\n") (codes "qp\n") ≡ fails (codes "?\n") fault.Syntax
+suffix_after_quit = refl
 
 -- lines
 
@@ -223,8 +223,8 @@ address_before_quit = refl
 address_before_a_name : ran (codes ".f\n") (options true None) (answer.Bytes (codes "a\n") ∷ []) ≡ failed (codes "?\n") (request.Read (codes "F") ∷ []) fault.Syntax
 address_before_a_name = refl
 
-suffix_behind_a_write : ran (codes "wp\n") (options true None) (answer.Bytes (codes "a\n") ∷ []) ≡ failed (codes "?\n") (request.Read (codes "F") ∷ []) fault.Syntax
-suffix_behind_a_write = refl
+suffix_after_a_write : ran (codes "wp\n") (options true None) (answer.Bytes (codes "a\n") ∷ []) ≡ failed (codes "?\n") (request.Read (codes "F") ∷ []) fault.Syntax
+suffix_after_a_write = refl
 
 letter_p_as_a_name : ran (codes "w p\nq\n") (options true None) (answer.Bytes (codes "a\n") ∷ answer.Done ∷ []) ≡ ended [] (request.Read (codes "F") ∷ request.Write (codes "p") (codes "a\n") ∷ []) 1
 letter_p_as_a_name = refl

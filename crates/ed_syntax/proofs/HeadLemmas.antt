@@ -20,7 +20,7 @@ use Rattle.ed_syntax.proofs.SuffixLemmas.{suffix-blanks}
 use Rattle.ed_syntax.proofs.VerbLemmas.{SpellsLetter, verb_at-sound, verb_at-complete}
 use Rattle.ed_syntax.proofs.SubstitutionLemmas.{SpellsSubstitution, substitution-sound, substitution-complete}
 
--- a command's letter with its parameters, before its text is read: what stands behind it, and the further lines that were taken for it
+-- a command's letter with its parameters, before its text is read: what stands after it, and the further lines that were taken for it
 pub data SpellsHead : (own more text : List ℕ) → Verb → Type 0 where
   plain : (own more : List ℕ) (verb : Verb) → SpellsLetter own more verb → SpellsHead own more [] verb
   substitution : (own more text : List ℕ) (verb : Verb) → SpellsSubstitution own more text verb → SpellsHead (letter_s ∷ own) more text verb

@@ -1,4 +1,4 @@
--- What stands behind the addresses on a command's own line: what is read is spelled so, and what is spelled so is read.
+-- What stands after the addresses on a command's own line: what is read is spelled so, and what is spelled so is read.
 use Rattle.std.proofs.Common.{◌≡◌, ℕ, Bool, true, ◌&&◌, List, ◌++◌, Option, Some, None, refl, ap, ◌∙◌, subst}
 use Rattle.std.proofs.lemmas.Bool.{and_parts, and_from}
 use Rattle.ed_base.specs.Lines.{AreLines, bytes_of}
@@ -7,13 +7,13 @@ use Rattle.ed_syntax.specs.Verbs.{may_have, may_stand}
 use Rattle.ed_syntax.specs.Spellings.{SpellsSuffix}
 use Rattle.ed_syntax.specs.Tokens.{◌>>=◌}
 use Rattle.ed_syntax.specs.ReadParameters.{ParsedAt}
-use Rattle.ed_syntax.specs.ReadCommands.{Heading, Headed, verb_from, suffix_at, suffix_with, heading_with, headed, heading_behind}
+use Rattle.ed_syntax.specs.ReadCommands.{Heading, Headed, verb_from, suffix_at, suffix_with, heading_with, headed, heading_after_addresses}
 use Rattle.ed_syntax.proofs.StepLemmas.{Some-same, none_some, bind-some, chosen, either}
 use Rattle.ed_syntax.proofs.TextLemmas.{LeftLines}
 use Rattle.ed_syntax.proofs.HeadLemmas.{SpellsHead, verb_from-sound, verb_from-complete}
 use Rattle.ed_syntax.proofs.SuffixLemmas.{suffix_at-sound, suffix_at-complete}
 
--- how what stands behind the addresses on a command's own line is spelled, before its text is read, with the further lines that were
+-- how what stands after the addresses on a command's own line is spelled, before its text is read, with the further lines that were
 -- taken for it
 pub record SpellsHeading (listed : Bool) (own text : List ℕ) (h : Heading) : Type 0 where
   pub more : List ℕ
@@ -22,7 +22,7 @@ pub record SpellsHeading (listed : Bool) (own text : List ℕ) (h : Heading) : T
   pub standing : may_stand listed h.verb ≡ true
   pub end : SpellsSuffix h.verb more h.suffix
 
--- what was read behind addresses and of the lines behind the line
+-- what was read after addresses and of the lines after the line
 pub record ReadsHeading (listed : Bool) (given : Addresses) (own : List ℕ) (lines : List (List ℕ)) (h : Headed) : Type 0 where
   pub taken : List (List ℕ)
   pub split : lines ≡ taken ++ h.1
@@ -45,7 +45,7 @@ suffix_with-sound listed given verb more =
     (λ may suffix is. (may, suffix_at-sound verb more suffix is))
     (λ may_not suffix is. absurd (none_some is))
 
--- the end of a line that is read behind these is spelled so
+-- the end of a line that is read after these is spelled so
 heading_with-sound : (listed : Bool) (given : Addresses) (more : List ℕ) (verb : Verb) (h : Heading) → heading_with listed given more verb ≡ Some h → (own text : List ℕ) → SpellsHead own more text verb →
     (h.addresses ≡ given) × SpellsHeading listed own text h
 heading_with-sound listed given more verb h is own text head_is =
@@ -56,8 +56,8 @@ heading_with-sound listed given more verb h is own text head_is =
     subst P (Some-same (record { addresses = given; verb = verb; suffix = found.0 }) h found.2)
     (refl, record { more = more; head = head_is; allowed = both.0; standing = both.1; end = end.1 })
 
--- what is read behind addresses is spelled so
-pub heading-sound : (listed : Bool) (given : Addresses) (own : List ℕ) (lines : List (List ℕ)) (h : Headed) → AreLines lines → heading_behind listed given own lines ≡ Some h →
+-- what is read after addresses is spelled so
+pub heading-sound : (listed : Bool) (given : Addresses) (own : List ℕ) (lines : List (List ℕ)) (h : Headed) → AreLines lines → heading_after_addresses listed given own lines ≡ Some h →
     ReadsHeading listed given own lines h
 heading-sound listed given own lines h are is =
     let verb = bind-some (verb_from own lines) (λ r. headed r.1.later (heading_with listed given r.1.line r.0)) h is in
@@ -67,9 +67,9 @@ heading-sound listed given own lines h are is =
     subst (ReadsHeading listed given own lines) (Some-same (found.0, verb.0.1.later) h found.2)
     (record { taken = read.taken; split = read.split; taken_are = read.taken_are; are = read.are; addresses = spells.0; spells = spells.1 })
 
--- what is spelled so behind addresses is read
+-- what is spelled so after addresses is read
 pub heading-complete : (listed : Bool) (own text : List ℕ) (h : Heading) → SpellsHeading listed own text h → (lines : List (List ℕ)) (rest : List ℕ) → AreLines lines → text ++ rest ≡ bytes_of lines →
-    (left : LeftLines rest) × (heading_behind listed h.addresses own lines ≡ Some (h, left.lines))
+    (left : LeftLines rest) × (heading_after_addresses listed h.addresses own lines ≡ Some (h, left.lines))
 heading-complete listed own text h is lines rest are same =
     let with = with_suffix h.addresses h.verb in
     let read = verb_from-complete is.head is.end lines rest are same in

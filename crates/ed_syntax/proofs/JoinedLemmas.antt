@@ -55,7 +55,7 @@ pub further-read : (own line : List ℕ) (later : List (List ℕ)) → goes_on o
     joined own (line ∷ later) ≡ (without_last own ++ newline ∷ (joined line later).0, (joined line later).1)
 further-read own line later is = rw (is, joined) refl
 
--- no lines stand behind a list but those that stood behind its first line
+-- no lines stand after a list but those that stood after its first line
 pub joined-later : (own : List ℕ) (later : List (List ℕ)) → length (joined own later).1 ≤ length later
 joined-later own [] =
     either (λ (r : List ℕ × List (List ℕ)). length r.1 ≤ 0) (goes_on own) (without_last own ++ newline ∷ [], []) (own ++ newline ∷ [], []) (λ on. omega arith) (λ ends. omega arith)
@@ -123,12 +123,12 @@ joined-complete (SpellsJoined.cut_off own on) later are same =
     )
 joined-complete (SpellsJoined.further own line text rest list on is_line is) later are same =
     let first = first_line line (text ++ rest) later is_line are (sym (append_assoc line (newline ∷ text) rest) ∙ same) in
-    let behind = joined-complete is first.later first.are first.behind in (
-      behind.0,
+    let after = joined-complete is first.later first.are first.after in (
+      after.0,
       ap (joined (own ++ backslash ∷ [])) first.split
           ∙ further-read (own ++ backslash ∷ []) line first.later on
           ∙ ap (λ kept. (kept ++ newline ∷ (joined line first.later).0, (joined line first.later).1)) (without_last-end own backslash)
-          ∙ ap (λ (r : List ℕ × List (List ℕ)). (own ++ newline ∷ r.0, r.1)) behind.1,
+          ∙ ap (λ (r : List ℕ × List (List ℕ)). (own ++ newline ∷ r.0, r.1)) after.1,
     )
 
 -- a list is whole lines

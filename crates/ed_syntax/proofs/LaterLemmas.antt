@@ -1,4 +1,4 @@
--- No more lines stand behind what was read than before it.
+-- No more lines stand after what was read than before it.
 use Rattle.std.proofs.Common.{◌≡◌, ℕ, zero, suc, ◌≤◌, Bool, nat_eq, List, [], ◌∷◌, length, Option, Some, None, refl, subst, arith}
 use Rattle.ed_syntax.specs.declared.replacement.Part.TheVariants as part
 use Rattle.ed_syntax.specs.Characters.{backslash, is_delimiter}
@@ -8,7 +8,7 @@ use Rattle.ed_syntax.specs.Commands.{Addresses, Verb}
 use Rattle.ed_syntax.specs.Tokens.{◌>>=◌, pattern_at}
 use Rattle.ed_syntax.specs.ReadParameters.{Place, ParsedAt, place, unescaped_part, escaped_at, part_at, parts, all_parts, is_percent, replacement, end_at, substitution_with, substitution}
 use Rattle.ed_syntax.specs.ReadVerbs.{verb_at}
-use Rattle.ed_syntax.specs.ReadCommands.{Headed, verb_from, heading_with, headed, heading_behind}
+use Rattle.ed_syntax.specs.ReadCommands.{Headed, verb_from, heading_with, headed, heading_after_addresses}
 use Rattle.ed_syntax.proofs.StepLemmas.{Some-same, none_some, bind-some, either}
 
 -- all that may be read leaves so few lines
@@ -71,8 +71,8 @@ verb_from-later (b ∷ bs) lines =
     either (Leaves lines) (nat_eq b letter_s) _ _ (λ yes. substitution-later bs lines)
     (λ no. leaves-any lines (verb_at (b ∷ bs)) _ (λ r. leaves lines r.0 (place r.1 lines) (omega arith)))
 
--- the same of a command's own line, behind its addresses
-pub heading-later : (listed : Bool) (given : Addresses) (own : List ℕ) (lines : List (List ℕ)) (h : Headed) → heading_behind listed given own lines ≡ Some h → length h.1 ≤ length lines
+-- the same of a command's own line, after its addresses
+pub heading-later : (listed : Bool) (given : Addresses) (own : List ℕ) (lines : List (List ℕ)) (h : Headed) → heading_after_addresses listed given own lines ≡ Some h → length h.1 ≤ length lines
 heading-later listed given own lines h is =
     let verb = bind-some (verb_from own lines) (λ r. headed r.1.later (heading_with listed given r.1.line r.0)) h is in
     let found = bind-some (heading_with listed given verb.0.1.line verb.0.0) (λ h. Some (h, verb.0.1.later)) h verb.2 in

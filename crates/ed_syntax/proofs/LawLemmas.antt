@@ -47,20 +47,20 @@ spelled_next number next lines rest bytes x s split is shorter counted (stuck le
     (stuck left (x ∷ xs) (subst (λ text. SpellsEach Spells text (bytes_of left) (x ∷ xs)) (sym split) (spelled.next bytes (bytes_of rest) (bytes_of left) x xs is each))
     are (omega (arith, short, shorter)) some refused)
 
--- a step that is read, and lines behind it that spell a script
+-- a step that is read, and lines after it that spell a script
 step_spelled : (n number : ℕ) (line : List ℕ) (later : List (List ℕ)) → AreLines (line ∷ later) → length later ≤ n →
     ((next : ℕ) (rest : List (List ℕ)) → AreLines rest → length rest ≤ n → SpellsLines next rest (script n next rest)) →
     (o : Option (Step × List (List ℕ))) → step_at line later ≡ o → SpellsLines number (line ∷ later) (from_step n number later o)
-step_spelled n number line later are enough behind None is =
+step_spelled n number line later are enough after None is =
     let same : number + (length (line ∷ later) - length (line ∷ later)) ≡ number = omega arith in
     subst (λ n. SpellsLines number (line ∷ later) (record { steps = []; fault = Some n })) same
     (stuck (line ∷ later) [] (spelled.over (bytes_of (line ∷ later))) are (omega arith) (λ same. cc) (no_front line later are is))
-step_spelled n number line later are enough behind (Some r) is =
+step_spelled n number line later are enough after (Some r) is =
     let read = (step-sound line later r are is).first in
     let short = step_at-later line later r is in
     let next = number + (suc (length later) - length r.1) in
     spelled_next number next (line ∷ later) r.1 read.bytes r.0 (script n next r.1) read.split read.spells (omega (arith, short)) refl
-    (behind next r.1 read.are (omega (arith, short, enough)))
+    (after next r.1 read.are (omega (arith, short, enough)))
 
 -- a script that is read is spelled so
 script-sound : (n number : ℕ) (lines : List (List ℕ)) → AreLines lines → length lines ≤ n → SpellsLines number lines (script n number lines)
@@ -155,11 +155,11 @@ are_lines bytes = HoldsLines-lines (HoldsLines-lines_of bytes)
 from_step-stands : (n number : ℕ) (line : List ℕ) (later : List (List ℕ)) → AreLines (line ∷ later) →
     ((next : ℕ) (rest : List (List ℕ)) → AreLines rest → list_all is_step (script n next rest).steps ≡ true) →
     (o : Option (Step × List (List ℕ))) → step_at line later ≡ o → list_all is_step (from_step n number later o).steps ≡ true
-from_step-stands n number line later are behind None is = refl
-from_step-stands n number line later are behind (Some r) is =
+from_step-stands n number line later are after None is = refl
+from_step-stands n number line later are after (Some r) is =
     let read = step-sound line later r are is in
     let next = number + (suc (length later) - length r.1) in
-    and_from (is_step r.0) (list_all is_step (script n next r.1).steps) read.stands (behind next r.1 read.first.are)
+    and_from (is_step r.0) (list_all is_step (script n next r.1).steps) read.stands (after next r.1 read.first.are)
 
 script-stands : (n number : ℕ) (lines : List (List ℕ)) → AreLines lines → list_all is_step (script n number lines).steps ≡ true
 script-stands n number [] are = refl

@@ -5,7 +5,7 @@ use Rattle.ed_base.specs.Lines.{newline, AreLines, lines_of, bytes_of}
 use Rattle.ed_base.proofs.LineLemmas.{lines_of-written, lines_of-bytes_of}
 use Rattle.ed_syntax.specs.ReadParameters.{Place}
 
--- what was read of a line and of the lines behind it: the lines that were taken for it, and how these bytes spell it
+-- what was read of a line and of the lines after it: the lines that were taken for it, and how these bytes spell it
 pub record ReadsOver {A : Type 0} (Spells : (own more text : List ℕ) → A → Type 0) (own : List ℕ) (lines : List (List ℕ)) (r : A × Place) : Type 0 where
   pub taken : List (List ℕ)
   pub split : lines ≡ taken ++ r.1.later

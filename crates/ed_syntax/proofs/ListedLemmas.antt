@@ -11,13 +11,13 @@ use Rattle.ed_syntax.specs.Commands as ed
 use Rattle.ed_syntax.specs.Verbs.{is_sound}
 use Rattle.ed_syntax.specs.Spellings.{global_of}
 use Rattle.ed_syntax.specs.Tokens.{Parsed, ◌>>=◌}
-use Rattle.ed_syntax.specs.ReadCommands.{Behind, command_behind}
+use Rattle.ed_syntax.specs.ReadCommands.{Taken, command_after_addresses}
 use Rattle.ed_syntax.specs.ReadGlobals.{sense_at}
-use Rattle.ed_syntax.specs.Reading.{step_by, step_behind}
+use Rattle.ed_syntax.specs.Reading.{step_by, step_after_addresses}
 use Rattle.ed_syntax.specs.ReadParts.{command_before, step_before, global_before, listed_before}
 use Rattle.ed_syntax.specs.PublicTypes.{row_value, command_of, command_value, verb_value, list_value}
 use Rattle.ed_syntax.proofs.LetterLemmas.{is_global}
-use Rattle.ed_syntax.proofs.StandLemmas.{command_behind-stands}
+use Rattle.ed_syntax.proofs.StandLemmas.{command_after_addresses-stands}
 
 pub row_value-items : (n : _) (row : Row_of-Command n) → row_value row ≡ map command_value (items-the_row-Command n row)
 row_value-items _ end_of-Command = refl
@@ -37,8 +37,8 @@ pub none_listed : (verb : Verb) → not (is_global (verb_value verb)) ≡ true �
 none_listed (verb.Global' _ _ _ list) single = absurd (false≢true single)
 none_listed _ single = refl
 
--- a global command with this list behind it, before the lines behind that
-abbrev listing : ed.Addresses → Sense → Option (List ℕ) → List (List ℕ) → List ed.Command → Behind ed.Step
+-- a global command with this list after it, before the lines after that
+abbrev listing : ed.Addresses → Sense → Option (List ℕ) → List (List ℕ) → List ed.Command → After ed.Step
 listing given which pattern left cs = Some (record { command = global_of given which pattern; list = cs }, left)
 
 -- a global command with the commands of its list, as it lies in memory
@@ -49,19 +49,19 @@ global_read given which pattern list cs left is =
     ∙ sym (ap (λ o. listed_before given which pattern (option_map (λ cs. cs.items) o) left) is)
 
 -- a command that is read by itself has no list
-pub single_read : (given : ed.Addresses) (own : List ℕ) (later : List (List ℕ)) (c : Option Command) (left : List (List ℕ)) → sense_at own ≡ None → command_before c left ≡ command_behind false given own later →
-    step_before c left ≡ step_behind given own later
+pub single_read : (given : ed.Addresses) (own : List ℕ) (later : List (List ℕ)) (c : Option Command) (left : List (List ℕ)) → sense_at own ≡ None → command_before c left ≡ command_after_addresses false given own later →
+    step_before c left ≡ step_after_addresses given own later
 single_read given own later None left unsensed is =
-    ap (λ (o : Behind ed.Command). o >>= λ r. Some (ed.alone r.0, r.1)) is ∙ ap (λ (o : Parsed Sense). step_by o given own later) (sym unsensed)
+    ap (λ (o : After ed.Command). o >>= λ r. Some (ed.alone r.0, r.1)) is ∙ ap (λ (o : Parsed Sense). step_by o given own later) (sym unsensed)
 single_read given own later (Some c) left unsensed is =
-    let stands = (command_behind-stands false given own later (command_value c, left) (sym is)).sound in
+    let stands = (command_after_addresses-stands false given own later (command_value c, left) (sym is)).sound in
     let single = none_listed (out-Command c).verb (and_parts (not (is_global (command_value c).verb)) (is_sound (command_value c).verb) stands).0 in
     ap (λ list. Some (record { command = command_value c; list = list }, left)) single
-    ∙ ap (λ (o : Behind ed.Command). o >>= λ r. Some (ed.alone r.0, r.1)) is
+    ∙ ap (λ (o : After ed.Command). o >>= λ r. Some (ed.alone r.0, r.1)) is
     ∙ ap (λ (o : Parsed Sense). step_by o given own later) (sym unsensed)
 
 -- the same of what may come of reading
 pub single_result : {E : Type 0} (given : ed.Addresses) (own : List ℕ) (later : List (List ℕ)) (r : Result (Option Command) E) (left : List (List ℕ)) → sense_at own ≡ None →
-    IfOk r (λ c. command_before c left ≡ command_behind false given own later) → IfOk r (λ c. step_before c left ≡ step_behind given own later)
+    IfOk r (λ c. command_before c left ≡ command_after_addresses false given own later) → IfOk r (λ c. step_before c left ≡ step_after_addresses given own later)
 single_result given own later (Ok c) left unsensed is = single_read given own later c left unsensed is
 single_result given own later (Err e) left unsensed is = is

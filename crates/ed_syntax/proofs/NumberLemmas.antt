@@ -28,14 +28,14 @@ number-some bytes len counted few =
 number-none : (bytes : List ℕ) → is_few (prefix_len is_digit bytes) ≡ false → number bytes ≡ None
 number-none bytes few = rw (few, number) refl
 
--- no digit stands behind the digits in front
-behind_digits : (bytes : List ℕ) → IsFalse (begins is_digit (drop (prefix_len is_digit bytes) bytes))
-behind_digits [] = refl
-behind_digits (b ∷ bytes) =
+-- no digit stands after the digits in front
+after_digits : (bytes : List ℕ) → IsFalse (begins is_digit (drop (prefix_len is_digit bytes) bytes))
+after_digits [] = refl
+after_digits (b ∷ bytes) =
     ⊎_elim
     (λ yes.
     let more : prefix_len is_digit (b ∷ bytes) ≡ suc (prefix_len is_digit bytes) = ap (λ t. cond t (1 + prefix_len is_digit bytes) 0) yes ∙ omega arith in
-    ap (λ n. begins is_digit (drop n (b ∷ bytes))) more ∙ behind_digits bytes)
+    ap (λ n. begins is_digit (drop n (b ∷ bytes))) more ∙ after_digits bytes)
     (λ no. ap (λ t. begins is_digit (drop (cond t (1 + prefix_len is_digit bytes) 0) (b ∷ bytes))) no ∙ no)
     (cases_Bool (is_digit b))
 
@@ -51,9 +51,9 @@ number-spelled bytes len counted few =
     ap is_digit (get_or-take len bytes k 0 in_front) ∙ prefix_len_passes is_digit bytes k 0 passed) in
     let some : 0 < length (take len bytes) = omega (arith, all, leb-true 1 len parts.0) in
     let at_most : length (take len bytes) ≤ 9 = omega (arith, all, leb-true len 9 parts.1) in
-    let behind : IsFalse (begins is_digit (drop len bytes)) = ap (λ n. begins is_digit (drop n bytes)) (sym counted) ∙ behind_digits bytes in
+    let after : IsFalse (begins is_digit (drop len bytes)) = ap (λ n. begins is_digit (drop n bytes)) (sym counted) ∙ after_digits bytes in
     subst (λ text. SpellsNumber text (drop len bytes) (value_of (take len bytes))) (take-append-drop len bytes)
-    (spelled.digits (take len bytes) (drop len bytes) are some at_most behind)
+    (spelled.digits (take len bytes) (drop len bytes) are some at_most after)
 
 -- a number that is read is spelled so
 pub number-sound : (text : List ℕ) (r : ℕ × List ℕ) → number text ≡ Some r → SpellsNumber text r.1 r.0
@@ -96,6 +96,6 @@ first_digit (b ∷ bytes) rest are some = All-head IsDigit b bytes are
 pub number-first : {text rest : List ℕ} {n : ℕ} → SpellsNumber text rest n → IsTrue (begins is_digit text)
 number-first (spelled.digits bytes rest are some at_most none) = first_digit bytes rest are some
 
--- what stands behind a number is shorter
+-- what stands after a number is shorter
 pub number-shorter : {text rest : List ℕ} {n : ℕ} → SpellsNumber text rest n → length rest < length text
 number-shorter (spelled.digits bytes rest are some at_most none) = omega (arith, length-append bytes rest, some)

@@ -20,7 +20,7 @@ or_parts : (a b : Bool) → (a || b) ≡ false → (a ≡ false) × (b ≡ false
 or_parts true b is = cc
 or_parts false b is = (refl, is)
 
--- one part, what stands behind it on its line or on the next, and the line that was taken for it
+-- one part, what stands after it on its line or on the next, and the line that was taken for it
 data SpellsPart (delimiter : ℕ) : (own more : List ℕ) → List (List ℕ) → Part → Type 0 where
   literal : (byte : ℕ) (own : List ℕ) → byte ≢ delimiter → byte ≢ backslash → byte ≢ ampersand → SpellsPart delimiter (byte ∷ own) own [] (part.Literal byte)
   match : (own : List ℕ) → ampersand ≢ delimiter → SpellsPart delimiter (ampersand ∷ own) own [] part.Match
@@ -35,7 +35,7 @@ part_before {more = more} {ps = ps} (match own no_end) others is = SpellsParts.m
 part_before {more = more} {ps = ps} (escape byte own p escaped) others is = SpellsParts.escape byte own more (bytes_of others) p ps escaped is
 part_before {more = more} {ps = ps} (split own line) others is = SpellsParts.split own more (bytes_of others) ps line is
 
--- what is read behind a backslash is spelled so
+-- what is read after a backslash is spelled so
 abbrev EscapeRead : ℕ → ℕ → Option Part → Type 0
 EscapeRead delimiter b read = (p : Part) → read ≡ Some p → SpellsEscape delimiter b p
 
@@ -95,7 +95,7 @@ escaped_at-sound delimiter (b ∷ bs) lines are r is =
     let p = bind-some (unescaped_part delimiter b) (λ p. Some (p, place bs lines)) r is in
     subst (PartRead delimiter (backslash ∷ b ∷ bs) lines) (Some-same (p.0, place bs lines) r p.2) (on_line lines bs p.0 are (escape b bs p.0 (escape-sound delimiter b p.0 p.1)))
 
--- a byte that isn't behind a backslash
+-- a byte that isn't after a backslash
 plain-sound : (delimiter b : ℕ) (bs : List ℕ) → b ≢ delimiter → b ≢ backslash → SpellsPart delimiter (b ∷ bs) bs [] (elim (nat_eq b ampersand) [ true ↦ part.Match | false ↦ part.Literal b ])
 plain-sound delimiter b bs no_end no_escape =
     either (SpellsPart delimiter (b ∷ bs) bs []) (nat_eq b ampersand) part.Match (part.Literal b)
@@ -217,4 +217,4 @@ parts-complete delimiter (SpellsParts.split own more text ps line is) plain (suc
     ap (λ lines. length (bytes_of lines)) first.split ∙ length-append own (newline ∷ bytes_of first.later) in
     let read : part_at delimiter backslash [] lines ≡ Some (part.Split, place own first.later) = ap (λ lines. part_at delimiter backslash [] lines) first.split in
     after_found most delimiter backslash [] lines (ne_eqb backslash delimiter (λ e. plain (sym e))) read
-    (parts-complete delimiter is plain most first.later rest first.are first.behind (omega (arith, enough, size)))
+    (parts-complete delimiter is plain most first.later rest first.are first.after (omega (arith, enough, size)))

@@ -8,11 +8,11 @@ use Rattle.ed_syntax.specs.Tokens.{◌>>=◌}
 use Rattle.ed_syntax.specs.ReadParameters.{ParsedAt, place, part_at, after_part, parts, all_parts}
 use Rattle.ed_syntax.proofs.PartsLemmas.{further, at_part}
 
--- parts before those that are read behind them
+-- parts before those that are read after them
 abbrev pub before_parts : List Part → ParsedAt (List Part) → ParsedAt (List Part)
 before_parts ps read = read >>= λ r. Some (ps ++ r.0, r.1)
 
--- the parts that are left, behind those so far, are all of them; there are enough steps for them
+-- the parts that are left, after those so far, are all of them; there are enough steps for them
 abbrev pub PartsLeft : (delimiter : ℕ) → (left : List ℕ) → (later : List (List ℕ)) → List Part → ParsedAt (List Part) → Type 0
 PartsLeft delimiter left later ps all = (most : ℕ) × (length left + length (bytes_of later) ≤ most) × (before_parts ps (parts most delimiter left later) ≡ all)
 

@@ -2,7 +2,7 @@
 use Rattle.std.proofs.Common.{◌≡◌, ℕ, true, nat_eq, List, [], ◌∷◌, Option, Some, None, refl, ap, ◌∙◌, subst}
 use Rattle.std.proofs.lemmas.Bool.{eqb-false, ne_eqb}
 use Rattle.std.proofs.lemmas.List.Elements.{All-nil, All-cons, All-head, All-tail}
-use Rattle.ed_syntax.specs.Characters.{exclamation_mark, is_blank, behind_blanks}
+use Rattle.ed_syntax.specs.Characters.{exclamation_mark, is_blank, after_blanks}
 use Rattle.ed_syntax.specs.Parameters.{SpellsPath}
 use Rattle.ed_syntax.specs.ReadVerbs.{name_of, path_at}
 use Rattle.ed_syntax.proofs.StepLemmas.{Some-same, none_some, chosen, either}
@@ -12,8 +12,8 @@ use Rattle.ed_syntax.proofs.BlankLemmas.{IsBlank, only_blanks, no_others}
 abbrev PathRead : List ℕ → Option (Option (List ℕ)) → Type 0
 PathRead text read = (path : Option (List ℕ)) → read ≡ Some path → SpellsPath text path
 
--- a name that is read behind a blank
-name-sound : (blank : ℕ) (text rest : List ℕ) → is_blank blank ≡ true → behind_blanks text ≡ rest → PathRead (blank ∷ text) (name_of rest)
+-- a name that is read after a blank
+name-sound : (blank : ℕ) (text rest : List ℕ) → is_blank blank ≡ true → after_blanks text ≡ rest → PathRead (blank ∷ text) (name_of rest)
 name-sound blank text [] is none = λ path same.
     subst (SpellsPath (blank ∷ text)) (Some-same None path same) (SpellsPath.none (blank ∷ text) (All-cons IsBlank blank text is (only_blanks text none)))
 name-sound blank text (b ∷ bs) is split =
@@ -25,16 +25,16 @@ name-sound blank text (b ∷ bs) is split =
 pub path-sound : (text : List ℕ) → PathRead text (path_at text)
 path-sound [] = λ path same. subst (SpellsPath []) (Some-same None path same) (SpellsPath.none [] (All-nil IsBlank))
 path-sound (b ∷ bs) =
-    either (PathRead (b ∷ bs)) (is_blank b) (name_of (behind_blanks bs)) None
-    (λ blank. name-sound b bs (behind_blanks bs) blank refl)
+    either (PathRead (b ∷ bs)) (is_blank b) (name_of (after_blanks bs)) None
+    (λ blank. name-sound b bs (after_blanks bs) blank refl)
     (λ other path same. absurd (none_some same))
 
 -- a path that is spelled so is read
 pub path-complete : {text : List ℕ} {path : Option (List ℕ)} → SpellsPath text path → path_at text ≡ Some path
 path-complete (SpellsPath.none [] are) = refl
 path-complete (SpellsPath.none (b ∷ bs) are) =
-    ap (λ t. chosen t (name_of (behind_blanks bs)) None) (All-head IsBlank b bs are) ∙ ap name_of (no_others bs (All-tail IsBlank b bs are))
+    ap (λ t. chosen t (name_of (after_blanks bs)) None) (All-head IsBlank b bs are) ∙ ap name_of (no_others bs (All-tail IsBlank b bs are))
 path-complete (SpellsPath.given blank byte text name is split other) =
-    ap (λ t. chosen t (name_of (behind_blanks text)) None) is
+    ap (λ t. chosen t (name_of (after_blanks text)) None) is
     ∙ ap name_of split
     ∙ ap (λ t. chosen t None (Some (Some (byte ∷ name)))) (ne_eqb byte exclamation_mark other)

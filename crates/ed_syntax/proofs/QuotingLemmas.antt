@@ -3,7 +3,7 @@ use Rattle.std.proofs.Common.{◌≡◌, ◌≢◌, ℕ, zero, suc, ◌-◌, ◌
 use Rattle.std.proofs.lemmas.Bool.{eqb-true, eqb-false, eq-eqb, ne_eqb}
 use Rattle.std.proofs.lemmas.List.{length-append}
 use Rattle.bre_parse.specs.Tree.{Tree}
-use Rattle.bre_parse.specs.Brackets.{behind_bracket}
+use Rattle.bre_parse.specs.Brackets.{after_bracket}
 use Rattle.bre_parse.specs.SpelledBrackets.{SpellsBracket}
 use Rattle.bre_parse.specs.Grammar.{pattern}
 use Rattle.bre_parse.specs.declared.fault.BreFault.{BreFault}
@@ -19,39 +19,39 @@ use Rattle.ed_syntax.proofs.BracketLemmas.{bracket_front, take_front, bracket-so
 abbrev QuotedSpelled : (delimiter : ℕ) → List ℕ → Parsed (List ℕ) → Type 0
 QuotedSpelled delimiter text read = (r : List ℕ × List ℕ) → read ≡ Some r → SpellsQuoted delimiter text r.1 r.0
 
--- one part, and the bytes behind it
+-- one part, and the bytes after it
 one_part : (delimiter : ℕ) (text front : List ℕ) (later : Parsed (List ℕ)) →
     ((rest bytes : List ℕ) → later ≡ Some (bytes, rest) → SpellsQuoted delimiter text rest (front ++ bytes)) → QuotedSpelled delimiter text (after_bytes front later)
 one_part delimiter text front later spells r is =
     let more = bind-some later (λ r. Some (front ++ r.0, r.1)) r is in
     subst (λ (r : List ℕ × List ℕ). SpellsQuoted delimiter text r.1 r.0) (Some-same (front ++ more.0.0, more.0.1) r more.2) (spells more.0.1 more.0.0 more.1)
 
--- what is read behind a backslash
-abbrev behind_backslash : (most delimiter : ℕ) → List ℕ → Parsed (List ℕ)
-behind_backslash most delimiter [] = None
-behind_backslash most delimiter (c ∷ cs) = after_bytes (unescaped delimiter c) (quoted most delimiter cs)
+-- what is read after a backslash
+abbrev after_backslash : (most delimiter : ℕ) → List ℕ → Parsed (List ℕ)
+after_backslash most delimiter [] = None
+after_backslash most delimiter (c ∷ cs) = after_bytes (unescaped delimiter c) (quoted most delimiter cs)
 
 backslash-sound : (most delimiter : ℕ) (bs : List ℕ) → ((more : List ℕ) → length more ≤ length bs → QuotedSpelled delimiter more (quoted most delimiter more)) →
-    QuotedSpelled delimiter (backslash ∷ bs) (behind_backslash most delimiter bs)
+    QuotedSpelled delimiter (backslash ∷ bs) (after_backslash most delimiter bs)
 backslash-sound most delimiter [] later = λ r is. absurd (none_some is)
 backslash-sound most delimiter (c ∷ cs) later =
     let shorter : length cs ≤ length (c ∷ cs) = omega arith in
     let text = backslash ∷ c ∷ cs in
-    let behind = quoted most delimiter cs in
-    one_part delimiter text (unescaped delimiter c) behind (λ rest bytes is.
+    let after = quoted most delimiter cs in
+    one_part delimiter text (unescaped delimiter c) after (λ rest bytes is.
     let spells = later cs shorter (bytes, rest) is in
     either (λ (front : List ℕ). SpellsQuoted delimiter text rest (front ++ bytes)) (nat_eq c delimiter) (as_itself delimiter) (backslash ∷ c ∷ [])
     (λ same. subst (λ c. SpellsQuoted delimiter (backslash ∷ c ∷ cs) rest (as_itself delimiter ++ bytes)) (sym (eqb-true c delimiter same)) (SpellsQuoted.delimiter_itself cs rest bytes spells))
     (λ other. SpellsQuoted.escaped c cs rest bytes (eqb-false c delimiter other) spells))
 
--- what is read of a bracket expression and the bytes behind it
+-- what is read of a bracket expression and the bytes after it
 abbrev bracketed : (most delimiter b : ℕ) → List ℕ → Parsed (List ℕ)
-bracketed most delimiter b bs = behind_bracket bs >>= λ rest. after_bytes (b ∷ take (length bs - length rest) bs) (quoted most delimiter rest)
+bracketed most delimiter b bs = after_bracket bs >>= λ rest. after_bytes (b ∷ take (length bs - length rest) bs) (quoted most delimiter rest)
 
 bracketed-sound : (most delimiter b : ℕ) (bs : List ℕ) → b ≡ left_square_bracket → b ≢ delimiter → ((more : List ℕ) → length more ≤ length bs → QuotedSpelled delimiter more (quoted most delimiter more)) →
     QuotedSpelled delimiter (b ∷ bs) (bracketed most delimiter b bs)
 bracketed-sound most delimiter b bs opens other later r is =
-    let found = bind-some (behind_bracket bs) (λ rest. after_bytes (b ∷ take (length bs - length rest) bs) (quoted most delimiter rest)) r is in
+    let found = bind-some (after_bracket bs) (λ rest. after_bytes (b ∷ take (length bs - length rest) bs) (quoted most delimiter rest)) r is in
     let set = bracket-sound bs found.0 found.1 in
     let front = bracket_front set.1 in
     let inside = front.0 in
@@ -77,21 +77,21 @@ quoted-sound (suc most) delimiter (b ∷ bs) short =
     let Q = QuotedSpelled delimiter (b ∷ bs) in
     let ordinary = after_bytes (b ∷ []) (quoted most delimiter bs) in
     let opened = chosen (nat_eq b left_square_bracket) (bracketed most delimiter b bs) ordinary in
-    either Q (nat_eq b delimiter) (Some ([], b ∷ bs)) (chosen (nat_eq b backslash) (behind_backslash most delimiter bs) opened)
+    either Q (nat_eq b delimiter) (Some ([], b ∷ bs)) (chosen (nat_eq b backslash) (after_backslash most delimiter bs) opened)
     (λ closes r is. subst (λ (r : List ℕ × List ℕ). SpellsQuoted delimiter (b ∷ bs) r.1 r.0) (Some-same ([], b ∷ bs) r is)
     (subst (λ b. SpellsQuoted delimiter (b ∷ bs) (b ∷ bs) []) (sym (eqb-true b delimiter closes)) (SpellsQuoted.closed bs)))
-    (λ no_end. either Q (nat_eq b backslash) (behind_backslash most delimiter bs) opened
-    (λ escapes. subst (λ b. QuotedSpelled delimiter (b ∷ bs) (behind_backslash most delimiter bs)) (sym (eqb-true b backslash escapes)) (backslash-sound most delimiter bs later))
+    (λ no_end. either Q (nat_eq b backslash) (after_backslash most delimiter bs) opened
+    (λ escapes. subst (λ b. QuotedSpelled delimiter (b ∷ bs) (after_backslash most delimiter bs)) (sym (eqb-true b backslash escapes)) (backslash-sound most delimiter bs later))
     (λ no_escape. either Q (nat_eq b left_square_bracket) (bracketed most delimiter b bs) ordinary
     (λ opens. bracketed-sound most delimiter b bs (eqb-true b left_square_bracket opens) (eqb-false b delimiter no_end) later)
     (λ no_bracket. one_part delimiter (b ∷ bs) (b ∷ []) (quoted most delimiter bs) (λ rest bytes is.
     SpellsQuoted.ordinary b bs rest bytes (eqb-false b delimiter no_end) (eqb-false b backslash no_escape) (eqb-false b left_square_bracket no_bracket) (later bs (omega arith) (bytes, rest) is)))))
 
--- a part that is read before what is behind it
+-- a part that is read before what is after it
 part_read : (front bytes rest : List ℕ) (later : Parsed (List ℕ)) → later ≡ Some (bytes, rest) → after_bytes front later ≡ Some (front ++ bytes, rest)
 part_read front bytes rest later is = ap (after_bytes front) is
 
--- a backslash and the byte behind it
+-- a backslash and the byte after it
 escape_read : (most delimiter byte : ℕ) (text : List ℕ) → delimiter ≢ backslash → quoted (suc most) delimiter (backslash ∷ byte ∷ text) ≡ after_bytes (unescaped delimiter byte) (quoted most delimiter text)
 escape_read most delimiter byte text plain = rw (ne_eqb backslash delimiter (λ same. plain (sym same)), quoted) refl
 
@@ -156,7 +156,7 @@ pattern_at-complete delimiter (SpellsPattern.given text rest bytes tree some is 
     ap (λ (o : Parsed (List ℕ)). o >>= λ q. pattern_of q.0 >>= λ p. Some (p, q.1)) (quoted-complete delimiter is plain (length text) (omega arith))
     ∙ ap (λ (o : Option (Option (List ℕ))). o >>= λ p. Some (p, rest)) (given_read bytes tree some (pattern_read bytes tree spells))
 
--- behind a pattern stands its closing delimiter or the line's end
+-- after a pattern stands its closing delimiter or the line's end
 quoted-closing : (delimiter : ℕ) {text rest bytes : List ℕ} → SpellsQuoted delimiter text rest bytes → SpellsClosing delimiter rest (drop 1 rest)
 quoted-closing delimiter (SpellsQuoted.closed rest) = SpellsClosing.closed rest
 quoted-closing delimiter SpellsQuoted.left_open = SpellsClosing.left_open
@@ -169,7 +169,7 @@ pub pattern-closing : (delimiter : ℕ) {text rest : List ℕ} {found : Option (
 pattern-closing delimiter (SpellsPattern.remembered text rest is) = quoted-closing delimiter is
 pattern-closing delimiter (SpellsPattern.given text rest bytes tree some is spells) = quoted-closing delimiter is
 
--- what stands behind that
+-- what stands after that
 pub closing-complete : (delimiter : ℕ) {text rest : List ℕ} → SpellsClosing delimiter text rest → drop 1 text ≡ rest
 closing-complete delimiter (SpellsClosing.closed rest) = refl
 closing-complete delimiter SpellsClosing.left_open = refl

@@ -59,10 +59,10 @@ spelled-suffix verb _ _ (SpellsSuffix.none blanks h) = refl
 spelled-suffix verb _ _ (SpellsSuffix.given letter blanks form takes_one h k) = takes_one
 
 command-readable : (listed : Bool) (bytes rest : List ℕ) (c : Command) → SpellsCommand listed bytes rest c → is_readable c ≡ true
-command-readable listed _ _ _ (SpellsCommand.command line own more text rest given verb suffix whole before spelled may stands behind) =
+command-readable listed _ _ _ (SpellsCommand.command line own more text rest given verb suffix whole before spelled may stands after) =
     let suffixed : Bool = is_none suffix || (takes verb).suffix in
     and_from (may_have given verb && suffixed) (enters_lines verb)
-    (and_from (may_have given verb) suffixed may (spelled-suffix verb more suffix behind))
+    (and_from (may_have given verb) suffixed may (spelled-suffix verb more suffix after))
     (spelled-enters own more text rest verb spelled)
 
 -- each of what is spelled passes a test that each passes by itself

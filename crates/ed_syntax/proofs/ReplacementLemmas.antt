@@ -14,7 +14,7 @@ use Rattle.ed_syntax.proofs.TextLemmas.{LeftLines}
 use Rattle.ed_syntax.proofs.LineParts.{ReadsOver}
 use Rattle.ed_syntax.proofs.PartsLemmas.{parts-sound, parts-complete}
 
--- behind parts stands their delimiter, or the line's end
+-- after parts stands their delimiter, or the line's end
 pub parts-closed : {delimiter : ℕ} {own more text : List ℕ} {ps : List Part} → SpellsParts delimiter own more text ps → IsClosed delimiter more
 parts-closed (SpellsParts.closed more) = IsClosed.closed more
 parts-closed SpellsParts.left_open = IsClosed.left_open
@@ -69,7 +69,7 @@ closed-complete : {delimiter : ℕ} {bytes : List ℕ} → IsClosed delimiter by
 closed-complete {delimiter} (IsClosed.closed more) = eq-eqb delimiter delimiter refl
 closed-complete IsClosed.left_open = refl
 
--- a `%` alone, and what stands behind it
+-- a `%` alone, and what stands after it
 record Alone (delimiter : ℕ) (own : List ℕ) : Type 0 where
   more : List ℕ
   split : own ≡ percent_sign ∷ more

@@ -125,9 +125,9 @@ without_start : {f : Fault} {asked : List Request} {answers : List Answer} → C
 without_start (own f asked answers is) = owned f asked answers is
 without_start (refused asked answers is) = by_file asked answers (at_command asked answers is)
 
-behind_start : {f : Fault} {asked : List Request} {answers : List Answer} (path : List ℕ) (a : Answer) → Caused f asked answers → StartCaused (Some path) f (request.Read path ∷ asked) (a ∷ answers)
-behind_start path a (own f asked answers is) = owned f (request.Read path ∷ asked) (a ∷ answers) is
-behind_start path a (refused asked answers is) = by_file (request.Read path ∷ asked) (a ∷ answers) (after_start path a asked answers is)
+started-first : {f : Fault} {asked : List Request} {answers : List Answer} (path : List ℕ) (a : Answer) → Caused f asked answers → StartCaused (Some path) f (request.Read path ∷ asked) (a ∷ answers)
+started-first path a (own f asked answers is) = owned f (request.Read path ∷ asked) (a ∷ answers) is
+started-first path a (refused asked answers is) = by_file (request.Read path ∷ asked) (a ∷ answers) (after_start path a asked answers is)
 
 -- the start's answer is refused
 start-refused : (path : List ℕ) (a : Answer) (m : Present) (answers : List Answer) → starts a ≡ false → StartsWell (Some path) (Hears m.help (request.Read path) (failing m fault.File)) (a ∷ answers)
@@ -138,8 +138,8 @@ start-refused path a m answers is f stops =
 -- the start file's answer, and the run after it
 started-well : (path : List ℕ) (a : Answer) (m : Present) (go : Further) → GoesWell go → (answers : List Answer) →
     StartsWell (Some path) (Hears m.help (request.Read path) (started path a m go answers)) (a ∷ answers)
-started-well path (answer.Bytes bytes) m go well answers = λ f stops. behind_start path (answer.Bytes bytes) (well _ answers f stops)
-started-well path answer.Missing m go well answers = λ f stops. behind_start path answer.Missing (well _ answers f stops)
+started-well path (answer.Bytes bytes) m go well answers = λ f stops. started-first path (answer.Bytes bytes) (well _ answers f stops)
+started-well path answer.Missing m go well answers = λ f stops. started-first path answer.Missing (well _ answers f stops)
 started-well path answer.Refused m go well answers = start-refused path answer.Refused m answers refl
 started-well path answer.Done m go well answers = start-refused path answer.Done m answers refl
 

@@ -15,8 +15,8 @@ letters = codes "a\nb\nc\n"
 second_line_deleted : edited letters (codes "2d\n,p\nQ\n") ≡ ends (codes "a\nc\n") 2
 second_line_deleted = refl
 
-text_behind_last_address : edited letters (codes "1,2a\nz\n.\n,p\nQ\n") ≡ ends (codes "a\nb\nz\nc\n") 4
-text_behind_last_address = refl
+text_after_last_address : edited letters (codes "1,2a\nz\n.\n,p\nQ\n") ≡ ends (codes "a\nb\nz\nc\n") 4
+text_after_last_address = refl
 
 text_before_first_line : edited letters (codes "0a\nx\ny\n.\n,p\nQ\n") ≡ ends (codes "x\ny\na\nb\nc\n") 5
 text_before_first_line = refl
@@ -45,8 +45,8 @@ target_from_the_line_that_was_current = refl
 no_text : edited letters (codes "1a\n.\np\n") ≡ ends (codes "a\n") 3
 no_text = refl
 
-line_behind_deleted_is_current : edited letters (codes "2d\np\nQ\n") ≡ ends (codes "c\n") 2
-line_behind_deleted_is_current = refl
+line_after_deleted_is_current : edited letters (codes "2d\np\nQ\n") ≡ ends (codes "c\n") 2
+line_after_deleted_is_current = refl
 
 new_last_line_is_current : edited letters (codes "$d\np\nQ\n") ≡ ends (codes "b\n") 2
 new_last_line_is_current = refl
@@ -83,8 +83,8 @@ nine_digits = refl
 ten_digits : edited letters (codes "0000000001p\n") ≡ fails (codes "?\n") fault.Syntax
 ten_digits = refl
 
-ten_digits_behind_comma : edited letters (codes "1,0000000002p\n") ≡ fails (codes "?\n") fault.Syntax
-ten_digits_behind_comma = refl
+ten_digits_after_comma : edited letters (codes "1,0000000002p\n") ≡ fails (codes "?\n") fault.Syntax
+ten_digits_after_comma = refl
 
 blanks_around_addresses : edited letters (codes " \t1 \t,\t 2\t p \t\nQ\n") ≡ ends (codes "a\nb\n") 3
 blanks_around_addresses = refl
@@ -147,8 +147,8 @@ pair_before_quit : edited letters (codes ",Q\n") ≡ fails (codes "?\n") fault.S
 pair_before_quit = refl
 
 -- no blank stands between a command and a suffix
-suffix_behind_blank : edited letters (codes "1d p\n") ≡ fails (codes "?\n") fault.Syntax
-suffix_behind_blank = refl
+suffix_after_blank : edited letters (codes "1d p\n") ≡ fails (codes "?\n") fault.Syntax
+suffix_after_blank = refl
 
 -- lines
 
@@ -408,17 +408,17 @@ text_before = refl
 
 -- how lines are written
 
-suffix_behind_deletion : edited letters (codes "1dp\nQ\n") ≡ ends (codes "b\n") 2
-suffix_behind_deletion = refl
+suffix_after_deletion : edited letters (codes "1dp\nQ\n") ≡ ends (codes "b\n") 2
+suffix_after_deletion = refl
 
 suffix_at_line_zero : edited (codes "x\n") (codes "1dp\n") ≡ fails (codes "?\n") fault.Address
 suffix_at_line_zero = refl
 
-suffix_behind_a_form : edited letters (codes "2lp\nQ\n") ≡ ends (codes "b$\nb\n") 3
-suffix_behind_a_form = refl
+suffix_after_a_form : edited letters (codes "2lp\nQ\n") ≡ ends (codes "b$\nb\n") 3
+suffix_after_a_form = refl
 
-suffix_directly_behind : edited letters (codes "1m3p\n1m3 p\n") ≡ fails (codes "a\n?\n") fault.Syntax
-suffix_directly_behind = refl
+suffix_directly_after : edited letters (codes "1m3p\n1m3 p\n") ≡ fails (codes "a\n?\n") fault.Syntax
+suffix_directly_after = refl
 
 suffix_of_line_numbers : edited [] (codes "=p\n") ≡ fails (codes "?\n") fault.Address
 suffix_of_line_numbers = refl
@@ -442,8 +442,8 @@ one_whole_row = refl
 no_unit_is_split : edited (many 70 ++ 9 ∷ 10 ∷ []) (codes "l\nQ\n") ≡ ends (many 70 ++ 92 ∷ 10 ∷ codes "\\t$\n") 1
 no_unit_is_split = refl
 
-no_suffix_behind_quit : edited letters (codes "Qp\n") ≡ fails (codes "?\n") fault.Syntax
-no_suffix_behind_quit = refl
+no_suffix_after_quit : edited letters (codes "Qp\n") ≡ fails (codes "?\n") fault.Syntax
+no_suffix_after_quit = refl
 
 no_target : edited letters (codes "1m\n") ≡ fails (codes "?\n") fault.Syntax
 no_target = refl
@@ -467,9 +467,9 @@ empty_prompt = refl
 suffix_before_help_mode : edited [] (codes "Hp\n") ≡ fails (codes "?\n") fault.Address
 suffix_before_help_mode = refl
 
-suffix_behind_help_mode : edited letters (codes "Hn\nx\n") ≡ fails (codes "3\tc\n?\ninvalid command\n") fault.Syntax
+suffix_after_help_mode : edited letters (codes "Hn\nx\n") ≡ fails (codes "3\tc\n?\ninvalid command\n") fault.Syntax
 unfolding digits
-suffix_behind_help_mode = refl
+suffix_after_help_mode = refl
 
 help_turned_on : edited letters (codes "H\nz\n") ≡ fails (codes "?\ninvalid command\n") fault.Syntax
 help_turned_on = refl

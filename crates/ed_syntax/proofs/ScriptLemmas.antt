@@ -6,9 +6,9 @@ use Rattle.ed_syntax.specs.Commands.{Addresses, Verb, Command, Step, Script, alo
 use Rattle.ed_syntax.specs.Spellings.{global_of}
 use Rattle.ed_syntax.specs.Tokens.{pattern_at, addresses}
 use Rattle.ed_syntax.specs.Verbs.{takes}
-use Rattle.ed_syntax.specs.ReadCommands.{is_dot, text, entering, with_text, heading_behind, finished, Behind, command_behind, command_at}
-use Rattle.ed_syntax.specs.ReadGlobals.{joined, list_of, with_list, global_by, global_behind, sense_at}
-use Rattle.ed_syntax.specs.Reading.{step_by, step_behind, step_at, script, followed}
+use Rattle.ed_syntax.specs.ReadCommands.{is_dot, text, entering, with_text, heading_after_addresses, finished, After, command_after_addresses, command_at}
+use Rattle.ed_syntax.specs.ReadGlobals.{joined, list_of, with_list, global_by, global_after_addresses, sense_at}
+use Rattle.ed_syntax.specs.Reading.{step_by, step_after_addresses, step_at, script, followed}
 use Rattle.ed_syntax.proofs.StepLemmas.{Some-same, none_some, bind-some, either}
 use Rattle.ed_syntax.proofs.LaterLemmas.{heading-later}
 use Rattle.ed_syntax.proofs.JoinedLemmas.{joined-later}
@@ -17,7 +17,7 @@ use Rattle.ed_syntax.proofs.JoinedLemmas.{joined-later}
 abbrev pub all_before : List Step → Script → Script
 all_before xs s = record { steps = xs ++ s.steps; fault = s.fault }
 
--- no lines stand behind a text but those that stood behind its command
+-- no lines stand after a text but those that stood after its command
 pub text-later : (lines : List (List ℕ)) → length (text lines).1 ≤ length lines
 text-later [] = omega arith
 text-later (line ∷ lines) =
@@ -35,19 +35,19 @@ with_text-later verb later =
     ]
 
 -- the same of a command
-command_behind-later : (listed : Bool) (given : Addresses) (own : List ℕ) (later : List (List ℕ)) (r : Command × List (List ℕ)) → command_behind listed given own later ≡ Some r → length r.1 ≤ length later
-command_behind-later listed given own later r is =
-    let h = bind-some (heading_behind listed given own later) (λ h. Some (finished listed h.0 h.1)) r is in
+command_after_addresses-later : (listed : Bool) (given : Addresses) (own : List ℕ) (later : List (List ℕ)) (r : Command × List (List ℕ)) → command_after_addresses listed given own later ≡ Some r → length r.1 ≤ length later
+command_after_addresses-later listed given own later r is =
+    let h = bind-some (heading_after_addresses listed given own later) (λ h. Some (finished listed h.0 h.1)) r is in
     let P : Command × List (List ℕ) → Type 0 = λ r. length r.1 ≤ length later in
     subst P (Some-same (finished listed h.0.0 h.0.1) r h.2) (omega (arith, with_text-later h.0.0.verb h.0.1, heading-later listed given own later h.0 h.1))
 
 pub command_at-later : (listed : Bool) (line : List ℕ) (later : List (List ℕ)) (r : Command × List (List ℕ)) → command_at listed line later ≡ Some r → length r.1 ≤ length later
 command_at-later listed line later r is =
-    let given = bind-some (addresses line) (λ a. command_behind listed a.0 a.1 later) r is in
-    command_behind-later listed given.0.0 given.0.1 later r given.2
+    let given = bind-some (addresses line) (λ a. command_after_addresses listed a.0 a.1 later) r is in
+    command_after_addresses-later listed given.0.0 given.0.1 later r given.2
 
 -- the same of a global command
-abbrev StepLater : List (List ℕ) → Behind Step → Type 0
+abbrev StepLater : List (List ℕ) → Taken Step → Type 0
 StepLater later read = (r : Step × List (List ℕ)) → read ≡ Some r → length r.1 ≤ length later
 
 global_by-later : (given : Addresses) (which : Sense) (delimiter : ℕ) (bs : List ℕ) (later : List (List ℕ)) → StepLater later (global_by given which delimiter bs later)
@@ -58,7 +58,7 @@ global_by-later given which delimiter bs later r is =
     let P : Step × List (List ℕ) → Type 0 = λ r. length r.1 ≤ length later in
     subst P (Some-same (record { command = global_of given which q.0.0; list = cs.0 }, list.1) r cs.2) (joined-later (drop 1 q.0.1) later)
 
-global-later : (given : Addresses) (which : Sense) (bs : List ℕ) (later : List (List ℕ)) → StepLater later (global_behind given which bs later)
+global-later : (given : Addresses) (which : Sense) (bs : List ℕ) (later : List (List ℕ)) → StepLater later (global_after_addresses given which bs later)
 global-later given which [] later = λ r is. absurd (none_some is)
 global-later given which (b ∷ bs) later =
     either (StepLater later) (is_delimiter b) (global_by given which b bs later) None (λ good. global_by-later given which b bs later) (λ bad r is. absurd (none_some is))
@@ -67,13 +67,13 @@ global-later given which (b ∷ bs) later =
 step_by-later : (o : Option (Sense × List ℕ)) (given : Addresses) (own : List ℕ) (later : List (List ℕ)) → StepLater later (step_by o given own later)
 step_by-later (Some g) given own later = global-later given g.0 g.1 later
 step_by-later None given own later = λ r is.
-    let c = bind-some (command_behind false given own later) (λ c. Some (alone c.0, c.1)) r is in
+    let c = bind-some (command_after_addresses false given own later) (λ c. Some (alone c.0, c.1)) r is in
     let P : Step × List (List ℕ) → Type 0 = λ r. length r.1 ≤ length later in
-    subst P (Some-same (alone c.0.0, c.0.1) r c.2) (command_behind-later false given own later c.0 c.1)
+    subst P (Some-same (alone c.0.0, c.0.1) r c.2) (command_after_addresses-later false given own later c.0 c.1)
 
 pub step_at-later : (line : List ℕ) (later : List (List ℕ)) (r : Step × List (List ℕ)) → step_at line later ≡ Some r → length r.1 ≤ length later
 step_at-later line later r is =
-    let given = bind-some (addresses line) (λ a. step_behind a.0 a.1 later) r is in
+    let given = bind-some (addresses line) (λ a. step_after_addresses a.0 a.1 later) r is in
     step_by-later (sense_at given.0.1) given.0.0 given.0.1 later r given.2
 
 -- the script from a step on
@@ -81,7 +81,7 @@ abbrev pub from_step : ℕ → ℕ → List (List ℕ) → Option (Step × List 
 from_step n number later None = record { steps = []; fault = Some number }
 from_step n number later (Some r) = followed r.0 (script n (number + (suc (length later) - length r.1)) r.1)
 
--- at one step the greatest number of steps doesn't matter, if it doesn't behind it
+-- at one step the greatest number of steps doesn't matter, if it doesn't after it
 from_enough : (k j number : ℕ) (line : List ℕ) (later : List (List ℕ)) →
     ((next : ℕ) (rest : List (List ℕ)) → length rest ≤ length later → script k next rest ≡ script j next rest) →
     (o : Option (Step × List (List ℕ))) → step_at line later ≡ o → from_step k number later o ≡ from_step j number later o
@@ -99,7 +99,7 @@ script-enough (suc k) (suc j) number (line ∷ later) in_k in_j =
     (λ next rest shorter. script-enough k j next rest (omega (arith, in_k, shorter)) (omega (arith, in_j, shorter)))
     (step_at line later) refl
 
--- a step, and the script behind it
+-- a step, and the script after it
 pub script-next : (line : List ℕ) (later rest : List (List ℕ)) (x : Step) (number next : ℕ) → step_at line later ≡ Some (x, rest) → next + length rest ≡ number + suc (length later) →
     script (length (line ∷ later)) number (line ∷ later) ≡ followed x (script (length rest) next rest)
 script-next line later rest x number next is counted =
@@ -118,7 +118,7 @@ pub all_before-next : (before : List Step) (line : List ℕ) (later lines rest :
     lines ≡ line ∷ later → step_at line later ≡ Some (x, rest) → next + length rest ≡ number + length lines →
     all_before (before ++ x ∷ []) (script (length rest) next rest) ≡ all_before before (script (length lines) number lines)
 all_before-next before line later lines rest x number next split is counted =
-    let behind = script (length rest) next rest in
+    let after = script (length rest) next rest in
     let all : next + length rest ≡ number + suc (length later) = counted ∙ ap (λ ls. number + length ls) split in
-    ap (λ xs. record { steps = xs; fault = behind.fault }) (append_assoc before (x ∷ []) behind.steps)
+    ap (λ xs. record { steps = xs; fault = after.fault }) (append_assoc before (x ∷ []) after.steps)
     ∙ ap (all_before before) (sym (script-next line later rest x number next is all) ∙ ap (λ ls. script (length ls) number ls) (sym split))

@@ -37,9 +37,9 @@ text_up_to_dot = refl
 text_up_to_end : script_of (codes "a\nx") ≡ whole (command Without (Append (codes "x" ∷ [])) ∷ [])
 text_up_to_end = refl
 
--- a fault's line is that of the whole script, counted from 1; nothing behind it is read
-fault_behind_text : script_of (codes "a\nx\n.\np\nz\nQ\n") ≡ faulty (command Without (Append (codes "x" ∷ [])) ∷ command Without (Write Plain) ∷ []) 5
-fault_behind_text = refl
+-- a fault's line is that of the whole script, counted from 1; nothing after it is read
+fault_after_text : script_of (codes "a\nx\n.\np\nz\nQ\n") ≡ faulty (command Without (Append (codes "x" ∷ [])) ∷ command Without (Write Plain) ∷ []) 5
+fault_after_text = refl
 
 fault_on_first_line : script_of (codes "z\np\n") ≡ faulty [] 1
 fault_on_first_line = refl
@@ -50,22 +50,22 @@ fault_on_last_line = refl
 no_digits_too_many : script_of (codes "1234567890d\n") ≡ faulty [] 1
 no_digits_too_many = refl
 
--- a target ends where its address does, and a suffix stands directly behind it
+-- a target ends where its address does, and a suffix stands directly after it
 
-suffix_behind_target : script_of (codes "1m3p\n") ≡ whole (with_suffix (One (at_base (Number 1))) (Move (at_base (Number 3))) Plain ∷ [])
-suffix_behind_target = refl
+suffix_after_target : script_of (codes "1m3p\n") ≡ whole (with_suffix (One (at_base (Number 1))) (Move (at_base (Number 3))) Plain ∷ [])
+suffix_after_target = refl
 
-no_suffix_behind_blank : script_of (codes "m3 p\n") ≡ faulty [] 1
-no_suffix_behind_blank = refl
+no_suffix_after_blank : script_of (codes "m3 p\n") ≡ faulty [] 1
+no_suffix_after_blank = refl
 
-suffix_behind_searched_target : script_of (codes "1m/x/p\n") ≡ whole (with_suffix (One (at_base (Number 1))) (Move (at_base (Forward (Some (codes "x"))))) Plain ∷ [])
-suffix_behind_searched_target = refl
+suffix_after_searched_target : script_of (codes "1m/x/p\n") ≡ whole (with_suffix (One (at_base (Number 1))) (Move (at_base (Forward (Some (codes "x"))))) Plain ∷ [])
+suffix_after_searched_target = refl
 
 letter_in_open_pattern : script_of (codes "m/xp\n") ≡ whole (command Without (Move (at_base (Forward (Some (codes "xp"))))) ∷ [])
 letter_in_open_pattern = refl
 
-suffix_behind_offset : script_of (codes "t + n\n") ≡ faulty [] 1
-suffix_behind_offset = refl
+suffix_after_offset : script_of (codes "t + n\n") ≡ faulty [] 1
+suffix_after_offset = refl
 
 target_with_offset : script_of (codes "t +n\t\n") ≡ whole (with_suffix Without (Copy (record { base = Current; offset = pos 1 })) Numbered ∷ [])
 target_with_offset = refl
@@ -81,14 +81,14 @@ one_target = refl
 mark_before_suffix : script_of (codes "kp\nkpp\n") ≡ whole (command Without (Mark 15) ∷ with_suffix Without (Mark 15) Plain ∷ [])
 mark_before_suffix = refl
 
-suffix_behind_form : script_of (codes "lp\n") ≡ whole (with_suffix Without (Write Unambiguous) Plain ∷ [])
-suffix_behind_form = refl
+suffix_after_form : script_of (codes "lp\n") ≡ whole (with_suffix Without (Write Unambiguous) Plain ∷ [])
+suffix_after_form = refl
 
 one_suffix : script_of (codes "lpn\n") ≡ faulty [] 1
 one_suffix = refl
 
-suffix_behind_mode : script_of (codes "Hp\n") ≡ whole (with_suffix Without HelpMode Plain ∷ [])
-suffix_behind_mode = refl
+suffix_after_mode : script_of (codes "Hp\n") ≡ whole (with_suffix Without HelpMode Plain ∷ [])
+suffix_after_mode = refl
 
 suffix_before_text : script_of (codes "2cp\nx\n.\n0i\ny") ≡ whole (with_suffix (One (at_base (Number 2))) (Change (codes "x" ∷ [])) Plain ∷ command (One (at_base (Number 0))) (Insert (codes "y" ∷ [])) ∷ [])
 suffix_before_text = refl

@@ -15,20 +15,20 @@ use Rattle.ed_syntax.specs.Addressing.{SpellsAddresses}
 use Rattle.ed_syntax.specs.Parameters.{SpellsSense}
 use Rattle.ed_syntax.specs.Spellings.{Spells, global_of}
 use Rattle.ed_syntax.specs.Tokens.{Parsed, ◌>>=◌, pattern_at, addresses}
-use Rattle.ed_syntax.specs.ReadCommands.{Behind, command_behind}
-use Rattle.ed_syntax.specs.ReadGlobals.{joined, list_of, with_list, global_by, global_behind, sense_at}
-use Rattle.ed_syntax.specs.Reading.{step_by, step_behind, step_at}
+use Rattle.ed_syntax.specs.ReadCommands.{Taken, command_after_addresses}
+use Rattle.ed_syntax.specs.ReadGlobals.{joined, list_of, with_list, global_by, global_after_addresses, sense_at}
+use Rattle.ed_syntax.specs.Reading.{step_by, step_after_addresses, step_at}
 use Rattle.ed_syntax.proofs.StepLemmas.{Some-same, none_some, bind-some, chosen, either}
 use Rattle.ed_syntax.proofs.AddressesLemmas.{addresses-sound, addresses-complete}
 use Rattle.ed_syntax.proofs.QuotingLemmas.{pattern_at-sound, pattern_at-complete, pattern-closing, closing-complete}
 use Rattle.ed_syntax.proofs.SubstitutionLemmas.{no_backslash}
 use Rattle.ed_syntax.proofs.TextLemmas.{first_line}
-use Rattle.ed_syntax.proofs.EndLemmas.{end-of, end-keeps, end-behind, addresses-end, pattern-end, closing-end}
+use Rattle.ed_syntax.proofs.EndLemmas.{end-of, end-keeps, end-after, addresses-end, pattern-end, closing-end}
 use Rattle.ed_syntax.proofs.LetterLemmas.{is_global}
-use Rattle.ed_syntax.proofs.StandLemmas.{command_behind-stands}
+use Rattle.ed_syntax.proofs.StandLemmas.{command_after_addresses-stands}
 use Rattle.ed_syntax.proofs.JoinedLemmas.{joined-sound, joined-complete, joined-whole, joined-even}
 use Rattle.ed_syntax.proofs.ListSteps.{list-sound, list-complete}
-use Rattle.ed_syntax.proofs.CommandLemmas.{ReadsFirst, FirstRead, command_behind-sound, command_behind-complete}
+use Rattle.ed_syntax.proofs.CommandLemmas.{ReadsFirst, FirstRead, command_after_addresses-sound, command_after_addresses-complete}
 
 -- a step that is read is spelled so, and may be one of a script
 pub record ReadsStep (lines : List (List ℕ)) (r : Step × List (List ℕ)) : Type 0 where
@@ -36,16 +36,16 @@ pub record ReadsStep (lines : List (List ℕ)) (r : Step × List (List ℕ)) : T
   pub stands : is_step r.0 ≡ true
 
 -- all that may be read is so
-abbrev StepRead : List (List ℕ) → Behind Step → Type 0
+abbrev StepRead : List (List ℕ) → Taken Step → Type 0
 StepRead lines read = (r : Step × List (List ℕ)) → read ≡ Some r → ReadsStep lines r
 
 -- a command by itself
 single-sound : (line own : List ℕ) (given : Addresses) (later : List (List ℕ)) → AreLines (line ∷ later) → SpellsAddresses line own given →
-    StepRead (line ∷ later) (command_behind false given own later >>= λ c. Some (alone c.0, c.1))
+    StepRead (line ∷ later) (command_after_addresses false given own later >>= λ c. Some (alone c.0, c.1))
 single-sound line own given later are addressed r is =
-    let c = bind-some (command_behind false given own later) (λ c. Some (alone c.0, c.1)) r is in
-    let read = command_behind-sound false line own given later c.0 are addressed c.1 in
-    let here = command_behind-stands false given own later c.0 c.1 in
+    let c = bind-some (command_after_addresses false given own later) (λ c. Some (alone c.0, c.1)) r is in
+    let read = command_after_addresses-sound false line own given later c.0 are addressed c.1 in
+    let here = command_after_addresses-stands false given own later c.0 c.1 in
     let verb = c.0.0.verb in
     let unlisted : not c.0.0.listed ≡ true = ap not here.marked in
     let sound = (and_parts (not (is_global verb)) (is_sound verb) here.sound).1 in
@@ -55,7 +55,7 @@ single-sound line own given later are addressed r is =
       stands = stands;
     })
 
--- a global command behind its delimiter
+-- a global command after its delimiter
 global_by-sound : (line bs : List ℕ) (letter delimiter : ℕ) (given : Addresses) (which : Sense) (later : List (List ℕ)) → AreLines (line ∷ later) → SpellsAddresses line (letter ∷ delimiter ∷ bs) given →
     SpellsSense letter which → is_delimiter delimiter ≡ true → StepRead (line ∷ later) (global_by given which delimiter bs later)
 global_by-sound line bs letter delimiter given which later are addressed sensed good r is =
@@ -67,9 +67,9 @@ global_by-sound line bs letter delimiter given which later are addressed sensed 
     let quoted = pattern_at-sound delimiter bs q.0 q.1 in
     let closing = pattern-closing delimiter quoted in
     let is_line = All-head IsLine line later are in
-    let behind = end-of (addresses-end addressed) (end-behind letter (end-behind delimiter (end-of (pattern-end delimiter quoted) (closing-end delimiter closing)))) in
+    let after = end-of (addresses-end addressed) (end-after letter (end-after delimiter (end-of (pattern-end delimiter quoted) (closing-end delimiter closing)))) in
     let list = joined-sound first later (All-tail IsLine line later are) in
-    let first_line = end-keeps (λ b. b ≢ newline) behind is_line in
+    let first_line = end-keeps (λ b. b ≢ newline) after is_line in
     let read = list-sound joined_is.0 (joined-whole list.spells first_line) (joined-even list.spells first_line) cs.0 cs.1 in
     subst (ReadsStep (line ∷ later)) (Some-same (record { command = global_of given which q.0.0; list = cs.0 }, joined_is.1) r cs.2) (record {
       first = record {
@@ -82,9 +82,9 @@ global_by-sound line bs letter delimiter given which later are addressed sensed 
       stands = read.listed;
     })
 
--- a global command behind its letter
+-- a global command after its letter
 global-sound : (line bs : List ℕ) (letter : ℕ) (given : Addresses) (which : Sense) (later : List (List ℕ)) → AreLines (line ∷ later) → SpellsAddresses line (letter ∷ bs) given → SpellsSense letter which →
-    StepRead (line ∷ later) (global_behind given which bs later)
+    StepRead (line ∷ later) (global_after_addresses given which bs later)
 global-sound line [] letter given which later are addressed sensed = λ r is. absurd (none_some is)
 global-sound line (b ∷ bs) letter given which later are addressed sensed =
     either (StepRead (line ∷ later)) (is_delimiter b) (global_by given which b bs later) None
@@ -110,7 +110,7 @@ sense-sound (b ∷ bs) =
     (λ no_g. either (SenseRead (b ∷ bs)) (nat_eq b letter_v) _ _ (sense_known b letter_v bs sense.Others SpellsSense.others)
     (λ no_v g is. absurd (none_some is)))
 
--- a step behind its addresses
+-- a step after its addresses
 step_by-sound : (line own : List ℕ) (given : Addresses) (later : List (List ℕ)) → AreLines (line ∷ later) → SpellsAddresses line own given → (o : Parsed Sense) → sense_at own ≡ o →
     StepRead (line ∷ later) (step_by o given own later)
 step_by-sound line own given later are addressed None is = single-sound line own given later are addressed
@@ -121,7 +121,7 @@ step_by-sound line own given later are addressed (Some g) is =
 -- a step that is read is spelled so, and may be one of a script
 pub step-sound : (line : List ℕ) (later : List (List ℕ)) (r : Step × List (List ℕ)) → AreLines (line ∷ later) → step_at line later ≡ Some r → ReadsStep (line ∷ later) r
 step-sound line later r are is =
-    let given = bind-some (addresses line) (λ a. step_behind a.0 a.1 later) r is in
+    let given = bind-some (addresses line) (λ a. step_after_addresses a.0 a.1 later) r is in
     step_by-sound line given.0.1 given.0.0 later are (addresses-sound line given.0 given.1) (sense_at given.0.1) refl r given.2
 
 -- the letter of a global command that is spelled so is read
@@ -129,15 +129,15 @@ sense-complete : {letter : ℕ} {which : Sense} → SpellsSense letter which →
 sense-complete SpellsSense.matching bs = refl
 sense-complete SpellsSense.others bs = refl
 
--- what is read behind addresses
+-- what is read after addresses
 from_addresses : (line own : List ℕ) (given : Addresses) (later : List (List ℕ)) (o : Parsed Sense) → addresses line ≡ Some (given, own) → sense_at own ≡ o → step_at line later ≡ step_by o given own later
 from_addresses line own given later o addressed sensed =
-    ap (λ (o : Parsed Addresses). o >>= λ r. step_behind r.0 r.1 later) addressed ∙ ap (λ (o : Parsed Sense). step_by o given own later) sensed
+    ap (λ (o : Parsed Addresses). o >>= λ r. step_after_addresses r.0 r.1 later) addressed ∙ ap (λ (o : Parsed Sense). step_by o given own later) sensed
 
 -- a step that is spelled so is read
 pub step-complete : {bytes rest : List ℕ} {x : Step} → Spells bytes rest x → (lines : List (List ℕ)) → AreLines lines → bytes ++ rest ≡ bytes_of lines → FirstRead step_at lines rest x
 step-complete (Spells.single bytes rest c is) lines are same =
-    let found = command_behind-complete false is lines are same in
+    let found = command_after_addresses-complete false is lines are same in
     record {
       line = found.line;
       later = found.later;
@@ -145,13 +145,13 @@ step-complete (Spells.single bytes rest c is) lines are same =
       are = found.are;
       left = found.left;
       read = from_addresses found.line found.own found.given found.later None found.addressed found.unsensed
-          ∙ ap (λ (o : Behind Command). o >>= λ r. Some (alone r.0, r.1)) found.read;
+          ∙ ap (λ (o : Taken Command). o >>= λ r. Some (alone r.0, r.1)) found.read;
     }
 step-complete (Spells.global line own more first text rest list letter delimiter given which pattern cs is_line addressed sensed good quoted closing joined_is listed) lines are same =
     let here = first_line line (text ++ rest) lines is_line are (sym (append_assoc line (newline ∷ text) rest) ∙ same) in
-    let joins = joined-complete joined_is here.later here.are here.behind in
-    let behind = end-of (addresses-end addressed) (end-behind letter (end-behind delimiter (end-of (pattern-end delimiter quoted) (closing-end delimiter closing)))) in
-    let whole = joined-whole joined_is (end-keeps (λ b. b ≢ newline) behind is_line) in
+    let joins = joined-complete joined_is here.later here.are here.after in
+    let after = end-of (addresses-end addressed) (end-after letter (end-after delimiter (end-of (pattern-end delimiter quoted) (closing-end delimiter closing)))) in
+    let whole = joined-whole joined_is (end-keeps (λ b. b ≢ newline) after is_line) in
     let left = joins.0.lines in
     record {
       line = line;

@@ -10,7 +10,7 @@ use Rattle.ed_syntax.specs.Commands as ed
 use Rattle.ed_syntax.specs.Commands.{Verb}
 use Rattle.ed_syntax.specs.Verbs.{is_split, has_split}
 use Rattle.ed_syntax.specs.Parameters.{SpellsEscape, SpellsParts, SpellsReplacement}
-use Rattle.ed_syntax.proofs.EndLemmas.{End, end-of, end-behind, pattern-end}
+use Rattle.ed_syntax.proofs.EndLemmas.{End, end-of, end-after, pattern-end}
 use Rattle.ed_syntax.proofs.LetterLemmas.{letter-simple}
 use Rattle.ed_syntax.proofs.SubstitutionLemmas.{SpellsSubstitution, no_backslash}
 use Rattle.ed_syntax.proofs.HeadLemmas.{SpellsHead}
@@ -23,8 +23,8 @@ odd_after = fold (λ odd b. nat_eq b backslash && not odd)
 begins-anew : (odd : Bool) (b : ℕ) (rest : List ℕ) → b ≢ backslash → odd_after odd (b ∷ rest) ≡ goes_on rest
 begins-anew odd b rest other = ap (λ t. odd_after (t && not odd) rest) (ne_eqb b backslash other)
 
-pub goes_on-behind : (front : List ℕ) (b : ℕ) (rest : List ℕ) → b ≢ backslash → goes_on (front ++ b ∷ rest) ≡ goes_on rest
-goes_on-behind front b rest other = fold-append (λ odd b. nat_eq b backslash && not odd) false front (b ∷ rest) ∙ begins-anew (goes_on front) b rest other
+pub goes_on-after : (front : List ℕ) (b : ℕ) (rest : List ℕ) → b ≢ backslash → goes_on (front ++ b ∷ rest) ≡ goes_on rest
+goes_on-after front b rest other = fold-append (λ odd b. nat_eq b backslash && not odd) false front (b ∷ rest) ∙ begins-anew (goes_on front) b rest other
 
 and-false : (t : _) → t && false ≡ false
 and-false true = refl
@@ -57,14 +57,14 @@ replacement-whole : (delimiter : ℕ) {own more text : List ℕ} {replacement : 
 replacement-whole delimiter pattern (SpellsReplacement.remembered more other ends) even which form = refl
 replacement-whole delimiter pattern (SpellsReplacement.given own more text parts other is) even which form = parts-whole delimiter is even
 
--- a line before what stands behind its delimiter
+-- a line before what stands after its delimiter
 line-even : (line : List ℕ) (delimiter : ℕ) (rest : List ℕ) → delimiter ≢ backslash → End line (delimiter ∷ rest) → goes_on line ≡ false → goes_on rest ≡ false
-line-even line delimiter rest other end even = sym (ap goes_on end.1 ∙ goes_on-behind end.0 delimiter rest other) ∙ even
+line-even line delimiter rest other end even = sym (ap goes_on end.1 ∙ goes_on-after end.0 delimiter rest other) ∙ even
 
 substitution-whole : (line : List ℕ) {own more before : List ℕ} {verb : Verb} → End line own → SpellsSubstitution own more before verb → goes_on line ≡ false → has_split verb ≡ false
 substitution-whole line end (SpellsSubstitution.parameters delimiter own after_pattern after_replacement more text pattern replacement which form good quoted replaced end_is) even =
-    let behind = end-of end (end-behind delimiter (pattern-end delimiter quoted)) in
-    replacement-whole delimiter pattern replaced (line-even line delimiter after_pattern (no_backslash delimiter good) behind even) which form
+    let after = end-of end (end-after delimiter (pattern-end delimiter quoted)) in
+    replacement-whole delimiter pattern replaced (line-even line delimiter after_pattern (no_backslash delimiter good) after even) which form
 
 -- a command on such a line
 pub head-whole : (line : List ℕ) {own more before : List ℕ} {verb : Verb} → End line own → SpellsHead own more before verb → goes_on line ≡ false → has_split verb ≡ false

@@ -13,7 +13,7 @@ use Rattle.ed_syntax.specs.Parameters.{SpellsWhich, SpellsFlags}
 use Rattle.ed_syntax.specs.Tokens.{◌>>=◌, pattern_at}
 use Rattle.ed_syntax.specs.ReadParameters.{Place, ParsedAt, place, replacement, end_at, substitution_with, substitution}
 use Rattle.ed_syntax.specs.ReadVerbs.{verb_at}
-use Rattle.ed_syntax.specs.ReadCommands.{Heading, Headed, verb_from, suffix_at, suffix_with, text, heading_with, headed, heading_behind, finished, command_behind}
+use Rattle.ed_syntax.specs.ReadCommands.{Heading, Headed, verb_from, suffix_at, suffix_with, text, heading_with, headed, heading_after_addresses, finished, command_after_addresses}
 use Rattle.ed_syntax.proofs.StepLemmas.{Some-same, none_some, bind-some, either}
 use Rattle.ed_syntax.proofs.VerbLemmas.{verb_at-sound}
 use Rattle.ed_syntax.proofs.LetterLemmas.{stands, letter-simple, text-keeps}
@@ -78,7 +78,7 @@ heading_with-verb listed given more verb h is =
       suffix_with-may listed given verb more found.0 found.1,
     )
 
-heading-stands : (listed : Bool) (given : Addresses) (own : List ℕ) (lines : List (List ℕ)) (h : Headed) → heading_behind listed given own lines ≡ Some h →
+heading-stands : (listed : Bool) (given : Addresses) (own : List ℕ) (lines : List (List ℕ)) (h : Headed) → heading_after_addresses listed given own lines ≡ Some h →
     (stands h.0.verb ≡ true) × (may_stand listed h.0.verb ≡ true)
 heading-stands listed given own lines h is =
     let verb = bind-some (verb_from own lines) (λ r. headed r.1.later (heading_with listed given r.1.line r.0)) h is in
@@ -95,10 +95,10 @@ pub record CommandStands (listed : Bool) (c : Command) : Type 0 where
   pub sound : stands c.verb ≡ true
   pub may : may_stand listed c.verb ≡ true
 
-pub command_behind-stands : (listed : Bool) (given : Addresses) (own : List ℕ) (later : List (List ℕ)) (r : Command × List (List ℕ)) → command_behind listed given own later ≡ Some r →
+pub command_after_addresses-stands : (listed : Bool) (given : Addresses) (own : List ℕ) (later : List (List ℕ)) (r : Command × List (List ℕ)) → command_after_addresses listed given own later ≡ Some r →
     CommandStands listed r.0
-command_behind-stands listed given own later r is =
-    let h = bind-some (heading_behind listed given own later) (λ h. Some (finished listed h.0 h.1)) r is in
+command_after_addresses-stands listed given own later r is =
+    let h = bind-some (heading_after_addresses listed given own later) (λ h. Some (finished listed h.0 h.1)) r is in
     let here = heading-stands listed given own later h.0 h.1 in
     subst (λ (r : Command × List (List ℕ)). CommandStands listed r.0) (Some-same (finished listed h.0.0 h.0.1) r h.2) (record {
       marked = refl;

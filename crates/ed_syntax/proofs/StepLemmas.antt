@@ -10,7 +10,7 @@ Some-same x y same = cc
 pub none_some : {A : Type 0} {x : A} → None ≡ Some x → ⊥
 none_some same = cc
 
--- what a step gave, and the step behind it
+-- what a step gave, and the step after it
 pub bind-some : {A B : Type 0} (o : Option A) (f : A → Option B) (y : B) → (o >>= f) ≡ Some y → (x : A) × (o ≡ Some x) × (f x ≡ Some y)
 bind-some None f y is = cc
 bind-some (Some x) f y is = (x, refl, is)

@@ -20,7 +20,7 @@ use Rattle.ed_syntax.proofs.QuotingLemmas.{pattern_at-sound, pattern_at-complete
 use Rattle.ed_syntax.proofs.ReplacementLemmas.{replacement-sound, replacement-complete}
 use Rattle.ed_syntax.proofs.FlagsLemmas.{end-sound, end-complete}
 
--- `s` with its parameters, what stands behind it on its last line, and the further lines that were taken for it
+-- `s` with its parameters, what stands after it on its last line, and the further lines that were taken for it
 pub data SpellsSubstitution : (own more text : List ℕ) → Verb → Type 0 where
   parameters : (delimiter : ℕ) (own after_pattern after_replacement more text : List ℕ) (pattern : Option (List ℕ)) (replacement : Option (List Part)) (which : Which) (form : Option Form) →
       IsTrue (is_delimiter delimiter) → SpellsPattern delimiter own (delimiter ∷ after_pattern) pattern → SpellsReplacement delimiter after_pattern after_replacement text replacement →
@@ -55,8 +55,8 @@ first_of : {delimiter b : ℕ} {text bs rest : List ℕ} → SpellsClosing delim
 first_of (SpellsClosing.closed rest) same = cc
 first_of SpellsClosing.left_open same = cc
 
-with_read : (delimiter : ℕ) (own : List ℕ) (pattern : Option (List ℕ)) (behind : List ℕ) (lines : List (List ℕ)) → is_delimiter delimiter ≡ true → SpellsPattern delimiter own behind pattern →
-    SpellsClosing delimiter behind (drop 1 behind) → AreLines lines → SubstitutionRead (delimiter ∷ own) lines (substitution_with delimiter pattern behind lines)
+with_read : (delimiter : ℕ) (own : List ℕ) (pattern : Option (List ℕ)) (after : List ℕ) (lines : List (List ℕ)) → is_delimiter delimiter ≡ true → SpellsPattern delimiter own after pattern →
+    SpellsClosing delimiter after (drop 1 after) → AreLines lines → SubstitutionRead (delimiter ∷ own) lines (substitution_with delimiter pattern after lines)
 with_read delimiter own pattern [] lines good quoted closing are = λ r is. absurd (none_some is)
 with_read delimiter own pattern (b ∷ bs) lines good quoted closing are =
     let same : delimiter ≡ b = first_of closing refl in
@@ -74,7 +74,7 @@ substitution-sound [] lines are = λ r is. absurd (none_some is)
 substitution-sound (b ∷ bs) lines are =
     either (SubstitutionRead (b ∷ bs) lines) (is_delimiter b) _ _ (λ good. by_read b bs lines good are) (λ bad r is. absurd (none_some is))
 
--- the lines that are left behind `s`
+-- the lines that are left after `s`
 pub substitution-left : {own more text : List ℕ} {verb : Verb} → SpellsSubstitution own more text verb → (lines : List (List ℕ)) (rest : List ℕ) → AreLines lines → text ++ rest ≡ bytes_of lines → LeftLines rest
 substitution-left (parameters delimiter own after_pattern after_replacement more text pattern replacement which form good quoted spells end) lines rest are same =
     (replacement-complete delimiter spells (no_backslash delimiter good) lines rest are same).0

@@ -94,7 +94,7 @@ pub suffix-same : {verb : Verb} {bytes : List ℕ} {suffix : Option Form} → Sp
 suffix-same (SpellsSuffix.none blanks are) other same = SpellsSuffix.none blanks are
 suffix-same (SpellsSuffix.given letter blanks form may is are) other same = SpellsSuffix.given letter blanks form (same ∙ may) is are
 
--- behind a command that takes no suffix stand blanks
+-- after a command that takes no suffix stand blanks
 pub suffix-blanks : {verb : Verb} {bytes : List ℕ} {suffix : Option Form} → SpellsSuffix verb bytes suffix → (takes verb).suffix ≡ false → Blanks bytes
 suffix-blanks (SpellsSuffix.none blanks are) untaken = are
 suffix-blanks (SpellsSuffix.given letter blanks form may is are) untaken = absurd (false≢true (sym untaken ∙ may))

@@ -19,11 +19,11 @@ same_line (b ∷ line) (c ∷ other) rest more is also same =
     let parts = same_line line other rest more (All-tail (λ b. b ≢ newline) b line is) (All-tail (λ b. b ≢ newline) c other also) later in
     (ap (λ b. b ∷ line) first ∙ ap (λ line. c ∷ line) parts.0, parts.1)
 
--- the first line of those that bytes are, and the lines behind it
+-- the first line of those that bytes are, and the lines after it
 pub record FirstLine (line rest : List ℕ) (lines : List (List ℕ)) : Type 0 where
   pub later : List (List ℕ)
   pub split : lines ≡ line ∷ later
-  pub behind : rest ≡ bytes_of later
+  pub after : rest ≡ bytes_of later
   pub are : AreLines later
 
 pub first_line : (line rest : List ℕ) (lines : List (List ℕ)) → IsLine line → AreLines lines → line ++ newline ∷ rest ≡ bytes_of lines → FirstLine line rest lines
@@ -31,7 +31,7 @@ first_line [] rest [] is are same = cc
 first_line (b ∷ line) rest [] is are same = cc
 first_line line rest (other ∷ later) is are same =
     let parts = same_line line other rest (bytes_of later) is (All-head IsLine other later are) same in
-    record { later = later; split = ap (λ l. l ∷ later) (sym parts.0); behind = parts.1; are = All-tail IsLine other later are }
+    record { later = later; split = ap (λ l. l ∷ later) (sym parts.0); after = parts.1; are = All-tail IsLine other later are }
 
 -- bytes of no lines
 pub no_lines : (lines : List (List ℕ)) → [] ≡ bytes_of lines → lines ≡ []
@@ -89,7 +89,7 @@ text-sound (line ∷ lines) are =
     }))
     (cases_Bool (is_dot line))
 
--- lines behind a text, of which these are the bytes
+-- lines after a text, of which these are the bytes
 pub record LeftLines (rest : List ℕ) : Type 0 where
   pub lines : List (List ℕ)
   pub split : rest ≡ bytes_of lines
@@ -109,10 +109,10 @@ text-complete spelled.over lines are same =
     (record { lines = []; split = refl; are = All-nil IsLine }, ap text (no_lines lines same))
 text-complete (spelled.dot rest) lines are same =
     let first = first_line (46 ∷ []) rest lines (All-cons (λ b. b ≢ newline) 46 [] (λ same. cc) (All-nil (λ b. b ≢ newline))) are same in
-    (record { lines = first.later; split = first.behind; are = first.are }, text-at_dot lines first.later first.split)
+    (record { lines = first.later; split = first.after; are = first.are }, text-at_dot lines first.later first.split)
 text-complete (spelled.line line bytes rest entered is_line other is) lines are same =
     let first = first_line line (bytes ++ rest) lines is_line are (sym (append_assoc line (newline ∷ bytes) rest) ∙ same) in
-    let later = text-complete is first.later first.are first.behind in (
+    let later = text-complete is first.later first.are first.after in (
       later.0,
       text-after line lines first.later entered later.0.lines first.split (is_dot-other line other) later.1,
     )

@@ -57,8 +57,8 @@ substitution_undone = refl
 address_before_undo : edited (codes "a\nb\nc\n") (codes "1u\n") ≡ fails (codes "?\n") fault.Syntax
 address_before_undo = refl
 
-suffix_behind_undo : edited (codes "a\nb\nc\n") (codes "ul\n") ≡ fails (codes "?\n") fault.Undo
-suffix_behind_undo = refl
+suffix_after_undo : edited (codes "a\nb\nc\n") (codes "ul\n") ≡ fails (codes "?\n") fault.Undo
+suffix_after_undo = refl
 
 edit_leaves_nothing_to_undo : ran (codes "1d\nE\nu\n") (options true None) (answer.Bytes (codes "a\n") ∷ answer.Bytes (codes "a\n") ∷ []) ≡ failed (codes "?\n") (request.Read (codes "F") ∷ request.Read (codes "F") ∷ []) fault.Undo
 edit_leaves_nothing_to_undo = refl

@@ -1,7 +1,7 @@
 -- A command's letter with parameters on its own line: what is read is spelled so, and what is spelled so is read.
 use Rattle.std.proofs.Common.{◌≡◌, ℕ, ◌+◌, ◌<◌, true, nat_eq, List, [], ◌∷◌, Option, Some, None, refl, sym, ap, ◌∙◌, subst}
 use Rattle.std.proofs.lemmas.Bool.{eqb-true}
-use Rattle.ed_syntax.specs.Characters.{equals_sign, behind_blanks}
+use Rattle.ed_syntax.specs.Characters.{equals_sign, after_blanks}
 use Rattle.ed_syntax.specs.Letters.{capital_e, capital_h, capital_p, capital_q, letter_a, letter_c, letter_d, letter_e, letter_f, letter_h, letter_i, letter_j, letter_k, letter_m, letter_q, letter_r, letter_t, letter_u, letter_w}
 use Rattle.ed_syntax.specs.Commands as ed
 use Rattle.ed_syntax.specs.Commands.{Address, Form, Verb}
@@ -37,13 +37,13 @@ pub data FileVerb (path : Option (List ℕ)) : ℕ → Verb → Type 0 where
   edit_anyway : FileVerb path capital_e (ed.EditAnyway path)
   file_name : FileVerb path letter_f (ed.FileName path)
 
--- a command's letter with its parameters, what stands behind it on the line, and its verb before a text is read
+-- a command's letter with its parameters, what stands after it on the line, and its verb before a text is read
 pub data SpellsLetter : (own more : List ℕ) → Verb → Type 0 where
   null : SpellsLetter [] [] ed.Null
   plain : (b : ℕ) (more : List ℕ) (verb : Verb) → PlainVerb b verb → SpellsLetter (b ∷ more) more verb
   mark : (letter : ℕ) (more : List ℕ) → letter < 26 → SpellsLetter (letter_k ∷ (letter_a + letter) ∷ more) more (ed.Mark letter)
-  move : (own more : List ℕ) (target : Address) → SpellsAddress (behind_blanks own) more (Some target) → SpellsLetter (letter_m ∷ own) more (ed.Move target)
-  copy : (own more : List ℕ) (target : Address) → SpellsAddress (behind_blanks own) more (Some target) → SpellsLetter (letter_t ∷ own) more (ed.Copy target)
+  move : (own more : List ℕ) (target : Address) → SpellsAddress (after_blanks own) more (Some target) → SpellsLetter (letter_m ∷ own) more (ed.Move target)
+  copy : (own more : List ℕ) (target : Address) → SpellsAddress (after_blanks own) more (Some target) → SpellsLetter (letter_t ∷ own) more (ed.Copy target)
   file : (b : ℕ) (own : List ℕ) (path : Option (List ℕ)) (verb : Verb) → FileVerb path b verb → SpellsPath own path → SpellsLetter (b ∷ own) [] verb
 
 -- entries each of which is such a letter with its verb
@@ -81,15 +81,15 @@ beside-sound {Known} (first code verb entries beside are) b =
     (λ later. beside-sound are b)
 
 -- a target that is read is spelled so
-target-sound : (text : List ℕ) (r : Address × List ℕ) → target text ≡ Some r → SpellsAddress (behind_blanks text) r.1 (Some r.0)
+target-sound : (text : List ℕ) (r : Address × List ℕ) → target text ≡ Some r → SpellsAddress (after_blanks text) r.1 (Some r.0)
 target-sound text r is =
-    let found = bind-some (address (behind_blanks text)) (λ r. r.0 >>= λ a. Some (a, r.1)) r is in
+    let found = bind-some (address (after_blanks text)) (λ r. r.0 >>= λ a. Some (a, r.1)) r is in
     let given = bind-some found.0.0 (λ a. Some (a, found.0.1)) r found.2 in
-    subst (λ (r : Address × List ℕ). SpellsAddress (behind_blanks text) r.1 (Some r.0)) (Some-same (given.0, found.0.1) r given.2)
-    (subst (SpellsAddress (behind_blanks text) found.0.1) given.1 (address-sound (behind_blanks text) found.0 found.1))
+    subst (λ (r : Address × List ℕ). SpellsAddress (after_blanks text) r.1 (Some r.0)) (Some-same (given.0, found.0.1) r given.2)
+    (subst (SpellsAddress (after_blanks text) found.0.1) given.1 (address-sound (after_blanks text) found.0 found.1))
 
 -- a target that is spelled so is read
-target-complete : (text more : List ℕ) (a : Address) → SpellsAddress (behind_blanks text) more (Some a) → target text ≡ Some (a, more)
+target-complete : (text more : List ℕ) (a : Address) → SpellsAddress (after_blanks text) more (Some a) → target text ≡ Some (a, more)
 target-complete text more a is = ap (λ (o : Parsed (Option Address)). o >>= λ r. r.0 >>= λ a. Some (a, r.1)) (address-complete is)
 
 -- what is read of these bytes is a letter with its parameters

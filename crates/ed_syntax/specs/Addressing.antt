@@ -1,7 +1,7 @@
 -- Which bytes spell an address (XCU ed, "Addresses in ed").
--- Each names a text, what stands behind the part at its head, and what that part means. A text ends with its line.
+-- Each names a text, what stands after the part at its head, and what that part means. A text ends with its line.
 use Rattle.std.specs.Prelude.{ℕ, ◌+◌, ◌<◌, ◌≤◌, ◌≡◌, ℤ, pos, ◌+ℤ◌, neg_ℤ, List, ◌∷◌, ◌++◌, length, All, Option, Some, None, IsTrue, IsFalse}
-use Rattle.ed_syntax.specs.Characters.{dollar_sign, apostrophe, plus_sign, comma_byte, hyphen, full_stop, slash, semicolon_byte, question_mark, is_blank, is_digit, is_sign, is_separator, begins_address, begins, behind_blanks, value_of}
+use Rattle.ed_syntax.specs.Characters.{dollar_sign, apostrophe, plus_sign, comma_byte, hyphen, full_stop, slash, semicolon_byte, question_mark, is_blank, is_digit, is_sign, is_separator, begins_address, begins, after_blanks, value_of}
 use Rattle.ed_syntax.specs.Letters.{letter_a}
 use Rattle.ed_syntax.specs.Commands.{Base, Number, Current, Last, Marked, Forward, Backward, Address, Addresses, Without, One, Comma, Semicolon, at_base}
 use Rattle.ed_syntax.specs.Quoting.{SpellsPattern, SpellsClosing}
@@ -26,17 +26,17 @@ pub data SpellsBase : (text rest : List ℕ) → Base → Type 0 where
   backward : (text more rest : List ℕ) (pattern : Option (List ℕ)) → SpellsPattern question_mark text more pattern →
       SpellsClosing question_mark more rest → SpellsBase (question_mark ∷ text) rest (Backward pattern)
 
--- how many lines an offset goes behind its sign: a number that follows directly, or 1
+-- how many lines an offset goes after its sign: a number that follows directly, or 1
 pub data SpellsDistance : (text rest : List ℕ) → ℕ → Type 0 where
   one : (rest : List ℕ) → IsFalse (begins is_digit rest) → SpellsDistance rest rest 1
   number : (text rest : List ℕ) (n : ℕ) → SpellsNumber text rest n → SpellsDistance text rest n
 
 -- the sum of any number of offsets with blanks before and between them
 pub data SpellsOffsets : (text rest : List ℕ) → ℤ → Type 0 where
-  none : (rest : List ℕ) → IsFalse (begins is_sign (behind_blanks rest)) → SpellsOffsets rest rest (pos 0)
-  plus : (text number more rest : List ℕ) (n : ℕ) (sum : ℤ) → behind_blanks text ≡ plus_sign ∷ number → SpellsDistance number more n →
+  none : (rest : List ℕ) → IsFalse (begins is_sign (after_blanks rest)) → SpellsOffsets rest rest (pos 0)
+  plus : (text number more rest : List ℕ) (n : ℕ) (sum : ℤ) → after_blanks text ≡ plus_sign ∷ number → SpellsDistance number more n →
       SpellsOffsets more rest sum → SpellsOffsets text rest (pos n +ℤ sum)
-  minus : (text number more rest : List ℕ) (n : ℕ) (sum : ℤ) → behind_blanks text ≡ hyphen ∷ number → SpellsDistance number more n →
+  minus : (text number more rest : List ℕ) (n : ℕ) (sum : ℤ) → after_blanks text ≡ hyphen ∷ number → SpellsDistance number more n →
       SpellsOffsets more rest sum → SpellsOffsets text rest (neg_ℤ (pos n) +ℤ sum)
 
 -- an address, or none; one that begins with an offset is relative to the current line
@@ -67,11 +67,11 @@ semicolon (Some a) b = Semicolon a b
 
 -- the addresses before a command, with the blanks around them
 pub data SpellsAddresses : (text rest : List ℕ) → Addresses → Type 0 where
-  single : (text rest : List ℕ) (a : Option Address) → SpellsAddress (behind_blanks text) rest a →
-      IsFalse (begins is_separator (behind_blanks rest)) → SpellsAddresses text (behind_blanks rest) (alone a)
-  comma_pair : (text more others rest : List ℕ) (a b : Option Address) → SpellsAddress (behind_blanks text) more a →
-      behind_blanks more ≡ comma_byte ∷ others → SpellsAddress (behind_blanks others) rest b →
-      SpellsAddresses text (behind_blanks rest) (comma a b)
-  semicolon_pair : (text more others rest : List ℕ) (a b : Option Address) → SpellsAddress (behind_blanks text) more a →
-      behind_blanks more ≡ semicolon_byte ∷ others → SpellsAddress (behind_blanks others) rest b →
-      SpellsAddresses text (behind_blanks rest) (semicolon a b)
+  single : (text rest : List ℕ) (a : Option Address) → SpellsAddress (after_blanks text) rest a →
+      IsFalse (begins is_separator (after_blanks rest)) → SpellsAddresses text (after_blanks rest) (alone a)
+  comma_pair : (text more others rest : List ℕ) (a b : Option Address) → SpellsAddress (after_blanks text) more a →
+      after_blanks more ≡ comma_byte ∷ others → SpellsAddress (after_blanks others) rest b →
+      SpellsAddresses text (after_blanks rest) (comma a b)
+  semicolon_pair : (text more others rest : List ℕ) (a b : Option Address) → SpellsAddress (after_blanks text) more a →
+      after_blanks more ≡ semicolon_byte ∷ others → SpellsAddress (after_blanks others) rest b →
+      SpellsAddresses text (after_blanks rest) (semicolon a b)

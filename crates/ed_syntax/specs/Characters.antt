@@ -74,7 +74,7 @@ is_digit b = nat_le 48 b && nat_le b 57
 abbrev pub is_letter : ℕ → Bool
 is_letter b = (nat_le 65 b && nat_le b 90) || (nat_le 97 b && nat_le b 122)
 
--- the delimiter of a pattern behind a command's letter: punctuation, but no backslash (our choice)
+-- the delimiter of a pattern after a command's letter: punctuation, but no backslash (our choice)
 abbrev pub is_delimiter : ℕ → Bool
 is_delimiter b = nat_le 33 b && nat_le b 126 && not (is_letter b) && not (is_digit b) && not (nat_eq b backslash)
 
@@ -100,10 +100,10 @@ abbrev pub begins : (ℕ → Bool) → List ℕ → Bool
 begins test [] = false
 begins test (b ∷ bytes) = test b
 
--- the bytes behind the blanks in front
-abbrev pub behind_blanks : List ℕ → List ℕ
-behind_blanks [] = []
-behind_blanks (b ∷ bytes) = elim (is_blank b) [ true ↦ behind_blanks bytes | false ↦ b ∷ bytes ]
+-- the bytes after the blanks in front
+abbrev pub after_blanks : List ℕ → List ℕ
+after_blanks [] = []
+after_blanks (b ∷ bytes) = elim (is_blank b) [ true ↦ after_blanks bytes | false ↦ b ∷ bytes ]
 
 -- the number that digits spell
 abbrev pub value_of : List ℕ → ℕ

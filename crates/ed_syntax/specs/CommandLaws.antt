@@ -18,7 +18,7 @@ use Rattle.ed_syntax.specs.Applied.{targeted, placed, command}
 abbrev pub KeepsTheRest : (before after : State) → Type 0
 KeepsTheRest before after = record after { current = before.current; pattern = before.pattern } ≡ before
 
--- the first line of a span isn't behind its last, or the span has no line
+-- the first line of a span isn't after its last, or the span has no line
 abbrev pub InOrder : Span → Type 0
 InOrder x = x.first ≤ x.last + 1
 

@@ -23,14 +23,14 @@ pub record Address : Type 0 where
 abbrev pub at_base : Base → Address
 at_base base = record { base = base; offset = pos 0 }
 
--- The addresses before a command, omitted parts filled in. A second one that is omitted behind `;` has the first one's value.
+-- The addresses before a command, omitted parts filled in. A second one that is omitted after `;` has the first one's value.
 pub data Addresses : Type 0 where
   Without : Addresses
   One : (only : Address) → Addresses
   Comma : (first second : Address) → Addresses
   Semicolon : (first : Address) → (second : Option Address) → Addresses
 
--- how a line is written: as it is, behind its number, or so that each byte can be told
+-- how a line is written: as it is, after its number, or so that each byte can be told
 pub data Form : Type 0 where
   Plain : Form
   Numbered : Form

@@ -35,12 +35,12 @@ only s output = record { state = s; output = output; alters = false }
 abbrev pub at_line : ℕ → State → State
 at_line n s = record s { current = n }
 
--- lines entered behind line a, the last one current; without any, line a is current
+-- lines entered after line a, the last one current; without any, line a is current
 abbrev pub entered : ℕ → List (List ℕ) → State → Outcome
 entered a [] s = only (at_line a s) []
 entered a (text ∷ more) s = altered (inserted a (map plain_line (text ∷ more)) s.lines) (a + length (text ∷ more)) s
 
--- `a`: the text behind the addressed line
+-- `a`: the text after the addressed line
 abbrev pub append : List (List ℕ) → Span → State → Outcome
 append text x s = entered x.first text s
 
@@ -49,7 +49,7 @@ abbrev pub insert : List (List ℕ) → Span → State → Outcome
 insert [] x s = only (at_line (min x.first (last s)) s) []
 insert (text ∷ more) x s = entered (x.first - 1) (text ∷ more) s
 
--- `d`: the line behind those deleted is current, or the new last line if there is none
+-- `d`: the line after those deleted is current, or the new last line if there is none
 abbrev pub delete : Span → State → Outcome
 delete x s = let left = replaced x.first x.last [] s.lines in altered left (min x.first (length left)) s
 
@@ -67,11 +67,11 @@ join x s =
       | false ↦ only s []
     ]
 
--- the line behind which lines from a to b are put once they were taken out
+-- the line after which lines from a to b are put once they were taken out
 abbrev pub place_left : Span → (target : ℕ) → ℕ
 place_left x target = elim (nat_le target x.last) [ true ↦ target | false ↦ target - (x.last + 1 - x.first) ]
 
--- `m`: the lines behind the target line, with their marks; the last one is current
+-- `m`: the lines after the target line, with their marks; the last one is current
 abbrev pub move : Span → (target : ℕ) → State → Result Outcome Fault
 move x target s =
     let moved = between x.first x.last s.lines in
@@ -81,7 +81,7 @@ move x target s =
       | false ↦ Ok (altered (inserted place moved (replaced x.first x.last [] s.lines)) (place + length moved) s)
     ]
 
--- `t`: copies of the lines behind the target line, without marks; the last one is current
+-- `t`: copies of the lines after the target line, without marks; the last one is current
 abbrev pub copy : Span → (target : ℕ) → State → Outcome
 copy x target s = entered target (texts (between x.first x.last s.lines)) s
 

@@ -32,7 +32,7 @@ abbrev pub with_bytes : (path : List ℕ) → Option Answer → (List ℕ → Ou
 with_bytes path None make = Ok (Asks (request.Read path))
 with_bytes path (Some given) make = bytes_read given >> λ bytes. Ok (Makes (make bytes))
 
--- `r`: the lines of a file behind the addressed line
+-- `r`: the lines of a file after the addressed line
 abbrev pub read : Option (List ℕ) → Option Answer → Span → State → Result Effect Fault
 read path given x s = used_path path s >> λ used. with_bytes used given (λ bytes. entered x.first (lines_of bytes) (named_first used s))
 

@@ -18,12 +18,12 @@ names = (7, 97) ∷ (8, 98) ∷ (9, 116) ∷ (11, 118) ∷ (12, 102) ∷ (13, 11
 abbrev pub plainly : ℕ → List ℕ
 plainly b = elim (nat_le 32 b && nat_le b 126) [ true ↦ b ∷ [] | false ↦ backslash ∷ octal b ]
 
--- a byte behind a backslash by its name, if it has one
+-- a byte after a backslash by its name, if it has one
 abbrev pub named : ℕ → List (ℕ × ℕ) → List ℕ
 named b [] = plainly b
 named b (entry ∷ entries) = elim (nat_eq b entry.0) [ true ↦ backslash ∷ entry.1 ∷ [] | false ↦ named b entries ]
 
--- a byte so that it can be told (XBD table 5-1; `$` behind a backslash)
+-- a byte so that it can be told (XBD table 5-1; `$` after a backslash)
 abbrev pub escaped : ℕ → List ℕ
 escaped b = named b names
 
@@ -31,7 +31,7 @@ escaped b = named b names
 abbrev pub row_length : ℕ
 row_length = 71
 
--- The bytes behind those that fill this many places of a row. What would make the row too long begins a new one; at the end
+-- The bytes after those that fill this many places of a row. What would make the row too long begins a new one; at the end
 -- stands a `$`.
 abbrev pub folded : (column : ℕ) → List ℕ → List ℕ
 folded column [] = dollar_sign ∷ newline ∷ []

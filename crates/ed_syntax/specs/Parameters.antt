@@ -1,6 +1,6 @@
 -- Which bytes spell a command's text, its path, the parameters of `s` and the letters of forms and global commands (XCU ed, "Commands
 -- in ed", "Substitute Command").
--- Each names a text, what stands behind the part at its head, and what that part means. A text ends with its line.
+-- Each names a text, what stands after the part at its head, and what that part means. A text ends with its line.
 use Rattle.std.specs.Prelude.{ℕ, ◌+◌, ◌<◌, ◌≡◌, ◌≢◌, List, [], ◌∷◌, ◌++◌, Option, Some, None, IsTrue, IsFalse}
 use Rattle.ed_base.specs.Lines.{newline, IsLine}
 use Rattle.ed_syntax.specs.declared.command.Sense.{Sense}
@@ -9,7 +9,7 @@ use Rattle.ed_syntax.specs.declared.replacement.Part.{Part}
 use Rattle.ed_syntax.specs.declared.replacement.Part.TheVariants as part
 use Rattle.ed_syntax.specs.declared.replacement.Which.{Which}
 use Rattle.ed_syntax.specs.declared.replacement.Which.TheVariants as which
-use Rattle.ed_syntax.specs.Characters.{exclamation_mark, percent_sign, ampersand, full_stop, backslash, is_blank, is_digit, is_letter, behind_blanks}
+use Rattle.ed_syntax.specs.Characters.{exclamation_mark, percent_sign, ampersand, full_stop, backslash, is_blank, is_digit, is_letter, after_blanks}
 use Rattle.ed_syntax.specs.Letters.{letter_g, letter_l, letter_n, letter_p, letter_v}
 use Rattle.ed_syntax.specs.Commands as ed
 use Rattle.ed_syntax.specs.Commands.{Form}
@@ -32,10 +32,10 @@ pub data SpellsForm : ℕ → Form → Type 0 where
 -- where nothing stands there but blanks.
 pub data SpellsPath : List ℕ → Option (List ℕ) → Type 0 where
   none : (blanks : List ℕ) → Blanks blanks → SpellsPath blanks None
-  given : (blank byte : ℕ) (text name : List ℕ) → IsTrue (is_blank blank) → behind_blanks text ≡ byte ∷ name → byte ≢ exclamation_mark →
+  given : (blank byte : ℕ) (text name : List ℕ) → IsTrue (is_blank blank) → after_blanks text ≡ byte ∷ name → byte ≢ exclamation_mark →
       SpellsPath (blank ∷ text) (Some (byte ∷ name))
 
--- a backslash and this byte in a replacement: a group, or the byte itself; by our choice nothing behind letters and `0`
+-- a backslash and this byte in a replacement: a group, or the byte itself; by our choice nothing after letters and `0`
 pub data SpellsEscape (delimiter : ℕ) : (byte : ℕ) → Part → Type 0 where
   delimiter_itself : SpellsEscape delimiter delimiter (part.Literal delimiter)
   group : (digit : ℕ) → (49 + digit) ≢ delimiter → digit < 9 → SpellsEscape delimiter (49 + digit) (part.Group digit)
@@ -55,7 +55,7 @@ pub data SpellsParts (delimiter : ℕ) : (own more text : List ℕ) → List Par
   split : (own more text : List ℕ) (parts : List Part) → IsLine own → SpellsParts delimiter own more text parts →
       SpellsParts delimiter (backslash ∷ []) more (own ++ newline ∷ text) (part.Split ∷ parts)
 
--- what may stand behind a replacement: its delimiter, or the line's end
+-- what may stand after a replacement: its delimiter, or the line's end
 pub data IsClosed (delimiter : ℕ) : List ℕ → Type 0 where
   closed : (more : List ℕ) → IsClosed delimiter (delimiter ∷ more)
   left_open : IsClosed delimiter []

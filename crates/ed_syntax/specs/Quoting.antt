@@ -1,5 +1,5 @@
 -- Which bytes spell a pattern between delimiters (XCU ed, "Regular Expressions in ed", "Addresses in ed").
--- Each names a text, what stands behind the part at its head, and what that part means. A text ends with its line.
+-- Each names a text, what stands after the part at its head, and what that part means. A text ends with its line.
 use Rattle.std.specs.Prelude.{ℕ, ◌≢◌, Bool, true, false, ◌||◌, List, [], ◌∷◌, ◌++◌, Option, Some, None, nat_eq}
 use Rattle.bre_parse.specs.Tree.{Tree}
 use Rattle.bre_parse.specs.Spelled as bre
@@ -14,7 +14,7 @@ is_special b = nat_eq b 36 || nat_eq b 42 || nat_eq b 46 || nat_eq b 91 || nat_e
 abbrev pub as_itself : (delimiter : ℕ) → List ℕ
 as_itself delimiter = elim (is_special delimiter) [ true ↦ backslash ∷ delimiter ∷ [] | false ↦ delimiter ∷ [] ]
 
--- The bytes of a pattern up to the next delimiter that is outside a bracket expression and not behind a backslash, with which the
+-- The bytes of a pattern up to the next delimiter that is outside a bracket expression and not after a backslash, with which the
 -- rest begins, or up to the line's end. A backslash and the delimiter are the delimiter as itself.
 pub data SpellsQuoted (delimiter : ℕ) : (text rest : List ℕ) → (bytes : List ℕ) → Type 0 where
   closed : (rest : List ℕ) → SpellsQuoted delimiter (delimiter ∷ rest) (delimiter ∷ rest) []
@@ -29,7 +29,7 @@ pub data SpellsQuoted (delimiter : ℕ) : (text rest : List ℕ) → (bytes : Li
       SpellsQuoted delimiter text rest bytes →
       SpellsQuoted delimiter (left_square_bracket ∷ (inside ++ text)) rest (left_square_bracket ∷ (inside ++ bytes))
 
--- A pattern behind its delimiter: a basic regular expression, or nothing, which is the remembered pattern.
+-- A pattern after its delimiter: a basic regular expression, or nothing, which is the remembered pattern.
 pub data SpellsPattern (delimiter : ℕ) : (text rest : List ℕ) → Option (List ℕ) → Type 0 where
   remembered : (text rest : List ℕ) → SpellsQuoted delimiter text rest [] → SpellsPattern delimiter text rest None
   given : (text rest bytes : List ℕ) (tree : Tree) → bytes ≢ [] → SpellsQuoted delimiter text rest bytes → bre.Spells bytes tree →

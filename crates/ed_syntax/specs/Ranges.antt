@@ -33,7 +33,7 @@ ordered a b = elim (nat_le 1 a) [ true ↦ elim (nat_le a b) [ true ↦ Ok (span
 abbrev pub not_before : ℕ → ℕ
 not_before n = max 1 n
 
--- in order, where 0 stands for 1 once the order was tested, and with no line behind the last
+-- in order, where 0 stands for 1 once the order was tested, and with no line after the last
 abbrev pub from_first : (a b last : ℕ) → Result Span Fault
 from_first a b last =
     elim (nat_le a b && nat_le (not_before b) last) [ true ↦ Ok (span (not_before a) (not_before b)) | false ↦ Err fault.Address ]

@@ -10,7 +10,7 @@ use Rattle.ed_syntax.specs.Tokens.{◌>>=◌, addresses}
 use Rattle.ed_syntax.specs.ReadVerbs.{verb_at}
 use Rattle.ed_syntax.specs.ReadParameters.{place, ParsedAt, form_of, substitution}
 
--- a command's letter with its parameters, before its text is read; a replacement may go on in the lines behind
+-- a command's letter with its parameters, before its text is read; a replacement may go on in the lines after
 abbrev pub verb_from : List ℕ → List (List ℕ) → ParsedAt Verb
 verb_from [] later = Some (ed.Null, place [] later)
 verb_from (b ∷ bs) later =
@@ -46,7 +46,7 @@ suffix_with listed given verb bs = elim (may_have given verb && may_stand listed
 abbrev pub heading_with : (listed : Bool) → Addresses → List ℕ → Verb → Option Heading
 heading_with listed given bs verb = suffix_with listed given verb bs >>= λ suffix. Some (record { addresses = given; verb = verb; suffix = suffix })
 
--- a heading, and the lines behind it
+-- a heading, and the lines after it
 abbrev pub Headed : Type 0
 Headed = Heading × List (List ℕ)
 
@@ -54,9 +54,9 @@ Headed = Heading × List (List ℕ)
 abbrev pub headed : List (List ℕ) → Option Heading → Option Headed
 headed later h = h >>= λ h. Some (h, later)
 
--- what stands behind the addresses on a command's own line, with the lines on which its replacement goes on
-abbrev pub heading_behind : (listed : Bool) → Addresses → List ℕ → List (List ℕ) → Option Headed
-heading_behind listed given bs later = verb_from bs later >>= λ r. headed r.1.later (heading_with listed given r.1.line r.0)
+-- what stands after the addresses on a command's own line, with the lines on which its replacement goes on
+abbrev pub heading_after_addresses : (listed : Bool) → Addresses → List ℕ → List (List ℕ) → Option Headed
+heading_after_addresses listed given bs later = verb_from bs later >>= λ r. headed r.1.later (heading_with listed given r.1.line r.0)
 
 -- the lines that are left, and the number of the line that was read last
 pub record LinesLeft : Type 0 where
@@ -69,7 +69,7 @@ is_dot [] = false
 is_dot (b ∷ []) = nat_eq b 46
 is_dot (b ∷ c ∷ bs) = false
 
--- the lines of a text, up to a line that is `.` or the end, and the lines behind it
+-- the lines of a text, up to a line that is `.` or the end, and the lines after it
 abbrev pub text : List (List ℕ) → List (List ℕ) × List (List ℕ)
 text [] = ([], [])
 text (line ∷ lines) = elim (is_dot line) [ true ↦ ([], lines) | false ↦ let r = text lines in (line ∷ r.0, r.1) ]
@@ -81,24 +81,24 @@ entering text (ed.Change _) = ed.Change text
 entering text (ed.Insert _) = ed.Insert text
 entering text verb = verb
 
--- a verb with its text, if it takes one, from the lines behind its own, and the lines behind that
+-- a verb with its text, if it takes one, from the lines after its own, and the lines after that
 abbrev pub with_text : Verb → List (List ℕ) → Verb × List (List ℕ)
 with_text verb later = elim (takes verb).text [ true ↦ let r = text later in (entering r.0 verb, r.1) | false ↦ (verb, later) ]
 
--- the command of a heading, and the lines behind it
+-- the command of a heading, and the lines after it
 abbrev pub finished : (listed : Bool) → Heading → List (List ℕ) → Command × List (List ℕ)
 finished listed h later =
     let r = with_text h.verb later in
     (record { addresses = h.addresses; verb = r.0; suffix = h.suffix; listed = listed }, r.1)
 
--- what was read from a line on, and the lines behind it; none where it can't be read
-abbrev pub Behind : Type 0 → Type 0
-Behind A = Option (A × List (List ℕ))
+-- what was read from a line on, and the lines after it; none where it can't be read
+abbrev pub Taken : Type 0 → Type 0
+Taken A = Option (A × List (List ℕ))
 
--- a command behind its addresses
-abbrev pub command_behind : (listed : Bool) → Addresses → List ℕ → List (List ℕ) → Behind Command
-command_behind listed given bs later = heading_behind listed given bs later >>= λ h. Some (finished listed h.0 h.1)
+-- a command after its addresses
+abbrev pub command_after_addresses : (listed : Bool) → Addresses → List ℕ → List (List ℕ) → Taken Command
+command_after_addresses listed given bs later = heading_after_addresses listed given bs later >>= λ h. Some (finished listed h.0 h.1)
 
--- the command that begins on this line, in a list or outside, and the lines behind it
-abbrev pub command_at : (listed : Bool) → List ℕ → List (List ℕ) → Behind Command
-command_at listed line later = addresses line >>= λ r. command_behind listed r.0 r.1 later
+-- the command that begins on this line, in a list or outside, and the lines after it
+abbrev pub command_at : (listed : Bool) → List ℕ → List (List ℕ) → Taken Command
+command_at listed line later = addresses line >>= λ r. command_after_addresses listed r.0 r.1 later

@@ -11,7 +11,7 @@ use Rattle.ed_syntax.specs.Characters.{percent_sign, ampersand, backslash, is_di
 use Rattle.ed_syntax.specs.Letters.{letter_g, letter_l, letter_n, letter_p}
 use Rattle.ed_syntax.specs.Tokens.{Parsed, ◌>>=◌, number, pattern_at}
 
--- a place in a script: what is left of a line, and the lines behind it
+-- a place in a script: what is left of a line, and the lines after it
 pub record Place : Type 0 where
   pub line : List ℕ
   pub later : List (List ℕ)
@@ -20,7 +20,7 @@ pub record Place : Type 0 where
 abbrev pub place : List ℕ → List (List ℕ) → Place
 place line later = record { line = line; later = later }
 
--- what was read from a place on, and the place behind it; none where it can't be read
+-- what was read from a place on, and the place after it; none where it can't be read
 abbrev pub ParsedAt : Type 0 → Type 0
 ParsedAt A = Option (A × Place)
 
@@ -36,7 +36,7 @@ part_escaped b =
 abbrev pub unescaped_part : (delimiter byte : ℕ) → Option Part
 unescaped_part delimiter b = elim (nat_eq b delimiter) [ true ↦ Some (part.Literal b) | false ↦ part_escaped b ]
 
--- what stands behind a backslash; at a line's end it is a split
+-- what stands after a backslash; at a line's end it is a split
 abbrev pub escaped_at : (delimiter : ℕ) → List ℕ → List (List ℕ) → ParsedAt Part
 escaped_at delimiter [] [] = None
 escaped_at delimiter [] (line ∷ later) = Some (part.Split, place line later)
@@ -50,7 +50,7 @@ part_at delimiter b bs later =
       | false ↦ Some (elim (nat_eq b ampersand) [ true ↦ part.Match | false ↦ part.Literal b ], place bs later)
     ]
 
--- a part before those that are read behind it
+-- a part before those that are read after it
 abbrev pub after_part : Part → ParsedAt (List Part) → ParsedAt (List Part)
 after_part p read = read >>= λ r. Some (p ∷ r.0, r.1)
 
@@ -120,7 +120,7 @@ which_at (b ∷ bs) =
       | false ↦ elim (is_digit b) [ true ↦ count_at (b ∷ bs) | false ↦ Some (None, b ∷ bs) ]
     ]
 
--- a count or `g` behind a form, where none stood before it
+-- a count or `g` after a form, where none stood before it
 abbrev pub later_which : Option Which → List ℕ → Parsed Which
 later_which (Some w) bs = Some (w, bs)
 later_which None bs = which_at bs >>= λ r. Some (unwrap_or r.0 which.First, r.1)
@@ -132,23 +132,23 @@ flags bs =
     let form = form_at w.1 in
     later_which w.0 form.1 >>= λ r. Some ((r.0, form.0), r.1)
 
--- what stands behind a replacement: its delimiter and flags, or the line's end, which writes as `p` does
+-- what stands after a replacement: its delimiter and flags, or the line's end, which writes as `p` does
 abbrev pub end_at : List ℕ → Parsed (Which × Option Form)
 end_at [] = Some ((which.First, Some ed.Plain), [])
 end_at (b ∷ bs) = flags bs
 
--- what stands behind the pattern of `s`, whose closing delimiter has to be there
+-- what stands after the pattern of `s`, whose closing delimiter has to be there
 abbrev pub substitution_with : (delimiter : ℕ) → Option (List ℕ) → List ℕ → List (List ℕ) → ParsedAt Verb
 substitution_with delimiter pattern [] later = None
 substitution_with delimiter pattern (b ∷ bs) later =
     replacement delimiter bs later >>= λ r.
     end_at r.1.line >>= λ e. Some (ed.Substitute pattern r.0 e.0.0 e.0.1, place e.1 r.1.later)
 
--- a pattern between delimiters, and what stands behind it
+-- a pattern between delimiters, and what stands after it
 abbrev pub substitution_by : (delimiter : ℕ) → List ℕ → List (List ℕ) → ParsedAt Verb
 substitution_by delimiter bs later = pattern_at delimiter bs >>= λ q. substitution_with delimiter q.0 q.1 later
 
--- what stands behind the letter `s`
+-- what stands after the letter `s`
 abbrev pub substitution : List ℕ → List (List ℕ) → ParsedAt Verb
 substitution [] later = None
 substitution (b ∷ bs) later = elim (is_delimiter b) [ true ↦ substitution_by b bs later | false ↦ None ]

@@ -11,7 +11,7 @@ use Rattle.ed_syntax.specs.Characters.{comma_byte}
 use Rattle.ed_syntax.specs.Addressing.{comma, semicolon}
 use Rattle.ed_syntax.specs.Spellings.{global_of}
 use Rattle.ed_syntax.specs.Tokens.{◌>>=◌}
-use Rattle.ed_syntax.specs.ReadCommands.{Heading, Behind}
+use Rattle.ed_syntax.specs.ReadCommands.{Heading, Taken}
 
 -- a base, where one is given
 abbrev pub optional_base : Option Base → Option ed.Base
@@ -32,19 +32,19 @@ abbrev pub heading_before : ed.Addresses → Option Order → Option Heading
 heading_before given None = None
 heading_before given (Some order) = Some (record { addresses = given; verb = verb_value order.verb; suffix = suffix_value order.suffix })
 
--- a command with these addresses before the lines behind it, where it can be read
-abbrev pub order_before : (listed : Bool) → ed.Addresses → Option Order → List (List ℕ) → Behind ed.Command
+-- a command with these addresses before the lines after it, where it can be read
+abbrev pub order_before : (listed : Bool) → ed.Addresses → Option Order → List (List ℕ) → After ed.Command
 order_before listed given None later = None
 order_before listed given (Some order) later =
     Some (record { addresses = given; verb = verb_value order.verb; suffix = suffix_value order.suffix; listed = listed }, later)
 
--- a command before the lines behind it, where it can be read
-abbrev pub command_before : Option Command → List (List ℕ) → Behind ed.Command
+-- a command before the lines after it, where it can be read
+abbrev pub command_before : Option Command → List (List ℕ) → After ed.Command
 command_before None later = None
 command_before (Some c) later = Some (command_value c, later)
 
 -- the same as a step, with its list
-abbrev pub step_before : Option Command → List (List ℕ) → Behind ed.Step
+abbrev pub step_before : Option Command → List (List ℕ) → After ed.Step
 step_before None later = None
 step_before (Some c) later = Some (step_value c, later)
 
@@ -53,12 +53,12 @@ abbrev pub optional_commands : Option (List Command) → Option (List ed.Command
 optional_commands None = None
 optional_commands (Some cs) = Some (map command_value cs)
 
--- a global command with its list behind these addresses, before the lines behind it, where it can be read
-abbrev pub global_before : ed.Addresses → Option Verb → List (List ℕ) → Behind ed.Step
+-- a global command with its list after these addresses, before the lines after it, where it can be read
+abbrev pub global_before : ed.Addresses → Option Verb → List (List ℕ) → After ed.Step
 global_before given None later = None
 global_before given (Some verb) later =
     Some (record { command = record { addresses = given; verb = verb_value verb; suffix = None; listed = false }; list = list_value verb }, later)
 
--- a global command with these commands for its list, before the lines behind it, where they can be read
-abbrev pub listed_before : ed.Addresses → Sense → Option (List ℕ) → Option (List Command) → List (List ℕ) → Behind ed.Step
+-- a global command with these commands for its list, before the lines after it, where they can be read
+abbrev pub listed_before : ed.Addresses → Sense → Option (List ℕ) → Option (List Command) → List (List ℕ) → After ed.Step
 listed_before given which pattern cs later = optional_commands cs >>= λ cs. Some (record { command = global_of given which pattern; list = cs }, later)

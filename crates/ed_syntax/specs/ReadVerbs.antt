@@ -2,7 +2,7 @@
 use Rattle.std.specs.Prelude.{ℕ, true, false, List, [], ◌∷◌, Option, Some, None, nat_eq}
 use Rattle.ed_syntax.specs.Commands as ed
 use Rattle.ed_syntax.specs.Commands.{Address, Form, Verb}
-use Rattle.ed_syntax.specs.Characters.{exclamation_mark, equals_sign, is_blank, behind_blanks}
+use Rattle.ed_syntax.specs.Characters.{exclamation_mark, equals_sign, is_blank, after_blanks}
 use Rattle.ed_syntax.specs.Letters.{capital_e, capital_h, capital_p, capital_q, letter_a, letter_c, letter_d, letter_e, letter_f, letter_h, letter_i, letter_j, letter_k, letter_l, letter_m, letter_n, letter_p, letter_q, letter_r, letter_t, letter_u, letter_w}
 use Rattle.ed_syntax.specs.Tokens.{Parsed, ◌>>=◌, letter, address}
 
@@ -49,7 +49,7 @@ name_of (b ∷ bs) = elim (nat_eq b exclamation_mark) [ true ↦ None | false �
 -- a path, up to the line's end
 abbrev pub path_at : List ℕ → Option (Option (List ℕ))
 path_at [] = Some None
-path_at (b ∷ bs) = elim (is_blank b) [ true ↦ name_of (behind_blanks bs) | false ↦ None ]
+path_at (b ∷ bs) = elim (is_blank b) [ true ↦ name_of (after_blanks bs) | false ↦ None ]
 
 -- the command on files beside this letter, with its path
 abbrev pub file_verb : (letter : ℕ) → List ℕ → Parsed Verb
@@ -61,7 +61,7 @@ lettered b bs = elim (beside_letter b plain_verbs) [ Some verb ↦ Some (verb, b
 
 -- a target with blanks before it
 abbrev pub target : List ℕ → Parsed Address
-target bs = address (behind_blanks bs) >>= λ r. r.0 >>= λ a. Some (a, r.1)
+target bs = address (after_blanks bs) >>= λ r. r.0 >>= λ a. Some (a, r.1)
 
 -- a command's letter with parameters that stand on its own line, before its text is read; nothing is the null command
 abbrev pub verb_at : List ℕ → Parsed Verb

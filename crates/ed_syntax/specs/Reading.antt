@@ -4,21 +4,21 @@ use Rattle.ed_base.specs.Lines.{lines_of}
 use Rattle.ed_syntax.specs.declared.command.Sense.{Sense}
 use Rattle.ed_syntax.specs.Commands.{Addresses, Step, Script, alone}
 use Rattle.ed_syntax.specs.Tokens.{◌>>=◌, addresses}
-use Rattle.ed_syntax.specs.ReadCommands.{Behind, command_behind}
-use Rattle.ed_syntax.specs.ReadGlobals.{sense_at, global_behind}
+use Rattle.ed_syntax.specs.ReadCommands.{Taken, command_after_addresses}
+use Rattle.ed_syntax.specs.ReadGlobals.{sense_at, global_after_addresses}
 
--- a step behind its addresses, by the letter of a global command if there is one
-abbrev pub step_by : Option (Sense × List ℕ) → Addresses → List ℕ → List (List ℕ) → Behind Step
-step_by (Some g) given bs later = global_behind given g.0 g.1 later
-step_by None given bs later = command_behind false given bs later >>= λ r. Some (alone r.0, r.1)
+-- a step after its addresses, by the letter of a global command if there is one
+abbrev pub step_by : Option (Sense × List ℕ) → Addresses → List ℕ → List (List ℕ) → Taken Step
+step_by (Some g) given bs later = global_after_addresses given g.0 g.1 later
+step_by None given bs later = command_after_addresses false given bs later >>= λ r. Some (alone r.0, r.1)
 
--- a step behind its addresses
-abbrev pub step_behind : Addresses → List ℕ → List (List ℕ) → Behind Step
-step_behind given bs later = step_by (sense_at bs) given bs later
+-- a step after its addresses
+abbrev pub step_after_addresses : Addresses → List ℕ → List (List ℕ) → Taken Step
+step_after_addresses given bs later = step_by (sense_at bs) given bs later
 
--- the step that begins on this line, and the lines behind it
-abbrev pub step_at : List ℕ → List (List ℕ) → Behind Step
-step_at line later = addresses line >>= λ r. step_behind r.0 r.1 later
+-- the step that begins on this line, and the lines after it
+abbrev pub step_at : List ℕ → List (List ℕ) → Taken Step
+step_at line later = addresses line >>= λ r. step_after_addresses r.0 r.1 later
 
 -- a step before a script
 abbrev pub followed : Step → Script → Script

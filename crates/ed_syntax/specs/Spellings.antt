@@ -4,7 +4,7 @@ use Rattle.ed_base.specs.Lines.{newline, IsLine, lines_of, bytes_of}
 use Rattle.ed_syntax.specs.declared.command.Sense.{Sense}
 use Rattle.ed_syntax.specs.declared.replacement.Part.{Part}
 use Rattle.ed_syntax.specs.declared.replacement.Which.{Which}
-use Rattle.ed_syntax.specs.Characters.{equals_sign, backslash, is_delimiter, goes_on, behind_blanks}
+use Rattle.ed_syntax.specs.Characters.{equals_sign, backslash, is_delimiter, goes_on, after_blanks}
 use Rattle.ed_syntax.specs.Letters.{capital_e, capital_h, capital_p, capital_q, letter_a, letter_c, letter_d, letter_e, letter_f, letter_h, letter_i, letter_j, letter_k, letter_m, letter_q, letter_r, letter_s, letter_t, letter_u, letter_w}
 use Rattle.ed_syntax.specs.Commands as ed
 use Rattle.ed_syntax.specs.Commands.{Address, Addresses, Without, Form, Verb, Command, Step, Script, alone}
@@ -19,9 +19,9 @@ pub data SpellsSuffix (verb : Verb) : List ℕ → Option Form → Type 0 where
   given : (letter : ℕ) (blanks : List ℕ) (form : Form) → IsTrue (takes verb).suffix → SpellsForm letter form → Blanks blanks →
       SpellsSuffix verb (letter ∷ blanks) (Some form)
 
--- What stands behind the addresses on a command's own line, a letter with its parameters or nothing, and what stands behind that;
--- then the whole lines behind the command's own that belong to it, and what follows them. Where the replacement of `s` is split, what
--- stands behind the parameters is the end of the last of these lines.
+-- What stands after the addresses on a command's own line, a letter with its parameters or nothing, and what stands after that;
+-- then the whole lines after the command's own that belong to it, and what follows them. Where the replacement of `s` is split, what
+-- stands after the parameters is the end of the last of these lines.
 pub data SpellsVerb : (own more text rest : List ℕ) → Verb → Type 0 where
   append : (more text rest : List ℕ) (entered : List (List ℕ)) → SpellsText text rest entered →
       SpellsVerb (letter_a ∷ more) more text rest (ed.Append entered)
@@ -32,9 +32,9 @@ pub data SpellsVerb : (own more text rest : List ℕ) → Verb → Type 0 where
   delete : (more rest : List ℕ) → SpellsVerb (letter_d ∷ more) more [] rest ed.Delete
   mark : (letter : ℕ) (more rest : List ℕ) → letter < 26 → SpellsVerb (letter_k ∷ (letter_a + letter) ∷ more) more [] rest (ed.Mark letter)
   join : (more rest : List ℕ) → SpellsVerb (letter_j ∷ more) more [] rest ed.Join
-  move : (own more rest : List ℕ) (target : Address) → SpellsAddress (behind_blanks own) more (Some target) →
+  move : (own more rest : List ℕ) (target : Address) → SpellsAddress (after_blanks own) more (Some target) →
       SpellsVerb (letter_m ∷ own) more [] rest (ed.Move target)
-  copy : (own more rest : List ℕ) (target : Address) → SpellsAddress (behind_blanks own) more (Some target) →
+  copy : (own more rest : List ℕ) (target : Address) → SpellsAddress (after_blanks own) more (Some target) →
       SpellsVerb (letter_t ∷ own) more [] rest (ed.Copy target)
   substitute : (delimiter : ℕ) (own after_pattern after_replacement more text rest : List ℕ) (pattern : Option (List ℕ))
       (replacement : Option (List Part)) (which : Which) (form : Option Form) → IsTrue (is_delimiter delimiter) →
@@ -84,8 +84,8 @@ print = record { addresses = Without; verb = ed.Write ed.Plain; suffix = None; l
 
 -- The commands of a list; one line with nothing but blanks is `p`.
 pub data SpellsList : List ℕ → List Command → Type 0 where
-  print_alone : (list : List ℕ) → behind_blanks list ≡ newline ∷ [] → SpellsList list (print ∷ [])
-  commands : (list : List ℕ) (cs : List Command) → behind_blanks list ≢ newline ∷ [] → SpellsEach (SpellsCommand true) list [] cs → SpellsList list cs
+  print_alone : (list : List ℕ) → after_blanks list ≡ newline ∷ [] → SpellsList list (print ∷ [])
+  commands : (list : List ℕ) (cs : List Command) → after_blanks list ≢ newline ∷ [] → SpellsEach (SpellsCommand true) list [] cs → SpellsList list cs
 
 -- a global command that has these addresses
 abbrev pub global_of : Addresses → Sense → Option (List ℕ) → Command

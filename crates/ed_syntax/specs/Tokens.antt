@@ -1,15 +1,15 @@
 -- How the reader takes addresses apart: functions on the bytes of a line (XCU ed, "Addresses in ed").
 use Rattle.std.specs.Prelude.{ℕ, zero, suc, ◌-◌, ℤ, pos, ◌+ℤ◌, neg_ℤ, true, false, ◌&&◌, List, [], ◌∷◌, ◌++◌, length, take, drop, Option, Some, None, Ok, Err, nat_eq, nat_le}
 use Rattle.std.specs.List.{prefix_len}
-use Rattle.bre_parse.specs.Brackets.{behind_bracket}
+use Rattle.bre_parse.specs.Brackets.{after_bracket}
 use Rattle.bre_parse.specs.Grammar.{pattern}
 use Rattle.ed_base.specs.Buffer.{letter_of}
-use Rattle.ed_syntax.specs.Characters.{dollar_sign, apostrophe, plus_sign, comma_byte, hyphen, full_stop, slash, semicolon_byte, question_mark, left_square_bracket, backslash, is_digit, is_sign, begins, behind_blanks, value_of}
+use Rattle.ed_syntax.specs.Characters.{dollar_sign, apostrophe, plus_sign, comma_byte, hyphen, full_stop, slash, semicolon_byte, question_mark, left_square_bracket, backslash, is_digit, is_sign, begins, after_blanks, value_of}
 use Rattle.ed_syntax.specs.Commands.{Base, Number, Current, Last, Marked, Forward, Backward, Address, Addresses}
 use Rattle.ed_syntax.specs.Quoting.{as_itself}
 use Rattle.ed_syntax.specs.Addressing.{alone, comma, semicolon}
 
--- what was read from the front of a line, and the bytes behind it; none where it can't be read
+-- what was read from the front of a line, and the bytes after it; none where it can't be read
 abbrev pub Parsed : Type 0 → Type 0
 Parsed A = Option (A × List ℕ)
 
@@ -34,7 +34,7 @@ letter (b ∷ bs) = letter_of b >>= λ l. Some (l, bs)
 abbrev pub after_bytes : List ℕ → Parsed (List ℕ) → Parsed (List ℕ)
 after_bytes front read = read >>= λ r. Some (front ++ r.0, r.1)
 
--- what stands behind a backslash in a pattern: the delimiter, or a byte that keeps its backslash
+-- what stands after a backslash in a pattern: the delimiter, or a byte that keeps its backslash
 abbrev pub unescaped : (delimiter byte : ℕ) → List ℕ
 unescaped delimiter byte = elim (nat_eq byte delimiter) [ true ↦ as_itself delimiter | false ↦ backslash ∷ byte ∷ [] ]
 
@@ -49,7 +49,7 @@ quoted (suc most) delimiter (b ∷ bs) =
       | false ↦ elim (nat_eq b backslash) [
         | true ↦ elim bs [ [] ↦ None | c ∷ cs ↦ after_bytes (unescaped delimiter c) (quoted most delimiter cs) ]
         | false ↦ elim (nat_eq b left_square_bracket) [
-          | true ↦ behind_bracket bs >>= λ rest. after_bytes (b ∷ take (length bs - length rest) bs) (quoted most delimiter rest)
+          | true ↦ after_bracket bs >>= λ rest. after_bytes (b ∷ take (length bs - length rest) bs) (quoted most delimiter rest)
           | false ↦ after_bytes (b ∷ []) (quoted most delimiter bs)
         ]
       ]
@@ -60,11 +60,11 @@ abbrev pub pattern_of : List ℕ → Option (Option (List ℕ))
 pattern_of [] = Some None
 pattern_of (b ∷ bs) = elim (pattern (b ∷ bs)) [ Ok tree ↦ Some (Some (b ∷ bs)) | Err fault ↦ None ]
 
--- a pattern behind its delimiter, and the rest from its closing delimiter on
+-- a pattern after its delimiter, and the rest from its closing delimiter on
 abbrev pub pattern_at : (delimiter : ℕ) → List ℕ → Parsed (Option (List ℕ))
 pattern_at delimiter bs = quoted (length bs) delimiter bs >>= λ q. pattern_of q.0 >>= λ p. Some (p, q.1)
 
--- how many lines an offset goes behind its sign
+-- how many lines an offset goes after its sign
 abbrev pub distance : List ℕ → Parsed ℕ
 distance bs = elim (begins is_digit bs) [ true ↦ number bs | false ↦ Some (1, bs) ]
 
@@ -76,7 +76,7 @@ summed offset read = read >>= λ r. Some (offset +ℤ r.0, r.1)
 abbrev pub offsets : (most : ℕ) → List ℕ → Parsed ℤ
 offsets zero bs = Some (pos 0, bs)
 offsets (suc most) bs =
-    elim (behind_blanks bs) [
+    elim (after_blanks bs) [
       | [] ↦ Some (pos 0, bs)
       | b ∷ more ↦ elim (nat_eq b plus_sign) [
         | true ↦ distance more >>= λ n. summed (pos n.0) (offsets most n.1)
@@ -111,7 +111,7 @@ base (b ∷ bs) =
       ]
     ]
 
--- the offsets behind a base
+-- the offsets after a base
 abbrev pub with_offsets : Option Base → List ℕ → Parsed (Option Address)
 with_offsets None bs = Some (None, bs)
 with_offsets (Some base) bs = offsets (length bs) bs >>= λ r. Some (Some (record { base = base; offset = r.0 }), r.1)
@@ -120,18 +120,18 @@ with_offsets (Some base) bs = offsets (length bs) bs >>= λ r. Some (Some (recor
 abbrev pub address : List ℕ → Parsed (Option Address)
 address bs = base bs >>= λ r. with_offsets r.0 r.1
 
--- what stands behind the first address, blanks before it aside: a `,` or a `;` with the second, or nothing
+-- what stands after the first address, blanks before it aside: a `,` or a `;` with the second, or nothing
 abbrev pub pair : Option Address → List ℕ → Parsed Addresses
 pair a [] = Some (alone a, [])
 pair a (b ∷ bs) =
     elim (nat_eq b comma_byte) [
-      | true ↦ address (behind_blanks bs) >>= λ r. Some (comma a r.0, behind_blanks r.1)
+      | true ↦ address (after_blanks bs) >>= λ r. Some (comma a r.0, after_blanks r.1)
       | false ↦ elim (nat_eq b semicolon_byte) [
-        | true ↦ address (behind_blanks bs) >>= λ r. Some (semicolon a r.0, behind_blanks r.1)
+        | true ↦ address (after_blanks bs) >>= λ r. Some (semicolon a r.0, after_blanks r.1)
         | false ↦ Some (alone a, b ∷ bs)
       ]
     ]
 
 -- the addresses before a command, with the blanks around them
 abbrev pub addresses : List ℕ → Parsed Addresses
-addresses bs = address (behind_blanks bs) >>= λ a. pair a.0 (behind_blanks a.1)
+addresses bs = address (after_blanks bs) >>= λ a. pair a.0 (after_blanks a.1)

@@ -31,7 +31,7 @@ count_from first (suc count) = first ∷ count_from (first + 1) count
 abbrev pub upwards : (a b : ℕ) → List ℕ
 upwards a b = count_from a (b + 1 - a)
 
--- the lines behind the current one, and then from the first on up to the current one
+-- the lines after the current one, and then from the first on up to the current one
 abbrev pub lines_forward : State → List ℕ
 lines_forward s = upwards (s.current + 1) (last s) ++ upwards 1 s.current
 

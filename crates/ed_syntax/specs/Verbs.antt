@@ -13,7 +13,7 @@ use Rattle.ed_syntax.specs.declared.verbs.Taking.TheVariants as many
 abbrev pub here : Address
 here = at_base ed.Current
 
--- the line behind the current one
+-- the line after the current one
 abbrev pub next : Address
 next = record { base = ed.Current; offset = pos 1 }
 

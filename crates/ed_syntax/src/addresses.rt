@@ -7,8 +7,8 @@ ghost use Rattle.ed_syntax.specs.Commands as ed;
 ghost use Rattle.ed_syntax.specs.ReadParts.{optional_base, around};
 
 use crate::offsets::offsets;
-use crate::quoting::{Parsed, behind_closing, pattern_at};
-use crate::tokens::{behind_blanks, letter, number};
+use crate::quoting::{Parsed, after_closing, pattern_at};
+use crate::tokens::{after_blanks, letter, number};
 use crate::{Address, Addresses, Base};
 use std::alloc::{AllocError, Global};
 
@@ -17,21 +17,21 @@ pub fn addresses(alloc: Global, bytes: &[u8]) -> Parsed<'_, Addresses>
     ensures value { IfOk result (λ read. MatchOption read (addresses bytes.now ≡ None)
         (λ (a, rest). addresses bytes.now ≡ Some (addresses_value a, rest.now))) }
 {
-    match address(alloc, behind_blanks(bytes))? {
-        Some((first, rest)) => pair(alloc, first, behind_blanks(rest)),
+    match address(alloc, after_blanks(bytes))? {
+        Some((first, rest)) => pair(alloc, first, after_blanks(rest)),
         None => Ok(None),
     }
 }
 
-// A `,` or a `;` with the second address and the blanks behind it, or nothing.
+// A `,` or a `;` with the second address and the blanks after it, or nothing.
 fn pair(alloc: Global, first: Option<Address>, bytes: &[u8]) -> Parsed<'_, Addresses>
     ensures value { IfOk result (λ read. MatchOption read (pair (optional_address first) bytes.now ≡ None)
         (λ (a, rest). pair (optional_address first) bytes.now ≡ Some (addresses_value a, rest.now))) }
 {
     match bytes {
-        [separator @ (b',' | b';'), rest @ ..] => match address(alloc, behind_blanks(rest))? {
+        [separator @ (b',' | b';'), rest @ ..] => match address(alloc, after_blanks(rest))? {
             Some((second, rest)) => {
-                Ok(Some((around(*separator, first, second)?, behind_blanks(rest))))
+                Ok(Some((around(*separator, first, second)?, after_blanks(rest))))
             }
             None => Ok(None),
         },
@@ -100,7 +100,7 @@ pub fn address(alloc: Global, bytes: &[u8]) -> Parsed<'_, Option<Address>>
     }
 }
 
-// The offsets behind a base.
+// The offsets after a base.
 fn with_offsets(base: Option<Base>, bytes: &[u8]) -> Option<(Option<Address>, &[u8])>
     ensures value { MatchOption result (with_offsets (optional_base base) bytes.now ≡ None)
         (λ (a, rest). with_offsets (optional_base base) bytes.now ≡ Some (optional_address a, rest.now)) }
@@ -131,11 +131,11 @@ fn base(alloc: Global, bytes: &[u8]) -> Parsed<'_, Option<Base>>
             None => return Ok(None),
         },
         [b'/', rest @ ..] => match pattern_at(alloc, b'/', rest)? {
-            Some((pattern, rest)) => (Base::Forward(pattern), behind_closing(rest)),
+            Some((pattern, rest)) => (Base::Forward(pattern), after_closing(rest)),
             None => return Ok(None),
         },
         [b'?', rest @ ..] => match pattern_at(alloc, b'?', rest)? {
-            Some((pattern, rest)) => (Base::Backward(pattern), behind_closing(rest)),
+            Some((pattern, rest)) => (Base::Backward(pattern), after_closing(rest)),
             None => return Ok(None),
         },
         [b'+' | b'-', ..] => (Base::Current, bytes),

@@ -65,7 +65,7 @@ pub enum Sense {
 #[derive(Debug, PartialEq, Eq, Drop)]
 #[cycle(command)]
 pub enum Verb {
-    /// `a`: the lines of the text go behind the addressed line.
+    /// `a`: the lines of the text go after the addressed line.
     Append(Text),
     /// `c`: the lines of the text come in place of the addressed lines.
     Change(Text),
@@ -75,9 +75,9 @@ pub enum Verb {
     Insert(Text),
     /// `j`: the addressed lines become one.
     Join,
-    /// `m`: the addressed lines go behind the target.
+    /// `m`: the addressed lines go after the target.
     Move(Address),
-    /// `t`: copies of the addressed lines go behind the target.
+    /// `t`: copies of the addressed lines go after the target.
     Copy(Address),
     /// `s`: of each addressed line, matches are replaced.
     Substitute {
@@ -97,7 +97,7 @@ pub enum Verb {
     Null,
     /// `l`, `n` and `p`, by their form.
     Write(Form),
-    /// `r`: the lines of the file at this path go behind the addressed line. `None` is the remembered path, here and below.
+    /// `r`: the lines of the file at this path go after the addressed line. `None` is the remembered path, here and below.
     ReadFile(Option<Bytes>),
     /// `w`: the addressed lines are what the file then has.
     WriteFile(Option<Bytes>),
@@ -118,7 +118,7 @@ pub enum Verb {
     Undo,
     /// `h`: nothing, since a run has no earlier fault.
     Help,
-    /// `H`: turns help mode on or off, in which a fault's text is written behind its `?`.
+    /// `H`: turns help mode on or off, in which a fault's text is written after its `?`.
     HelpMode,
     /// `P`: turns prompting on or off.
     PromptMode,

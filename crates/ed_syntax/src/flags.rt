@@ -28,7 +28,7 @@ fn flags(bytes: &[u8]) -> Option<((Which, Option<Form>), &[u8])>
     Some(((which, form), rest))
 }
 
-// A count or `g` behind the letter of a form, where none stood before it.
+// A count or `g` after the letter of a form, where none stood before it.
 fn later_which(first: Option<Which>, bytes: &[u8]) -> Option<(Which, &[u8])>
     ensures value { MatchOption result (later_which first bytes.now ≡ None)
         (λ (w, rest). later_which first bytes.now ≡ Some (w, rest.now)) }

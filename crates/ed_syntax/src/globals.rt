@@ -1,20 +1,20 @@
 //! Reads a global command: its letter, its pattern and its list.
 ghost use Rattle.std.specs.Prelude.{◌≡◌, ◌+◌, ◌≤◌, length, MatchOption, Some, None, option_map, IfOk};
-ghost use Rattle.ed_syntax.specs.Characters.{goes_on, behind_blanks};
+ghost use Rattle.ed_syntax.specs.Characters.{goes_on, after_blanks};
 ghost use Rattle.ed_syntax.specs.Spellings.{print};
 ghost use Rattle.ed_syntax.specs.PublicTypes.{addresses_value, command_value};
-ghost use Rattle.ed_syntax.specs.ReadGlobals.{joined, is_newline, all_commands, list_of, with_list, global_by, global_behind, sense_at};
+ghost use Rattle.ed_syntax.specs.ReadGlobals.{joined, is_newline, all_commands, list_of, with_list, global_by, global_after_addresses, sense_at};
 ghost use Rattle.ed_syntax.specs.ReadParts.{step_before, optional_commands, global_before, listed_before};
 
-use crate::quoting::{behind_closing, pattern_at};
+use crate::quoting::{after_closing, pattern_at};
 use crate::script_lines::ScriptLines;
 use crate::single::command_at;
-use crate::tokens::{behind_blanks, is_delimiter};
+use crate::tokens::{after_blanks, is_delimiter};
 use crate::{Addresses, Command, Form, Pattern, Sense, Verb};
 use ed_base::Bytes;
 use std::alloc::{AllocError, Global};
 
-/// The letter of a global command, and what stands behind it.
+/// The letter of a global command, and what stands after it.
 pub fn sense_at(bytes: &[u8]) -> Option<(Sense, &[u8])>
     ensures value { MatchOption result (sense_at bytes.now ≡ None)
         (λ (sense, rest). sense_at bytes.now ≡ Some (sense, rest.now)) }
@@ -26,8 +26,8 @@ pub fn sense_at(bytes: &[u8]) -> Option<(Sense, &[u8])>
     }
 }
 
-/// What stands behind the letter of a global command. The lines of its list are taken from those behind its own.
-pub fn global_behind<'a>(
+/// What stands after the letter of a global command. The lines of its list are taken from those after its own.
+pub fn global_after_addresses<'a>(
     alloc: Global,
     addresses: Addresses,
     sense: Sense,
@@ -35,15 +35,15 @@ pub fn global_behind<'a>(
     later: &mut ScriptLines<'a>,
 ) -> Result<Option<Command>, AllocError>
     ensures value { IfOk result (λ c. step_before c later.new.lines ≡
-        global_behind (addresses_value addresses) sense bytes.now later.old.lines) }
+        global_after_addresses (addresses_value addresses) sense bytes.now later.old.lines) }
     ensures number { later.new.number + length later.new.lines ≡ later.old.number + length later.old.lines }
     ensures later { length later.new.lines ≤ length later.old.lines }
 {
-    verb_behind(alloc, sense, bytes, later).map(|read| behind(addresses, read))
+    verb_after_sense(alloc, sense, bytes, later).map(|read| after(addresses, read))
 }
 
 // The command of these addresses and a global command's letter with its parameters.
-fn behind(addresses: Addresses, read: Option<Verb>) -> Option<Command>
+fn after(addresses: Addresses, read: Option<Verb>) -> Option<Command>
     ensures value { (left : _) → step_before result left ≡ global_before (addresses_value addresses) read left }
 {
     read.map(|verb| Command {
@@ -54,15 +54,15 @@ fn behind(addresses: Addresses, read: Option<Verb>) -> Option<Command>
     })
 }
 
-// What stands behind the letter of a global command, whatever its addresses.
-fn verb_behind<'a>(
+// What stands after the letter of a global command, whatever its addresses.
+fn verb_after_sense<'a>(
     alloc: Global,
     sense: Sense,
     bytes: &'a [u8],
     later: &mut ScriptLines<'a>,
 ) -> Result<Option<Verb>, AllocError>
     ensures value { IfOk result (λ read. (given : _) → global_before given read later.new.lines ≡
-        global_behind given sense bytes.now later.old.lines) }
+        global_after_addresses given sense bytes.now later.old.lines) }
     ensures number { later.new.number + length later.new.lines ≡ later.old.number + length later.old.lines }
     ensures later { length later.new.lines ≤ length later.old.lines }
 {
@@ -74,7 +74,7 @@ fn verb_behind<'a>(
     }
 }
 
-// The pattern of a global command, and what stands behind it.
+// The pattern of a global command, and what stands after it.
 fn global_by<'a>(
     alloc: Global,
     sense: Sense,
@@ -88,7 +88,7 @@ fn global_by<'a>(
     ensures later { length later.new.lines ≤ length later.old.lines }
 {
     match pattern_at(alloc, delimiter, bytes)? {
-        Some((pattern, rest)) => with_list(alloc, sense, pattern, behind_closing(rest), later),
+        Some((pattern, rest)) => with_list(alloc, sense, pattern, after_closing(rest), later),
         None => Ok(None),
     }
 }
@@ -106,7 +106,7 @@ fn with_list<'a>(
     ensures number { later.new.number + length later.new.lines ≡ later.old.number + length later.old.lines }
     ensures later { length later.new.lines ≤ length later.old.lines }
 {
-    list_behind(alloc, bytes, later).map(|list| listing(sense, pattern, list))
+    list_after_pattern(alloc, bytes, later).map(|list| listing(sense, pattern, list))
 }
 
 // A global command with this list, where it can be read.
@@ -125,7 +125,7 @@ fn listing(sense: Sense, pattern: Option<Pattern>, list: Option<Vec<Command>>) -
 }
 
 // The commands of the list that begins with what is left of a line.
-fn list_behind<'a>(
+fn list_after_pattern<'a>(
     alloc: Global,
     bytes: &'a [u8],
     later: &mut ScriptLines<'a>,
@@ -180,7 +180,7 @@ fn goes_on(line: &[u8]) -> bool
 fn list_of(alloc: Global, list: &[u8]) -> Result<Option<Vec<Command>>, AllocError>
     ensures value { IfOk result (λ read. optional_commands (option_map (λ cs. cs.items) read) ≡ list_of list.now) }
 {
-    if is_newline(behind_blanks(list)) {
+    if is_newline(after_blanks(list)) {
         let mut commands = Vec::new(alloc);
         commands.push(print())?;
         return Ok(Some(commands));

@@ -3,7 +3,7 @@ ghost use Rattle.std.specs.Prelude.{◌≡◌, ◌+◌, ◌≤◌, length, Optio
 ghost use Rattle.ed_syntax.specs.Verbs.{may_have, may_stand};
 ghost use Rattle.ed_syntax.specs.ReadParameters.{place};
 ghost use Rattle.ed_syntax.specs.ReadVerbs.{beside_letter, plain_verbs, file_verbs, file_verb, target, verb_at};
-ghost use Rattle.ed_syntax.specs.ReadCommands.{verb_from, suffix_at, is_over, headed, suffix_with, heading_with, heading_behind};
+ghost use Rattle.ed_syntax.specs.ReadCommands.{verb_from, suffix_at, is_over, headed, suffix_with, heading_with, heading_after_addresses};
 ghost use Rattle.ed_syntax.specs.PublicTypes.{address_value, addresses_value, suffix_value, verb_value};
 ghost use Rattle.ed_syntax.specs.ReadParts.{optional_verb, heading_before};
 
@@ -12,21 +12,21 @@ use crate::paths::path;
 use crate::quoting::Parsed;
 use crate::script_lines::ScriptLines;
 use crate::substitution::substitution;
-use crate::tokens::{behind_blanks, form_of, letter};
+use crate::tokens::{after_blanks, form_of, letter};
 use crate::{Address, Addresses, Form, Taking, Verb};
 use ed_base::{Bytes, Text};
 use std::alloc::{AllocError, Global};
 
-/// What stands on a command's own line behind its addresses.
+/// What stands on a command's own line after its addresses.
 #[derive(Drop)]
 pub struct Order {
     pub verb: Verb,
     pub suffix: Option<Form>,
 }
 
-/// What stands behind the addresses on a command's own line, in a list or outside, with the lines on which its replacement goes on; its
+/// What stands after the addresses on a command's own line, in a list or outside, with the lines on which its replacement goes on; its
 /// text is still empty.
-pub fn heading_behind<'a>(
+pub fn heading_after_addresses<'a>(
     alloc: Global,
     listed: bool,
     given: &Addresses,
@@ -34,7 +34,7 @@ pub fn heading_behind<'a>(
     later: &mut ScriptLines<'a>,
 ) -> Result<Option<Order>, AllocError>
     ensures value { IfOk result (λ order. headed later.new.lines (heading_before (addresses_value given.now) order) ≡
-        heading_behind listed (addresses_value given.now) bytes.now later.old.lines) }
+        heading_after_addresses listed (addresses_value given.now) bytes.now later.old.lines) }
     ensures number { later.new.number + length later.new.lines ≡ later.old.number + length later.old.lines }
     ensures later { length later.new.lines ≤ length later.old.lines }
 {
@@ -163,7 +163,7 @@ fn target(alloc: Global, bytes: &[u8]) -> Parsed<'_, Address>
     ensures value { IfOk result (λ read. MatchOption read (target bytes.now ≡ None)
         (λ (a, rest). target bytes.now ≡ Some (address_value a, rest.now))) }
 {
-    match address(alloc, behind_blanks(bytes))? {
+    match address(alloc, after_blanks(bytes))? {
         Some((found, rest)) => match found {
             Some(address) => Ok(Some((address, rest))),
             None => Ok(None),
@@ -212,5 +212,5 @@ fn may_stand(listed: bool, verb: &Verb) -> bool
 fn is_over(bytes: &[u8]) -> bool
     ensures value { result ≡ is_over bytes.now }
 {
-    behind_blanks(bytes).is_empty()
+    after_blanks(bytes).is_empty()
 }

@@ -1,18 +1,18 @@
 //! The offsets of an address.
 ghost use Rattle.std.specs.Prelude.{◌≡◌, ◌≤◌, length, MatchOption, Some, None, ⊤};
-ghost use Rattle.ed_syntax.specs.Characters.{behind_blanks};
+ghost use Rattle.ed_syntax.specs.Characters.{after_blanks};
 ghost use Rattle.ed_syntax.specs.Tokens.{distance, offsets};
 
-use crate::tokens::{behind_blanks, number};
+use crate::tokens::{after_blanks, number};
 
-/// The sum of the offsets in front, with blanks before and between them, and the bytes behind. Without an offset the sum is 0.
+/// The sum of the offsets in front, with blanks before and between them, and the bytes after. Without an offset the sum is 0.
 pub fn offsets(bytes: &[u8]) -> Option<(i128, &[u8])>
     ensures value { let read = offsets (length bytes.now) bytes.now in
         MatchOption result (read ≡ None) (λ (sum, rest). read ≡ Some (sum, rest.now)) }
 {
     let mut sum: i128 = 0;
     let mut left = bytes;
-    'offsets: while let [sign @ (b'+' | b'-'), rest @ ..] = behind_blanks(left) {
+    'offsets: while let [sign @ (b'+' | b'-'), rest @ ..] = after_blanks(left) {
         let (lines, rest) = distance(rest)?;
         if *sign == b'+' {
             sum += i128::from(lines);
@@ -24,7 +24,7 @@ pub fn offsets(bytes: &[u8]) -> Option<(i128, &[u8])>
     Some((sum, left))
 }
 
-// How many lines an offset goes: the number directly behind its sign, or 1.
+// How many lines an offset goes: the number directly after its sign, or 1.
 fn distance(bytes: &[u8]) -> Option<(u32, &[u8])>
     ensures value { MatchOption result (distance bytes.now ≡ None)
         (λ (n, rest). distance bytes.now ≡ Some (n, rest.now)) }

@@ -1,8 +1,8 @@
-//! The path behind the letter of a command on files.
+//! The path after the letter of a command on files.
 ghost use Rattle.std.specs.Prelude.{◌≡◌, IfOk};
 ghost use Rattle.ed_syntax.specs.ReadVerbs.{name_of, path_at};
 
-use crate::tokens::behind_blanks;
+use crate::tokens::after_blanks;
 use ed_base::Bytes;
 use std::alloc::{AllocError, Global};
 
@@ -12,7 +12,7 @@ pub fn path(alloc: Global, bytes: &[u8]) -> Result<Option<Option<Bytes>>, AllocE
 {
     match bytes {
         [] => Ok(Some(None)),
-        [b' ' | b'\t', rest @ ..] => name_of(alloc, behind_blanks(rest)),
+        [b' ' | b'\t', rest @ ..] => name_of(alloc, after_blanks(rest)),
         _ => Ok(None),
     }
 }

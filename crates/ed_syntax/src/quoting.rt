@@ -3,15 +3,15 @@ ghost use Rattle.std.specs.Prelude.{◌≡◌, ◌++◌, drop, length, MatchOpti
 ghost use Rattle.ed_syntax.specs.Tokens.{unescaped, quoted, pattern_of, pattern_at};
 
 use crate::Pattern;
-use bre_parse::behind_bracket;
+use bre_parse::after_bracket;
 use bre_parse::fault::BreFault;
 use ed_base::Bytes;
 use std::alloc::{AllocError, Global};
 
-/// What was read from the front of a line, and the bytes behind it. `None` where it can't be read.
+/// What was read from the front of a line, and the bytes after it. `None` where it can't be read.
 pub type Parsed<'a, T> = Result<Option<(T, &'a [u8])>, AllocError>;
 
-/// The pattern behind a delimiter, up to the next one, with which the rest begins, or to the line's end. Nothing is the remembered
+/// The pattern after a delimiter, up to the next one, with which the rest begins, or to the line's end. Nothing is the remembered
 /// pattern, `None`.
 pub fn pattern_at(alloc: Global, delimiter: u8, bytes: &[u8]) -> Parsed<'_, Option<Pattern>>
     ensures value { IfOk result (λ read. MatchOption read (pattern_at delimiter bytes.now ≡ None)
@@ -26,8 +26,8 @@ pub fn pattern_at(alloc: Global, delimiter: u8, bytes: &[u8]) -> Parsed<'_, Opti
     }
 }
 
-/// The bytes behind the closing delimiter, which may be left out at the line's end.
-pub fn behind_closing(bytes: &[u8]) -> &[u8]
+/// The bytes after the closing delimiter, which may be left out at the line's end.
+pub fn after_closing(bytes: &[u8]) -> &[u8]
     ensures value { result.now ≡ drop 1 bytes.now }
 {
     match bytes {
@@ -69,10 +69,10 @@ fn quoted(alloc: Global, delimiter: u8, bytes: &[u8]) -> Parsed<'_, Bytes>
                 }
                 [] => return Ok(None),
             },
-            b'[' => match behind_bracket(alloc, rest)? {
-                Some(behind) => {
-                    text.extend_from_slice(&left[..left.len() - behind.len()])?;
-                    behind
+            b'[' => match after_bracket(alloc, rest)? {
+                Some(after) => {
+                    text.extend_from_slice(&left[..left.len() - after.len()])?;
+                    after
                 }
                 None => return Ok(None),
             },

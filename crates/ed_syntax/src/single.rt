@@ -1,16 +1,16 @@
 //! Reads a command without a list: its head, and its text.
 ghost use Rattle.std.specs.Prelude.{◌≡◌, ◌+◌, ◌≤◌, length, IfOk};
-ghost use Rattle.ed_syntax.specs.ReadCommands.{with_text, command_behind, command_at};
+ghost use Rattle.ed_syntax.specs.ReadCommands.{with_text, command_after_addresses, command_at};
 ghost use Rattle.ed_syntax.specs.PublicTypes.{addresses_value, verb_value};
 ghost use Rattle.ed_syntax.specs.ReadParts.{command_before, order_before};
 
 use crate::addresses::addresses;
-use crate::heading::{Order, heading_behind};
+use crate::heading::{Order, heading_after_addresses};
 use crate::script_lines::ScriptLines;
 use crate::{Addresses, Command, Verb};
 use std::alloc::{AllocError, Global};
 
-/// The command that begins on this line, in a list or outside. A replacement and a text go on in the lines behind it.
+/// The command that begins on this line, in a list or outside. A replacement and a text go on in the lines after it.
 pub fn command_at<'a>(
     alloc: Global,
     listed: bool,
@@ -22,13 +22,13 @@ pub fn command_at<'a>(
     ensures later { length later.new.lines ≤ length later.old.lines }
 {
     match addresses(alloc, line)? {
-        Some((given, rest)) => command_behind(alloc, listed, given, rest, later),
+        Some((given, rest)) => command_after_addresses(alloc, listed, given, rest, later),
         None => Ok(None),
     }
 }
 
-/// What stands behind the addresses of a command.
-pub fn command_behind<'a>(
+/// What stands after the addresses of a command.
+pub fn command_after_addresses<'a>(
     alloc: Global,
     listed: bool,
     addresses: Addresses,
@@ -36,16 +36,16 @@ pub fn command_behind<'a>(
     later: &mut ScriptLines<'a>,
 ) -> Result<Option<Command>, AllocError>
     ensures value { IfOk result (λ c. command_before c later.new.lines ≡
-        command_behind listed (addresses_value addresses) bytes.now later.old.lines) }
+        command_after_addresses listed (addresses_value addresses) bytes.now later.old.lines) }
     ensures number { later.new.number + length later.new.lines ≡ later.old.number + length later.old.lines }
     ensures later { length later.new.lines ≤ length later.old.lines }
 {
-    order_behind(alloc, listed, &addresses, bytes, later).map(|order| {
+    order_after_addresses(alloc, listed, &addresses, bytes, later).map(|order| {
         command_of(listed, addresses, order)
     })
 }
 
-// The command of these addresses and of what stands behind them.
+// The command of these addresses and of what stands after them.
 fn command_of(listed: bool, addresses: Addresses, order: Option<Order>) -> Option<Command>
     ensures value { (left : _) → command_before result left ≡ order_before listed (addresses_value addresses) order left }
 {
@@ -57,8 +57,8 @@ fn command_of(listed: bool, addresses: Addresses, order: Option<Order>) -> Optio
     })
 }
 
-// What stands behind the addresses of a command, with its text.
-fn order_behind<'a>(
+// What stands after the addresses of a command, with its text.
+fn order_after_addresses<'a>(
     alloc: Global,
     listed: bool,
     given: &Addresses,
@@ -66,11 +66,11 @@ fn order_behind<'a>(
     later: &mut ScriptLines<'a>,
 ) -> Result<Option<Order>, AllocError>
     ensures value { IfOk result (λ order. order_before listed (addresses_value given.now) order later.new.lines ≡
-        command_behind listed (addresses_value given.now) bytes.now later.old.lines) }
+        command_after_addresses listed (addresses_value given.now) bytes.now later.old.lines) }
     ensures number { later.new.number + length later.new.lines ≡ later.old.number + length later.old.lines }
     ensures later { length later.new.lines ≤ length later.old.lines }
 {
-    match heading_behind(alloc, listed, given, bytes, later)? {
+    match heading_after_addresses(alloc, listed, given, bytes, later)? {
         Some(Order { verb, suffix }) => with_text(alloc, verb, later).map(|verb| Some(Order {
             verb,
             suffix,

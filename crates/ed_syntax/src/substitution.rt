@@ -5,13 +5,13 @@ ghost use Rattle.ed_syntax.specs.ReadParameters.{place, unescaped_part, escaped_
 ghost use Rattle.ed_syntax.specs.PublicTypes.{suffix_value, verb_value};
 
 use crate::flags::end_at;
-use crate::quoting::{Parsed, behind_closing, pattern_at};
+use crate::quoting::{Parsed, after_closing, pattern_at};
 use crate::script_lines::ScriptLines;
 use crate::tokens::{is_delimiter, is_letter};
 use crate::{Part, Pattern, Replacement, Verb};
 use std::alloc::Global;
 
-/// What stands behind the letter `s`. The lines on which its replacement goes on are taken from those behind its own.
+/// What stands after the letter `s`. The lines on which its replacement goes on are taken from those after its own.
 pub fn substitution<'a>(
     alloc: Global,
     bytes: &'a [u8],
@@ -30,7 +30,7 @@ pub fn substitution<'a>(
     }
 }
 
-// A pattern between delimiters, and what stands behind it.
+// A pattern between delimiters, and what stands after it.
 fn substitution_by<'a>(
     alloc: Global,
     delimiter: u8,
@@ -48,7 +48,7 @@ fn substitution_by<'a>(
     }
 }
 
-// What stands behind the pattern, whose closing delimiter has to be there.
+// What stands after the pattern, whose closing delimiter has to be there.
 fn substitution_with<'a>(
     alloc: Global,
     delimiter: u8,
@@ -94,7 +94,7 @@ fn replacement<'a>(
     ensures later { length later.new.lines ≤ length later.old.lines }
 {
     if is_percent(delimiter, bytes) {
-        return Ok(Some((None, behind_closing(bytes))));
+        return Ok(Some((None, after_closing(bytes))));
     }
     match parts(alloc, delimiter, bytes, later)? {
         Some((replacement, rest)) => Ok(Some((Some(replacement), rest))),
@@ -172,7 +172,7 @@ fn part_at<'a>(
     }
 }
 
-// What stands behind a backslash; at the end of a line it is a split, and the next line goes on.
+// What stands after a backslash; at the end of a line it is a split, and the next line goes on.
 fn escaped_at<'a>(
     delimiter: u8,
     bytes: &'a [u8],
@@ -191,7 +191,7 @@ fn escaped_at<'a>(
     }
 }
 
-// What a backslash and a byte mean. Behind it a delimiter is itself, whatever it means elsewhere.
+// What a backslash and a byte mean. After it a delimiter is itself, whatever it means elsewhere.
 fn unescaped_part(delimiter: u8, byte: u8) -> Option<Part>
     ensures value { result ≡ unescaped_part delimiter byte }
 {

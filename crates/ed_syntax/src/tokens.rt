@@ -1,7 +1,7 @@
 //! Blanks, numbers, letters and delimiters at the front of a line.
 ghost use Rattle.std.specs.Prelude.{◌≡◌, ◌≤◌, length, All, IsTrue, MatchOption, Some, None, ⊤};
 ghost use Rattle.std.specs.List.{prefix_len};
-ghost use Rattle.ed_syntax.specs.Characters.{is_digit, is_letter, is_delimiter, behind_blanks, value_of};
+ghost use Rattle.ed_syntax.specs.Characters.{is_digit, is_letter, is_delimiter, after_blanks, value_of};
 ghost use Rattle.ed_syntax.specs.Tokens.{number, letter};
 ghost use Rattle.ed_syntax.specs.ReadParameters.{form_of};
 ghost use Rattle.ed_syntax.specs.PublicTypes.{suffix_value};
@@ -9,9 +9,9 @@ ghost use Rattle.ed_syntax.specs.PublicTypes.{suffix_value};
 use crate::Form;
 use ed_base::Letter;
 
-/// The bytes behind the spaces and tabs in front.
-pub fn behind_blanks(bytes: &[u8]) -> &[u8]
-    ensures value { result.now ≡ behind_blanks bytes.now }
+/// The bytes after the spaces and tabs in front.
+pub fn after_blanks(bytes: &[u8]) -> &[u8]
+    ensures value { result.now ≡ after_blanks bytes.now }
     ensures shorter { length result.now ≤ length bytes.now }
 {
     let mut left = bytes;
@@ -21,7 +21,7 @@ pub fn behind_blanks(bytes: &[u8]) -> &[u8]
     left
 }
 
-/// A lower-case letter in front, and the bytes behind it.
+/// A lower-case letter in front, and the bytes after it.
 pub fn letter(bytes: &[u8]) -> Option<(Letter, &[u8])>
     ensures value { MatchOption result (letter bytes.now ≡ None)
         (λ (l, rest). letter bytes.now ≡ Some (l, rest.now)) }
@@ -32,7 +32,7 @@ pub fn letter(bytes: &[u8]) -> Option<(Letter, &[u8])>
     }
 }
 
-/// One to nine digits in front, and the bytes behind them.
+/// One to nine digits in front, and the bytes after them.
 pub fn number(bytes: &[u8]) -> Option<(u32, &[u8])>
     ensures value { MatchOption result (number bytes.now ≡ None)
         (λ (n, rest). number bytes.now ≡ Some (n, rest.now)) }
@@ -90,7 +90,7 @@ pub fn is_letter(byte: u8) -> bool
     matches!(byte, b'A'..=b'Z' | b'a'..=b'z')
 }
 
-/// The delimiter of a pattern behind a command's letter: punctuation, but no backslash.
+/// The delimiter of a pattern after a command's letter: punctuation, but no backslash.
 pub fn is_delimiter(byte: u8) -> bool
     ensures value { result ≡ is_delimiter byte }
 {

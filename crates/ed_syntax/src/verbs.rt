@@ -17,9 +17,9 @@ pub enum Taking {
     FirstPlace,
     /// The last one given; 0 is a fault.
     OneLine,
-    /// Two, the first not behind the second; 0 stands for 1, where there is a line. One given stands for both.
+    /// Two, the first not after the second; 0 stands for 1, where there is a line. One given stands for both.
     Lines,
-    /// Two, the first not behind the second; 0 is a fault. One given stands for both.
+    /// Two, the first not after the second; 0 is a fault. One given stands for both.
     Range,
     /// As `Range`; without any, all lines, of an empty buffer none.
     Whole,
@@ -48,7 +48,7 @@ pub struct Takes<'a> {
     pub taking: Taking,
     /// The lines of a text follow the command's own line.
     pub text: bool,
-    /// The address behind which lines are moved or copied.
+    /// The address after which lines are moved or copied.
     pub target: Option<&'a Address>,
     /// A suffix may follow.
     pub suffix: bool,
@@ -64,7 +64,7 @@ fn here() -> Address
     }
 }
 
-// The line behind the current one.
+// The line after the current one.
 fn next() -> Address
     ensures value { address_value result ≡ next }
 {

@@ -66,7 +66,7 @@ fn check_write(rt: &impl Abort, alloc: Global, editor: &mut Editor<PlainStore>, 
     assert!(rt; !editor.changed());
 }
 
-// A read asks first, and puts the lines of the answer behind its line.
+// A read asks first, and puts the lines of the answer after its line.
 fn check_read(rt: &impl Abort, alloc: Global, editor: &mut Editor<PlainStore>, enter: &Command) {
     check_reply(rt, editor, enter, None, reads(rt, alloc, b"F"));
     let answer = Answer::Bytes(bytes(rt, alloc, b"d\ne"));

@@ -5,7 +5,7 @@ use ed_syntax::{Address, Addresses, Base, Command, Pattern, Script, read_script}
 use std::alloc::Global;
 use std::process::Abort;
 
-/// An address. The numbers behind a base are offsets, and a pattern that is left out is the remembered one.
+/// An address. The numbers after a base are offsets, and a pattern that is left out is the remembered one.
 #[derive(Clone, Copy, Debug)]
 pub(crate) enum Place {
     Number(u32),

@@ -125,7 +125,7 @@ fn an_address_that_is_left_out_is_filled_in(rt: HostRuntime) {
     check_each(&rt, rt.alloc(), &ADDRESSES);
 }
 
-// No letter behind a search that its line ends.
+// No letter after a search that its line ends.
 const UNLETTERED: CommandRow = CommandRow {
     verb: RowVerb::Null,
     ..PRINTED

@@ -94,7 +94,7 @@ fn put<S: LineStore>(rt: &impl Abort, alloc: Global, store: &mut S, place: usize
     assert!(rt; store.put(place, line).is_ok(), "the line was handed back");
 }
 
-// Lines come in before the first line, behind the last and between, and the first one goes.
+// Lines come in before the first line, after the last and between, and the first one goes.
 fn check_places<S: LineStore>(rt: &impl Abort, alloc: Global) {
     let mut store = S::empty(alloc).expect(rt, "memory");
     put(rt, alloc, &mut store, 0, b"a");

@@ -1,4 +1,4 @@
--- A line that is cut off a file's bytes, and the bytes behind it.
+-- A line that is cut off a file's bytes, and the bytes after it.
 use Rattle.std.proofs.Common.{◌≡◌, ℕ, ◌+◌, ◌-◌, ◌≤◌, List, [], ◌∷◌, ◌++◌, take, drop, length, ap, sym, ◌∙◌, arith, inl, inr, append-nil, append_assoc}
 use Rattle.std.specs.List.{slice_range}
 use Rattle.std.proofs.lemmas.List.{drop-drop, length-drop, length-append, take_at, take_all, drop_at, drop_all}
@@ -20,15 +20,15 @@ line-between file left line rest next e h =
     let n : (next + length line) - next ≡ length line = omega arith in
     ap (λ k. take k (drop next file)) n ∙ ap (take (length line)) e ∙ line-front left line rest h
 
--- the bytes behind it reach to the end of the file
-pub rest-behind : (file left line rest : List ℕ) (next : ℕ) → next ≤ length file → drop next file ≡ left → CutsFirst left line rest →
+-- the bytes after it reach to the end of the file
+pub rest-after : (file left line rest : List ℕ) (next : ℕ) → next ≤ length file → drop next file ≡ left → CutsFirst left line rest →
     drop (length file - length rest) file ≡ rest
-rest-behind file left line rest next h e (inl whole) =
+rest-after file left line rest next h e (inl whole) =
     let long : length left ≡ length line + (1 + length rest) = omega (arith, ap length whole, length-append line (newline ∷ rest)) in
     let place : length file - length rest ≡ next + (length line + 1) = omega (arith, long, ap length e, length-drop next file) in
     ap (λ k. drop k file) place
     ∙ sym (drop-drop (length line + 1) next file)
     ∙ ap (drop (length line + 1)) (e ∙ whole ∙ sym (append_assoc line (newline ∷ []) rest))
     ∙ drop_at (line ++ newline ∷ []) rest (length line + 1) (length-append line (newline ∷ []))
-rest-behind file left line rest next h e (inr (_, none)) =
+rest-after file left line rest next h e (inr (_, none)) =
     drop_all (length file - length rest) file (omega (arith, ap length none)) ∙ sym none

@@ -65,9 +65,9 @@ exchanged-below marks i letters lines new h below =
 pub unflagged-less : (near far : ℕ) (lines : List Line) → near ≤ far → Unflagged far lines → Unflagged near lines
 unflagged-less near far lines h none i l = none i (omega arith)
 
--- a line came in behind those that are told
-pub unflagged-behind : (place at : ℕ) (lines : List Line) (new : Line) → place ≤ at → at ≤ length lines → Unflagged place lines → Unflagged place (insert lines at new)
-unflagged-behind place at lines new h inside none i l =
+-- a line came in after those that are told
+pub unflagged-later : (place at : ℕ) (lines : List Line) (new : Line) → place ≤ at → at ≤ length lines → Unflagged place lines → Unflagged place (insert lines at new)
+unflagged-later place at lines new h inside none i l =
     ap (λ line. line.flag) (get_or-insert_below lines at new (plain_line []) i (omega arith) inside) ∙ none i l
 
 -- a line without the flag came in among them

@@ -33,7 +33,7 @@ before-end (suc k) (chunk ∷ chunks) h = omega (arith, before-end k chunks (ome
 pub before-within : {X : Type 0} (k : ℕ) (chunks : List (List X)) → k < length chunks → lines_before k chunks + length (get_or chunks k []) ≤ length (joined chunks)
 before-within k chunks h = omega (arith, before-next k chunks h, before-most (k + 1) chunks)
 
--- where a place is behind a chunk, there is a next one
+-- where a place is after a chunk, there is a next one
 pub next-chunk : {X : Type 0} (k at : ℕ) (chunks : List (List X)) → k < length chunks → lines_before k chunks + length (get_or chunks k []) < at → at ≤ length (joined chunks) →
     k + 1 < length chunks
 next-chunk k at chunks h l m = ⊎_elim (λ a. a) (λ a. absurd (omega (arith, before-next k chunks h, before-end (k + 1) chunks a))) (cases_lt (k + 1) (length chunks))
@@ -120,7 +120,7 @@ joined-refill chunks k x rest h e =
     ap (λ n. joined (set (set chunks n rest) k (get_or chunks k [] ++ x ∷ []))) (add-one k)
     ∙ refilled chunks k x rest (omega arith) (ap (λ n. get_or chunks n []) (sym (add-one k)) ∙ e)
 
--- the last element of a chunk goes to the one behind it
+-- the last element of a chunk goes to the one after it
 passed : {X : Type 0} (chunks : List (List X)) (k : ℕ) (x : X) (rest : List X) → suc k < length chunks → get_or chunks k [] ≡ rest ++ x ∷ [] →
     joined (set (set chunks k rest) (suc k) (x ∷ get_or chunks (suc k) [])) ≡ joined chunks
 passed [] k x rest h e = absurd (omega arith)
@@ -200,7 +200,7 @@ before-less [] (suc k) last h l = absurd (omega arith)
 before-less (chunk ∷ chunks) (suc k) zero h l = absurd (omega arith)
 before-less (chunk ∷ chunks) (suc k) (suc last) h l = ap (λ n. length chunk + n) (before-less chunks k last (omega arith) (omega arith))
 
--- an empty chunk is put behind all others
+-- an empty chunk is put after all others
 pub joined-aside : {X : Type 0} (chunks less now : List (List X)) (k : ℕ) (empty : List X) → k < length chunks → less ≡ remove chunks k → now ≡ less ++ empty ∷ [] →
     empty ≡ get_or chunks k empty → length (get_or chunks k []) ≡ 0 → joined now ≡ joined chunks
 joined-aside chunks less now k empty h r p e z =

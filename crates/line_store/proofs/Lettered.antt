@@ -85,13 +85,13 @@ lettered-insert marks at lines new letters h n none =
     (λ l.
     let i = k - 1 in
     let e : k ≡ i + 1 = omega arith in
-    let behind : at ≤ i = omega arith in
-    ap (λ t. line_with after k t) (ap (λ j. get_or (insert lines at new) j d) e ∙ get_or-insert_above lines at new d i behind h)
+    let later : at ≤ i = omega arith in
+    ap (λ t. line_with after k t) (ap (λ j. get_or (insert lines at new) j d) e ∙ get_or-insert_above lines at new d i later h)
     ∙ ap (λ t. record (get_or lines i d) { letters = t }) (letters_at-same k i after marks (λ letter f.
     ap (is_at k) (get_or-with_line at letter letters marks f)
     ∙ ap (λ j. is_at j (opened at (get_or letters letter false) (get_or marks letter None))) e
-    ∙ opened-above at i (get_or letters letter false) (get_or marks letter None) behind (none letter f)))
-    ∙ sym (ap (λ j. get_or (insert (lettered marks 0 lines) at line) j d) e ∙ get_or-insert_above (lettered marks 0 lines) at line d i behind within
+    ∙ opened-above at i (get_or letters letter false) (get_or marks letter None) later (none letter f)))
+    ∙ sym (ap (λ j. get_or (insert (lettered marks 0 lines) at line) j d) e ∙ get_or-insert_above (lettered marks 0 lines) at line d i later within
     ∙ get_or-lettered marks 0 i i lines d (omega arith) (omega arith)))
     )
     (cases_order k at))
@@ -137,13 +137,13 @@ set-letter marks i j letter h n =
     (cases_eq k letter))
 
 -- a letter's line lies before those that are told
-set-behind : (marks : List (Option ℕ)) (i place letter : ℕ) (lines : List Line) → letter < length marks → length marks ≡ 26 → i < place →
+set-after : (marks : List (Option ℕ)) (i place letter : ℕ) (lines : List Line) → letter < length marks → length marks ≡ 26 → i < place →
     lettered (set marks letter (Some i)) place lines ≡ map (with_letter letter false) (lettered marks place lines)
-set-behind marks i place letter [] h n l = refl
-set-behind marks i place letter (line ∷ lines) h n l =
+set-after marks i place letter [] h n l = refl
+set-after marks i place letter (line ∷ lines) h n l =
     ap (λ t. record line { letters = t } ∷ lettered (set marks letter (Some i)) (suc place) lines)
     (set-letter marks i place letter h n ∙ ap (set (letters_at place marks) letter) (not_at place i (omega arith)))
-    ∙ ap (λ t. with_letter letter false (line_with marks place line) ∷ t) (set-behind marks i (suc place) letter lines h n (omega arith))
+    ∙ ap (λ t. with_letter letter false (line_with marks place line) ∷ t) (set-after marks i (suc place) letter lines h n (omega arith))
 
 -- a line was marked
 pub lettered-set : (marks : List (Option ℕ)) (place i at letter : ℕ) (lines : List Line) → letter < length marks → length marks ≡ 26 → place + i ≡ at → i < length lines →
@@ -154,7 +154,7 @@ lettered-set marks place zero at letter (line ∷ lines) h n e l =
     ap (λ t. lettered (set marks letter (Some t)) place (line ∷ lines)) here
     ∙ ap (λ t. record line { letters = t } ∷ lettered (set marks letter (Some place)) (suc place) lines)
     (set-letter marks place place letter h n ∙ ap (set (letters_at place marks) letter) (is_there place) ∙ sym (set-set (letters_at place marks) letter false true))
-    ∙ ap (λ t. with_letter letter true (with_letter letter false (line_with marks place line)) ∷ t) (set-behind marks place (suc place) letter lines h n (omega arith))
+    ∙ ap (λ t. with_letter letter true (with_letter letter false (line_with marks place line)) ∷ t) (set-after marks place (suc place) letter lines h n (omega arith))
 lettered-set marks place (suc i) at letter (line ∷ lines) h n e l =
     ap (λ t. record line { letters = t } ∷ lettered (set marks letter (Some at)) (suc place) lines)
     (set-letter marks at place letter h n ∙ ap (set (letters_at place marks) letter) (not_at place at (omega arith)))
@@ -244,9 +244,9 @@ opened-before : (at : ℕ) (o : Option ℕ) → ((place : ℕ) → o ≡ Some pl
 opened-before at None below = refl
 opened-before at (Some p) below = opened-low at p (below p refl)
 
--- a line without letters behind all that are marked changes no place
-pub with_line-behind : (at : ℕ) (marks : List (Option ℕ)) → length marks ≡ 26 → AllBelow at marks → marks ≡ with_line at no_letters marks
-with_line-behind at marks n below =
+-- a line without letters after all that are marked changes no place
+pub with_line-after : (at : ℕ) (marks : List (Option ℕ)) → length marks ≡ 26 → AllBelow at marks → marks ≡ with_line at no_letters marks
+with_line-after at marks n below =
     fill_by_all (λ k. opened at (get_or no_letters k false) (get_or marks k None)) marks 26 None n
     (λ k b. sym (ap (λ t. opened at t (get_or marks k None)) (none_marked 26 k) ∙ opened-before at (get_or marks k None) (below k)))
 

@@ -12,7 +12,7 @@ line_in = refl
 letter_in : opened 2 true None ≡ Some 2
 letter_in = refl
 
--- the line at place 2 goes out: its letters mark nothing, those behind it move
+-- the line at place 2 goes out: its letters mark nothing, those after it move
 line_out : map (λ place. closed 2 (Some place)) (1 ∷ 2 ∷ 3 ∷ []) ≡ Some 1 ∷ None ∷ Some 2 ∷ []
 line_out = refl
 

@@ -9,7 +9,7 @@ use Rattle.line_store.proofs.Joined.{before-most, before-set_low, before-set_hig
 pub offset-most : (near m count : ℕ) (offsets : List ℕ) (chunks : List (List Line)) → Known near count offsets chunks → m < length chunks → get_or offsets m 0 ≤ count
 offset-most near m count offsets chunks known h = ⊎_elim
     (λ l. let e = known.before m (omega arith) h in omega (arith, before-most m chunks, known.all))
-    (λ l. let e = known.behind m (omega arith) h in omega arith)
+    (λ l. let e = known.after m (omega arith) h in omega arith)
     (cases_lt m (near + 1))
 
 -- each chunk's start was counted
@@ -20,7 +20,7 @@ known-counted near count starts chunks last all long are = record {
   long = long;
   within = omega arith;
   before = λ k h l. are k l;
-  behind = λ k h l. absurd (omega arith);
+  after = λ k h l. absurd (omega arith);
 }
 
 -- another chunk is the near one, and what lies between was counted from the other end
@@ -34,11 +34,11 @@ known-turned near k count offsets now chunks known inside long turned below abov
   within = omega arith;
   before = λ m h l. ⊎_elim
       (λ a. let e = below m (omega arith) in let f = known.before m (omega arith) l in omega arith)
-      (λ a. let e = turned m (omega arith) (omega arith) in let f = known.behind m (omega arith) l in omega (arith, before-most m chunks, known.all))
+      (λ a. let e = turned m (omega arith) (omega arith) in let f = known.after m (omega arith) l in omega (arith, before-most m chunks, known.all))
       (cases_lt m (near + 1));
-  behind = λ m h l. ⊎_elim
+  after = λ m h l. ⊎_elim
       (λ a. let e = turned m (omega arith) (omega arith) in let f = known.before m (omega arith) l in omega arith)
-      (λ a. let e = above m (omega arith) in let f = known.behind m (omega arith) l in omega arith)
+      (λ a. let e = above m (omega arith) in let f = known.after m (omega arith) l in omega arith)
       (cases_lt m (near + 1));
 }
 
@@ -53,8 +53,8 @@ known-set near count new offsets chunks chunk known inside more =
       long = known.long ∙ sym long;
       within = omega (arith, known.within);
       before = λ k h l. known.before k h (omega arith) ∙ sym (before-set_low k near chunks chunk h);
-      behind = λ k h l.
-          let e = known.behind k h (omega arith) in
+      after = λ k h l.
+          let e = known.after k h (omega arith) in
           omega (arith, before-set_high k near chunks chunk h inside, before-most k chunks, before-most k (set chunks near chunk), known.all);
     }
 

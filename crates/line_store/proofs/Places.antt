@@ -42,7 +42,7 @@ next_at place p = ⊎_elim
     (λ n. ne_eqb (p + 1) (place + 1) (λ e. n (omega arith)) ∙ sym (ne_eqb p place n))
     (cases_eq p place)
 
--- a letter behind the line that came in
+-- a letter after the line that came in
 pub opened-above : (at place : ℕ) (b : Bool) (o : Option ℕ) → at ≤ place → (b ≡ true → o ≡ None) → is_at (place + 1) (opened at b o) ≡ is_at place o
 opened-above at place true o h k = not_at (place + 1) at (omega arith) ∙ ap (is_at place) (sym (k refl))
 opened-above at place false None h k = refl
@@ -73,7 +73,7 @@ closed-below at place (Some p) h = ⊎_elim
     (cases_eq p at))
     (cases_lt p at)
 
--- a letter behind it
+-- a letter after it
 pub closed-above : (at place : ℕ) (o : Option ℕ) → at ≤ place → is_at place (closed at o) ≡ is_at (place + 1) o
 closed-above at place None h = refl
 closed-above at place (Some p) h = ⊎_elim

@@ -34,13 +34,13 @@ with_near chunk v = record v { chunks = slice_set v.chunks v.near chunk }
 abbrev pub room_among : List (List Line) → ℕ
 room_among chunks = min (full * length chunks - length (joined chunks)) (2 ^ 64 - 1 - length (joined chunks))
 
--- Of each chunk up to the near one it is known how many lines stand before it, and of each behind that how many stand from it on.
+-- Of each chunk up to the near one it is known how many lines stand before it, and of each after that how many stand from it on.
 pub record Known (near count : ℕ) (offsets : List ℕ) (chunks : List (List Line)) : Type 0 where
   pub all : count ≡ length (joined chunks)
   pub long : length offsets ≡ length chunks
   pub within : near ≤ length chunks - 1
   pub before : (k : ℕ) → k ≤ near → k < length chunks → slice_index_or offsets k 0 ≡ lines_before k chunks
-  pub behind : (k : ℕ) → near < k → k < length chunks → slice_index_or offsets k 0 ≡ count - lines_before k chunks
+  pub after : (k : ℕ) → near < k → k < length chunks → slice_index_or offsets k 0 ≡ count - lines_before k chunks
 
 -- how many lines stand before each chunk
 abbrev pub Starts : List ℕ → List (List Line) → Type 0

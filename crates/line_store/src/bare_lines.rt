@@ -76,7 +76,7 @@ pub trait BareLines: Drop {
         ensures value { IfOk result (λ copy. items copy ≡ items self.now) };
 }
 
-/// In a vector a line that comes in or goes out moves all the lines behind it.
+/// In a vector a line that comes in or goes out moves all the lines after it.
 impl BareLines for Vec<BareLine> {
     ghost use Rattle.std.specs.Prelude.{◌-◌, vec_capacity, vec_len};
 

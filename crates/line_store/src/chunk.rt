@@ -99,7 +99,7 @@ impl Chunk {
         }
     }
 
-    /// Puts a line behind all others.
+    /// Puts a line after all others.
     pub(crate) fn push(&mut self, line: BareLine)
         requires room { length self.old < full }
         ensures pushed { self.new ≡ self.old ++ line ∷ [] }

@@ -14,11 +14,11 @@ use std::marker::Model;
 pub type ChunkStore = Store<ChunkLines>;
 
 /// Lines in chunks of up to `FULL`, of any length. A line that comes in or goes out moves others of its chunk alone. Chunks
-/// without lines stand behind all others, until one is wanted.
+/// without lines stand after all others, until one is wanted.
 #[derive(Drop)]
 pub struct ChunkLines {
     chunks: Vec<Chunk>,
-    // Of each chunk up to the near one, how many lines stand before it; of each behind that, how many stand from it on. So a
+    // Of each chunk up to the near one, how many lines stand before it; of each after that, how many stand from it on. So a
     // line that comes in or goes out in the near chunk changes none of them.
     offsets: Vec<usize>,
     // The chunk that was used last.
@@ -268,7 +268,7 @@ impl ChunkLines {
         self.chunks[self.near].set_flag(place, flag);
     }
 
-    // Puts a chunk that has no lines behind all others.
+    // Puts a chunk that has no lines after all others.
     fn set_aside(&mut self, k: usize)
         requires chunk { k < length self.old.chunks }
         requires empty { length (slice_index_or self.old.chunks k []) ≡ 0 }
@@ -281,7 +281,7 @@ impl ChunkLines {
         self.near = self.chunks.len() - 1;
     }
 
-    // Puts a chunk behind all others if it has no lines.
+    // Puts a chunk after all others if it has no lines.
     fn tidy(&mut self, k: usize)
         requires chunk { k < length self.old.chunks }
         ensures unchanged { joined self.new.chunks ≡ joined self.old.chunks }

@@ -21,7 +21,7 @@ pub struct Store<L: BareLines> {
     flags: usize,
 }
 
-/// A store in one vector: a line put or taken moves all the lines behind it.
+/// A store in one vector: a line put or taken moves all the lines after it.
 pub type PlainStore = Store<Vec<BareLine>>;
 
 impl<L: BareLines> Model for Store<L> {
@@ -38,7 +38,7 @@ impl<L: BareLines> Model for Store<L> {
         × (s.flags ≡ flag_count (L.items s.lines)) };
 }
 
-// The first place from `place` on where a line has the flag, or one behind all lines.
+// The first place from `place` on where a line has the flag, or one after all lines.
 fn flagged_from<L: BareLines>(lines: &L, place: usize) -> usize
     requires before { Unflagged place (L.items lines.now) }
     ensures before { Unflagged result (L.items lines.now) }

@@ -148,7 +148,7 @@ impl Marks {
         }
     }
 
-    /// A line has come in at this place among `count` others. Behind them all it moves no letter, so that one without letters,
+    /// A line has come in at this place among `count` others. After them all it moves no letter, so that one without letters,
     /// as each of a file that is read, costs no look at the places.
     pub(crate) fn open_among(&mut self, at: usize, count: usize, letters: &[bool; LETTERS])
         requires bound { AllBelow count self.old }

@@ -133,7 +133,7 @@ impl FileLines {
         })
     }
 
-    /// The next line, without letters or flag; none behind the last one, which may lack its newline. It copies no bytes. An
+    /// The next line, without letters or flag; none after the last one, which may lack its newline. It copies no bytes. An
     /// `Err` comes only where more lines share the bytes than can be counted, and leaves the lines as they are.
     pub fn next_line(&mut self) -> Result<Option<Line>, AllocError>
         ensures ended { IfOk result (λ next. IsNone next ↔ (self.old ≡ [])) }
@@ -147,9 +147,9 @@ impl FileLines {
         };
         let start = self.next;
         let end = start + text.len();
-        let behind = bytes.len() - rest.len();
+        let after = bytes.len() - rest.len();
         let block = self.block.clone()?;
-        self.next = behind;
+        self.next = after;
         Ok(Some(Line::of(BareLine {
             block,
             start,

@@ -87,7 +87,7 @@ pub trait LineStore: Drop {
     fn marked(&self, letter: Letter) -> Option<usize>
         ensures value { result ≡ marked_place letter (lines self.now) };
 
-    /// Marks the lines at these places by their letters, and no other line by any letter. A letter whose place lies behind the
+    /// Marks the lines at these places by their letters, and no other line by any letter. A letter whose place lies after the
     /// last line marks none.
     fn set_marks(&mut self, marks: &Marks)
         ensures marked { lines self.new ≡ lettered marks.now 0 (lines self.old) }

@@ -5,7 +5,7 @@ use ed_base::Bytes;
 use std::alloc::Global;
 use std::process::Abort;
 
-// A line of so many letters and a tail, and each row that it is folded into: how many letters, and what stands behind them.
+// A line of so many letters and a tail, and each row that it is folded into: how many letters, and what stands after them.
 struct Folding {
     letters: usize,
     tail: &'static [u8],

@@ -227,7 +227,7 @@ covers_bound-any_bound p q = elim (eqb_tells p q) [ inl t ↦ rw t.0 refl | inr 
 pub covers-unknown : (weak strong : Bounds) (p q : ℕ) → bound weak p q ≡ any_bound p q → bound strong p q ≡ any_bound p q → covers_bound (bound weak p q) (bound strong p q) ≡ true
 covers-unknown weak strong p q e f = rw (e, f) (covers_bound-any_bound p q)
 
--- the places of rows of which nothing is known, and those of a row behind the names of which something is
+-- the places of rows of which nothing is known, and those of a row after the names of which something is
 pub unknown-rows : (zone : Bounds) (p n : ℕ) → ((a b : ℕ) → p ≤ a → a < 32 → b < 32 → bound zone a b ≡ any_bound a b) → 32 * p + n ≡ 1024 →
     (k : ℕ) → 32 * p ≤ k → k < 32 * p + n → get_or zone k None ≡ any_at k
 unknown-rows zone p n unknown size k low high =

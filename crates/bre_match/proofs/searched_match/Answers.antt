@@ -7,9 +7,9 @@ use Rattle.bre_match.proofs.searched_match.Goals as goal
 pub loop-start-init : goal.loop-start-init
 loop-start-init c =
     record {
-      passed = c.first_start-start.ensures.behind;
+      passed = c.first_start-start.ensures.after;
       within = omega arith;
-      left = passed_to (sequence_of c.args.items.now) c.args.text.now c.args.from c.first_start-start.result c.first_start-start.ensures.behind c.first_start-start.ensures.within c.first_start-start.ensures.sound;
+      left = passed_to (sequence_of c.args.items.now) c.args.text.now c.args.from c.first_start-start.result c.first_start-start.ensures.after c.first_start-start.ensures.within c.first_start-start.ensures.sound;
     }
 
 pub returns-in-Some-clause-within : goal.returns-in-Some-clause-within

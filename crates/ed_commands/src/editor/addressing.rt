@@ -74,7 +74,7 @@ fn spanned(taking: Taking, lines: usize, values: Values) -> Result<Span, Fault>
 }
 
 impl<S: LineStore> Editor<S> {
-    // The line that a base stands for. It may lie behind the last one.
+    // The line that a base stands for. It may lie after the last one.
     fn base_line(&mut self, base: &Base) -> Result<usize, Fault>
         ensures exact { TellsLine (base_number (base_value base.now) self.old.state)
             (with_pattern (remembered (base_value base.now) self.old.state) self.old.state) result self.new.state }
@@ -94,7 +94,7 @@ impl<S: LineStore> Editor<S> {
         }
     }
 
-    // The line so far behind another.
+    // The line so far after another.
     fn offset_line(&self, base: usize, offset: i128) -> Result<usize, Fault>
         ensures exact { result ≡ within self.now.state (pos base +ℤ offset) }
     {
@@ -119,7 +119,7 @@ impl<S: LineStore> Editor<S> {
         self.offset_line(base, address.offset)
     }
 
-    // The values of the addresses before a command, first to last. Behind a `;` the first one's is the current line.
+    // The values of the addresses before a command, first to last. After a `;` the first one's is the current line.
     fn values(&mut self, addresses: &Addresses) -> Result<Values, Fault>
         ensures exact { Steps list_of_values (values (addresses_value addresses.now) self.old.state) result self.new.state }
         ensures within { IfOk result (λ values. last_of_two (list_of_values values) ≤ last self.new.state) }

@@ -1,4 +1,4 @@
-//! Blocks of lines of a store: made, exchanged, carried to another place. A block is the lines behind line `from` up to line `to`.
+//! Blocks of lines of a store: made, exchanged, carried to another place. A block is the lines after line `from` up to line `to`.
 ghost use Rattle.std.specs.Prelude.{◌≡◌, ◌≢◌, ◌+◌, ◌-◌, ◌^◌, ◌<◌, ◌≤◌, [], length, map, min, max, insert, remove, slice_index_or, IfOk, IfErr, OnOk, OnErr, MatchResult};
 ghost use Rattle.std.specs.List.{concat};
 ghost use Rattle.ed_base.specs.Lines.{AreLines, bytes_of, lines_of};
@@ -159,7 +159,7 @@ fn take_lines<S: LineStore>(
     Ok(taken)
 }
 
-// Puts new lines behind line `at`, the first one first. There is room for them.
+// Puts new lines after line `at`, the first one first. There is room for them.
 fn put_lines<S: LineStore>(lines: Vec<Line>, at: usize, store: &mut S)
     requires place { at ≤ length (S.lines store.old) }
     requires new { AreNew lines.items }
@@ -167,16 +167,16 @@ fn put_lines<S: LineStore>(lines: Vec<Line>, at: usize, store: &mut S)
     ensures put { S.lines store.new ≡ inserted at lines.items (S.lines store.old) }
 {
     // Places are counted from the end, where no sum can be too great.
-    let behind = store.len() - at;
+    let after = store.len() - at;
     for line in lines {
-        match store.put(store.len() - behind, line) {
+        match store.put(store.len() - after, line) {
             Ok(()) => {}
             Err(_refused) => unreachable!(),
         }
     }
 }
 
-/// Puts copies of the lines of a block, which share their bytes, behind line `target`, which may be one of them. After an `Err`
+/// Puts copies of the lines of a block, which share their bytes, after line `target`, which may be one of them. After an `Err`
 /// the store may have some of the copies.
 pub fn copy_block<S: LineStore>(
     from: usize,
@@ -192,9 +192,9 @@ pub fn copy_block<S: LineStore>(
     ensures no_fewer { length (S.lines store.old) ≤ length (S.lines store.new) }
 {
     store.reserve(to - from)?;
-    // Places behind the target are counted from the end: copies that came in have moved them.
+    // Places after the target are counted from the end: copies that came in have moved them.
     let count = store.len();
-    let behind = count - target;
+    let after = count - target;
     for i in from..to {
         let place = if i < target {
             i
@@ -202,7 +202,7 @@ pub fn copy_block<S: LineStore>(
             store.len() - (count - i)
         };
         let copy = store.copy_of(place)?;
-        match store.put(store.len() - behind, copy) {
+        match store.put(store.len() - after, copy) {
             Ok(()) => {}
             Err(_refused) => unreachable!(),
         }
@@ -210,8 +210,8 @@ pub fn copy_block<S: LineStore>(
     Ok(())
 }
 
-/// Carries the lines of a span behind line `target`, which is none of them, with their letters, and tells the line of the
-/// others behind which they stand then. After an `Err` the store is as before.
+/// Carries the lines of a span after line `target`, which is none of them, with their letters, and tells the line of the
+/// others after which they stand then. After an `Err` the store is as before.
 pub fn carry<S: LineStore>(span: Span, target: usize, store: &mut S) -> Result<usize, AllocError>
     requires first { 1 ≤ span.first }
     requires order { span.first ≤ span.last }
@@ -234,7 +234,7 @@ pub fn carry<S: LineStore>(span: Span, target: usize, store: &mut S) -> Result<u
     Ok(target - count)
 }
 
-/// Carries a block behind a line in front of it, its first line first. There is room for its lines.
+/// Carries a block after a line in front of it, its first line first. There is room for its lines.
 pub fn carry_up<S: LineStore>(from: usize, to: usize, place: usize, store: &mut S)
     requires place { place ≤ from }
     requires order { from ≤ to }
@@ -247,7 +247,7 @@ pub fn carry_up<S: LineStore>(from: usize, to: usize, place: usize, store: &mut 
     }
 }
 
-/// Carries a block behind a line that lies behind it, its last line first. There is room for its lines.
+/// Carries a block after a line that follows it, its last line first. There is room for its lines.
 pub fn carry_down<S: LineStore>(from: usize, to: usize, target: usize, store: &mut S)
     requires order { from ≤ to }
     requires target { to ≤ target }

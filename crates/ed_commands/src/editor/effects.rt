@@ -66,7 +66,7 @@ impl<S: LineStore> Editor<S> {
         Ok(Pieces::new(self.alloc))
     }
 
-    // `a`: the text goes behind the first line of the span.
+    // `a`: the text goes after the first line of the span.
     fn append(&mut self, text: &Text, span: Span, before: Before) -> Result<(), AllocError>
         requires place { span.first ≤ last self.old.state }
         ensures exact { OnOk result

@@ -17,7 +17,7 @@ use line_store::{Line, LineStore, Marks};
 use std::alloc::AllocError;
 
 impl<S: LineStore> Editor<S> {
-    /// Puts new lines in place of those behind line `from` up to line `to`, which undo keeps. The last new line is current or,
+    /// Puts new lines in place of those after line `from` up to line `to`, which undo keeps. The last new line is current or,
     /// without any, the line in front of them.
     pub(crate) fn replace(
         &mut self,
@@ -36,9 +36,9 @@ impl<S: LineStore> Editor<S> {
         self.past.reserve()?;
         let marks = Marks::of(&self.store);
         let entered = lines.len();
-        let behind = self.store.len() - to;
+        let after = self.store.len() - to;
         let removed = exchange(self.alloc, from, to, lines, &mut self.store)?;
-        self.current = self.store.len() - behind;
+        self.current = self.store.len() - after;
         self.changed = true;
         let change = Change::Replaced {
             from,
@@ -49,7 +49,7 @@ impl<S: LineStore> Editor<S> {
         Ok(())
     }
 
-    /// Puts the lines of a file's bytes, which they share, behind line `place`, the last one current. Without any that line is
+    /// Puts the lines of a file's bytes, which they share, after line `place`, the last one current. Without any that line is
     /// current, and nothing has changed.
     pub(crate) fn enter(
         &mut self,

@@ -120,7 +120,7 @@ impl<S: LineStore> Editor<S> {
         Ok(())
     }
 
-    /// `r`: the lines of the file go behind the addressed line.
+    /// `r`: the lines of the file go after the addressed line.
     pub(crate) fn read_file(
         &mut self,
         path: &Option<Bytes>,

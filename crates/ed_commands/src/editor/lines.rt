@@ -80,7 +80,7 @@ pub fn file_store<S: LineStore>(alloc: Global, bytes: Bytes) -> Result<S, AllocE
     Ok(store)
 }
 
-/// Puts the lines of a file's bytes, which they share, behind line `place`. After an `Err` the store may have some of them.
+/// Puts the lines of a file's bytes, which they share, after line `place`. After an `Err` the store may have some of them.
 pub fn put_file<S: LineStore>(
     alloc: Global,
     bytes: Bytes,
@@ -92,10 +92,10 @@ pub fn put_file<S: LineStore>(
     ensures no_fewer { length (S.lines store.old) ≤ length (S.lines store.new) }
 {
     // Places are counted from the end, where no sum can be too great.
-    let behind = store.len() - place;
+    let after = store.len() - place;
     let mut file = FileLines::new(alloc, bytes)?;
     while let Some(line) = file.next_line()? {
-        match store.put(store.len() - behind, line) {
+        match store.put(store.len() - after, line) {
             Ok(()) => {}
             Err(_refused) => return Err(AllocError),
         }

@@ -54,7 +54,7 @@ pub struct OpenGlobal {
 pub enum Change {
     /// Lines went out, and others came in at their place.
     Replaced {
-        /// The line behind which they stood.
+        /// The line after which they stood.
         from: usize,
         /// How many lines came in.
         entered: usize,
@@ -63,10 +63,10 @@ pub enum Change {
     },
     /// Lines went to another place.
     Moved {
-        /// The lines behind line `from` up to line `to` went there.
+        /// The lines after line `from` up to line `to` went there.
         from: usize,
         to: usize,
-        /// The line behind which they stand now, counted without them.
+        /// The line after which they stand now, counted without them.
         place: usize,
     },
 }

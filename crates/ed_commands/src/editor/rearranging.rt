@@ -32,7 +32,7 @@ impl<S: LineStore> Editor<S> {
         self.replace(span.first - 1, span.last, lines, before)
     }
 
-    /// `m`: the lines of the span go behind the target line, with their letters. Where they don't, nothing has changed.
+    /// `m`: the lines of the span go after the target line, with their letters. Where they don't, nothing has changed.
     pub(crate) fn move_lines(
         &mut self,
         span: Span,
@@ -69,7 +69,7 @@ impl<S: LineStore> Editor<S> {
         Ok(())
     }
 
-    /// `t`: copies of the lines of the span go behind the target line, without letters.
+    /// `t`: copies of the lines of the span go after the target line, without letters.
     pub(crate) fn copy(
         &mut self,
         span: Span,
@@ -87,9 +87,9 @@ impl<S: LineStore> Editor<S> {
         self.past.reserve()?;
         let marks = Marks::of(&self.store);
         let from = span.first - 1;
-        let behind = self.store.len() - target;
+        let after = self.store.len() - target;
         copy_block(from, span.last, target, &mut self.store)?;
-        self.current = self.store.len() - behind;
+        self.current = self.store.len() - after;
         self.changed = true;
         let change = Change::Replaced {
             from: target,

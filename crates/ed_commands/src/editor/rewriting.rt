@@ -67,7 +67,7 @@ pub fn rewrite_lines<S: LineStore>(
     let mut made = None;
     let mut searcher = Searcher::new(alloc, pattern.bre());
     for i in span.first - 1..span.last {
-        // The lines behind this one are as they were, so that its place is counted from the end.
+        // The lines after this one are as they were, so that its place is counted from the end.
         let place = store.len() - (count - i);
         let text = store.text(place);
         let new = new_lines_of(alloc, &mut searcher, replacement, which, text)?;

@@ -11,7 +11,7 @@ use ed_syntax::Pattern;
 use line_store::LineStore;
 use std::alloc::{AllocError, Global};
 
-// The first line that a pattern matches, of those behind line `from` up to line `to`.
+// The first line that a pattern matches, of those after line `from` up to line `to`.
 fn first_match<S: LineStore>(
     alloc: Global,
     pattern: &Pattern,
@@ -34,7 +34,7 @@ fn first_match<S: LineStore>(
     Ok(None)
 }
 
-// The last line that a pattern matches, of those behind line `from` up to line `to`.
+// The last line that a pattern matches, of those after line `from` up to line `to`.
 fn last_match<S: LineStore>(
     alloc: Global,
     pattern: &Pattern,
@@ -83,7 +83,7 @@ impl<S: LineStore> Editor<S> {
         Ok(())
     }
 
-    /// `/RE/`: the next line that matches, from the one behind the current line on, and at the end of the buffer round to
+    /// `/RE/`: the next line that matches, from the one after the current line on, and at the end of the buffer round to
     /// the current line.
     pub(crate) fn search_forward(&mut self, own: &Option<Pattern>) -> Result<usize, Fault>
         ensures exact { TellsLine (searched (sought own.now self.old.state) (lines_forward self.old.state) self.old.state)

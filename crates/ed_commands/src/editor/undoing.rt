@@ -58,7 +58,7 @@ fn take_back<S: LineStore>(
     }
 }
 
-// Puts lines that went out in place of those that came in for them. There are no lines behind the last one.
+// Puts lines that went out in place of those that came in for them. There are no lines after the last one.
 fn put_back<S: LineStore>(
     alloc: Global,
     from: usize,
@@ -94,7 +94,7 @@ fn plain_lines(alloc: Global, lines: &[Line]) -> Result<Vec<Line>, AllocError>
     Ok(copies)
 }
 
-// Carries lines that were carried from behind line `from` up to line `to` back there from behind line `place`.
+// Carries lines that were carried from after line `from` up to line `to` back there from after line `place`.
 fn carry_back<S: LineStore>(
     from: usize,
     to: usize,

@@ -19,7 +19,7 @@ step-returns-in_ok-passed-in-Sequence-clause-marks t c =
 
 pub step_all-loop-item-init : goal.step_all-loop-item-init
 step_all-loop-item-init t c = record {
-  behind = record { weight = refl; at = refl };
+  after = record { weight = refl; at = refl };
   put = record { marks = refl };
 }
 
@@ -27,9 +27,9 @@ pub step_all-loop-item-preserved : goal.step_all-loop-item-preserved
 step_all-loop-item-preserved t c =
     let left = item_left c.args.items.now c.loop-item.item-index c.item-item.result c.loop-item-test.true c.item-item.is in
     record {
-      behind =
+      after =
           look_on _ (part_of (tree_of c.item-item.result)) _ _ _ _ (drop c.loop-item.passed.at c.args.marks.now) _ _ c.loop-item.passed.weight _
-          (same_left _ _ _ _ _ _ _ _ _ left c.loop-item.invariant.behind) c.in_ok-passed.ensures.weight c.in_ok-passed.ensures.at;
+          (same_left _ _ _ _ _ _ _ _ _ left c.loop-item.invariant.after) c.in_ok-passed.ensures.weight c.in_ok-passed.ensures.at;
       put =
           put_on c.args.asked _ (part_of (tree_of c.item-item.result)) _ _ _ _ (drop c.loop-item.passed.at c.args.marks.now) _ _ c.loop-item.passed.weight _ _ c.loop-item.out.items _
           (put_left c.args.asked _ _ _ _ _ _ _ _ _ _ _ left c.loop-item.invariant.put) c.in_ok-passed.ensures.weight c.in_ok-passed.ensures.at c.in_ok-passed.ensures.marks;
@@ -39,9 +39,9 @@ pub step_needed-loop-turn-preserved : goal.step_needed-loop-turn-preserved
 step_needed-loop-turn-preserved t c =
     let left = turn_left c.args.count c.loop-turn.turn (part_of (tree_of c.args.content.now)) Nothing c.loop-turn-test.true in
     record {
-      behind =
+      after =
           look_on _ (part_of (tree_of c.args.content.now)) _ _ _ _ (drop c.loop-turn.passed.at c.args.marks.now) _ _ c.loop-turn.passed.weight _
-          (same_left _ _ _ _ _ _ _ _ _ left c.loop-turn.invariant.behind) c.in_ok-passed.ensures.weight c.in_ok-passed.ensures.at;
+          (same_left _ _ _ _ _ _ _ _ _ left c.loop-turn.invariant.after) c.in_ok-passed.ensures.weight c.in_ok-passed.ensures.at;
       put =
           put_on c.args.asked _ (part_of (tree_of c.args.content.now)) _ _ _ _ (drop c.loop-turn.passed.at c.args.marks.now) _ _ c.loop-turn.passed.weight _ _ c.loop-turn.out.items _
           (put_left c.args.asked _ _ _ _ _ _ _ _ _ _ _ left c.loop-turn.invariant.put) c.in_ok-passed.ensures.weight c.in_ok-passed.ensures.at c.in_ok-passed.ensures.marks;
@@ -51,9 +51,9 @@ pub step_up_to-loop-turn-preserved : goal.step_up_to-loop-turn-preserved
 step_up_to-loop-turn-preserved t c =
     let left = more_left c.args.count c.loop-turn.turn (part_of (tree_of c.args.content.now)) c.loop-turn-test.true in
     record {
-      behind =
+      after =
           lead_on _ (part_of (tree_of c.args.content.now)) _ _ _ _ (drop c.loop-turn.passed.at c.args.marks.now) _ _ c.loop-turn.passed.weight _ c.loop-turn.least _
-          (lead_left _ _ _ _ _ _ _ _ _ _ left c.loop-turn.invariant.behind) c.in_ok-passed.ensures.weight c.in_ok-passed.ensures.at c.less_of-least.ensures.value;
+          (lead_left _ _ _ _ _ _ _ _ _ _ left c.loop-turn.invariant.after) c.in_ok-passed.ensures.weight c.in_ok-passed.ensures.at c.less_of-least.ensures.value;
       put =
           put_on c.args.asked _ (part_of (tree_of c.args.content.now)) _ _ _ _ (drop c.loop-turn.passed.at c.args.marks.now) _ _ c.loop-turn.passed.weight _ _ c.loop-turn.out.items _
           (put_maybe c.args.asked _ _ _ _ _ _ _ _ _ _ (put_left c.args.asked _ _ _ _ _ _ _ _ _ _ _ left c.loop-turn.invariant.put)) c.in_ok-passed.ensures.weight c.in_ok-passed.ensures.at c.in_ok-passed.ensures.marks;

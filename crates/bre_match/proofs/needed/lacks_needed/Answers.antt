@@ -15,7 +15,7 @@ returns-in-None-clause-sound c le is =
 
 pub loop-item-preserved : goal.loop-item-preserved
 loop-item-preserved c =
-    item_there c.args.items.now c.loop-item.item-index c.item-item.result c.args.text.now c.loop-item.at c.in-Some.behind (lacks_needed (sequence_of c.args.items.now) c.args.text.now c.args.from) c.loop-item-test.true c.item-item.is c.in-Some.ensures.value c.loop-item.invariant
+    item_there c.args.items.now c.loop-item.item-index c.item-item.result c.args.text.now c.loop-item.at c.in-Some.after (lacks_needed (sequence_of c.args.items.now) c.args.text.now c.args.from) c.loop-item-test.true c.item-item.is c.in-Some.ensures.value c.loop-item.invariant
 
 pub returns-clause-exact : goal.returns-clause-exact
 returns-clause-exact c =

@@ -9,4 +9,4 @@ pub returns-clause-value : goal.returns-clause-value
 returns-clause-value c =
     c.in_ok-found.ensures.value
     ∙ ap (option_map start_and_end)
-    (match_passed_to (sequence_of c.args.items.now) c.args.text.now c.args.from c.first_start-start.result c.first_start-start.ensures.behind c.first_start-start.ensures.within c.first_start-start.ensures.sound)
+    (match_passed_to (sequence_of c.args.items.now) c.args.text.now c.args.from c.first_start-start.result c.first_start-start.ensures.after c.first_start-start.ensures.within c.first_start-start.ensures.sound)

@@ -1,4 +1,4 @@
--- The pattern that is left, behind the bytes so far, is all of it.
+-- The pattern that is left, after the bytes so far, is all of it.
 use Rattle.std.proofs.Common.{length}
 use Rattle.ed_syntax.specs.Tokens.{quoted}
 use Rattle.ed_syntax.proofs.QuotedSteps.{QuotedLeft}

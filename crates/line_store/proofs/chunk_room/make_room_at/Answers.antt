@@ -1,4 +1,4 @@
--- Where the place is behind a chunk, there is a next one.
+-- Where the place is after a chunk, there is a next one.
 use Rattle.std.proofs.Common.{◌≡◌, ◌<◌, ◌∙◌, [], ap, length, get_or, arith}
 use Rattle.std.proofs.lemmas.List.{get_or_default}
 use Rattle.line_store.proofs.Joined.{before-next, before-within, next-chunk}

@@ -1,4 +1,4 @@
--- The line is found among those behind the current one, or among those up to it, or not at all.
+-- The line is found among those after the current one, or among those up to it, or not at all.
 use Rattle.std.proofs.Common.{◌≡◌, ◌+◌, ◌-◌, refl, sym, ap, ◌∙◌, Some, None}
 use Rattle.std.specs.Prelude.{find}
 use Rattle.ed_syntax.specs.States.{last}

@@ -1,4 +1,4 @@
--- The copies of the lines that the loop has passed stand behind the target, and there is room for the others.
+-- The copies of the lines that the loop has passed stand after the target, and there is room for the others.
 use Rattle.std.proofs.Common.{◌≡◌, ◌≤◌, ◌+◌, ◌-◌, length, map}
 use Rattle.ed_base.specs.Buffer.{plain_line, texts}
 use Rattle.ed_base.specs.Parts.{block, inserted}

@@ -1,4 +1,4 @@
--- A line put behind those before it; a new one has no letters.
+-- A line put after those before it; a new one has no letters.
 use Rattle.std.proofs.Common.{◌≡◌, ◌+◌, ◌-◌, ◌∙◌, false, true, ap, sym, arith, length, take, drop, insert, map-id}
 use Rattle.std.proofs.lemmas.Iterator.Adapters.{YieldsList-from_vec}
 use Rattle.std.proofs.lemmas.Iterator.Consumers.{YieldsList-turn, YieldsList-end}

@@ -8,6 +8,6 @@ invariant-loop-line g l =
     let lines = g.S.LineStore.lines in
     record {
       put : lines l.store ≡ inserted l.at l.yielded (lines l.fn.store);
-      place : length (lines l.store) ≡ l.at + (length l.yielded + l.behind);
+      place : length (lines l.store) ≡ l.at + (length l.yielded + l.after);
       room : length l.fn.lines.items ≤ g.S.LineStore.spare l.store + length l.yielded;
     }

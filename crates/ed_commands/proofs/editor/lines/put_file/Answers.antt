@@ -17,7 +17,7 @@ loop-file-init g c =
     record {
       all = ap (λ n. inserted n (map plain_line (lines_of c.in_ok-file.file)) before) at
           ∙ ap (λ b. inserted c.args.place (map plain_line (lines_of b)) before) c.in_ok-file.ensures.value;
-      behind = omega (arith, c.len.ensures.value);
+      after = omega (arith, c.len.ensures.value);
       no_fewer = omega arith;
     }
 
@@ -32,21 +32,21 @@ loop-file-preserved g c =
     let now = g.S.LineStore.lines c.loop-file.store in
     let after = g.S.LineStore.lines c.put.new.self in
     let line = c.in-Some.line in
-    let behind = c.len.result - c.args.place in
-    let place = c.len-in-Some.result - behind in
+    let later = c.len.result - c.args.place in
+    let place = c.len-in-Some.result - later in
     let rest = map plain_line (lines_of c.next_line.new.self) in
     let first = subst (λ next. IfSome next (λ line. (line ≡ plain_line line.bytes) × (lines_of c.loop-file.file ≡ line.bytes ∷ lines_of c.next_line.new.self)))
     c.in-Some.is c.in_ok-line.ensures.first in
     let within : place ≤ length now = omega (arith, c.len-in-Some.ensures.value) in
     let longer : length after ≡ length now + 1 = ap length c.in-Ok.ensures.inserted ∙ length-insert now place line within in
     record {
-      all = ap (λ n. inserted n rest after) (let next : length after - behind ≡ place + 1 = omega (arith, longer, c.len-in-Some.ensures.value, c.loop-file.invariant.behind) in next)
+      all = ap (λ n. inserted n rest after) (let next : length after - later ≡ place + 1 = omega (arith, longer, c.len-in-Some.ensures.value, c.loop-file.invariant.after) in next)
           ∙ ap (inserted (place + 1) rest) c.in-Ok.ensures.inserted
           ∙ put-next place line rest now within
           ∙ ap (λ t. inserted place t now) (ap (λ l. l ∷ rest) first.0 ∙ sym (ap (map plain_line) first.1))
-          ∙ ap (λ n. inserted n (map plain_line (lines_of c.loop-file.file)) now) (ap (λ n. n - behind) c.len-in-Some.ensures.value)
+          ∙ ap (λ n. inserted n (map plain_line (lines_of c.loop-file.file)) now) (ap (λ n. n - later) c.len-in-Some.ensures.value)
           ∙ c.loop-file.invariant.all;
-      behind = omega (arith, longer, c.loop-file.invariant.behind);
+      after = omega (arith, longer, c.loop-file.invariant.after);
       no_fewer = omega (arith, longer, c.loop-file.invariant.no_fewer);
     }
 

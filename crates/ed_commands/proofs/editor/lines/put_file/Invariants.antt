@@ -1,4 +1,4 @@
--- With the lines that are still to come, behind those that did, all are there.
+-- With the lines that are still to come, after those that did, all are there.
 use Rattle.std.proofs.Common.{◌≡◌, ◌≤◌, ◌-◌, map, length}
 use Rattle.ed_base.specs.Lines.{lines_of}
 use Rattle.ed_base.specs.Buffer.{plain_line}
@@ -9,8 +9,8 @@ abbrev pub invariant-loop-file : goal.invariant-loop-file
 invariant-loop-file g l =
     let lines = g.S.LineStore.lines in
     record {
-      all : inserted (length (lines l.store) - l.behind) (map plain_line (lines_of l.file)) (lines l.store) ≡ inserted l.place (map plain_line (lines_of l.fn.bytes)) (lines l.fn.store);
-      behind : l.behind ≤ length (lines l.store);
+      all : inserted (length (lines l.store) - l.after) (map plain_line (lines_of l.file)) (lines l.store) ≡ inserted l.place (map plain_line (lines_of l.fn.bytes)) (lines l.fn.store);
+      after : l.after ≤ length (lines l.store);
       no_fewer : length (lines l.fn.store) ≤ length (lines l.store);
     }
 

@@ -18,9 +18,9 @@ returns-clause-texts g c =
     let end = c.min-end.result in
     let target = c.min-target.result in
     let long : length (texts before) ≡ c.len-last.result = length-map before (λ (l : Line). l.bytes) ∙ sym c.len-last.ensures.value in
-    let behind = c.args.place + (c.args.to - c.args.from) in
+    let later = c.args.place + (c.args.to - c.args.from) in
     let i : start ≡ min c.args.place (length (texts before)) = omega (arith, long) in
-    let j : end ≡ min behind (length (texts before)) = omega (arith, long, c.len-last.type_inv, c.saturating_add.ensures, c.saturating_sub.ensures) in
+    let j : end ≡ min later (length (texts before)) = omega (arith, long, c.len-last.type_inv, c.saturating_add.ensures, c.saturating_sub.ensures) in
     let p : target ≡ min c.args.from (length (texts before) - (end - start)) = omega (arith, long) in
     let order : start ≤ end = omega (arith, i, j) in
     let is : lines c.if-target-start.store ≡ carried start end target before =
@@ -30,7 +30,7 @@ returns-clause-texts g c =
           ∙ ap (λ n. carried start end n (lines c.reserve.new.self)) (let e : target + (end - start) - (end - start) ≡ target = omega arith in e)
           ∙ ap (carried start end target) c.in_ok-reserve.ensures.unchanged
     ] in
-    ap texts is ∙ texts-carried start end target before ∙ carried-cut c.args.place behind c.args.from start end target (texts before) i j order p
+    ap texts is ∙ texts-carried start end target before ∙ carried-cut c.args.place later c.args.from start end target (texts before) i j order p
 
 pub returns-clause-again : goal.returns-clause-again
 returns-clause-again g c =

@@ -18,14 +18,14 @@ returns-clause-texts g c =
     let from = c.min-from.result in
     let to = c.min-to.result in
     let new = c.in_ok-lines.lines.items in
-    let behind = c.args.from + c.args.entered in
+    let later = c.args.from + c.args.entered in
     let long : length (texts before) ≡ c.len-last.result = length-map before (λ (l : Line). l.bytes) ∙ sym c.len-last.ensures.value in
     let i : from ≡ min c.args.from (length (texts before)) = omega (arith, long) in
-    let j : to ≡ min behind (length (texts before)) = omega (arith, long, c.len-last.type_inv, c.saturating_add.ensures) in
+    let j : to ≡ min later (length (texts before)) = omega (arith, long, c.len-last.type_inv, c.saturating_add.ensures) in
     ap texts c.in_ok-removed.ensures.put
     ∙ texts-exchanged from to new before
     ∙ ap (λ t. exchanged from to t (texts before)) (texts-made new (texts c.args.removed.now) c.in_ok-lines.ensures.value)
-    ∙ exchanged-cut c.args.from behind from to (texts c.args.removed.now) (texts before) i j
+    ∙ exchanged-cut c.args.from later from to (texts c.args.removed.now) (texts before) i j
 
 pub returns-clause-again : goal.returns-clause-again
 returns-clause-again g c =

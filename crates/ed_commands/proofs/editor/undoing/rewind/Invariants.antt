@@ -1,4 +1,4 @@
--- The changes from i on were taken back, and those that would do them again stand behind all.
+-- The changes from i on were taken back, and those that would do them again stand after all.
 use Rattle.std.proofs.Common.{◌≡◌, ◌+◌, ◌≤◌, drop, take, length}
 use Rattle.std.specs.Prelude.{vec_capacity}
 use Rattle.ed_base.specs.Buffer.{texts}

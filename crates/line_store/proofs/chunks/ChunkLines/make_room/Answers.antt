@@ -15,7 +15,7 @@ returns-then-len-lt-FULL-2-clause-fits c =
     let next : k + 1 < length now = omega arith in
     let read : c.index.result.now ≡ get_or now k [] =
     c.index.ensures ∙ get_or_default inside k c.index.result.now [] (omega (arith, t.chunk)) ∙ ap (λ v. get_or v.chunks k []) c.self.view_is in
-    let behind : c.index-then-k-len.result.now ≡ get_or now (k + 1) [] =
+    let after : c.index-then-k-len.result.now ≡ get_or now (k + 1) [] =
     c.index-then-k-len.ensures ∙ get_or_default inside (k + 1) c.index-then-k-len.result.now [] (omega arith) ∙ ap (λ v. get_or v.chunks (k + 1) []) c.self.view_is in
     let start : c.start.result ≡ lines_before k now = c.start.ensures.value in
     let begins = before-next k now t.chunk in (
@@ -24,5 +24,5 @@ returns-then-len-lt-FULL-2-clause-fits c =
         low = omega (arith, t.low, t.high, ap length read);
         high = omega (arith, t.low, t.high, ap length read);
       },
-      omega (arith, ap length behind),
+      omega (arith, ap length after),
     )

@@ -14,5 +14,5 @@ returns c =
     let within : k < length chunks = omega (arith, c.requires.chunk, ap (λ v. length v.chunks) c.self.view_is) in
     let read : c.index-2.result.now ≡ get_or e.offsets.items k 0 = c.index-2.ensures ∙ get_or_default e.offsets.items k c.index-2.result.now 0 (omega (arith, i.long)) in
     record {
-      value = omega (arith, read, i.behind k c.if-k-self.false within, before-most k chunks, i.all, ap (λ v. lines_before k v.chunks) c.self.view_is);
+      value = omega (arith, read, i.after k c.if-k-self.false within, before-most k chunks, i.all, ap (λ v. lines_before k v.chunks) c.self.view_is);
     }

@@ -1,4 +1,4 @@
--- A line's bytes and its newline, behind others.
+-- A line's bytes and its newline, after others.
 use Rattle.std.proofs.Common.{◌≡◌, ℕ, ◌<◌, ◌∙◌, ◌++◌, ◌∷◌, List, ap, sym, subst, length, get_or, [], arith}
 use Rattle.std.specs.Result.{OnOk}
 use Rattle.ed_base.specs.Lines.{newline, IsLine}

@@ -1,4 +1,4 @@
--- The letters that lines had don't count, and those whose places lie behind the last line mark none.
+-- The letters that lines had don't count, and those whose places lie after the last line mark none.
 use Rattle.std.proofs.Common.{◌∙◌, ap, sym, subst, length, arith}
 use Rattle.line_store.specs.Marks.{AllBelow, lettered}
 use Rattle.line_store.specs.Shifts.{places_below}

@@ -1,11 +1,11 @@
 -- The blanks that were passed don't matter.
 use Rattle.std.proofs.Common.{◌≡◌, ◌≤◌, length}
-use Rattle.ed_syntax.specs.Characters.{behind_blanks}
-use Rattle.ed_syntax.proofs.tokens.behind_blanks.Given as goal
+use Rattle.ed_syntax.specs.Characters.{after_blanks}
+use Rattle.ed_syntax.proofs.tokens.after_blanks.Given as goal
 
 abbrev pub invariant-blanks : goal.invariant-blanks
 invariant-blanks l = record {
-  value : behind_blanks l.left ≡ behind_blanks l.bytes;
+  value : after_blanks l.left ≡ after_blanks l.bytes;
   shorter : length l.left ≤ length l.bytes;
 }
 

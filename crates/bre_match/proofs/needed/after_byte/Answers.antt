@@ -2,7 +2,7 @@ use Rattle.std.proofs.Common.{Some, None, drop, subst, sym}
 use Rattle.memchr.specs.Find.{IsFirstByte, is_byte}
 use Rattle.bre_match.proofs.Needs.{byte_found}
 use Rattle.bre_match.proofs.Words.{whole_rest}
-use Rattle.bre_match.proofs.needed.behind_byte.Goals as goal
+use Rattle.bre_match.proofs.needed.after_byte.Goals as goal
 
 pub returns-in-Some : goal.returns-in-Some
 returns-in-Some c = record {

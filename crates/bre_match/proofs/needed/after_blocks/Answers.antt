@@ -1,6 +1,6 @@
 use Rattle.std.proofs.Common.{◌∷◌, [], false, sym, ◌∙◌}
 use Rattle.bre_match.proofs.Needs.{block_passed}
-use Rattle.bre_match.proofs.needed.behind_blocks.Goals as goal
+use Rattle.bre_match.proofs.needed.after_blocks.Goals as goal
 
 pub skipped-preserved : goal.skipped-preserved
 skipped-preserved c =
