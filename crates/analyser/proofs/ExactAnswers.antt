@@ -14,12 +14,12 @@ use Rattle.ed_syntax.specs.declared.options.Ending.{Ending}
 use Rattle.ed_syntax.specs.declared.request.Answer.{Answer}
 use Rattle.ed_syntax.specs.declared.request.Answer.TheVariants as answer
 use Rattle.ed_syntax.specs.Commands.{Step, Script}
-use Rattle.ed_syntax.specs.States as editor
-use Rattle.ed_syntax.specs.States.{opening}
-use Rattle.ed_syntax.specs.Files.{loaded}
-use Rattle.ed_syntax.specs.Progress.{Present, Stop, Waits, Ends, stop_of, ending}
-use Rattle.ed_syntax.specs.Runs as runs
-use Rattle.ed_syntax.specs.Runs.{run, steps, present, with_state}
+use Rattle.ed_syntax.specs.meaning.States as editor
+use Rattle.ed_syntax.specs.meaning.States.{opening}
+use Rattle.ed_syntax.specs.meaning.Files.{loaded}
+use Rattle.ed_syntax.specs.meaning.Progress.{Present, Stop, Waits, Ends, stop_of, ending}
+use Rattle.ed_syntax.specs.meaning.Runs as runs
+use Rattle.ed_syntax.specs.meaning.Runs.{run, steps, present, with_state}
 use Rattle.ed_rules.specs.declared.state.State.{State}
 use Rattle.ed_rules.specs.States as states
 use Rattle.ed_rules.specs.Exact.{are_exact}

@@ -10,8 +10,8 @@ use Rattle.ed_syntax.specs.declared.request.Answer.{Answer}
 use Rattle.ed_syntax.specs.declared.request.Answer.TheVariants as answer
 use Rattle.ed_syntax.specs.Commands as ed
 use Rattle.ed_syntax.specs.Commands.{Without, One, Verb, Step, Script, alone, at_base}
-use Rattle.ed_syntax.specs.Progress.{Ends, stop_of}
-use Rattle.ed_syntax.specs.Runs.{run}
+use Rattle.ed_syntax.specs.meaning.Progress.{Ends, stop_of}
+use Rattle.ed_syntax.specs.meaning.Runs.{run}
 use Rattle.cert_check.specs.declared.certificate.Certificate.{Certificate}
 use Rattle.cert_check.specs.declared.verdict.Place.{Place}
 use Rattle.analyser.specs.declared.analysis.Start.{Start}

@@ -10,17 +10,17 @@ use Rattle.ed_syntax.specs.declared.request.Answer.TheVariants as answer
 use Rattle.ed_syntax.specs.declared.request.Request.{Request}
 use Rattle.ed_syntax.specs.Commands as ed
 use Rattle.ed_syntax.specs.Commands.{Addresses, Without, One, Comma, Semicolon, Form, Verb, Command, Step, Script, alone}
-use Rattle.ed_syntax.specs.States as editor
-use Rattle.ed_syntax.specs.Effects.{Outcome, Effect, Makes, Asks}
-use Rattle.ed_syntax.specs.Applied.{command}
-use Rattle.ed_syntax.specs.Laws.{UnaskedAnswersDoNothing, NothingIsAskedTwice}
-use Rattle.ed_syntax.specs.Progress.{Present, Progress, Stop, Ends, Writes, stop_of, failing, ending, count}
-use Rattle.ed_syntax.specs.Runs.{Further, reached, answered, asking, turned, one, step_by, prompted, at_end, steps}
-use Rattle.ed_syntax.specs.Values.{◌>>◌}
-use Rattle.ed_syntax.specs.Verbs.{takes, takes_any, may_have}
+use Rattle.ed_syntax.specs.meaning.States as editor
+use Rattle.ed_syntax.specs.meaning.Effects.{Outcome, Effect, Makes, Asks}
+use Rattle.ed_syntax.specs.meaning.Applied.{command}
+use Rattle.ed_syntax.specs.meaning.Laws.{UnaskedAnswersDoNothing, NothingIsAskedTwice}
+use Rattle.ed_syntax.specs.meaning.Progress.{Present, Progress, Stop, Ends, Writes, stop_of, failing, ending, count}
+use Rattle.ed_syntax.specs.meaning.Runs.{Further, reached, answered, asking, turned, one, step_by, prompted, at_end, steps}
+use Rattle.ed_syntax.specs.meaning.Values.{◌>>◌}
+use Rattle.ed_syntax.specs.meaning.Verbs.{takes, takes_any, may_have}
 use Rattle.ed_rules.specs.declared.state.Changed.{Changed}
 use Rattle.ed_rules.specs.declared.state.State.{State}
-use Rattle.ed_syntax.specs.Readable.{enters_lines, is_readable}
+use Rattle.ed_syntax.specs.spelling.Readable.{enters_lines, is_readable}
 use Rattle.ed_rules.specs.Rules.{step}
 use Rattle.ed_rules.specs.Exact.{are_by_number, is_exact_verb, is_exact, are_exact}
 use Rattle.ed_rules.specs.LineBounds.{most_lines}

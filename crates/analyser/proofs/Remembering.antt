@@ -9,7 +9,7 @@ use Rattle.ed_syntax.specs.declared.verbs.Taking.{Taking}
 use Rattle.ed_syntax.specs.declared.verbs.Taking.TheVariants as many
 use Rattle.ed_syntax.specs.Commands as ed
 use Rattle.ed_syntax.specs.Commands.{Base, Address, Addresses, Without, One, Comma, Semicolon, Form, Verb, Command}
-use Rattle.ed_syntax.specs.Verbs.{takes, given_or}
+use Rattle.ed_syntax.specs.meaning.Verbs.{takes, given_or}
 use Rattle.ed_rules.specs.declared.state.Old.{Old}
 use Rattle.ed_rules.specs.declared.state.State.{State}
 use Rattle.ed_rules.specs.Choices.{Choice, has_choice, are_choices}
@@ -24,7 +24,7 @@ use Rattle.ed_rules.specs.Files.{named, named_first, named_anew, file_read, whol
 use Rattle.ed_rules.specs.Undoing.{brought_back, undone_by}
 use Rattle.ed_rules.specs.Rules.{taken, effect, suffixed, step_at, step}
 use Rattle.ed_rules.proofs.Basics.{and-both}
-use Rattle.ed_syntax.proofs.ResultLemmas.{IfOk-bind, IfOk-after}
+use Rattle.ed_syntax.proofs.meaning.ResultLemmas.{IfOk-bind, IfOk-after}
 use Rattle.analyser.proofs.Results.{either, for_each, needed}
 use Rattle.analyser.proofs.Sets.{append-all, are-union, are-filled}
 

@@ -7,8 +7,8 @@ use Rattle.ed_syntax.specs.declared.request.Answer.{Answer}
 use Rattle.ed_syntax.specs.declared.request.Answer.TheVariants as answer
 use Rattle.ed_syntax.specs.Commands as ed
 use Rattle.ed_syntax.specs.Commands.{Step, Script, Without, alone}
-use Rattle.ed_syntax.specs.Progress.{Stop, Ends, stop_of}
-use Rattle.ed_syntax.specs.Runs.{run}
+use Rattle.ed_syntax.specs.meaning.Progress.{Stop, Ends, stop_of}
+use Rattle.ed_syntax.specs.meaning.Runs.{run}
 use Rattle.ed_rules.specs.Exact.{are_exact}
 use Rattle.ed_rules.specs.LineBounds.{most_lines}
 use Rattle.cert_check.specs.Sound.{start_lines}

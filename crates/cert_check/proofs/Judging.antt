@@ -15,7 +15,7 @@ use Rattle.cert_check.specs.Certificates.{Note, note_value, Certificate}
 use Rattle.cert_check.specs.Valid.{Check, at_place, command_at, inner_at, at, verdict_of, counted, has_quit, are_met, left_by, are_listed, knows_least, knows_most, end_checks, command_checks, list_checks, left_after, checks_from, fits, are_shaped, judged}
 use Rattle.cert_check.specs.Passing.{verdict_at, passed, ends_well, StepGoesTo, GoesTo, verdict_after}
 use Rattle.cert_check.specs.Sound.{CannotFail}
-use Rattle.ed_syntax.specs.Verbs.{is_step}
+use Rattle.ed_syntax.specs.meaning.Verbs.{is_step}
 use Rattle.std.specs.List.{list_all}
 use Rattle.cert_check.proofs.Checks.{and-first, and-second}
 use Rattle.cert_check.proofs.Counting.{counted-next}

@@ -8,7 +8,7 @@ use Rattle.zones.specs.Zone.{Bounds, Numbers, Holds, updated}
 use Rattle.zones.specs.Steps.{any_zone, after_guard}
 use Rattle.zones.proofs.Known.{updated-other}
 use Rattle.zones.proofs.Soundness.{Holds-any_zone, Holds-after_guard, Holds-after_set}
-use Rattle.ed_syntax.specs.CommandLaws.{FilesAreWellMarked, FilesAreWhole}
+use Rattle.ed_syntax.specs.meaning.CommandLaws.{FilesAreWellMarked, FilesAreWhole}
 use Rattle.ed_rules.specs.States.{limited, start}
 use Rattle.cert_check.specs.Opening.{IsAtMost, StartIsSound}
 use Rattle.ed_rules.proofs.Choosing.{has_choice-only}

@@ -5,13 +5,13 @@ use Rattle.ed_base.specs.declared.fault.Fault.TheVariants as fault
 use Rattle.ed_syntax.specs.declared.request.Answer.{Answer}
 use Rattle.ed_syntax.specs.Commands as ed
 use Rattle.ed_syntax.specs.Commands.{Addresses, Form, Command}
-use Rattle.ed_syntax.specs.States.{State}
-use Rattle.ed_syntax.specs.Values.{◌>>◌}
-use Rattle.ed_syntax.specs.Effects.{Effect, Makes, Asks, only}
-use Rattle.ed_syntax.specs.Files as file
-use Rattle.ed_syntax.specs.Applied.{Placed, placed, making, completed, suffix_written, command}
-use Rattle.ed_syntax.specs.CommandLaws.{KeepsTheRest, InOrder, CommandsArePlaced}
-use Rattle.ed_syntax.proofs.ResultLemmas.{IfOk-bind, IfOk-after}
+use Rattle.ed_syntax.specs.meaning.States.{State}
+use Rattle.ed_syntax.specs.meaning.Values.{◌>>◌}
+use Rattle.ed_syntax.specs.meaning.Effects.{Effect, Makes, Asks, only}
+use Rattle.ed_syntax.specs.meaning.Files as file
+use Rattle.ed_syntax.specs.meaning.Applied.{Placed, placed, making, completed, suffix_written, command}
+use Rattle.ed_syntax.specs.meaning.CommandLaws.{KeepsTheRest, InOrder, CommandsArePlaced}
+use Rattle.ed_syntax.proofs.meaning.ResultLemmas.{IfOk-bind, IfOk-after}
 
 -- a command's lines and target leave the lines and the flag
 abbrev SamePlaced : State → Placed → Type 0

@@ -14,11 +14,11 @@ use Rattle.ed_syntax.specs.declared.request.Request.{Request}
 use Rattle.ed_syntax.specs.declared.request.Request.TheVariants as request
 use Rattle.ed_syntax.specs.Commands as ed
 use Rattle.ed_syntax.specs.Commands.{Verb, Command, Step}
-use Rattle.ed_syntax.specs.States as editor
-use Rattle.ed_syntax.specs.Effects.{Outcome, Effect, Makes, Asks}
-use Rattle.ed_syntax.specs.Applied.{command}
-use Rattle.ed_syntax.specs.Progress.{Present, Progress, Writes, asked_of, stop_of, failing, ending, quitting, count}
-use Rattle.ed_syntax.specs.Runs.{Further, with_state, answered, asking, turned, one, step_by, prompted, at_end}
+use Rattle.ed_syntax.specs.meaning.States as editor
+use Rattle.ed_syntax.specs.meaning.Effects.{Outcome, Effect, Makes, Asks}
+use Rattle.ed_syntax.specs.meaning.Applied.{command}
+use Rattle.ed_syntax.specs.meaning.Progress.{Present, Progress, Writes, asked_of, stop_of, failing, ending, quitting, count}
+use Rattle.ed_syntax.specs.meaning.Runs.{Further, with_state, answered, asking, turned, one, step_by, prompted, at_end}
 use Rattle.ed_rules.specs.declared.state.State.{State}
 use Rattle.ed_rules.specs.Order.{Covers}
 use Rattle.cert_check.specs.Covering.{covers}
@@ -26,7 +26,7 @@ use Rattle.ed_rules.specs.Soundness.{MayAskFor, IsDone, CommandIsSound}
 use Rattle.ed_rules.specs.Files.{written_paths}
 use Rattle.ed_rules.specs.Globals.{is_global, body_entry, loop_end}
 use Rattle.ed_rules.specs.GlobalSoundness as global
-use Rattle.ed_syntax.specs.CommandLaws.{CommandsArePlaced, ListsNoteChanges}
+use Rattle.ed_syntax.specs.meaning.CommandLaws.{CommandsArePlaced, ListsNoteChanges}
 use Rattle.ed_rules.specs.GlobalSoundness.{TurnIsSound, EndIsSound}
 use Rattle.ed_rules.proofs.Choosing.{or-cases, has_choice-all}
 use Rattle.ed_rules.specs.StandsFor.{StandsFor, allows_change}

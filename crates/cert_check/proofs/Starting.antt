@@ -6,12 +6,12 @@ use Rattle.ed_syntax.specs.declared.request.Answer.{Answer}
 use Rattle.ed_syntax.specs.declared.request.Answer.TheVariants as answer
 use Rattle.ed_syntax.specs.declared.request.Request.TheVariants as request
 use Rattle.ed_syntax.specs.Commands.{Script}
-use Rattle.ed_syntax.specs.States as editor
-use Rattle.ed_syntax.specs.States.{opening}
-use Rattle.ed_syntax.specs.Files.{loaded}
-use Rattle.ed_syntax.specs.Progress.{Present}
-use Rattle.ed_syntax.specs.Runs as runs
-use Rattle.ed_syntax.specs.Runs.{Further, steps, present}
+use Rattle.ed_syntax.specs.meaning.States as editor
+use Rattle.ed_syntax.specs.meaning.States.{opening}
+use Rattle.ed_syntax.specs.meaning.Files.{loaded}
+use Rattle.ed_syntax.specs.meaning.Progress.{Present}
+use Rattle.ed_syntax.specs.meaning.Runs as runs
+use Rattle.ed_syntax.specs.meaning.Runs.{Further, steps, present}
 use Rattle.ed_rules.specs.StandsFor.{StandsFor}
 use Rattle.ed_rules.specs.States.{start}
 use Rattle.cert_check.specs.Opening.{opened, IsWithin}
@@ -22,7 +22,7 @@ use Rattle.cert_check.specs.Sound.{start_lines, MayAsk, CannotFail}
 use Rattle.cert_check.proofs.Checks.{first-holds}
 use Rattle.cert_check.proofs.Running.{Laws, RunsWell}
 use Rattle.cert_check.proofs.Stepping.{steps-well}
-use Rattle.ed_syntax.specs.Verbs.{is_step}
+use Rattle.ed_syntax.specs.meaning.Verbs.{is_step}
 use Rattle.std.specs.List.{list_all}
 
 -- what is left runs well from each editor that was opened within the bounds

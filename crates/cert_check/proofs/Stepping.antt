@@ -6,10 +6,10 @@ use Rattle.std.proofs.lemmas.Bool.{eqb-true}
 use Rattle.ed_syntax.specs.declared.request.Answer.{Answer}
 use Rattle.ed_syntax.specs.Commands as ed
 use Rattle.ed_syntax.specs.Commands.{Verb, Command, Step}
-use Rattle.ed_syntax.specs.Verbs as verbs
-use Rattle.ed_syntax.specs.Progress.{Present, Progress}
-use Rattle.ed_syntax.specs.Runs.{Further, one, global, step_by, at_end, steps}
-use Rattle.ed_syntax.specs.States.{kept}
+use Rattle.ed_syntax.specs.meaning.Verbs as verbs
+use Rattle.ed_syntax.specs.meaning.Progress.{Present, Progress}
+use Rattle.ed_syntax.specs.meaning.Runs.{Further, one, global, step_by, at_end, steps}
+use Rattle.ed_syntax.specs.meaning.States.{kept}
 use Rattle.ed_rules.specs.declared.state.State.{State}
 use Rattle.ed_rules.specs.Globals.{is_global, body_entry}
 use Rattle.ed_rules.specs.StandsFor.{StandsFor}

@@ -3,14 +3,14 @@ use Rattle.std.proofs.Common.{◌≡◌, inl, inr, ℕ, zero, suc, ◌+◌, true
 use Rattle.std.specs.List.{list_all}
 use Rattle.ed_syntax.specs.declared.request.Answer.{Answer}
 use Rattle.ed_syntax.specs.Commands.{Verb, Command, Step}
-use Rattle.ed_syntax.specs.CommandLaws.{Notes}
-use Rattle.ed_syntax.specs.Verbs as verbs
-use Rattle.ed_syntax.specs.Verbs.{may_alter}
-use Rattle.ed_syntax.specs.States as editor
-use Rattle.ed_syntax.specs.States.{Open, kept, noted}
-use Rattle.ed_syntax.specs.Globals.{flags, opened, taken_at, next_taken, closed}
-use Rattle.ed_syntax.specs.Progress.{Present}
-use Rattle.ed_syntax.specs.Runs.{Further, with_state, one, listed, turn, turns, global}
+use Rattle.ed_syntax.specs.meaning.CommandLaws.{Notes}
+use Rattle.ed_syntax.specs.meaning.Verbs as verbs
+use Rattle.ed_syntax.specs.meaning.Verbs.{may_alter}
+use Rattle.ed_syntax.specs.meaning.States as editor
+use Rattle.ed_syntax.specs.meaning.States.{Open, kept, noted}
+use Rattle.ed_syntax.specs.meaning.Globals.{flags, opened, taken_at, next_taken, closed}
+use Rattle.ed_syntax.specs.meaning.Progress.{Present}
+use Rattle.ed_syntax.specs.meaning.Runs.{Further, with_state, one, listed, turn, turns, global}
 use Rattle.ed_rules.specs.declared.state.State.{State}
 use Rattle.ed_rules.specs.Globals.{body_entry, list_may_alter, loop_end}
 use Rattle.ed_rules.specs.StandsFor.{StandsFor}

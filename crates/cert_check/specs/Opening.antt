@@ -2,8 +2,8 @@
 use Rattle.std.specs.Prelude.{ℕ, ◌≤◌, List, map, length, Option, Some, None}
 use Rattle.ed_base.specs.Buffer.{plain_line}
 use Rattle.ed_base.specs.Lines.{lines_of}
-use Rattle.ed_syntax.specs.States as editor
-use Rattle.ed_syntax.specs.States.{opening}
+use Rattle.ed_syntax.specs.meaning.States as editor
+use Rattle.ed_syntax.specs.meaning.States.{opening}
 use Rattle.ed_rules.specs.Choices.{Choice}
 use Rattle.ed_rules.specs.States.{start}
 use Rattle.ed_rules.specs.StandsFor.{StandsFor}

@@ -9,8 +9,8 @@ use Rattle.ed_syntax.specs.declared.request.Answer.TheVariants as answer
 use Rattle.ed_syntax.specs.declared.request.Request.{Request}
 use Rattle.ed_syntax.specs.declared.request.Request.TheVariants as request
 use Rattle.ed_syntax.specs.Commands.{Script}
-use Rattle.ed_syntax.specs.Progress.{Stop, Waits, Ends, asked_of, stop_of}
-use Rattle.ed_syntax.specs.Runs.{run}
+use Rattle.ed_syntax.specs.meaning.Progress.{Stop, Waits, Ends, asked_of, stop_of}
+use Rattle.ed_syntax.specs.meaning.Runs.{run}
 use Rattle.cert_check.specs.Opening.{IsWithin}
 use Rattle.cert_check.specs.Certificates.{Certificate}
 

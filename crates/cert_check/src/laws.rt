@@ -3,7 +3,7 @@
 ghost use Rattle.std.specs.List.{list_all};
 ghost use Rattle.std.specs.Prelude.{◌≡◌, ℕ, List, IsTrue, ◌↔◌};
 ghost use Rattle.ed_syntax.specs.Commands as ed;
-ghost use Rattle.ed_syntax.specs.Verbs.{is_step};
+ghost use Rattle.ed_syntax.specs.meaning.Verbs.{is_step};
 ghost use Rattle.ed_rules.specs.declared.state.State.{State};
 ghost use Rattle.ed_rules.specs.Order.{Covers};
 ghost use Rattle.cert_check.specs.declared.verdict.Verdict.TheVariants.{Accepted};

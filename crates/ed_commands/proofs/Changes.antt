@@ -8,11 +8,11 @@ use Rattle.ed_base.specs.declared.fault.Fault.{Fault}
 use Rattle.ed_base.specs.declared.fault.Fault.TheVariants.{Destination}
 use Rattle.line_store.specs.Marks.{lettered}
 use Rattle.ed_base.specs.Parts.{between, block, carried, exchanged, inserted}
-use Rattle.ed_syntax.specs.States.{State}
-use Rattle.ed_syntax.specs.Globals.{next_taken, taken_at}
-use Rattle.ed_syntax.specs.Ranges as ranges
-use Rattle.ed_syntax.specs.Effects as effect
-use Rattle.ed_syntax.specs.Effects.{Outcome, altered, entered}
+use Rattle.ed_syntax.specs.meaning.States.{State}
+use Rattle.ed_syntax.specs.meaning.Globals.{next_taken, taken_at}
+use Rattle.ed_syntax.specs.meaning.Ranges as ranges
+use Rattle.ed_syntax.specs.meaning.Effects as effect
+use Rattle.ed_syntax.specs.meaning.Effects.{Outcome, altered, entered}
 use Rattle.ed_commands.specs.declared.editor.past.Before.{Before}
 use Rattle.ed_commands.specs.declared.editor.past.Change.{Change}
 use Rattle.ed_commands.specs.Earlier.{PastValue, earlier_after, earlier_in, earlier_of, kept_of, texts_before, with_earlier}

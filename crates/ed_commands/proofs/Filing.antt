@@ -4,11 +4,11 @@ use Rattle.std.specs.Prelude.{IsOkAnd}
 use Rattle.ed_base.specs.Lines.{lines_of}
 use Rattle.ed_base.specs.declared.fault.Fault.{Fault}
 use Rattle.ed_syntax.specs.declared.request.Answer.{Answer}
-use Rattle.ed_syntax.specs.States.{State}
-use Rattle.ed_syntax.specs.Values.{◌>>◌}
-use Rattle.ed_syntax.specs.Ranges.{Span}
-use Rattle.ed_syntax.specs.Effects.{Makes, entered}
-use Rattle.ed_syntax.specs.Files.{used_path, named_first, bytes_read, with_bytes, read}
+use Rattle.ed_syntax.specs.meaning.States.{State}
+use Rattle.ed_syntax.specs.meaning.Values.{◌>>◌}
+use Rattle.ed_syntax.specs.meaning.Ranges.{Span}
+use Rattle.ed_syntax.specs.meaning.Effects.{Makes, entered}
+use Rattle.ed_syntax.specs.meaning.Files.{used_path, named_first, bytes_read, with_bytes, read}
 use Rattle.ed_commands.specs.declared.editor.past.Before.{Before}
 use Rattle.ed_commands.specs.Editors.{Leaves, left_by, naming}
 

@@ -13,14 +13,14 @@ use Rattle.line_store.specs.Marks.{lettered}
 use Rattle.ed_syntax.specs.declared.command.Sense.{Sense}
 use Rattle.ed_syntax.specs.declared.request.Answer.{Answer}
 use Rattle.ed_syntax.specs.Commands as ed
-use Rattle.ed_syntax.specs.Globals.{flagged, flagged_line, flags, opened, wanted}
-use Rattle.ed_syntax.specs.States.{Kept, State, kept, last}
-use Rattle.ed_syntax.specs.Values.{◌>>◌, matches, sought, used_pattern}
-use Rattle.ed_syntax.specs.Ranges.{Span}
-use Rattle.ed_syntax.specs.Effects.{Outcome, Effect, Makes, Asks, only}
-use Rattle.ed_syntax.specs.Applied.{changed_from, command, completed, effect_of, placed, settled, suffix_written}
-use Rattle.ed_syntax.proofs.CommandSteps.{InOrder, PlacedWell, placed-well}
-use Rattle.ed_syntax.proofs.FaultSteps.{Gives, gives, bind-gives, bind-any}
+use Rattle.ed_syntax.specs.meaning.Globals.{flagged, flagged_line, flags, opened, wanted}
+use Rattle.ed_syntax.specs.meaning.States.{Kept, State, kept, last}
+use Rattle.ed_syntax.specs.meaning.Values.{◌>>◌, matches, sought, used_pattern}
+use Rattle.ed_syntax.specs.meaning.Ranges.{Span}
+use Rattle.ed_syntax.specs.meaning.Effects.{Outcome, Effect, Makes, Asks, only}
+use Rattle.ed_syntax.specs.meaning.Applied.{changed_from, command, completed, effect_of, placed, settled, suffix_written}
+use Rattle.ed_syntax.proofs.meaning.CommandSteps.{InOrder, PlacedWell, placed-well}
+use Rattle.ed_syntax.proofs.meaning.FaultSteps.{Gives, gives, bind-gives, bind-any}
 use Rattle.ed_commands.specs.declared.editor.Reply.TheVariants as reply
 use Rattle.ed_commands.specs.Earlier.{PastValue, earlier_in, earlier_of, kept_of, opening_global, with_earlier}
 use Rattle.ed_commands.specs.Editors.{BeginsBy, Replies, asks, is_global, with_pattern}

@@ -3,8 +3,8 @@ use Rattle.std.proofs.Common.{◌≡◌, ℕ, suc, ◌≤◌, List, [], ◌∷�
 use Rattle.std.proofs.lemmas.List.{drop_all, drop-append-le, length-map}
 use Rattle.ed_base.specs.Buffer.{Line, plain_line, texts}
 use Rattle.line_store.specs.Marks.{letters_at, lettered}
-use Rattle.ed_syntax.specs.States as states
-use Rattle.ed_syntax.specs.States.{Kept, State, kept, last, unflagged}
+use Rattle.ed_syntax.specs.meaning.States as states
+use Rattle.ed_syntax.specs.meaning.States.{Kept, State, kept, last, unflagged}
 use Rattle.ed_commands.specs.declared.editor.past.Change.{Change}
 use Rattle.ed_commands.specs.declared.editor.past.Held.{Held}
 use Rattle.ed_commands.specs.declared.editor.past.OpenGlobal.{OpenGlobal}

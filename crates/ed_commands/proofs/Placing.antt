@@ -2,14 +2,14 @@
 use Rattle.std.proofs.Common.{◌≡◌, ℕ, List, [], ◌∷◌, Option, Some, None, Ok, refl, ap, ◌∙◌}
 use Rattle.ed_syntax.specs.Commands as ed
 use Rattle.ed_syntax.specs.Commands.{Address, Addresses, Command}
-use Rattle.ed_syntax.specs.States.{State, last}
-use Rattle.ed_syntax.specs.Values.{value, evaluated, moved, values}
-use Rattle.ed_syntax.specs.Verbs.{takes, given_or}
-use Rattle.ed_syntax.specs.Ranges.{spanned}
-use Rattle.ed_syntax.specs.Applied.{targeted, placed}
+use Rattle.ed_syntax.specs.meaning.States.{State, last}
+use Rattle.ed_syntax.specs.meaning.Values.{value, evaluated, moved, values}
+use Rattle.ed_syntax.specs.meaning.Verbs.{takes, given_or}
+use Rattle.ed_syntax.specs.meaning.Ranges.{spanned}
+use Rattle.ed_syntax.specs.meaning.Applied.{targeted, placed}
 use Rattle.ed_commands.specs.Editors.{EditorValue, placed_value}
 use Rattle.ed_commands.specs.declared.editor.addressing.Addressed.{Addressed}
-use Rattle.ed_syntax.proofs.FaultSteps.{Gives, gives, bind-gives, bind-any}
+use Rattle.ed_syntax.proofs.meaning.FaultSteps.{Gives, gives, bind-gives, bind-any}
 
 -- a state with the current line and the pattern of another
 abbrev pub back_at : State → State → State

@@ -12,9 +12,9 @@ use Rattle.ed_base.specs.Buffer.{Line, plain_line, texts}
 use Rattle.ed_base.specs.Parts.{block, exchanged}
 use Rattle.ed_syntax.specs.declared.replacement.Part.{Part}
 use Rattle.ed_syntax.specs.declared.replacement.Which.{Which}
-use Rattle.ed_syntax.specs.States.{Kept}
-use Rattle.ed_syntax.specs.Substitution.{split_at_newlines, substituted, replaced_in, picked, taken}
-use Rattle.ed_syntax.specs.SubstitutedLines.{Results, each, made_of, onto}
+use Rattle.ed_syntax.specs.meaning.States.{Kept}
+use Rattle.ed_syntax.specs.meaning.Substitution.{split_at_newlines, substituted, replaced_in, picked, taken}
+use Rattle.ed_syntax.specs.meaning.SubstitutedLines.{Results, each, made_of, onto}
 use Rattle.ed_commands.specs.declared.editor.past.Before.{Before}
 use Rattle.ed_commands.specs.Earlier.{Earlier, PastValue, earlier_after, earlier_of, kept_lines}
 use Rattle.ed_commands.specs.Editors.{AreNew}

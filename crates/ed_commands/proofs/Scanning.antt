@@ -7,7 +7,7 @@ use Rattle.std.specs.declared.alloc.AllocError.{AllocError}
 use Rattle.bre_parse.specs.Tree.{Tree}
 use Rattle.bre_parse.specs.Match.{match_from}
 use Rattle.bre_parse.specs.Laws.{MatchesLieWithin}
-use Rattle.ed_syntax.specs.Substitution.{Found, is_empty, taken_first, taken_from, taken}
+use Rattle.ed_syntax.specs.meaning.Substitution.{Found, is_empty, taken_first, taken_from, taken}
 use Rattle.bre_match.specs.declared.Match.{Match}
 use Rattle.bre_match.specs.Answer.{spans, LiesWithin}
 use Rattle.ed_commands.specs.declared.substitution.Scan.{Scan}

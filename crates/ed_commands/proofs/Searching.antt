@@ -10,8 +10,8 @@ use Rattle.bre_parse.specs.Match.{match_from}
 use Rattle.ed_base.specs.Buffer.{Line, plain_line}
 use Rattle.ed_base.specs.declared.fault.Fault.{Fault}
 use Rattle.ed_base.specs.declared.fault.Fault.TheVariants as fault
-use Rattle.ed_syntax.specs.States.{State, last}
-use Rattle.ed_syntax.specs.Values.{count_from, upwards, lines_forward, lines_backward, matches, matches_line, searched, sought}
+use Rattle.ed_syntax.specs.meaning.States.{State, last}
+use Rattle.ed_syntax.specs.meaning.Values.{count_from, upwards, lines_forward, lines_backward, matches, matches_line, searched, sought}
 use Rattle.ed_commands.specs.Editors.{TellsLine, with_pattern}
 
 pub matched-by : (text line : List ℕ) (tree : Tree) → pattern text ≡ Ok tree → matches text line ≡ is_some (match_from tree line 0)

@@ -7,11 +7,11 @@ use Rattle.ed_base.specs.declared.fault.Fault.{Fault}
 use Rattle.ed_syntax.specs.Commands.{Form}
 use Rattle.ed_syntax.specs.declared.replacement.Part.{Part}
 use Rattle.ed_syntax.specs.declared.replacement.Which.{Which}
-use Rattle.ed_syntax.specs.States.{State}
-use Rattle.ed_syntax.specs.Values.{◌>>◌, used_pattern}
-use Rattle.ed_syntax.specs.Ranges.{Span}
-use Rattle.ed_syntax.specs.Effects.{Outcome, altered}
-use Rattle.ed_syntax.specs.SubstitutedLines.{Results, each, flag_written, made, made_of, substitute, used_replacement}
+use Rattle.ed_syntax.specs.meaning.States.{State}
+use Rattle.ed_syntax.specs.meaning.Values.{◌>>◌, used_pattern}
+use Rattle.ed_syntax.specs.meaning.Ranges.{Span}
+use Rattle.ed_syntax.specs.meaning.Effects.{Outcome, altered}
+use Rattle.ed_syntax.specs.meaning.SubstitutedLines.{Results, each, flag_written, made, made_of, substitute, used_replacement}
 use Rattle.ed_commands.specs.declared.editor.past.Before.{Before}
 use Rattle.ed_commands.specs.Earlier.{Earlier, earlier_after, earlier_in, with_earlier}
 use Rattle.ed_commands.specs.Editors.{kept_at, left_by}

@@ -9,9 +9,9 @@ use Rattle.std.proofs.Math.Seq.{map-set_same}
 use Rattle.ed_base.specs.Buffer.{Line, plain_line, texts, with_flag, flagged_at, flagged_place}
 use Rattle.ed_base.specs.Parts.{block, carried, exchanged}
 use Rattle.line_store.specs.Marks.{letters_at, lettered}
-use Rattle.ed_syntax.specs.States as states
-use Rattle.ed_syntax.specs.States.{unflagged}
-use Rattle.ed_syntax.proofs.CountLemmas.{counts, counted-cons}
+use Rattle.ed_syntax.specs.meaning.States as states
+use Rattle.ed_syntax.specs.meaning.States.{unflagged}
+use Rattle.ed_syntax.proofs.meaning.CountLemmas.{counts, counted-cons}
 use Rattle.ed_commands.specs.declared.editor.past.Change.{Change}
 use Rattle.ed_commands.specs.declared.editor.past.Held.{Held}
 use Rattle.ed_commands.specs.declared.editor.past.OpenGlobal.{OpenGlobal}

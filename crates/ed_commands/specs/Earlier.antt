@@ -3,10 +3,10 @@ use Rattle.std.specs.Prelude.{ℕ, ◌≡◌, ◌+◌, ◌-◌, ◌≤◌, Bool,
 use Rattle.ed_base.specs.Buffer.{Line, plain_line, texts}
 use Rattle.ed_base.specs.Parts.{carried, exchanged}
 use Rattle.line_store.specs.Marks.{lettered}
-use Rattle.ed_syntax.specs.States as states
-use Rattle.ed_syntax.specs.States.{Kept, Open, State, noted, unflagged}
-use Rattle.ed_syntax.specs.Applied.{past_after}
-use Rattle.ed_syntax.specs.Globals.{past_of_global}
+use Rattle.ed_syntax.specs.meaning.States as states
+use Rattle.ed_syntax.specs.meaning.States.{Kept, Open, State, noted, unflagged}
+use Rattle.ed_syntax.specs.meaning.Applied.{past_after}
+use Rattle.ed_syntax.specs.meaning.Globals.{past_of_global}
 use Rattle.ed_commands.specs.declared.editor.past.Held.{Held}
 use Rattle.ed_commands.specs.declared.editor.past.OpenGlobal.{OpenGlobal}
 use Rattle.ed_commands.specs.declared.editor.past.Undone.{Undone}

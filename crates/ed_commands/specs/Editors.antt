@@ -4,15 +4,15 @@ use Rattle.ed_base.specs.Buffer.{Line, plain_line, texts}
 use Rattle.ed_base.specs.declared.fault.Fault.{Fault}
 use Rattle.ed_base.specs.declared.fault.Fault.TheVariants.{Destination, Memory}
 use Rattle.ed_syntax.specs.Commands as ed
-use Rattle.ed_syntax.specs.States.{State, Kept, kept, opening}
+use Rattle.ed_syntax.specs.meaning.States.{State, Kept, kept, opening}
 use Rattle.ed_syntax.specs.declared.verbs.Taking.{Taking}
 use Rattle.ed_syntax.specs.declared.verbs.Taking.TheVariants as many
-use Rattle.ed_syntax.specs.Values.{◌>>◌}
-use Rattle.ed_syntax.specs.Ranges as ranges
-use Rattle.ed_syntax.specs.Effects.{Outcome, Effect, Makes, Asks, place_left}
-use Rattle.ed_syntax.specs.Files.{used_path, named_first}
-use Rattle.ed_syntax.specs.Globals.{flags, opened}
-use Rattle.ed_syntax.specs.Applied.{Placed, settled, suffix_written}
+use Rattle.ed_syntax.specs.meaning.Values.{◌>>◌}
+use Rattle.ed_syntax.specs.meaning.Ranges as ranges
+use Rattle.ed_syntax.specs.meaning.Effects.{Outcome, Effect, Makes, Asks, place_left}
+use Rattle.ed_syntax.specs.meaning.Files.{used_path, named_first}
+use Rattle.ed_syntax.specs.meaning.Globals.{flags, opened}
+use Rattle.ed_syntax.specs.meaning.Applied.{Placed, settled, suffix_written}
 use Rattle.ed_commands.specs.Earlier.{kept_lines}
 use Rattle.ed_commands.specs.declared.editor.globals.Begun.{Begun}
 use Rattle.ed_commands.specs.declared.editor.Reply.{Reply}

@@ -2,9 +2,9 @@
 use Rattle.std.specs.Prelude.{ℕ, Bool, List, Option, Some, None, Result, Ok}
 use Rattle.ed_base.specs.declared.fault.Fault.{Fault}
 use Rattle.ed_syntax.specs.declared.replacement.Part.{Part}
-use Rattle.ed_syntax.specs.States.{State, Kept}
-use Rattle.ed_syntax.specs.Values.{◌>>◌, used_pattern}
-use Rattle.ed_syntax.specs.SubstitutedLines.{used_replacement}
+use Rattle.ed_syntax.specs.meaning.States.{State, Kept}
+use Rattle.ed_syntax.specs.meaning.Values.{◌>>◌, used_pattern}
+use Rattle.ed_syntax.specs.meaning.SubstitutedLines.{used_replacement}
 use Rattle.ed_commands.specs.Earlier.{Earlier, earlier_after}
 
 -- what is kept of earlier buffers once lines were rewritten; where none was, what was kept before

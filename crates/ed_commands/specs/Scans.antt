@@ -3,7 +3,7 @@ use Rattle.std.specs.Prelude.{ℕ, suc, ◌≡◌, ◌≤◌, ◌<◌, ◌+◌, 
 use Rattle.bre_parse.specs.Tree.{Tree}
 use Rattle.bre_match.specs.declared.Match.{Match}
 use Rattle.bre_match.specs.Answer.{spans}
-use Rattle.ed_syntax.specs.Substitution.{Found, is_empty, taken_from}
+use Rattle.ed_syntax.specs.meaning.Substitution.{Found, is_empty, taken_from}
 use Rattle.ed_commands.specs.declared.substitution.Scan.{Scan}
 
 -- the matches that are still to be taken

@@ -3,9 +3,9 @@ ghost use Rattle.std.specs.Prelude.{◌≡◌, ◌≢◌, [], Option, Some, None
 ghost use Rattle.ed_base.specs.declared.fault.Fault.TheVariants.{Memory};
 ghost use Rattle.ed_syntax.specs.PublicTypes.{command_value};
 ghost use Rattle.ed_syntax.specs.declared.request.Answer.{Answer};
-ghost use Rattle.ed_syntax.specs.Applied as applied;
-ghost use Rattle.ed_syntax.specs.Files.{loaded};
-ghost use Rattle.ed_syntax.specs.States.{opening};
+ghost use Rattle.ed_syntax.specs.meaning.Applied as applied;
+ghost use Rattle.ed_syntax.specs.meaning.Files.{loaded};
+ghost use Rattle.ed_syntax.specs.meaning.States.{opening};
 ghost use Rattle.ed_commands.specs.Editors.{Applied, Replies, failure_of, opening_value};
 ghost use Rattle.ed_commands.specs.declared.editor.Reply.TheVariants as reply;
 

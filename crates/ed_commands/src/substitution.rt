@@ -6,7 +6,7 @@ ghost use Rattle.bre_parse.specs.Ways.{bytes_of};
 ghost use Rattle.bre_match.specs.Answer.{spans, LiesWithin};
 ghost use Rattle.bre_match.specs.Searchers.{searched};
 ghost use Rattle.ed_syntax.specs.declared.replacement.Part.TheVariants as part;
-ghost use Rattle.ed_syntax.specs.Substitution.{taken, taken_first, expanded, picked, replaced_in, split_at_newlines, substituted};
+ghost use Rattle.ed_syntax.specs.meaning.Substitution.{taken, taken_first, expanded, picked, replaced_in, split_at_newlines, substituted};
 ghost use Rattle.ed_base.specs.Lines.{IsLine};
 ghost use Rattle.ed_commands.specs.Scans.{left, left_from, scan_after, passed_over, Goes, nth_of, alone};
 

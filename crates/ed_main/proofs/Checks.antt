@@ -13,9 +13,9 @@ use Rattle.ed_syntax.specs.declared.request.Answer.TheVariants as answer
 use Rattle.ed_syntax.specs.declared.request.Request.{Request}
 use Rattle.ed_syntax.specs.declared.request.Request.TheVariants as request
 use Rattle.ed_syntax.specs.Commands.{Script}
-use Rattle.ed_syntax.specs.Laws.{starts}
-use Rattle.ed_syntax.specs.Progress.{Progress, Stops, Writes, Hears, Waits, Ends, asked_of, stop_of, cut}
-use Rattle.ed_syntax.specs.Runs.{run}
+use Rattle.ed_syntax.specs.meaning.Laws.{starts}
+use Rattle.ed_syntax.specs.meaning.Progress.{Progress, Stops, Writes, Hears, Waits, Ends, asked_of, stop_of, cut}
+use Rattle.ed_syntax.specs.meaning.Runs.{run}
 use Rattle.ed_session.specs.Drives.{Log, answers, requests, added, EndsMissing}
 use Rattle.cert_check.specs.Certificates.{Certificate}
 use Rattle.cert_check.specs.Opening.{IsWithin}

@@ -6,10 +6,10 @@ use Rattle.ed_base.specs.declared.fault.Fault.TheVariants.{Memory, Output}
 use Rattle.ed_syntax.specs.declared.options.Ending.{Ending}
 use Rattle.ed_syntax.specs.declared.options.Options.{Options}
 use Rattle.ed_syntax.specs.declared.request.Answer.{Answer}
-use Rattle.ed_syntax.specs.Progress.{Progress, Event, after, asked_of, output_of, stop_of, RunsOut, CutsAfter}
-use Rattle.ed_syntax.specs.Reading.{script_of}
-use Rattle.ed_syntax.specs.Runs.{run}
-use Rattle.ed_syntax.specs.Spellings.{SpellsWhatIsRead}
+use Rattle.ed_syntax.specs.meaning.Progress.{Progress, Event, after, asked_of, output_of, stop_of, RunsOut, CutsAfter}
+use Rattle.ed_syntax.specs.reading.Reading.{script_of}
+use Rattle.ed_syntax.specs.meaning.Runs.{run}
+use Rattle.ed_syntax.specs.spelling.Spellings.{SpellsWhatIsRead}
 use Rattle.ed_session.specs.Calls.{written, heard}
 use Rattle.ed_session.specs.Drives.{Log, answers, requests, Drove, Finished, CutOff}
 use Rattle.ed_session.specs.Sessions.{SessionValue, rest}

@@ -10,9 +10,9 @@ use Rattle.ed_syntax.specs.declared.options.Options.{Options}
 use Rattle.ed_syntax.specs.declared.request.Answer.{Answer}
 use Rattle.ed_syntax.specs.declared.request.Request.{Request}
 use Rattle.ed_syntax.specs.Commands.{Script}
-use Rattle.ed_syntax.specs.Laws.{starts, LastUnserved, last, next, FileCause, at_start, at_command, after_start, FilesHaveACause, NeverEndsBy}
-use Rattle.ed_syntax.specs.Progress.{Stops, Ends, asked_of, output_of, stop_of, RunsOut, CutsAfter}
-use Rattle.ed_syntax.specs.Runs.{run}
+use Rattle.ed_syntax.specs.meaning.Laws.{starts, LastUnserved, last, next, FileCause, at_start, at_command, after_start, FilesHaveACause, NeverEndsBy}
+use Rattle.ed_syntax.specs.meaning.Progress.{Stops, Ends, asked_of, output_of, stop_of, RunsOut, CutsAfter}
+use Rattle.ed_syntax.specs.meaning.Runs.{run}
 use Rattle.ed_session.specs.declared.phase.Phase.{Phase}
 use Rattle.ed_session.specs.declared.phase.Phase.TheVariants as phases
 use Rattle.ed_session.specs.Calls.{written, GoesOn, BreaksOff, Leads, Starts}

@@ -8,8 +8,8 @@ use Rattle.ed_base.specs.declared.fault.Fault.{Fault}
 use Rattle.ed_base.specs.declared.fault.Fault.TheVariants as fault
 use Rattle.ed_syntax.specs.declared.options.Options.{Options}
 use Rattle.ed_syntax.specs.Commands.{Script}
-use Rattle.ed_syntax.specs.Reading.{script_of}
-use Rattle.ed_syntax.specs.Spellings.{SpellsWhatIsRead}
+use Rattle.ed_syntax.specs.reading.Reading.{script_of}
+use Rattle.ed_syntax.specs.spelling.Spellings.{SpellsWhatIsRead}
 use Rattle.ed_session.specs.Drives.{Log}
 use Rattle.cert_check.specs.Certificates.{Certificate}
 use Rattle.cert_check.specs.HasText.{IsText}

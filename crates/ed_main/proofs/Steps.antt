@@ -1,7 +1,7 @@
 -- What a run comes to after some of its steps.
 use Rattle.std.proofs.Common.{◌≡◌, ◌≢◌, ◌∙◌, ℕ, ◌+◌, Bool, List, [], ◌∷◌, ◌++◌, length, refl, sym, ap, append_assoc}
 use Rattle.ed_syntax.specs.declared.request.Request.{Request}
-use Rattle.ed_syntax.specs.Progress.{Progress, Stops, Stop, Event, Wrote, Heard, after, asked_of, cut, output_of, stop_of, RunsOut, CutsAfter}
+use Rattle.ed_syntax.specs.meaning.Progress.{Progress, Stops, Stop, Event, Wrote, Heard, after, asked_of, cut, output_of, stop_of, RunsOut, CutsAfter}
 use Rattle.ed_session.specs.Calls.{written, heard}
 
 pub output_after : (events : List Event) (p : Progress) → output_of (after events p) ≡ written events ++ output_of p

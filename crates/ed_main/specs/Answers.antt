@@ -5,7 +5,7 @@ use Rattle.ed_base.specs.Fault.{status_of}
 use Rattle.ed_base.specs.declared.fault.Fault.{Fault}
 use Rattle.ed_base.specs.declared.fault.Fault.TheVariants as fault
 use Rattle.ed_syntax.specs.Commands.{Script}
-use Rattle.ed_syntax.specs.Spellings.{SpellsScript}
+use Rattle.ed_syntax.specs.spelling.Spellings.{SpellsScript}
 use Rattle.ed_syntax.specs.declared.options.Options.{Options}
 use Rattle.ed_session.specs.Drives.{Log}
 use Rattle.ed_session.specs.Sinks.{AppendsFront}

@@ -8,7 +8,7 @@ use Rattle.ed_syntax.specs.declared.options.Options.{Options}
 use Rattle.ed_syntax.specs.declared.request.Answer.{Answer}
 use Rattle.ed_syntax.specs.declared.request.Request.TheVariants as request
 use Rattle.ed_syntax.specs.Commands.{Script}
-use Rattle.ed_syntax.specs.Runs.{run}
+use Rattle.ed_syntax.specs.meaning.Runs.{run}
 use Rattle.ed_session.specs.Drives.{Log, answers, requests}
 use Rattle.cert_check.specs.declared.verdict.Place.{Place}
 use Rattle.cert_check.specs.declared.verdict.Verdict.TheVariants.{Accepted, Refused}

@@ -8,9 +8,9 @@ use Rattle.ed_syntax.specs.declared.options.Ending.{Ending}
 use Rattle.ed_syntax.specs.declared.options.Options.{Options}
 use Rattle.ed_syntax.specs.declared.request.Request.{Request}
 use Rattle.ed_syntax.specs.Commands.{Script}
-use Rattle.ed_syntax.specs.Progress.{Progress, Ends, asked_of, output_of, stop_of, RunsOut}
-use Rattle.ed_syntax.specs.Runs.{run}
-use Rattle.ed_syntax.specs.Spellings.{SpellsScript}
+use Rattle.ed_syntax.specs.meaning.Progress.{Progress, Ends, asked_of, output_of, stop_of, RunsOut}
+use Rattle.ed_syntax.specs.meaning.Runs.{run}
+use Rattle.ed_syntax.specs.spelling.Spellings.{SpellsScript}
 use Rattle.ed_session.specs.Drives.{Log, answers, requests}
 
 -- the exit status of a run's end

@@ -1,7 +1,7 @@
 -- What the analyser answers of the script that bytes spell (our own division of the work).
 use Rattle.std.specs.Prelude.{ℕ, List}
 use Rattle.ed_syntax.specs.Commands.{Script}
-use Rattle.ed_syntax.specs.Spellings.{SpellsScript}
+use Rattle.ed_syntax.specs.spelling.Spellings.{SpellsScript}
 use Rattle.analyser.specs.Analysis.{IsAnswer, IsValid}
 use Rattle.analyser.specs.declared.analysis.Start.{Start}
 use Rattle.analyser.specs.declared.analysis.Analysis.{Analysis}

@@ -1,6 +1,6 @@
 //! A script that is run only over a start that its certificate allows, and only where the checker accepts it.
 ghost use Rattle.std.specs.Prelude.{◌≡◌, ◌≢◌, ◌<◌, ◌≤◌, ◌-◌, ◌^◌, ◌++◌, ◌⊎◌, ◌↔◌, IsTrue, IsFalse, None, Err, IfSome, IfOk, OnErr};
-ghost use Rattle.ed_syntax.specs.Laws.{starts};
+ghost use Rattle.ed_syntax.specs.meaning.Laws.{starts};
 ghost use Rattle.ed_syntax.specs.PublicScript.{script_value};
 ghost use Rattle.ed_session.specs.Drives.{added, EndsMissing};
 ghost use Rattle.cert_check.specs.Certificates.{certificate_value};

@@ -1,7 +1,7 @@
 //! One run of a script, over any files and any sink.
 ghost use Rattle.std.specs.Prelude.{◌≡◌, ◌<◌, ◌≤◌, ◌-◌, ◌^◌, ◌++◌, List, [], IfOk};
-ghost use Rattle.ed_syntax.specs.Reading.{script_of};
-ghost use Rattle.ed_syntax.specs.Runs.{run};
+ghost use Rattle.ed_syntax.specs.reading.Reading.{script_of};
+ghost use Rattle.ed_syntax.specs.meaning.Runs.{run};
 ghost use Rattle.ed_syntax.specs.declared.request.Answer.{Answer};
 ghost use Rattle.ed_session.specs.Drives.{added};
 ghost use Rattle.ed_session.specs.Sessions.{rest};

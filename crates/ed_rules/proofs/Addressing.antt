@@ -9,11 +9,11 @@ use Rattle.zones.specs.Zone.{Numbers, updated}
 use Rattle.zones.specs.Steps.{after_set}
 use Rattle.ed_syntax.specs.Commands as ed
 use Rattle.ed_syntax.specs.Commands.{Base, Address, Addresses, Without, One, Comma, Semicolon, Verb, at_base}
-use Rattle.ed_syntax.specs.States as editor
-use Rattle.ed_syntax.specs.Verbs.{takes, given_or, here}
-use Rattle.ed_syntax.specs.Values.{◌>>◌, within, base_number, line_at, sought, lines_forward, lines_backward, value, values}
-use Rattle.ed_syntax.specs.Values as concrete
-use Rattle.ed_syntax.specs.Ranges.{first_of_two, last_of_two}
+use Rattle.ed_syntax.specs.meaning.States as editor
+use Rattle.ed_syntax.specs.meaning.Verbs.{takes, given_or, here}
+use Rattle.ed_syntax.specs.meaning.Values.{◌>>◌, within, base_number, line_at, sought, lines_forward, lines_backward, value, values}
+use Rattle.ed_syntax.specs.meaning.Values as concrete
+use Rattle.ed_syntax.specs.meaning.Ranges.{first_of_two, last_of_two}
 use Rattle.ed_rules.specs.declared.state.State.{State}
 use Rattle.ed_rules.specs.StandsFor.{StandsBy}
 use Rattle.ed_rules.proofs.Basics.{Agrees}

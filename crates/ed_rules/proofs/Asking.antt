@@ -7,11 +7,11 @@ use Rattle.ed_syntax.specs.declared.request.Request.{Request}
 use Rattle.ed_syntax.specs.declared.request.Request.TheVariants as request
 use Rattle.ed_syntax.specs.Commands as ed
 use Rattle.ed_syntax.specs.Commands.{Verb, Command}
-use Rattle.ed_syntax.specs.States as editor
-use Rattle.ed_syntax.specs.Effects.{Effect, Makes, Asks}
-use Rattle.ed_syntax.specs.Files.{used_path}
-use Rattle.ed_syntax.specs.Applied.{command}
-use Rattle.ed_syntax.specs.Laws.{UnaskedAnswersDoNothing, NothingIsAskedTwice, OnlyUnservedFilesFail, FilesAreWrittenByTheirPath}
+use Rattle.ed_syntax.specs.meaning.States as editor
+use Rattle.ed_syntax.specs.meaning.Effects.{Effect, Makes, Asks}
+use Rattle.ed_syntax.specs.meaning.Files.{used_path}
+use Rattle.ed_syntax.specs.meaning.Applied.{command}
+use Rattle.ed_syntax.specs.meaning.Laws.{UnaskedAnswersDoNothing, NothingIsAskedTwice, OnlyUnservedFilesFail, FilesAreWrittenByTheirPath}
 use Rattle.ed_rules.specs.declared.state.State.{State}
 use Rattle.ed_rules.specs.Choices.{Choice, has_choice}
 use Rattle.ed_rules.specs.Files.{written_paths}

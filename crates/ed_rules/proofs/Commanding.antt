@@ -12,16 +12,16 @@ use Rattle.ed_syntax.specs.declared.verbs.Taking.TheVariants as many
 use Rattle.ed_syntax.specs.declared.request.Answer.{Answer}
 use Rattle.ed_syntax.specs.Commands as ed
 use Rattle.ed_syntax.specs.Commands.{Address, Addresses, Without, One, Comma, Semicolon, Verb, Form, Command}
-use Rattle.ed_syntax.specs.States as editor
-use Rattle.ed_syntax.specs.States.{kept}
-use Rattle.ed_syntax.specs.Verbs.{takes, given_or}
-use Rattle.ed_syntax.specs.Values.{◌>>◌, value, values}
-use Rattle.ed_syntax.specs.Values as concrete
-use Rattle.ed_syntax.specs.CommandLaws.{AreWhole, WellMarked, InOrder, SpansAreInOrder}
-use Rattle.ed_syntax.specs.Ranges.{Span, span, first_of_two, last_of_two, spanned, ordered, single, from_first}
-use Rattle.ed_syntax.specs.Effects as effects
-use Rattle.ed_syntax.specs.Effects.{Effect, Makes, Asks}
-use Rattle.ed_syntax.specs.Applied.{making, completed, targeted, effect_of, command}
+use Rattle.ed_syntax.specs.meaning.States as editor
+use Rattle.ed_syntax.specs.meaning.States.{kept}
+use Rattle.ed_syntax.specs.meaning.Verbs.{takes, given_or}
+use Rattle.ed_syntax.specs.meaning.Values.{◌>>◌, value, values}
+use Rattle.ed_syntax.specs.meaning.Values as concrete
+use Rattle.ed_syntax.specs.meaning.CommandLaws.{AreWhole, WellMarked, InOrder, SpansAreInOrder}
+use Rattle.ed_syntax.specs.meaning.Ranges.{Span, span, first_of_two, last_of_two, spanned, ordered, single, from_first}
+use Rattle.ed_syntax.specs.meaning.Effects as effects
+use Rattle.ed_syntax.specs.meaning.Effects.{Effect, Makes, Asks}
+use Rattle.ed_syntax.specs.meaning.Applied.{making, completed, targeted, effect_of, command}
 use Rattle.ed_rules.specs.declared.state.State.{State}
 use Rattle.ed_rules.specs.Lines.{lifted_range, joined, joined_given, marked, copied_lines}
 use Rattle.ed_rules.specs.Addresses as addresses
@@ -29,8 +29,8 @@ use Rattle.ed_rules.specs.StandsFor.{StandsBy, AreLettered}
 use Rattle.ed_rules.specs.Move.{moved_lines}
 use Rattle.ed_rules.specs.Substituting.{pattern_used, substituted}
 use Rattle.ed_rules.specs.Undoing.{undone}
-use Rattle.ed_syntax.specs.Globals.{flagged}
-use Rattle.ed_syntax.specs.SubstitutedLines.{substitute}
+use Rattle.ed_syntax.specs.meaning.Globals.{flagged}
+use Rattle.ed_syntax.specs.meaning.SubstitutedLines.{substitute}
 use Rattle.ed_rules.proofs.Basics.{Agrees}
 use Rattle.ed_rules.proofs.Standing.{Stands, StandsBy-temporary, StandsBy-current, StandsBy-guarded, Reads-temporary}
 use Rattle.ed_rules.proofs.Addressing.{Valued, valued-sound, Names, NamesOf, Addressed, AddressedIn, command_addressed}
@@ -45,7 +45,7 @@ use Rattle.ed_rules.proofs.GlobalEffects.{flag-follows, undo-follows}
 use Rattle.ed_rules.proofs.Answering.{Does, Comes, does-agreed, does-bind, finish-does}
 use Rattle.ed_rules.proofs.Filing.{Written, all-written, whole-range, ranges-written, read-does, write-does, edit-does, edit_anyway-does, name-does, quit-does}
 use Rattle.ed_rules.specs.Files.{file_read, whole_or_ranged, changed_by_lines, changed_by_write, file_written, saved, edited, edited_anyway, file_named}
-use Rattle.ed_syntax.specs.Files as file
+use Rattle.ed_syntax.specs.meaning.Files as file
 use Rattle.zones.specs.Known.{known}
 use Rattle.ed_rules.specs.Pieces.{ended, with_zone, modified, replaced, lifted}
 use Rattle.ed_rules.specs.Addresses.{copied, addressed, standing, last_given, evaluated, ranged}

@@ -5,13 +5,13 @@ use Rattle.std.proofs.lemmas.List.{length-map}
 use Rattle.ed_base.specs.Buffer.{Line, plain_line, texts, marked_at, KnowLetters}
 use Rattle.zones.specs.Zone.{Bounds, Numbers, Holds, bound, updated}
 use Rattle.zones.proofs.Soundness.{Holds-after_set, Holds-after_shift, Obeys-bound, Obeys-sum_of}
-use Rattle.ed_syntax.specs.Ranges.{Span}
-use Rattle.ed_syntax.specs.States as editor
-use Rattle.ed_syntax.specs.Effects as effects
-use Rattle.ed_syntax.specs.Applied.{settled, past_after}
-use Rattle.ed_syntax.specs.Effects.{Effect, Makes}
-use Rattle.ed_syntax.specs.Applied.{making}
-use Rattle.ed_syntax.specs.Values.{◌>>◌}
+use Rattle.ed_syntax.specs.meaning.Ranges.{Span}
+use Rattle.ed_syntax.specs.meaning.States as editor
+use Rattle.ed_syntax.specs.meaning.Effects as effects
+use Rattle.ed_syntax.specs.meaning.Applied.{settled, past_after}
+use Rattle.ed_syntax.specs.meaning.Effects.{Effect, Makes}
+use Rattle.ed_syntax.specs.meaning.Applied.{making}
+use Rattle.ed_syntax.specs.meaning.Values.{◌>>◌}
 use Rattle.ed_base.specs.declared.fault.Fault.{Fault}
 use Rattle.ed_base.specs.declared.fault.Fault.TheVariants as fault
 use Rattle.ed_rules.specs.Move.{moved_up, moved_down, moved_lines}
@@ -44,7 +44,7 @@ use Rattle.ed_rules.specs.Order.{join}
 use Rattle.zones.proofs.Known.{updated-same, updated-other, known-true, Obeys-twice_negative}
 use Rattle.ed_rules.proofs.Basics.{Obeys-lowered}
 use Rattle.ed_base.specs.Parts as parts
-use Rattle.ed_syntax.specs.CommandLaws.{WellMarked}
+use Rattle.ed_syntax.specs.meaning.CommandLaws.{WellMarked}
 
 -- what undo keeps of a change
 past-after : (listed : Bool) (s u : State) (start e : editor.State) → Stands s start → AllowsPast u.undo e.past →

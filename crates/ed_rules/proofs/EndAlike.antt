@@ -1,7 +1,7 @@
 -- A rule's result beside the editor's: both values, and related, or both the same fault.
 use Rattle.std.proofs.Common.{◌≡◌, Bool, true, false, Result, Ok, Err, refl, subst, sym}
 use Rattle.ed_base.specs.declared.fault.Fault.{Fault}
-use Rattle.ed_syntax.specs.Values.{◌>>◌}
+use Rattle.ed_syntax.specs.meaning.Values.{◌>>◌}
 use Rattle.ed_rules.specs.Pieces.{needing}
 use Rattle.ed_rules.specs.ExactRules.{EndAlike}
 

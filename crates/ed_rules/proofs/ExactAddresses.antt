@@ -10,12 +10,12 @@ use Rattle.zones.specs.Known.{known}
 use Rattle.zones.specs.Steps.{after_set}
 use Rattle.ed_syntax.specs.Commands as ed
 use Rattle.ed_syntax.specs.Commands.{Base, Address, Addresses, Without, One, Comma, Semicolon, Verb}
-use Rattle.ed_syntax.specs.States as editor
-use Rattle.ed_syntax.specs.Verbs.{takes, given_or, here}
-use Rattle.ed_syntax.specs.Values as concrete
-use Rattle.ed_syntax.specs.Values.{◌>>◌, within, base_number, value, values}
-use Rattle.ed_syntax.specs.Ranges.{first_of_two, last_of_two}
-use Rattle.ed_syntax.specs.Applied as applied
+use Rattle.ed_syntax.specs.meaning.States as editor
+use Rattle.ed_syntax.specs.meaning.Verbs.{takes, given_or, here}
+use Rattle.ed_syntax.specs.meaning.Values as concrete
+use Rattle.ed_syntax.specs.meaning.Values.{◌>>◌, within, base_number, value, values}
+use Rattle.ed_syntax.specs.meaning.Ranges.{first_of_two, last_of_two}
+use Rattle.ed_syntax.specs.meaning.Applied as applied
 use Rattle.ed_rules.specs.declared.state.State.{State}
 use Rattle.ed_rules.specs.Marks.{no_marks}
 use Rattle.ed_rules.specs.Pieces.{with_zone}

@@ -10,16 +10,16 @@ use Rattle.ed_syntax.specs.declared.request.Answer.TheVariants as answer
 use Rattle.ed_syntax.specs.declared.verbs.Taking.TheVariants as many
 use Rattle.ed_syntax.specs.Commands as ed
 use Rattle.ed_syntax.specs.Commands.{Address, Addresses, Without, One, Comma, Semicolon, Form, Verb, Command}
-use Rattle.ed_syntax.specs.States as editor
-use Rattle.ed_syntax.specs.States.{Kept, kept}
-use Rattle.ed_syntax.specs.Verbs.{takes, given_or, may_have}
-use Rattle.ed_syntax.specs.Values.{◌>>◌, values}
-use Rattle.ed_syntax.specs.Ranges.{Span, span, first_of_two, last_of_two, spanned}
-use Rattle.ed_syntax.specs.Forms.{lines_written}
-use Rattle.ed_syntax.specs.Effects as effects
-use Rattle.ed_syntax.specs.Effects.{Outcome, Effect, Makes, Asks}
-use Rattle.ed_syntax.specs.Files as file
-use Rattle.ed_syntax.specs.Applied.{making, settled, suffix_written, completed, targeted, effect_of, command}
+use Rattle.ed_syntax.specs.meaning.States as editor
+use Rattle.ed_syntax.specs.meaning.States.{Kept, kept}
+use Rattle.ed_syntax.specs.meaning.Verbs.{takes, given_or, may_have}
+use Rattle.ed_syntax.specs.meaning.Values.{◌>>◌, values}
+use Rattle.ed_syntax.specs.meaning.Ranges.{Span, span, first_of_two, last_of_two, spanned}
+use Rattle.ed_syntax.specs.meaning.Forms.{lines_written}
+use Rattle.ed_syntax.specs.meaning.Effects as effects
+use Rattle.ed_syntax.specs.meaning.Effects.{Outcome, Effect, Makes, Asks}
+use Rattle.ed_syntax.specs.meaning.Files as file
+use Rattle.ed_syntax.specs.meaning.Applied.{making, settled, suffix_written, completed, targeted, effect_of, command}
 use Rattle.ed_rules.specs.declared.state.State.{State}
 use Rattle.ed_rules.specs.Pieces.{with_zone, ended}
 use Rattle.ed_rules.specs.Lines.{appended, put_before, changed_to, deleted, joined, joined_given, copied_lines, current_at}
@@ -27,7 +27,7 @@ use Rattle.ed_rules.specs.Move.{moved_lines}
 use Rattle.ed_rules.specs.Files.{whole_or_ranged, file_written, file_named, saved}
 use Rattle.ed_rules.specs.Addresses as addresses
 use Rattle.ed_rules.specs.Addresses.{addressed, standing, last_given, evaluated, ranged}
-use Rattle.ed_syntax.specs.Readable.{enters_lines, is_readable}
+use Rattle.ed_syntax.specs.spelling.Readable.{enters_lines, is_readable}
 use Rattle.ed_rules.specs.Rules.{taken, effect, suffixed, step_at}
 use Rattle.ed_rules.specs.Exact.{are_by_number, is_exact_verb}
 use Rattle.ed_rules.specs.LineBounds.{most_lines}

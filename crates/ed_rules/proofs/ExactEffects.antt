@@ -12,13 +12,13 @@ use Rattle.zones.specs.Zone.{Bounds}
 use Rattle.zones.specs.Known.{known, least, greatest}
 use Rattle.zones.specs.Steps.{after_set, after_shift}
 use Rattle.zones.specs.Bound.{sum_of}
-use Rattle.ed_syntax.specs.States as editor
-use Rattle.ed_syntax.specs.States.{kept}
-use Rattle.ed_syntax.specs.Effects as effects
-use Rattle.ed_syntax.specs.Effects.{Outcome, Effect, Makes, Asks, only, at_line}
-use Rattle.ed_syntax.specs.Applied.{making, settled}
-use Rattle.ed_syntax.specs.Ranges.{Span, span}
-use Rattle.ed_syntax.specs.Values.{◌>>◌}
+use Rattle.ed_syntax.specs.meaning.States as editor
+use Rattle.ed_syntax.specs.meaning.States.{kept}
+use Rattle.ed_syntax.specs.meaning.Effects as effects
+use Rattle.ed_syntax.specs.meaning.Effects.{Outcome, Effect, Makes, Asks, only, at_line}
+use Rattle.ed_syntax.specs.meaning.Applied.{making, settled}
+use Rattle.ed_syntax.specs.meaning.Ranges.{Span, span}
+use Rattle.ed_syntax.specs.meaning.Values.{◌>>◌}
 use Rattle.ed_rules.specs.declared.state.State.{State}
 use Rattle.ed_rules.specs.Marks.{no_marks, for_each_sure}
 use Rattle.ed_rules.specs.Pieces.{with_zone, modified, inserted, left_over, current_replaced, replaced, mark_replaced}

@@ -11,13 +11,13 @@ use Rattle.zones.specs.Zone.{Bounds}
 use Rattle.zones.specs.Known.{known}
 use Rattle.ed_syntax.specs.declared.request.Answer.TheVariants as answer
 use Rattle.ed_syntax.specs.Commands.{Addresses, Without, One, Comma, Semicolon}
-use Rattle.ed_syntax.specs.States as editor
-use Rattle.ed_syntax.specs.States.{kept}
-use Rattle.ed_syntax.specs.Effects.{Outcome, Effect, Makes, only}
-use Rattle.ed_syntax.specs.Applied.{making}
-use Rattle.ed_syntax.specs.Files as file
-use Rattle.ed_syntax.specs.Ranges.{Span, span}
-use Rattle.ed_syntax.specs.Values.{◌>>◌}
+use Rattle.ed_syntax.specs.meaning.States as editor
+use Rattle.ed_syntax.specs.meaning.States.{kept}
+use Rattle.ed_syntax.specs.meaning.Effects.{Outcome, Effect, Makes, only}
+use Rattle.ed_syntax.specs.meaning.Applied.{making}
+use Rattle.ed_syntax.specs.meaning.Files as file
+use Rattle.ed_syntax.specs.meaning.Ranges.{Span, span}
+use Rattle.ed_syntax.specs.meaning.Values.{◌>>◌}
 use Rattle.ed_rules.specs.declared.state.Changed.{Changed}
 use Rattle.ed_rules.specs.declared.state.State.{State}
 use Rattle.ed_rules.specs.Choices.{Choice, has_choice}

@@ -9,9 +9,9 @@ use Rattle.zones.specs.Known.{known}
 use Rattle.zones.specs.Steps.{after_set, after_guard}
 use Rattle.ed_syntax.specs.declared.verbs.Taking.TheVariants as many
 use Rattle.ed_syntax.specs.Commands.{Addresses, Without, One, Comma, Semicolon}
-use Rattle.ed_syntax.specs.States as editor
-use Rattle.ed_syntax.specs.Verbs.{given_or}
-use Rattle.ed_syntax.specs.Ranges.{Span, span, first_of_two, last_of_two, spanned, ordered, single, from_first, whole}
+use Rattle.ed_syntax.specs.meaning.States as editor
+use Rattle.ed_syntax.specs.meaning.Verbs.{given_or}
+use Rattle.ed_syntax.specs.meaning.Ranges.{Span, span, first_of_two, last_of_two, spanned, ordered, single, from_first, whole}
 use Rattle.ed_rules.specs.declared.state.State.{State}
 use Rattle.ed_rules.specs.Pieces.{needing, with_zone, lifted}
 use Rattle.ed_rules.specs.Lines.{lifted_range}

@@ -10,7 +10,7 @@ use Rattle.zones.proofs.Diagonal.{HasLowDiagonal-any_zone}
 use Rattle.zones.proofs.Soundness.{Holds-any_zone}
 use Rattle.zones.proofs.Fixed.{Fixes-any_zone, Fixes-fewer, Fixes-after_set}
 use Rattle.zones.proofs.Guarded.{Fixes-after_guards}
-use Rattle.ed_syntax.specs.States as editor
+use Rattle.ed_syntax.specs.meaning.States as editor
 use Rattle.ed_rules.specs.Choices.{Choice}
 use Rattle.ed_rules.specs.States.{start}
 use Rattle.ed_rules.specs.LineBounds.{most_lines}

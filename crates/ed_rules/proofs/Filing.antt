@@ -14,15 +14,15 @@ use Rattle.ed_syntax.specs.declared.request.Answer.{Answer}
 use Rattle.ed_syntax.specs.declared.request.Answer.TheVariants as answer
 use Rattle.ed_syntax.specs.declared.verbs.Taking.TheVariants as many
 use Rattle.ed_syntax.specs.Commands.{Addresses, Without}
-use Rattle.ed_syntax.specs.States as editor
-use Rattle.ed_syntax.specs.States.{Past, Was, kept}
-use Rattle.ed_syntax.specs.Values.{◌>>◌}
-use Rattle.ed_syntax.specs.Ranges.{Span, spanned}
-use Rattle.ed_syntax.specs.Effects as effects
-use Rattle.ed_syntax.specs.Effects.{Outcome, Effect, Makes, Asks, only}
-use Rattle.ed_syntax.specs.Applied.{making, past_after}
-use Rattle.ed_syntax.specs.Files as file
-use Rattle.ed_syntax.specs.Files.{used_path, with_bytes, is_whole, with_lines}
+use Rattle.ed_syntax.specs.meaning.States as editor
+use Rattle.ed_syntax.specs.meaning.States.{Past, Was, kept}
+use Rattle.ed_syntax.specs.meaning.Values.{◌>>◌}
+use Rattle.ed_syntax.specs.meaning.Ranges.{Span, spanned}
+use Rattle.ed_syntax.specs.meaning.Effects as effects
+use Rattle.ed_syntax.specs.meaning.Effects.{Outcome, Effect, Makes, Asks, only}
+use Rattle.ed_syntax.specs.meaning.Applied.{making, past_after}
+use Rattle.ed_syntax.specs.meaning.Files as file
+use Rattle.ed_syntax.specs.meaning.Files.{used_path, with_bytes, is_whole, with_lines}
 use Rattle.ed_rules.specs.declared.state.Changed.{Changed}
 use Rattle.ed_rules.specs.declared.state.State.{State}
 use Rattle.ed_rules.specs.Choices.{has_choice}

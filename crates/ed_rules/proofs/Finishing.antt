@@ -8,12 +8,12 @@ use Rattle.ed_base.specs.Buffer.{Line, plain_line, has_letter, marked_place}
 use Rattle.zones.specs.Zone.{Bounds, Numbers, Holds}
 use Rattle.zones.proofs.Soundness.{Holds-after_guard, Holds-after_forget}
 use Rattle.ed_syntax.specs.Commands.{Form, Command}
-use Rattle.ed_syntax.specs.States as editor
-use Rattle.ed_syntax.specs.States.{Kept, kept}
-use Rattle.ed_syntax.specs.Effects.{Outcome, Effect, Makes, Asks}
-use Rattle.ed_syntax.specs.Values.{◌>>◌}
-use Rattle.ed_syntax.specs.Forms.{lines_written}
-use Rattle.ed_syntax.specs.Applied.{settled, suffix_written, completed}
+use Rattle.ed_syntax.specs.meaning.States as editor
+use Rattle.ed_syntax.specs.meaning.States.{Kept, kept}
+use Rattle.ed_syntax.specs.meaning.Effects.{Outcome, Effect, Makes, Asks}
+use Rattle.ed_syntax.specs.meaning.Values.{◌>>◌}
+use Rattle.ed_syntax.specs.meaning.Forms.{lines_written}
+use Rattle.ed_syntax.specs.meaning.Applied.{settled, suffix_written, completed}
 use Rattle.ed_rules.specs.declared.state.State.{State}
 use Rattle.ed_rules.specs.StandsFor.{Reads, StandsBy}
 use Rattle.ed_rules.proofs.Basics.{Agrees}

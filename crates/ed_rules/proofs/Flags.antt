@@ -7,12 +7,12 @@ use Rattle.ed_base.specs.Buffer.{Line, has_letter, with_flag, flagged_at, marked
 use Rattle.ed_base.specs.Parts.{between, replaced}
 use Rattle.ed_base.proofs.PartLemmas.{whole}
 use Rattle.zones.specs.Zone.{Bounds, Numbers}
-use Rattle.ed_syntax.specs.States as editor
-use Rattle.ed_syntax.specs.States.{kept, unflagged}
-use Rattle.ed_syntax.specs.Globals.{flagged_line}
+use Rattle.ed_syntax.specs.meaning.States as editor
+use Rattle.ed_syntax.specs.meaning.States.{kept, unflagged}
+use Rattle.ed_syntax.specs.meaning.Globals.{flagged_line}
 use Rattle.ed_syntax.specs.declared.command.Sense.{Sense}
 use Rattle.ed_rules.specs.declared.state.State.{State}
-use Rattle.ed_syntax.specs.CommandLaws.{FlagsMarkNothing, FlagsAreNoBytes}
+use Rattle.ed_syntax.specs.meaning.CommandLaws.{FlagsMarkNothing, FlagsAreNoBytes}
 use Rattle.ed_rules.specs.StandsFor.{Reads, HoldsBy, AllowsKept, AreLettered}
 use Rattle.ed_rules.specs.States.{old_of}
 use Rattle.ed_rules.proofs.Standing.{Stands}

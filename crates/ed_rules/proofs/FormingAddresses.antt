@@ -10,7 +10,7 @@ use Rattle.ed_syntax.specs.declared.verbs.Taking.{Taking}
 use Rattle.ed_syntax.specs.declared.verbs.Taking.TheVariants as many
 use Rattle.ed_syntax.specs.Commands as ed
 use Rattle.ed_syntax.specs.Commands.{Base, Address, Addresses, Without, One, Comma, Semicolon, Verb}
-use Rattle.ed_syntax.specs.Verbs.{takes, given_or}
+use Rattle.ed_syntax.specs.meaning.Verbs.{takes, given_or}
 use Rattle.ed_rules.specs.declared.state.State.{State}
 use Rattle.ed_rules.specs.Choices.{has_choice}
 use Rattle.ed_rules.specs.Marks.{mark_name, is_sure}
@@ -24,7 +24,7 @@ use Rattle.ed_rules.proofs.Speaking.{IsNamed, Speaks-set}
 use Rattle.ed_rules.proofs.Naming.{is_spoken, letter-spoken}
 use Rattle.ed_rules.proofs.SpeakingPieces.{IsLow, spoken, Inner-set, Inner-found, Inner-lifted, Inner-lifted_range}
 use Rattle.ed_rules.proofs.RisingChoices.{SetIsFormed-only}
-use Rattle.ed_syntax.proofs.ResultLemmas.{IfOk-bind}
+use Rattle.ed_syntax.proofs.meaning.ResultLemmas.{IfOk-bind}
 use Rattle.ed_rules.proofs.Forming.{Forming, forming-zone, forming-patterns, IfOk-needing, IfOk-need_then}
 
 pub possible-formed : (text : Option (List ℕ)) (s : State) → ChoiceIsBytes text → Forming s → IfOk (possible_patterns text s) SetIsFormed

@@ -12,7 +12,7 @@ use Rattle.zones.specs.Steps.{after_guard, after_set, after_shift, after_forget}
 use Rattle.ed_syntax.specs.declared.replacement.Part.{Part}
 use Rattle.ed_syntax.specs.declared.replacement.Which.{Which}
 use Rattle.ed_syntax.specs.Commands.{Addresses, Without, One, Comma, Semicolon}
-use Rattle.ed_syntax.specs.Values.{◌>>◌}
+use Rattle.ed_syntax.specs.meaning.Values.{◌>>◌}
 use Rattle.ed_rules.specs.declared.state.Old.{Old}
 use Rattle.ed_rules.specs.declared.state.Changed.{Changed}
 use Rattle.ed_rules.specs.declared.state.Replacements.{Replacements}
@@ -35,7 +35,7 @@ use Rattle.ed_rules.proofs.Speaking.{IsNamed, Speaks-shift}
 use Rattle.ed_rules.proofs.Naming.{is_spoken, letter-spoken, Speaks-spoken, Speaks-without_addresses, Speaks-lost, Speaks-marked}
 use Rattle.ed_rules.proofs.SpeakingPieces.{Inner, IsLow, Inner-guard, Inner-set, Inner-shift, Inner-forget, Inner-inserted, Inner-current_inserted, Inner-left_over, Inner-current_replaced, Inner-moved_up, Inner-moved_down, Inner-current_substituted, Inner-current_read, Inner-zone_loaded}
 use Rattle.ed_rules.proofs.RisingChoices.{SetIsFormed-only, SetIsFormed-filled}
-use Rattle.ed_syntax.proofs.ResultLemmas.{IfOk-bind}
+use Rattle.ed_syntax.proofs.meaning.ResultLemmas.{IfOk-bind}
 use Rattle.ed_rules.proofs.Forming.{OldSpeaks, IsChange, IsKind, Forming, Closed, forming-zone, forming-patterns, forming-kind, forming-names, forming-change, forming-flag, Forming-modified, past-both, old-both, Forming-join, IfOk-needing}
 use Rattle.ed_rules.proofs.FormingAddresses.{possible-formed}
 

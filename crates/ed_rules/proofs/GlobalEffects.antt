@@ -5,14 +5,14 @@ use Rattle.ed_base.specs.declared.fault.Fault.TheVariants as fault
 use Rattle.ed_base.specs.Buffer.{Line}
 use Rattle.ed_base.specs.Parts.{between, replaced}
 use Rattle.ed_syntax.specs.declared.command.Sense.{Sense}
-use Rattle.ed_syntax.specs.States as editor
-use Rattle.ed_syntax.specs.States.{Past, Nothing, Same, Was, Kept, kept}
-use Rattle.ed_syntax.specs.Ranges.{Span}
-use Rattle.ed_syntax.specs.Values.{◌>>◌, used_pattern}
-use Rattle.ed_syntax.specs.Effects as effects
-use Rattle.ed_syntax.specs.Effects.{Outcome, Effect, Makes, only}
-use Rattle.ed_syntax.specs.Globals.{flagged_line, flagged}
-use Rattle.ed_syntax.specs.Applied.{making}
+use Rattle.ed_syntax.specs.meaning.States as editor
+use Rattle.ed_syntax.specs.meaning.States.{Past, Nothing, Same, Was, Kept, kept}
+use Rattle.ed_syntax.specs.meaning.Ranges.{Span}
+use Rattle.ed_syntax.specs.meaning.Values.{◌>>◌, used_pattern}
+use Rattle.ed_syntax.specs.meaning.Effects as effects
+use Rattle.ed_syntax.specs.meaning.Effects.{Outcome, Effect, Makes, only}
+use Rattle.ed_syntax.specs.meaning.Globals.{flagged_line, flagged}
+use Rattle.ed_syntax.specs.meaning.Applied.{making}
 use Rattle.ed_rules.specs.declared.state.Old.{Old}
 use Rattle.ed_rules.specs.declared.state.State.{State}
 use Rattle.ed_rules.specs.Choices.{Choice}

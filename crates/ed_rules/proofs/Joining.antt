@@ -7,8 +7,8 @@ use Rattle.zones.specs.Zone.{Bounds, Numbers, Holds}
 use Rattle.zones.specs.Steps.{join_of, widening_of}
 use Rattle.zones.proofs.Soundness.{Holds-join_of, Holds-join_of_other, Holds-widening_of, Holds-widening_of_other}
 use Rattle.ed_syntax.specs.declared.replacement.Part.{Part}
-use Rattle.ed_syntax.specs.States as editor
-use Rattle.ed_syntax.specs.States.{Past, Nothing, Same, Was, Kept}
+use Rattle.ed_syntax.specs.meaning.States as editor
+use Rattle.ed_syntax.specs.meaning.States.{Past, Nothing, Same, Was, Kept}
 use Rattle.ed_rules.specs.declared.state.Old.{Old}
 use Rattle.ed_rules.specs.declared.state.Changed.{Changed}
 use Rattle.ed_rules.specs.declared.state.Replacements.{Replacements}

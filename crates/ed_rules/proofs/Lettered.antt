@@ -3,12 +3,12 @@ use Rattle.std.proofs.Common.{◌≡◌, true, List, Option, Ok}
 use Rattle.ed_base.specs.Buffer.{Line}
 use Rattle.ed_syntax.specs.declared.request.Answer.{Answer}
 use Rattle.ed_syntax.specs.Commands.{Command}
-use Rattle.ed_syntax.specs.States as editor
-use Rattle.ed_syntax.specs.States.{Past, Nothing, Same, Was}
-use Rattle.ed_syntax.specs.Effects.{Outcome, Makes}
-use Rattle.ed_syntax.specs.Applied.{command}
-use Rattle.ed_syntax.specs.Readable.{enters_lines}
-use Rattle.ed_syntax.specs.CommandLaws.{WellMarked, AreWhole, OfPast, OfLines, CommandsKeepMarks, CommandsKeepLines}
+use Rattle.ed_syntax.specs.meaning.States as editor
+use Rattle.ed_syntax.specs.meaning.States.{Past, Nothing, Same, Was}
+use Rattle.ed_syntax.specs.meaning.Effects.{Outcome, Makes}
+use Rattle.ed_syntax.specs.meaning.Applied.{command}
+use Rattle.ed_syntax.specs.spelling.Readable.{enters_lines}
+use Rattle.ed_syntax.specs.meaning.CommandLaws.{WellMarked, AreWhole, OfPast, OfLines, CommandsKeepMarks, CommandsKeepLines}
 use Rattle.ed_rules.specs.StandsFor.{AreLettered, KeepsLettered}
 
 pub lettered : (lines : List Line) → WellMarked lines → AreWhole lines → AreLettered lines

@@ -8,17 +8,17 @@ use Rattle.zones.specs.Steps.{after_forget}
 use Rattle.zones.proofs.Soundness.{Holds-after_guard, Holds-after_forget}
 use Rattle.zones.proofs.Known.{updated-other}
 use Rattle.ed_syntax.specs.Commands.{Command, Step}
-use Rattle.ed_syntax.specs.States as editor
-use Rattle.ed_syntax.specs.States.{Kept, Past, Same, Was, Open, kept}
+use Rattle.ed_syntax.specs.meaning.States as editor
+use Rattle.ed_syntax.specs.meaning.States.{Kept, Past, Same, Was, Open, kept}
 use Rattle.ed_base.specs.declared.fault.Fault.{Fault}
-use Rattle.ed_syntax.specs.Effects.{Outcome, Effect, Makes}
+use Rattle.ed_syntax.specs.meaning.Effects.{Outcome, Effect, Makes}
 use Rattle.ed_syntax.specs.declared.request.Answer.{Answer}
-use Rattle.ed_syntax.specs.Applied.{command}
-use Rattle.ed_syntax.specs.CommandLaws.{FlagsMarkNothing, FlagsAreNoBytes}
+use Rattle.ed_syntax.specs.meaning.Applied.{command}
+use Rattle.ed_syntax.specs.meaning.CommandLaws.{FlagsMarkNothing, FlagsAreNoBytes}
 use Rattle.ed_rules.specs.Rules.{step}
 use Rattle.ed_rules.specs.declared.state.Undo.{Undo}
 use Rattle.ed_rules.specs.Soundness.{IsDone, CommandIsSound}
-use Rattle.ed_syntax.specs.Globals.{opened, taken_at, past_of_global, closed}
+use Rattle.ed_syntax.specs.meaning.Globals.{opened, taken_at, past_of_global, closed}
 use Rattle.ed_rules.specs.declared.state.State.{State}
 use Rattle.ed_rules.specs.StandsFor.{HoldsBy, StandsBy, StandsFor, AllowsPast, AllowsKept, KeepsLettered, AreLettered}
 use Rattle.ed_rules.specs.States.{old_of}

@@ -5,8 +5,8 @@ use Rattle.std.proofs.lemmas.Bool.{cases_lt}
 use Rattle.std.proofs.lemmas.List.{length-take-le, get_or_append_left, get_or-append_right, get_or-take, get_or-drop}
 use Rattle.ed_base.specs.Buffer.{Line, plain_line, has_letter, AtMostOnce}
 use Rattle.ed_base.specs.Parts as parts
-use Rattle.ed_syntax.specs.CommandLaws.{WellMarked}
-use Rattle.ed_syntax.proofs.MarkLemmas.{well-carried}
+use Rattle.ed_syntax.specs.meaning.CommandLaws.{WellMarked}
+use Rattle.ed_syntax.proofs.meaning.MarkLemmas.{well-carried}
 use Rattle.zones.specs.Bound.{Obeys, sum_of, negative_of}
 use Rattle.zones.specs.Zone.{Bounds, Numbers, Holds, bound, updated}
 use Rattle.zones.specs.Steps.{after_shift, after_set, after_forget}

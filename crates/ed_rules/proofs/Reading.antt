@@ -9,8 +9,8 @@ use Rattle.zones.specs.Zone.{Bounds, Numbers, Holds, bound, updated}
 use Rattle.zones.specs.Steps.{after_guard, after_forget}
 use Rattle.zones.proofs.Soundness.{Obeys-bound, Holds-after_guard, Holds-after_set, Holds-after_forget}
 use Rattle.zones.proofs.Known.{updated-other}
-use Rattle.ed_syntax.specs.States as editor
-use Rattle.ed_syntax.specs.Ranges.{Span}
+use Rattle.ed_syntax.specs.meaning.States as editor
+use Rattle.ed_syntax.specs.meaning.Ranges.{Span}
 use Rattle.ed_rules.specs.declared.state.State.{State}
 use Rattle.ed_rules.specs.Marks.{mark_name, no_marks}
 use Rattle.ed_rules.specs.StandsFor.{HoldsBy}

@@ -7,8 +7,8 @@ use Rattle.zones.specs.Bound.{Obeys, negative_of}
 use Rattle.zones.specs.Zone.{Bounds, Numbers, Holds, bound, updated}
 use Rattle.zones.specs.Steps.{after_shift, after_set, after_guard, after_forget}
 use Rattle.zones.proofs.Soundness.{Obeys-bound, Holds-after_shift, Holds-after_set, Holds-after_guard, Holds-after_forget, Obeys-sum_of}
-use Rattle.ed_syntax.specs.Ranges.{Span}
-use Rattle.ed_syntax.specs.States as editor
+use Rattle.ed_syntax.specs.meaning.Ranges.{Span}
+use Rattle.ed_syntax.specs.meaning.States as editor
 use Rattle.ed_rules.specs.declared.state.State.{State}
 use Rattle.ed_rules.specs.StandsFor.{HoldsBy}
 use Rattle.ed_rules.proofs.LettersInLines.{set-off, line_with, line_with-replaced_before, line_with-replaced_after, length-replaced}

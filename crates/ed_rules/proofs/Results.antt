@@ -19,10 +19,10 @@ use Rattle.ed_syntax.specs.declared.replacement.Part.{Part}
 use Rattle.ed_syntax.specs.declared.replacement.Part.TheVariants as part
 use Rattle.ed_syntax.specs.declared.replacement.Which.{Which}
 use Rattle.ed_syntax.specs.declared.replacement.Which.TheVariants as which
-use Rattle.ed_syntax.specs.Substitution.{Found, is_empty, taken_first, taken_from, taken, picked, group_bytes, expanded, rewritten, replaced_in, split_at_newlines, substituted}
-use Rattle.ed_syntax.specs.SubstitutedLines.{made_of, Results, onto, each}
+use Rattle.ed_syntax.specs.meaning.Substitution.{Found, is_empty, taken_first, taken_from, taken, picked, group_bytes, expanded, rewritten, replaced_in, split_at_newlines, substituted}
+use Rattle.ed_syntax.specs.meaning.SubstitutedLines.{made_of, Results, onto, each}
 use Rattle.ed_rules.specs.Addresses.{is_always}
-use Rattle.ed_syntax.specs.CommandLaws.{AreWhole}
+use Rattle.ed_syntax.specs.meaning.CommandLaws.{AreWhole}
 use Rattle.ed_rules.specs.StandsFor.{ends_line}
 use Rattle.ed_rules.specs.Substituting.{takes_first}
 use Rattle.ed_rules.proofs.LettersInLines.{line_with, one_more, one_more-none, line_with-plain}

@@ -12,9 +12,9 @@ use Rattle.bre_parse.specs.Always.{always}
 use Rattle.bre_parse.proofs.AlwaysLaw.{pattern_matches}
 use Rattle.zones.specs.Zone.{Bounds, Numbers, Holds, updated}
 use Rattle.zones.proofs.Soundness.{Holds-after_guard, Holds-after_shift, Holds-after_forget}
-use Rattle.ed_syntax.specs.States as editor
-use Rattle.ed_syntax.specs.Values.{matches, matches_line, count_from, upwards, lines_forward, lines_backward}
-use Rattle.ed_syntax.specs.Values as concrete
+use Rattle.ed_syntax.specs.meaning.States as editor
+use Rattle.ed_syntax.specs.meaning.Values.{matches, matches_line, count_from, upwards, lines_forward, lines_backward}
+use Rattle.ed_syntax.specs.meaning.Values as concrete
 use Rattle.ed_rules.specs.Addresses.{is_always, found}
 use Rattle.zones.proofs.Known.{updated-same, updated-other}
 

@@ -4,16 +4,16 @@ use Rattle.ed_base.specs.declared.fault.Fault.{Fault}
 use Rattle.ed_base.specs.declared.fault.Fault.TheVariants as fault
 use Rattle.ed_syntax.specs.declared.request.Answer.{Answer}
 use Rattle.ed_syntax.specs.Commands.{Command}
-use Rattle.ed_syntax.specs.States as editor
-use Rattle.ed_syntax.specs.Effects.{Outcome, Effect, Makes, Asks}
-use Rattle.ed_syntax.specs.Applied.{command}
-use Rattle.ed_syntax.specs.CommandLaws.{SpansAreInOrder, CommandsKeepMarks, CommandsKeepLines}
-use Rattle.ed_syntax.specs.Values.{◌>>◌}
-use Rattle.ed_syntax.specs.Verbs.{takes, given_or}
+use Rattle.ed_syntax.specs.meaning.States as editor
+use Rattle.ed_syntax.specs.meaning.Effects.{Outcome, Effect, Makes, Asks}
+use Rattle.ed_syntax.specs.meaning.Applied.{command}
+use Rattle.ed_syntax.specs.meaning.CommandLaws.{SpansAreInOrder, CommandsKeepMarks, CommandsKeepLines}
+use Rattle.ed_syntax.specs.meaning.Values.{◌>>◌}
+use Rattle.ed_syntax.specs.meaning.Verbs.{takes, given_or}
 use Rattle.ed_rules.specs.declared.state.State.{State}
 use Rattle.ed_rules.specs.Pieces.{needing}
 use Rattle.ed_rules.specs.Addresses.{standing}
-use Rattle.ed_syntax.specs.Readable.{enters_lines}
+use Rattle.ed_syntax.specs.spelling.Readable.{enters_lines}
 use Rattle.ed_rules.specs.Rules.{step_at, step, fault_of}
 use Rattle.ed_rules.specs.Soundness.{IsUnserved, IsDone, CommandIsSound}
 use Rattle.ed_rules.specs.StandsFor.{StandsFor}

@@ -4,7 +4,7 @@ use Rattle.ed_base.specs.Buffer.{Line}
 use Rattle.zones.specs.Zone.{Numbers, updated}
 use Rattle.zones.specs.Steps.{after_set, after_guard}
 use Rattle.zones.proofs.Soundness.{Holds-after_set, Holds-after_guard}
-use Rattle.ed_syntax.specs.States as editor
+use Rattle.ed_syntax.specs.meaning.States as editor
 use Rattle.ed_rules.specs.declared.state.State.{State}
 use Rattle.ed_rules.specs.Choices.{Choice, has_choice}
 use Rattle.ed_rules.specs.StandsFor.{Reads, StandsBy}

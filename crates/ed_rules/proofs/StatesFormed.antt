@@ -5,7 +5,7 @@ use Rattle.ed_base.specs.declared.fault.Fault.TheVariants as fault
 use Rattle.zones.specs.Known.{known}
 use Rattle.ed_syntax.specs.Commands as ed
 use Rattle.ed_syntax.specs.Commands.{Addresses, Verb, Form, Command, Step}
-use Rattle.ed_syntax.specs.Verbs.{takes, given_or}
+use Rattle.ed_syntax.specs.meaning.Verbs.{takes, given_or}
 use Rattle.ed_rules.specs.declared.state.Undo.{Undo}
 use Rattle.ed_rules.specs.declared.state.State.{State}
 use Rattle.ed_rules.specs.Choices.{Choice}
@@ -15,13 +15,13 @@ use Rattle.ed_rules.specs.States.{start}
 use Rattle.ed_rules.specs.Order.{join, widen}
 use Rattle.ed_rules.specs.Pieces.{with_zone, ended}
 use Rattle.ed_rules.specs.Addresses.{addressed, standing, targeted}
-use Rattle.ed_syntax.specs.Readable.{enters_lines}
+use Rattle.ed_syntax.specs.spelling.Readable.{enters_lines}
 use Rattle.ed_rules.specs.Rules.{taken, effect, suffixed, step_at, step}
 use Rattle.ed_rules.specs.Globals.{finished, line_taken, body_entry, list_may_alter, old_if, undo_of_global, loop_end}
 use Rattle.ed_rules.proofs.SpeakingPieces.{Speaks-start, Inner-line_taken}
 use Rattle.ed_rules.proofs.RisingChoices.{SetIsFormed-only}
 use Rattle.ed_rules.proofs.CountedLines.{start-counted}
-use Rattle.ed_syntax.proofs.ResultLemmas.{IfOk-bind}
+use Rattle.ed_syntax.proofs.meaning.ResultLemmas.{IfOk-bind}
 use Rattle.std.proofs.lemmas.Result.{IfOk-weaker}
 use Rattle.ed_rules.proofs.Forming.{OldSpeaks, Forming, Closed, Closed-forming, formed-Closed, Closed-formed, forming-zone, forming-change, AtEnd, finished-AtEnd, AtEnd-ended, Closed-join, Closed-widen, IfOk-needing, IfOk-need_then}
 use Rattle.ed_rules.proofs.FormingAddresses.{addressed-formed, targeted-formed, given-bytes, own-bytes, target-bytes, taken-formed}

@@ -10,8 +10,8 @@ use Rattle.zones.specs.Steps.{after_shift, after_set, after_guard, after_forget}
 use Rattle.zones.specs.Known.{known}
 use Rattle.zones.proofs.Soundness.{Obeys-bound, Holds-after_shift, Holds-after_set, Holds-after_guard, Holds-after_forget}
 use Rattle.zones.proofs.Known.{updated-same, updated-other, known-true}
-use Rattle.ed_syntax.specs.Ranges.{Span}
-use Rattle.ed_syntax.specs.States as editor
+use Rattle.ed_syntax.specs.meaning.Ranges.{Span}
+use Rattle.ed_syntax.specs.meaning.States as editor
 use Rattle.ed_rules.specs.declared.state.State.{State}
 use Rattle.ed_rules.specs.Marks.{mark_name}
 use Rattle.ed_rules.specs.Pieces.{with_zone, mark_lost}

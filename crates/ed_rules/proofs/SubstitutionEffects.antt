@@ -14,18 +14,18 @@ use Rattle.ed_syntax.specs.declared.replacement.Part.{Part}
 use Rattle.ed_syntax.specs.declared.replacement.Part.TheVariants as part
 use Rattle.ed_syntax.specs.declared.replacement.Which.{Which}
 use Rattle.ed_syntax.specs.Commands.{Form}
-use Rattle.ed_syntax.specs.States as editor
-use Rattle.ed_syntax.specs.Ranges.{Span}
-use Rattle.ed_syntax.specs.Values.{◌>>◌, used_pattern}
-use Rattle.ed_syntax.specs.Verbs.{is_split}
-use Rattle.ed_syntax.specs.Effects as effects
-use Rattle.ed_syntax.specs.Effects.{Outcome, Effect, Makes}
-use Rattle.ed_syntax.specs.Applied.{making, settled}
-use Rattle.ed_syntax.specs.SubstitutedLines.{made_of, Results, each, used_replacement, flag_written, made, substitute}
+use Rattle.ed_syntax.specs.meaning.States as editor
+use Rattle.ed_syntax.specs.meaning.Ranges.{Span}
+use Rattle.ed_syntax.specs.meaning.Values.{◌>>◌, used_pattern}
+use Rattle.ed_syntax.specs.meaning.Verbs.{is_split}
+use Rattle.ed_syntax.specs.meaning.Effects as effects
+use Rattle.ed_syntax.specs.meaning.Effects.{Outcome, Effect, Makes}
+use Rattle.ed_syntax.specs.meaning.Applied.{making, settled}
+use Rattle.ed_syntax.specs.meaning.SubstitutedLines.{made_of, Results, each, used_replacement, flag_written, made, substitute}
 use Rattle.ed_rules.specs.declared.state.Replacements.{Replacements}
 use Rattle.ed_rules.specs.declared.state.State.{State}
 use Rattle.ed_rules.specs.Choices.{Choice, has_choice}
-use Rattle.ed_syntax.specs.CommandLaws.{AreWhole}
+use Rattle.ed_syntax.specs.meaning.CommandLaws.{AreWhole}
 use Rattle.ed_rules.specs.StandsFor.{ends_line, allows_replacement}
 use Rattle.ed_rules.specs.Order.{join}
 use Rattle.ed_rules.specs.Pieces.{with_zone, modified}

@@ -3,8 +3,8 @@ use Rattle.std.proofs.Common.{◌≡◌, Bool, true, false, cond, List, Option, 
 use Rattle.std.specs.List.{list_any}
 use Rattle.zones.proofs.Soundness.{Holds-covers}
 use Rattle.ed_syntax.specs.declared.replacement.Part.{Part}
-use Rattle.ed_syntax.specs.States as editor
-use Rattle.ed_syntax.specs.States.{Past, Nothing, Same, Was, Kept}
+use Rattle.ed_syntax.specs.meaning.States as editor
+use Rattle.ed_syntax.specs.meaning.States.{Past, Nothing, Same, Was, Kept}
 use Rattle.ed_rules.specs.declared.state.Old.{Old}
 use Rattle.ed_rules.specs.declared.state.State.{State}
 use Rattle.ed_rules.specs.Order.{join, widen, CoversOld, Covers}

@@ -13,8 +13,8 @@ use Rattle.zones.specs.Known.{known}
 use Rattle.zones.specs.Steps.{after_set, after_guard, after_shift, after_forget}
 use Rattle.ed_syntax.specs.Commands as ed
 use Rattle.ed_syntax.specs.Commands.{Base, Address, Addresses, Without, One, Comma, Semicolon}
-use Rattle.ed_syntax.specs.Verbs.{here}
-use Rattle.ed_syntax.specs.Values.{◌>>◌}
+use Rattle.ed_syntax.specs.meaning.Verbs.{here}
+use Rattle.ed_syntax.specs.meaning.Values.{◌>>◌}
 use Rattle.ed_rules.specs.declared.state.State.{State}
 use Rattle.ed_rules.specs.Choices.{Choice, has_choice}
 use Rattle.ed_rules.specs.Marks.{mark_name, is_sure}

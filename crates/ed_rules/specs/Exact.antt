@@ -3,7 +3,7 @@ use Rattle.std.specs.Prelude.{Bool, true, false, ◌&&◌, List, Some, None}
 use Rattle.std.specs.List.{list_all}
 use Rattle.ed_syntax.specs.Commands as ed
 use Rattle.ed_syntax.specs.Commands.{Base, Addresses, Without, One, Comma, Semicolon, Verb, Command, Step}
-use Rattle.ed_syntax.specs.Readable.{is_readable}
+use Rattle.ed_syntax.specs.spelling.Readable.{is_readable}
 
 -- an address by number begins with a line number, the current line or the last line: with neither a mark nor a search
 abbrev pub is_by_number : Base → Bool

@@ -6,9 +6,9 @@ use Rattle.zones.specs.Zone.{Numbers}
 use Rattle.zones.specs.Differences.{Fixes}
 use Rattle.ed_syntax.specs.declared.request.Answer.TheVariants as answer
 use Rattle.ed_syntax.specs.Commands.{Command}
-use Rattle.ed_syntax.specs.States as editor
-use Rattle.ed_syntax.specs.Effects.{Effect, Makes, Asks}
-use Rattle.ed_syntax.specs.Applied.{command}
+use Rattle.ed_syntax.specs.meaning.States as editor
+use Rattle.ed_syntax.specs.meaning.Effects.{Effect, Makes, Asks}
+use Rattle.ed_syntax.specs.meaning.Applied.{command}
 use Rattle.ed_rules.specs.declared.state.Changed.{Changed}
 use Rattle.ed_rules.specs.declared.state.State.{State}
 use Rattle.ed_rules.specs.Choices.{Choice}

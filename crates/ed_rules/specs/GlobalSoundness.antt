@@ -2,11 +2,11 @@
 use Rattle.std.specs.Prelude.{◌≡◌, true, Option, Some, Ok}
 use Rattle.ed_syntax.specs.declared.request.Answer.{Answer}
 use Rattle.ed_syntax.specs.Commands.{Command, Step}
-use Rattle.ed_syntax.specs.States as editor
-use Rattle.ed_syntax.specs.States.{Kept, Open, kept}
-use Rattle.ed_syntax.specs.Effects.{Outcome, Makes}
-use Rattle.ed_syntax.specs.Globals.{opened, next_taken, closed}
-use Rattle.ed_syntax.specs.Applied.{command}
+use Rattle.ed_syntax.specs.meaning.States as editor
+use Rattle.ed_syntax.specs.meaning.States.{Kept, Open, kept}
+use Rattle.ed_syntax.specs.meaning.Effects.{Outcome, Makes}
+use Rattle.ed_syntax.specs.meaning.Globals.{opened, next_taken, closed}
+use Rattle.ed_syntax.specs.meaning.Applied.{command}
 use Rattle.ed_rules.specs.declared.state.State.{State}
 use Rattle.ed_rules.specs.StandsFor.{StandsFor}
 use Rattle.ed_rules.specs.Rules.{step}

@@ -9,7 +9,7 @@ use Rattle.zones.specs.Zone.{Bounds}
 use Rattle.zones.specs.Steps.{after_guard, after_forget}
 use Rattle.ed_syntax.specs.Commands as ed
 use Rattle.ed_syntax.specs.Commands.{Verb, Command, Step}
-use Rattle.ed_syntax.specs.Verbs.{may_alter}
+use Rattle.ed_syntax.specs.meaning.Verbs.{may_alter}
 use Rattle.ed_rules.specs.declared.state.Old.{Old}
 use Rattle.ed_rules.specs.declared.state.Undo.{Undo}
 use Rattle.ed_rules.specs.declared.state.State.{State}

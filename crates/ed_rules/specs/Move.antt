@@ -7,7 +7,7 @@ use Rattle.zones.specs.Bound.{sum_of, negative_of}
 use Rattle.zones.specs.Zone.{Bounds}
 use Rattle.zones.specs.Known.{known, least, greatest}
 use Rattle.zones.specs.Steps.{after_set, after_shift, after_forget}
-use Rattle.ed_syntax.specs.Values.{◌>>◌}
+use Rattle.ed_syntax.specs.meaning.Values.{◌>>◌}
 use Rattle.ed_rules.specs.declared.state.State.{State}
 use Rattle.ed_rules.specs.Marks.{mark_name, for_each_sure}
 use Rattle.ed_rules.specs.Pieces.{with_zone, modified}

@@ -7,9 +7,9 @@ use Rattle.zones.specs.Name.{current_line, last_line, first_address, second_addr
 use Rattle.zones.specs.Known.{known}
 use Rattle.ed_syntax.specs.Commands as ed
 use Rattle.ed_syntax.specs.Commands.{Addresses, Form, Verb, Command}
-use Rattle.ed_syntax.specs.Readable.{enters_lines}
-use Rattle.ed_syntax.specs.Verbs.{takes, given_or}
-use Rattle.ed_syntax.specs.Values.{◌>>◌}
+use Rattle.ed_syntax.specs.spelling.Readable.{enters_lines}
+use Rattle.ed_syntax.specs.meaning.Verbs.{takes, given_or}
+use Rattle.ed_syntax.specs.meaning.Values.{◌>>◌}
 use Rattle.ed_syntax.specs.declared.verbs.Taking.{Taking}
 use Rattle.ed_syntax.specs.declared.verbs.Taking.TheVariants as many
 use Rattle.ed_rules.specs.declared.state.State.{State}

@@ -7,9 +7,9 @@ use Rattle.ed_base.specs.Buffer.{Line, marked_place, KnowLetters, AtMostOnce}
 use Rattle.ed_base.specs.Lines.{newline}
 use Rattle.ed_syntax.specs.declared.replacement.Part.{Part}
 use Rattle.ed_syntax.specs.declared.replacement.Part.TheVariants.{Literal, Split}
-use Rattle.ed_syntax.specs.CommandLaws.{AreWhole, OfPast}
-use Rattle.ed_syntax.specs.States as editor
-use Rattle.ed_syntax.specs.States.{Past, Nothing, Same, Was, Kept}
+use Rattle.ed_syntax.specs.meaning.CommandLaws.{AreWhole, OfPast}
+use Rattle.ed_syntax.specs.meaning.States as editor
+use Rattle.ed_syntax.specs.meaning.States.{Past, Nothing, Same, Was, Kept}
 use Rattle.ed_rules.specs.declared.state.Old.{Old}
 use Rattle.ed_rules.specs.declared.state.Changed.{Changed}
 use Rattle.ed_rules.specs.declared.state.Replacements.{Replacements}

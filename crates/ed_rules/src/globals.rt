@@ -2,15 +2,15 @@
 
 ghost use Rattle.std.specs.Prelude.{◌≡◌, true, Ok, Option, None, IfOk};
 ghost use Rattle.ed_syntax.specs.PublicTypes.{verb_value, command_value, step_value};
-ghost use Rattle.ed_syntax.specs.States as editor;
-ghost use Rattle.ed_syntax.specs.States.{Kept};
-ghost use Rattle.ed_syntax.specs.Effects.{Outcome, Makes};
-ghost use Rattle.ed_syntax.specs.Globals.{opened};
-ghost use Rattle.ed_syntax.specs.Applied as editing;
+ghost use Rattle.ed_syntax.specs.meaning.States as editor;
+ghost use Rattle.ed_syntax.specs.meaning.States.{Kept};
+ghost use Rattle.ed_syntax.specs.meaning.Effects.{Outcome, Makes};
+ghost use Rattle.ed_syntax.specs.meaning.Globals.{opened};
+ghost use Rattle.ed_syntax.specs.meaning.Applied as editing;
 ghost use Rattle.ed_syntax.specs.declared.request.Answer.{Answer};
 ghost use Rattle.ed_rules.specs.Rules.{step, fault_of};
 ghost use Rattle.ed_rules.specs.StandsFor.{StandsFor};
-ghost use Rattle.ed_syntax.specs.Verbs.{may_alter};
+ghost use Rattle.ed_syntax.specs.meaning.Verbs.{may_alter};
 ghost use Rattle.ed_rules.specs.Globals.{is_global, line_taken, body_entry, list_may_alter, loop_end};
 ghost use Rattle.ed_rules.specs.GlobalSoundness.{TurnIsSound, EndIsSound};
 

@@ -1,6 +1,6 @@
 //! Laws about the rules: contracts of functions that do nothing.
 
-ghost use Rattle.ed_syntax.specs.States as editor;
+ghost use Rattle.ed_syntax.specs.meaning.States as editor;
 ghost use Rattle.ed_rules.specs.declared.state.State.{State};
 ghost use Rattle.ed_rules.specs.Choices.{Choice};
 ghost use Rattle.ed_rules.specs.States.{start};

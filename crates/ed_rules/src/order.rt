@@ -1,7 +1,7 @@
 //! Joining, widening and comparing states.
 
 ghost use Rattle.std.specs.Prelude.{◌≡◌, IfOk, IsTrue, ◌↔◌};
-ghost use Rattle.ed_syntax.specs.States as editor;
+ghost use Rattle.ed_syntax.specs.meaning.States as editor;
 ghost use Rattle.ed_rules.specs.StandsFor.{StandsFor};
 ghost use Rattle.ed_rules.specs.Order.{old_of_both, changed_of_both, replacements_of_both, undo_of_both, united, join, widen, Allows, CoversOld, Covers};
 

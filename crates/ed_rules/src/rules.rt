@@ -2,11 +2,11 @@
 
 ghost use Rattle.std.specs.Prelude.{◌≡◌, true, Ok, Option, None, IfOk, IfErr};
 ghost use Rattle.ed_syntax.specs.PublicTypes.{addresses_value, verb_value, suffix_value, command_value};
-ghost use Rattle.ed_syntax.specs.States as editor;
-ghost use Rattle.ed_syntax.specs.Applied as editing;
+ghost use Rattle.ed_syntax.specs.meaning.States as editor;
+ghost use Rattle.ed_syntax.specs.meaning.Applied as editing;
 ghost use Rattle.ed_syntax.specs.declared.request.Answer.{Answer};
 ghost use Rattle.ed_rules.specs.Pieces.{with_zone, ended};
-ghost use Rattle.ed_syntax.specs.Readable.{are_lines, enters_lines};
+ghost use Rattle.ed_syntax.specs.spelling.Readable.{are_lines, enters_lines};
 ghost use Rattle.ed_rules.specs.Rules.{taken, effect, suffixed, step_at, step, fault_of};
 ghost use Rattle.ed_rules.specs.Reaching.{Reaches, Comes};
 ghost use Rattle.ed_rules.specs.StandsFor.{StandsFor};

@@ -8,8 +8,8 @@ use Rattle.ed_syntax.specs.declared.request.Answer.{Answer}
 use Rattle.ed_syntax.specs.declared.request.Answer.TheVariants as answer
 use Rattle.ed_syntax.specs.declared.request.Request.{Request}
 use Rattle.ed_syntax.specs.declared.request.Request.TheVariants as request
-use Rattle.ed_syntax.specs.Progress.{Stops, Ends, Wrote, report, failing, count}
-use Rattle.ed_syntax.specs.Runs.{turns}
+use Rattle.ed_syntax.specs.meaning.Progress.{Stops, Ends, Wrote, report, failing, count}
+use Rattle.ed_syntax.specs.meaning.Runs.{turns}
 use Rattle.ed_session.specs.declared.phase.Phase.TheVariants as phases
 use Rattle.ed_session.specs.Sessions.{SessionValue, rest, is_over, is_waiting, is_started}
 use Rattle.ed_session.specs.Calls.{GoesOn, BreaksOff, Leads, HandsOut, Awaits, Answers}

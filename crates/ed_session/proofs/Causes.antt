@@ -11,11 +11,11 @@ use Rattle.ed_syntax.specs.declared.request.Answer.TheVariants as answer
 use Rattle.ed_syntax.specs.declared.request.Request.{Request}
 use Rattle.ed_syntax.specs.declared.request.Request.TheVariants as request
 use Rattle.ed_syntax.specs.Commands.{Step}
-use Rattle.ed_syntax.specs.Laws.{LastUnserved, last, next, serves}
-use Rattle.ed_syntax.specs.Progress.{Present, Progress, Writes, Ends, asked_of, stop_of}
-use Rattle.ed_syntax.specs.Files.{loaded}
-use Rattle.ed_syntax.specs.Runs.{Further, turns, steps, started, unprompted, with_state}
-use Rattle.ed_syntax.proofs.RunLemmas.{Caused, own, refused, EndsWell, GoesWell, listed-well, turns-well, steps-well}
+use Rattle.ed_syntax.specs.meaning.Laws.{LastUnserved, last, next, serves}
+use Rattle.ed_syntax.specs.meaning.Progress.{Present, Progress, Writes, Ends, asked_of, stop_of}
+use Rattle.ed_syntax.specs.meaning.Files.{loaded}
+use Rattle.ed_syntax.specs.meaning.Runs.{Further, turns, steps, started, unprompted, with_state}
+use Rattle.ed_syntax.proofs.meaning.RunLemmas.{Caused, own, refused, EndsWell, GoesWell, listed-well, turns-well, steps-well}
 use Rattle.ed_session.specs.declared.phase.Phase.{Phase}
 use Rattle.ed_session.specs.declared.phase.Phase.TheVariants as phases
 use Rattle.ed_session.specs.Sessions.{SessionValue, Turns, rest, rest_at, go_on, go_on_prompted, go_on_unprompted}

@@ -6,13 +6,13 @@ use Rattle.ed_base.specs.declared.fault.Fault.TheVariants as fault
 use Rattle.ed_syntax.specs.declared.request.Answer.{Answer}
 use Rattle.ed_syntax.specs.declared.request.Request.{Request}
 use Rattle.ed_syntax.specs.declared.request.Request.TheVariants as request
-use Rattle.ed_syntax.specs.Applied.{command}
+use Rattle.ed_syntax.specs.meaning.Applied.{command}
 use Rattle.ed_syntax.specs.Commands as ed
 use Rattle.ed_syntax.specs.Commands.{Command, Step, Verb}
-use Rattle.ed_syntax.specs.Effects.{Outcome, Effect, Makes, Asks}
-use Rattle.ed_syntax.specs.Progress.{Present, Stops, Writes, Hears, Ends, Waits, Wrote, Heard, report, failing, count, stop_of, RunsOut}
-use Rattle.ed_syntax.specs.Runs.{Further, with_state, reached, turned, one, asking, answered, listed, turns, steps, unprompted}
-use Rattle.ed_syntax.specs.States.{State}
+use Rattle.ed_syntax.specs.meaning.Effects.{Outcome, Effect, Makes, Asks}
+use Rattle.ed_syntax.specs.meaning.Progress.{Present, Stops, Writes, Hears, Ends, Waits, Wrote, Heard, report, failing, count, stop_of, RunsOut}
+use Rattle.ed_syntax.specs.meaning.Runs.{Further, with_state, reached, turned, one, asking, answered, listed, turns, steps, unprompted}
+use Rattle.ed_syntax.specs.meaning.States.{State}
 use Rattle.ed_commands.specs.declared.editor.Reply.TheVariants as reply
 use Rattle.ed_commands.specs.Editors.{Replies}
 use Rattle.ed_session.specs.declared.modes.Modes.{Modes}

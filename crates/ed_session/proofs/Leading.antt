@@ -5,8 +5,8 @@ use Rattle.ed_base.specs.declared.fault.Fault.TheVariants as fault
 use Rattle.ed_syntax.specs.declared.options.Ending.{Ending}
 use Rattle.ed_syntax.specs.declared.request.Answer.{Answer}
 use Rattle.ed_syntax.specs.declared.request.Request.{Request}
-use Rattle.ed_syntax.specs.Progress.{Progress, Stops, Writes, Hears, Stop, Ends, Event, Wrote, Heard, after, cut, RunsOut, output_of, asked_of, stop_of}
-use Rattle.ed_syntax.proofs.CutLemmas.{cuts_after}
+use Rattle.ed_syntax.specs.meaning.Progress.{Progress, Stops, Writes, Hears, Stop, Ends, Event, Wrote, Heard, after, cut, RunsOut, output_of, asked_of, stop_of}
+use Rattle.ed_syntax.proofs.meaning.CutLemmas.{cuts_after}
 use Rattle.ed_session.specs.declared.phase.Phase.{Phase}
 use Rattle.ed_session.specs.declared.phase.Phase.TheVariants as phases
 use Rattle.ed_session.specs.declared.session.Ask.{Ask}

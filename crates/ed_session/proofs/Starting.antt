@@ -7,9 +7,9 @@ use Rattle.ed_syntax.specs.declared.request.Answer.{Answer}
 use Rattle.ed_syntax.specs.declared.request.Answer.TheVariants as answer
 use Rattle.ed_syntax.specs.declared.request.Request.TheVariants as request
 use Rattle.ed_syntax.specs.Commands.{Step}
-use Rattle.ed_syntax.specs.Progress.{Present, Hears, Wrote, Heard, report, failing, count}
-use Rattle.ed_syntax.specs.Runs.{Further, with_state, turns, started}
-use Rattle.ed_syntax.specs.States.{State, opening}
+use Rattle.ed_syntax.specs.meaning.Progress.{Present, Hears, Wrote, Heard, report, failing, count}
+use Rattle.ed_syntax.specs.meaning.Runs.{Further, with_state, turns, started}
+use Rattle.ed_syntax.specs.meaning.States.{State, opening}
 use Rattle.ed_session.specs.declared.phase.Phase.{Phase}
 use Rattle.ed_session.specs.declared.phase.Phase.TheVariants as phases
 use Rattle.ed_session.specs.Sessions.{SessionValue, Turns, rest, go_on_prompted, path_of}

@@ -5,14 +5,14 @@ use Rattle.ed_base.specs.declared.fault.Fault.TheVariants as fault
 use Rattle.ed_syntax.specs.declared.request.Answer.{Answer}
 use Rattle.ed_syntax.specs.declared.request.Answer.TheVariants as answer
 use Rattle.ed_syntax.specs.declared.request.Request.{Request}
-use Rattle.ed_syntax.specs.Applied.{command}
+use Rattle.ed_syntax.specs.meaning.Applied.{command}
 use Rattle.ed_syntax.specs.Commands as ed
 use Rattle.ed_syntax.specs.Commands.{Command, Step, Verb}
-use Rattle.ed_syntax.specs.Effects.{Effect, Makes, Asks}
-use Rattle.ed_syntax.specs.Progress.{Present, Progress, Rest, Writes, Hears, cut, broken_off, report, failing, ending, quitting, asked_of, RunsOut}
-use Rattle.ed_syntax.specs.States.{State, kept}
-use Rattle.ed_syntax.specs.Globals.{flags, opened, closed, next_taken}
-use Rattle.ed_syntax.specs.Runs.{Further, answered, asking, turned, one, with_state, listed, turn, turns, global, step_by, step, steps, unprompted, prompted, at_end, start, started}
+use Rattle.ed_syntax.specs.meaning.Effects.{Effect, Makes, Asks}
+use Rattle.ed_syntax.specs.meaning.Progress.{Present, Progress, Rest, Writes, Hears, cut, broken_off, report, failing, ending, quitting, asked_of, RunsOut}
+use Rattle.ed_syntax.specs.meaning.States.{State, kept}
+use Rattle.ed_syntax.specs.meaning.Globals.{flags, opened, closed, next_taken}
+use Rattle.ed_syntax.specs.meaning.Runs.{Further, answered, asking, turned, one, with_state, listed, turn, turns, global, step_by, step, steps, unprompted, prompted, at_end, start, started}
 use Rattle.ed_session.specs.declared.phase.Phase.{Phase}
 use Rattle.ed_session.specs.declared.phase.Phase.TheVariants as phases
 use Rattle.ed_commands.specs.Editors.{is_global}

@@ -3,14 +3,14 @@ use Rattle.std.proofs.Common.{◌≡◌, ℕ, zero, suc, ◌<◌, ◌-◌, List,
 use Rattle.std.specs.Prelude.{IsOkAnd, IfSome, IsSome, is_some, option_map, unwrap_or}
 use Rattle.ed_base.specs.declared.fault.Fault.{Fault}
 use Rattle.ed_syntax.specs.declared.request.Answer.{Answer}
-use Rattle.ed_syntax.specs.Applied.{command}
+use Rattle.ed_syntax.specs.meaning.Applied.{command}
 use Rattle.ed_syntax.specs.Commands as ed
 use Rattle.ed_syntax.specs.Commands.{Command, Step, Verb}
-use Rattle.ed_syntax.specs.Effects.{Outcome, Effect, Makes, Asks}
-use Rattle.ed_syntax.specs.Globals.{flags, opened, next_taken, closed}
-use Rattle.ed_syntax.specs.Progress.{Present, failing}
-use Rattle.ed_syntax.specs.Runs.{Further, with_state, turned, one, turns, inside, global, steps, unprompted}
-use Rattle.ed_syntax.specs.States.{State, kept}
+use Rattle.ed_syntax.specs.meaning.Effects.{Outcome, Effect, Makes, Asks}
+use Rattle.ed_syntax.specs.meaning.Globals.{flags, opened, next_taken, closed}
+use Rattle.ed_syntax.specs.meaning.Progress.{Present, failing}
+use Rattle.ed_syntax.specs.meaning.Runs.{Further, with_state, turned, one, turns, inside, global, steps, unprompted}
+use Rattle.ed_syntax.specs.meaning.States.{State, kept}
 use Rattle.ed_commands.specs.declared.editor.globals.Begun.{Begun}
 use Rattle.ed_commands.specs.Editors.{BeginsBy, is_global}
 use Rattle.ed_session.specs.declared.phase.Phase.{Phase}

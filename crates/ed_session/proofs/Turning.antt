@@ -9,7 +9,7 @@ use Rattle.ed_syntax.specs.declared.options.Ending.{Ending}
 use Rattle.ed_syntax.specs.declared.request.Answer.{Answer}
 use Rattle.ed_syntax.specs.declared.request.Request.{Request}
 use Rattle.ed_syntax.specs.declared.request.Request.TheVariants as request
-use Rattle.ed_syntax.specs.Progress.{Stops, Ends, after, output_of, asked_of, stop_of, RunsOut}
+use Rattle.ed_syntax.specs.meaning.Progress.{Stops, Ends, after, output_of, asked_of, stop_of, RunsOut}
 use Rattle.ed_session.specs.declared.phase.Phase.TheVariants as phases
 use Rattle.ed_session.specs.Sessions.{SessionValue, rest, is_waiting, is_started, path_of}
 use Rattle.ed_session.specs.Sinks.{AppendsFront}

@@ -6,7 +6,7 @@ use Rattle.ed_syntax.specs.declared.options.Ending.{Ending}
 use Rattle.ed_syntax.specs.declared.request.Answer.{Answer}
 use Rattle.ed_syntax.specs.declared.request.Request.{Request}
 use Rattle.ed_syntax.specs.declared.request.Request.TheVariants as request
-use Rattle.ed_syntax.specs.Progress.{Stops, Waits, Event, Wrote, Heard, after, RunsOut}
+use Rattle.ed_syntax.specs.meaning.Progress.{Stops, Waits, Event, Wrote, Heard, after, RunsOut}
 use Rattle.ed_session.specs.declared.session.Ask.{Ask}
 use Rattle.ed_session.specs.declared.session.Ask.TheVariants as ask
 use Rattle.ed_session.specs.declared.phase.Phase.TheVariants as phases

@@ -8,7 +8,7 @@ use Rattle.ed_syntax.specs.declared.request.Answer.TheVariants as answer
 use Rattle.ed_syntax.specs.declared.request.Request.{Request}
 use Rattle.ed_syntax.specs.declared.request.Request.TheVariants as request
 use Rattle.ed_syntax.specs.declared.options.Ending.{Ending}
-use Rattle.ed_syntax.specs.Progress.{Progress, Ends, Event, after, output_of, asked_of, stop_of, RunsOut}
+use Rattle.ed_syntax.specs.meaning.Progress.{Progress, Ends, Event, after, output_of, asked_of, stop_of, RunsOut}
 use Rattle.ed_session.specs.declared.phase.Phase.{Phase}
 use Rattle.ed_session.specs.declared.phase.Phase.TheVariants as phases
 use Rattle.ed_session.specs.Sessions.{SessionValue, rest, is_over}

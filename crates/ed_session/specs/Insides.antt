@@ -7,13 +7,13 @@ use Rattle.ed_syntax.specs.declared.request.Answer.{Answer}
 use Rattle.ed_syntax.specs.declared.request.Answer.TheVariants as answer
 use Rattle.ed_syntax.specs.declared.request.Request.{Request}
 use Rattle.ed_syntax.specs.declared.request.Request.TheVariants as request
-use Rattle.ed_syntax.specs.Applied.{command}
+use Rattle.ed_syntax.specs.meaning.Applied.{command}
 use Rattle.ed_syntax.specs.Commands as ed
 use Rattle.ed_syntax.specs.Commands.{Command, Step, Verb}
-use Rattle.ed_syntax.specs.Effects.{Asks}
-use Rattle.ed_syntax.specs.Files.{loaded}
-use Rattle.ed_syntax.specs.Progress.{Present, report}
-use Rattle.ed_syntax.specs.States.{State, opening}
+use Rattle.ed_syntax.specs.meaning.Effects.{Asks}
+use Rattle.ed_syntax.specs.meaning.Files.{loaded}
+use Rattle.ed_syntax.specs.meaning.Progress.{Present, report}
+use Rattle.ed_syntax.specs.meaning.States.{State, opening}
 use Rattle.ed_commands.specs.Editors.{is_global}
 use Rattle.ed_session.specs.declared.modes.Modes.{Modes}
 use Rattle.ed_session.specs.declared.session.Ask.{Ask}

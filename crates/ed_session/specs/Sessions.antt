@@ -3,8 +3,8 @@ use Rattle.std.specs.Prelude.{ℕ, Bool, true, false, List, [], Option, Some, No
 use Rattle.ed_syntax.specs.declared.options.Options.{Options}
 use Rattle.ed_syntax.specs.declared.request.Request.{Request}
 use Rattle.ed_syntax.specs.Commands.{Command, Step, Script}
-use Rattle.ed_syntax.specs.Progress.{Present, Rest, Stop, Waits, Stops, Ends, stop_of}
-use Rattle.ed_syntax.specs.Runs.{Further, present, start, inside, steps, unprompted}
+use Rattle.ed_syntax.specs.meaning.Progress.{Present, Rest, Stop, Waits, Stops, Ends, stop_of}
+use Rattle.ed_syntax.specs.meaning.Runs.{Further, present, start, inside, steps, unprompted}
 use Rattle.ed_session.specs.declared.phase.Phase.{Phase}
 use Rattle.ed_session.specs.declared.phase.Phase.TheVariants as phases
 

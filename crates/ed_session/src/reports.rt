@@ -1,6 +1,6 @@
 //! The reports of faults (XCU ed, "Consequences of Errors").
 ghost use Rattle.std.specs.Prelude.{◌≡◌, IfOk};
-ghost use Rattle.ed_syntax.specs.Progress.{report};
+ghost use Rattle.ed_syntax.specs.meaning.Progress.{report};
 ghost use Rattle.ed_base.specs.declared.fault.Fault.TheVariants.{Memory};
 ghost use Rattle.ed_session.specs.Insides.{AreReady, Reported};
 

@@ -107,7 +107,7 @@ fn load<S: LineStore>(
 
 impl<S: LineStore> Session<S> {
     ghost use Rattle.ed_syntax.specs.PublicScript.{script_value};
-    ghost use Rattle.ed_syntax.specs.Runs.{run};
+    ghost use Rattle.ed_syntax.specs.meaning.Runs.{run};
     ghost use Rattle.ed_syntax.specs.declared.request.Answer.{Answer};
     ghost use Rattle.ed_session.specs.declared.phase.Phase.TheVariants as phases;
     ghost use Rattle.ed_session.specs.Sessions.{made, is_waiting, is_started, is_over, rest, awaited, path_of};

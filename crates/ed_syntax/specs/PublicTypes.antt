@@ -14,8 +14,8 @@ use Rattle.ed_syntax.specs.declared.command.Command.{Command, out-Command}
 use Rattle.ed_syntax.specs.declared.verbs.DefaultAddresses.{DefaultAddresses}
 use Rattle.ed_syntax.specs.declared.verbs.DefaultAddresses.TheVariants as default
 use Rattle.ed_syntax.specs.declared.verbs.Takes.{Takes}
-use Rattle.ed_syntax.specs.Verbs as verbs
-use Rattle.ed_syntax.specs.Verbs.{here, next}
+use Rattle.ed_syntax.specs.meaning.Verbs as verbs
+use Rattle.ed_syntax.specs.meaning.Verbs.{here, next}
 
 -- where an address begins
 abbrev pub base_value : Base → ed.Base

@@ -1,10 +1,10 @@
 //! The addresses at the front of a line.
 ghost use Rattle.std.specs.Prelude.{◌≡◌, MatchOption, Some, None, IfOk};
-ghost use Rattle.ed_syntax.specs.Tokens.{base, with_offsets, address, pair, addresses};
-ghost use Rattle.ed_syntax.specs.Addressing.{alone, comma, semicolon};
+ghost use Rattle.ed_syntax.specs.reading.Tokens.{base, with_offsets, address, pair, addresses};
+ghost use Rattle.ed_syntax.specs.spelling.Addressing.{alone, comma, semicolon};
 ghost use Rattle.ed_syntax.specs.PublicTypes.{base_value, address_value, addresses_value, optional_address};
 ghost use Rattle.ed_syntax.specs.Commands as ed;
-ghost use Rattle.ed_syntax.specs.ReadParts.{optional_base, around};
+ghost use Rattle.ed_syntax.specs.reading.ReadParts.{optional_base, around};
 
 use crate::offsets::offsets;
 use crate::quoting::{Parsed, after_closing, pattern_at};

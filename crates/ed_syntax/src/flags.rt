@@ -1,7 +1,7 @@
 //! The flags of `s`.
 ghost use Rattle.std.specs.Prelude.{◌≡◌, MatchOption, Some, None};
 ghost use Rattle.ed_syntax.specs.PublicTypes.{suffix_value};
-ghost use Rattle.ed_syntax.specs.ReadParameters.{form_at, count_at, which_at, later_which, flags, end_at};
+ghost use Rattle.ed_syntax.specs.reading.ReadParameters.{form_at, count_at, which_at, later_which, flags, end_at};
 
 use crate::tokens::{form_of, number};
 use crate::{Form, Which};

@@ -1,10 +1,10 @@
 //! Reads a global command: its letter, its pattern and its list.
 ghost use Rattle.std.specs.Prelude.{◌≡◌, ◌+◌, ◌≤◌, length, MatchOption, Some, None, option_map, IfOk};
-ghost use Rattle.ed_syntax.specs.Characters.{goes_on, after_blanks};
-ghost use Rattle.ed_syntax.specs.Spellings.{print};
+ghost use Rattle.ed_syntax.specs.spelling.Characters.{goes_on, after_blanks};
+ghost use Rattle.ed_syntax.specs.spelling.Spellings.{print};
 ghost use Rattle.ed_syntax.specs.PublicTypes.{addresses_value, command_value};
-ghost use Rattle.ed_syntax.specs.ReadGlobals.{joined, is_newline, all_commands, list_of, with_list, global_by, global_after_addresses, sense_at};
-ghost use Rattle.ed_syntax.specs.ReadParts.{step_before, optional_commands, global_before, listed_before};
+ghost use Rattle.ed_syntax.specs.reading.ReadGlobals.{joined, is_newline, all_commands, list_of, with_list, global_by, global_after_addresses, sense_at};
+ghost use Rattle.ed_syntax.specs.reading.ReadParts.{step_before, optional_commands, global_before, listed_before};
 
 use crate::quoting::{after_closing, pattern_at};
 use crate::script_lines::ScriptLines;

@@ -1,11 +1,11 @@
 //! The head of a command: its addresses, its letter with its parameters, and its suffix.
 ghost use Rattle.std.specs.Prelude.{◌≡◌, ◌+◌, ◌≤◌, length, Option, Some, None, option_map, IfOk, MatchOption};
-ghost use Rattle.ed_syntax.specs.Verbs.{may_have, may_stand};
-ghost use Rattle.ed_syntax.specs.ReadParameters.{place};
-ghost use Rattle.ed_syntax.specs.ReadVerbs.{beside_letter, plain_verbs, file_verbs, file_verb, target, verb_at};
-ghost use Rattle.ed_syntax.specs.ReadCommands.{verb_from, suffix_at, is_over, headed, suffix_with, heading_with, heading_after_addresses};
+ghost use Rattle.ed_syntax.specs.meaning.Verbs.{may_have, may_stand};
+ghost use Rattle.ed_syntax.specs.reading.ReadParameters.{place};
+ghost use Rattle.ed_syntax.specs.reading.ReadVerbs.{beside_letter, plain_verbs, file_verbs, file_verb, target, verb_at};
+ghost use Rattle.ed_syntax.specs.reading.ReadCommands.{verb_from, suffix_at, is_over, headed, suffix_with, heading_with, heading_after_addresses};
 ghost use Rattle.ed_syntax.specs.PublicTypes.{address_value, addresses_value, suffix_value, verb_value};
-ghost use Rattle.ed_syntax.specs.ReadParts.{optional_verb, heading_before};
+ghost use Rattle.ed_syntax.specs.reading.ReadParts.{optional_verb, heading_before};
 
 use crate::addresses::address;
 use crate::paths::path;

@@ -1,9 +1,9 @@
 //! What holds of all commands and of all runs.
 ghost use Rattle.ed_base.specs.declared.fault.Fault.TheVariants as fault;
-ghost use Rattle.ed_syntax.specs.CommandLaws.{AddressesKeepTheRest, TargetsKeepTheRest, SpansAreInOrder, CommandsArePlaced, ListsLeaveUndo, ListsAddNoFlags, ListsNoteChanges, CommandsKeepMarks, OpenKeepsMarks, CommandsKeepLines, FilesAreWellMarked, FilesAreWhole, FlagsMarkNothing, FlagsAreNoBytes};
-ghost use Rattle.ed_syntax.specs.Laws.{UnaskedAnswersDoNothing, NothingIsAskedTwice, OnlyUnservedFilesFail, FilesAreWrittenByTheirPath, NeverEndsBy, FilesHaveACause};
-ghost use Rattle.ed_syntax.specs.Progress.{CutsToAFront, CutsAfter};
-ghost use Rattle.ed_syntax.specs.Readable.{SpelledIsReadable};
+ghost use Rattle.ed_syntax.specs.meaning.CommandLaws.{AddressesKeepTheRest, TargetsKeepTheRest, SpansAreInOrder, CommandsArePlaced, ListsLeaveUndo, ListsAddNoFlags, ListsNoteChanges, CommandsKeepMarks, OpenKeepsMarks, CommandsKeepLines, FilesAreWellMarked, FilesAreWhole, FlagsMarkNothing, FlagsAreNoBytes};
+ghost use Rattle.ed_syntax.specs.meaning.Laws.{UnaskedAnswersDoNothing, NothingIsAskedTwice, OnlyUnservedFilesFail, FilesAreWrittenByTheirPath, NeverEndsBy, FilesHaveACause};
+ghost use Rattle.ed_syntax.specs.meaning.Progress.{CutsToAFront, CutsAfter};
+ghost use Rattle.ed_syntax.specs.spelling.Readable.{SpelledIsReadable};
 
 /// Addresses and a target change the current line and the remembered pattern alone, and the lines that a command is applied to are in
 /// order.

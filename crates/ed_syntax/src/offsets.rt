@@ -1,7 +1,7 @@
 //! The offsets of an address.
 ghost use Rattle.std.specs.Prelude.{◌≡◌, ◌≤◌, length, MatchOption, Some, None, ⊤};
-ghost use Rattle.ed_syntax.specs.Characters.{after_blanks};
-ghost use Rattle.ed_syntax.specs.Tokens.{distance, offsets};
+ghost use Rattle.ed_syntax.specs.spelling.Characters.{after_blanks};
+ghost use Rattle.ed_syntax.specs.reading.Tokens.{distance, offsets};
 
 use crate::tokens::{after_blanks, number};
 

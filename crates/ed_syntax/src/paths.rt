@@ -1,6 +1,6 @@
 //! The path after the letter of a command on files.
 ghost use Rattle.std.specs.Prelude.{◌≡◌, IfOk};
-ghost use Rattle.ed_syntax.specs.ReadVerbs.{name_of, path_at};
+ghost use Rattle.ed_syntax.specs.reading.ReadVerbs.{name_of, path_at};
 
 use crate::tokens::after_blanks;
 use ed_base::Bytes;

@@ -1,6 +1,6 @@
 //! Patterns between delimiters.
 ghost use Rattle.std.specs.Prelude.{◌≡◌, ◌++◌, drop, length, MatchOption, Some, None, IfOk, OnOk};
-ghost use Rattle.ed_syntax.specs.Tokens.{unescaped, quoted, pattern_of, pattern_at};
+ghost use Rattle.ed_syntax.specs.reading.Tokens.{unescaped, quoted, pattern_of, pattern_at};
 
 use crate::Pattern;
 use bre_parse::after_bracket;

@@ -1,9 +1,9 @@
 //! Reads a script: its commands up to the first that can't be read.
 ghost use Rattle.std.specs.Prelude.{◌≡◌, ◌+◌, ◌≤◌, length, IfOk};
-ghost use Rattle.ed_syntax.specs.Reading.{step_after_addresses, step_at, script_of};
+ghost use Rattle.ed_syntax.specs.reading.Reading.{step_after_addresses, step_at, script_of};
 ghost use Rattle.ed_syntax.specs.PublicTypes.{addresses_value};
 ghost use Rattle.ed_syntax.specs.PublicScript.{script_value};
-ghost use Rattle.ed_syntax.specs.ReadParts.{step_before};
+ghost use Rattle.ed_syntax.specs.reading.ReadParts.{step_before};
 
 use crate::addresses::addresses;
 use crate::globals::{global_after_addresses, sense_at};

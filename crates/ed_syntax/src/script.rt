@@ -2,7 +2,7 @@
 ghost use Rattle.std.specs.Prelude.{IsTrue};
 ghost use Rattle.std.specs.List.{list_all};
 ghost use Rattle.ed_syntax.specs.PublicTypes.{steps_value};
-ghost use Rattle.ed_syntax.specs.Verbs.{is_step};
+ghost use Rattle.ed_syntax.specs.meaning.Verbs.{is_step};
 
 use crate::Command;
 

@@ -1,7 +1,7 @@
 //! The lines of a script or of a list, read one after another.
 ghost use Rattle.std.specs.Prelude.{◌≡◌, ◌+◌, ◌≤◌, ℕ, [], ◌∷◌, length, IfOk, IfSome, MatchOption};
 ghost use Rattle.ed_base.specs.Lines.{IsLine, lines_of};
-ghost use Rattle.ed_syntax.specs.ReadCommands.{text};
+ghost use Rattle.ed_syntax.specs.reading.ReadCommands.{text};
 
 use ed_base::{Bytes, Text, next_line};
 use std::alloc::{AllocError, Global};
@@ -18,7 +18,7 @@ pub struct ScriptLines<'a> {
 impl<'a> Model for ScriptLines<'a> {
     ghost use Rattle.std.specs.Prelude.{◌+◌, ◌<◌, ◌^◌, length};
     ghost use Rattle.ed_base.specs.Lines.{lines_of};
-    ghost use Rattle.ed_syntax.specs.ReadCommands.{LinesLeft};
+    ghost use Rattle.ed_syntax.specs.reading.ReadCommands.{LinesLeft};
 
     ghost Value = { LinesLeft };
 

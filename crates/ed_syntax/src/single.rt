@@ -1,8 +1,8 @@
 //! Reads a command without a list: its head, and its text.
 ghost use Rattle.std.specs.Prelude.{◌≡◌, ◌+◌, ◌≤◌, length, IfOk};
-ghost use Rattle.ed_syntax.specs.ReadCommands.{with_text, command_after_addresses, command_at};
+ghost use Rattle.ed_syntax.specs.reading.ReadCommands.{with_text, command_after_addresses, command_at};
 ghost use Rattle.ed_syntax.specs.PublicTypes.{addresses_value, verb_value};
-ghost use Rattle.ed_syntax.specs.ReadParts.{command_before, order_before};
+ghost use Rattle.ed_syntax.specs.reading.ReadParts.{command_before, order_before};
 
 use crate::addresses::addresses;
 use crate::heading::{Order, heading_after_addresses};

@@ -1,7 +1,7 @@
 //! The parameters of `s`: its pattern, its replacement, which may go on in further lines, and its flags.
 ghost use Rattle.std.specs.Prelude.{◌≡◌, ◌+◌, ◌≤◌, length, MatchOption, Some, None, IfOk, ⊤};
 ghost use Rattle.ed_base.specs.Lines.{bytes_of};
-ghost use Rattle.ed_syntax.specs.ReadParameters.{place, unescaped_part, escaped_at, part_at, all_parts, is_closed, is_percent, replacement, substitution_with, substitution_by, substitution};
+ghost use Rattle.ed_syntax.specs.reading.ReadParameters.{place, unescaped_part, escaped_at, part_at, all_parts, is_closed, is_percent, replacement, substitution_with, substitution_by, substitution};
 ghost use Rattle.ed_syntax.specs.PublicTypes.{suffix_value, verb_value};
 
 use crate::flags::end_at;

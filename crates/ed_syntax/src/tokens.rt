@@ -1,9 +1,9 @@
 //! Blanks, numbers, letters and delimiters at the front of a line.
 ghost use Rattle.std.specs.Prelude.{◌≡◌, ◌≤◌, length, All, IsTrue, MatchOption, Some, None, ⊤};
 ghost use Rattle.std.specs.List.{prefix_len};
-ghost use Rattle.ed_syntax.specs.Characters.{is_digit, is_letter, is_delimiter, after_blanks, value_of};
-ghost use Rattle.ed_syntax.specs.Tokens.{number, letter};
-ghost use Rattle.ed_syntax.specs.ReadParameters.{form_of};
+ghost use Rattle.ed_syntax.specs.spelling.Characters.{is_digit, is_letter, is_delimiter, after_blanks, value_of};
+ghost use Rattle.ed_syntax.specs.reading.Tokens.{number, letter};
+ghost use Rattle.ed_syntax.specs.reading.ReadParameters.{form_of};
 ghost use Rattle.ed_syntax.specs.PublicTypes.{suffix_value};
 
 use crate::Form;

@@ -2,7 +2,7 @@
 ghost use Rattle.std.specs.Prelude.{◌≡◌, true, false, Some, None};
 ghost use Rattle.ed_syntax.specs.Commands.{Last, at_base};
 ghost use Rattle.ed_syntax.specs.PublicTypes.{address_value, addresses_value, verb_value, default_value, takes_value};
-ghost use Rattle.ed_syntax.specs.Verbs.{here, next, takes};
+ghost use Rattle.ed_syntax.specs.meaning.Verbs.{here, next, takes};
 
 use crate::{Address, Addresses, Base, Verb};
 

@@ -2,11 +2,11 @@
 ghost use Rattle.std.specs.Prelude.{◌≡◌, ◌≢◌, ◌≤◌, pos, ◌+ℤ◌, IfErr, IfOk};
 ghost use Rattle.ed_base.specs.declared.fault.Fault.TheVariants.{Memory};
 ghost use Rattle.ed_syntax.specs.PublicTypes.{address_value, addresses_value, base_value, command_value, default_value, verb_value};
-ghost use Rattle.ed_syntax.specs.States.{last};
-ghost use Rattle.ed_syntax.specs.Values.{value, evaluated, values, base_number, remembered, within};
-ghost use Rattle.ed_syntax.specs.Verbs.{given_or, takes};
-ghost use Rattle.ed_syntax.specs.Applied.{placed, targeted};
-ghost use Rattle.ed_syntax.specs.Ranges.{last_of_two, spanned};
+ghost use Rattle.ed_syntax.specs.meaning.States.{last};
+ghost use Rattle.ed_syntax.specs.meaning.Values.{value, evaluated, values, base_number, remembered, within};
+ghost use Rattle.ed_syntax.specs.meaning.Verbs.{given_or, takes};
+ghost use Rattle.ed_syntax.specs.meaning.Applied.{placed, targeted};
+ghost use Rattle.ed_syntax.specs.meaning.Ranges.{last_of_two, spanned};
 ghost use Rattle.ed_commands.specs.Editors.{Fits, SameButPattern, Steps, Tells, TellsLine, list_of_values, placed_value, span_value, with_pattern};
 
 use crate::editor::Editor;

@@ -4,7 +4,7 @@ ghost use Rattle.std.specs.List.{concat};
 ghost use Rattle.ed_base.specs.Lines.{AreLines, bytes_of, lines_of};
 ghost use Rattle.ed_base.specs.Buffer.{plain_line, texts};
 ghost use Rattle.ed_base.specs.Parts.{block, carried, exchanged, inserted};
-ghost use Rattle.ed_syntax.specs.Substitution.{split_at_newlines};
+ghost use Rattle.ed_syntax.specs.meaning.Substitution.{split_at_newlines};
 ghost use Rattle.ed_commands.specs.Editors.{AreNew, place_beside, span_value};
 
 use crate::editor::addressing::Span;

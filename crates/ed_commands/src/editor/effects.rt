@@ -2,10 +2,10 @@
 ghost use Rattle.std.specs.Prelude.{◌≡◌, ◌≢◌, ◌≤◌, Some, IfOk, IsOkAnd, OnOk, MatchResult};
 ghost use Rattle.ed_base.specs.declared.fault.Fault.TheVariants.{Memory};
 ghost use Rattle.ed_syntax.specs.PublicTypes.{form_value, suffix_value, verb_value};
-ghost use Rattle.ed_syntax.specs.States.{last};
-ghost use Rattle.ed_syntax.specs.Verbs.{takes};
-ghost use Rattle.ed_syntax.specs.Effects as effect;
-ghost use Rattle.ed_syntax.specs.Applied.{effect_of};
+ghost use Rattle.ed_syntax.specs.meaning.States.{last};
+ghost use Rattle.ed_syntax.specs.meaning.Verbs.{takes};
+ghost use Rattle.ed_syntax.specs.meaning.Effects as effect;
+ghost use Rattle.ed_syntax.specs.meaning.Applied.{effect_of};
 ghost use Rattle.ed_commands.specs.Editors.{Fits, Leaves, left_by, span_value, suffixed};
 
 use crate::editor::Editor;

@@ -2,9 +2,9 @@
 ghost use Rattle.std.specs.Prelude.{◌≡◌, ◌+◌, ◌≤◌, length, OnOk};
 ghost use Rattle.ed_base.specs.Lines.{lines_of};
 ghost use Rattle.ed_base.specs.Parts.{exchanged};
-ghost use Rattle.ed_syntax.specs.States.{last};
-ghost use Rattle.ed_syntax.specs.Effects as effect;
-ghost use Rattle.ed_syntax.specs.Effects.{altered, entered};
+ghost use Rattle.ed_syntax.specs.meaning.States.{last};
+ghost use Rattle.ed_syntax.specs.meaning.Effects as effect;
+ghost use Rattle.ed_syntax.specs.meaning.Effects.{altered, entered};
 ghost use Rattle.ed_commands.specs.Editors.{AreNew, left_by, span_value};
 
 use crate::editor::Editor;

@@ -2,12 +2,12 @@
 ghost use Rattle.std.specs.Prelude.{◌≡◌, ◌≢◌, ◌≤◌, ℕ, Bool, [], Some, None, IsTrue, IfOk, IsOkAnd, MatchResult, OnErr, OnOk};
 ghost use Rattle.ed_base.specs.declared.fault.Fault.TheVariants.{Memory};
 ghost use Rattle.ed_syntax.specs.PublicTypes.{command_value, verb_value};
-ghost use Rattle.ed_syntax.specs.States.{last};
-ghost use Rattle.ed_syntax.specs.Verbs.{takes};
-ghost use Rattle.ed_syntax.specs.Effects.{Asks, Makes, only};
-ghost use Rattle.ed_syntax.specs.Applied as applied;
-ghost use Rattle.ed_syntax.specs.Applied.{effect_of};
-ghost use Rattle.ed_syntax.specs.Files as file;
+ghost use Rattle.ed_syntax.specs.meaning.States.{last};
+ghost use Rattle.ed_syntax.specs.meaning.Verbs.{takes};
+ghost use Rattle.ed_syntax.specs.meaning.Effects.{Asks, Makes, only};
+ghost use Rattle.ed_syntax.specs.meaning.Applied as applied;
+ghost use Rattle.ed_syntax.specs.meaning.Applied.{effect_of};
+ghost use Rattle.ed_syntax.specs.meaning.Files as file;
 ghost use Rattle.ed_commands.specs.Editors as editors;
 ghost use Rattle.ed_commands.specs.Editors.{Fits, Leaves, Tells, naming, span_value};
 

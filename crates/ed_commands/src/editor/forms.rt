@@ -2,9 +2,9 @@
 ghost use Rattle.std.specs.Prelude.{◌≡◌, ◌∷◌, ◌++◌, [], ◌&&◌, length, nat_le, IfSome, IsNone, OnOk};
 ghost use Rattle.ed_base.specs.Lines.{newline};
 ghost use Rattle.ed_base.specs.Buffer.{plain_line};
-ghost use Rattle.ed_syntax.specs.Characters.{backslash};
+ghost use Rattle.ed_syntax.specs.spelling.Characters.{backslash};
 ghost use Rattle.ed_syntax.specs.PublicTypes.{form_value};
-ghost use Rattle.ed_syntax.specs.Forms.{escaped, folded, plainly, written};
+ghost use Rattle.ed_syntax.specs.meaning.Forms.{escaped, folded, plainly, written};
 
 use ed_base::{Bytes, push_number};
 use ed_syntax::Form;

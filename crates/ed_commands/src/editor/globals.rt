@@ -3,10 +3,10 @@
 ghost use Rattle.std.specs.Prelude.{◌≡◌, ◌+◌, ◌-◌, ◌≤◌, None, Err, length, map, is_some, unwrap_or, IfSome, IsTrue, OnOk};
 ghost use Rattle.ed_base.specs.Parts.{block, exchanged};
 ghost use Rattle.ed_syntax.specs.PublicTypes.{command_value};
-ghost use Rattle.ed_syntax.specs.States.{last};
-ghost use Rattle.ed_syntax.specs.Applied as applied;
-ghost use Rattle.ed_syntax.specs.Globals as globals;
-ghost use Rattle.ed_syntax.specs.Globals.{closed, flagged, flagged_line, next_taken};
+ghost use Rattle.ed_syntax.specs.meaning.States.{last};
+ghost use Rattle.ed_syntax.specs.meaning.Applied as applied;
+ghost use Rattle.ed_syntax.specs.meaning.Globals as globals;
+ghost use Rattle.ed_syntax.specs.meaning.Globals.{closed, flagged, flagged_line, next_taken};
 ghost use Rattle.ed_commands.specs.Editors.{Begins, Tells, failure_of, is_global, span_value};
 
 use crate::editor::Editor;

@@ -4,7 +4,7 @@ ghost use Rattle.ed_base.specs.Lines.{lines_of};
 ghost use Rattle.ed_base.specs.Buffer.{plain_line};
 ghost use Rattle.ed_base.specs.Parts.{inserted};
 ghost use Rattle.ed_syntax.specs.PublicTypes.{form_value};
-ghost use Rattle.ed_syntax.specs.Forms.{lines_written};
+ghost use Rattle.ed_syntax.specs.meaning.Forms.{lines_written};
 
 use crate::editor::addressing::Span;
 use crate::editor::forms::push_line;

@@ -2,7 +2,7 @@
 ghost use Rattle.std.specs.Prelude.{◌≡◌, ◌≢◌, ◌<◌, ◌≤◌, ℕ, List, IfErr, IfOk, IfSome, OnOk, drop, length};
 ghost use Rattle.ed_base.specs.Buffer.{texts};
 ghost use Rattle.ed_base.specs.declared.fault.Fault.TheVariants.{Memory, Undo};
-ghost use Rattle.ed_syntax.specs.States.{Nothing};
+ghost use Rattle.ed_syntax.specs.meaning.States.{Nothing};
 ghost use Rattle.ed_commands.specs.Earlier.{Restores, closing, earlier_after, earlier_of, kept_lines, kept_of, nothing_earlier, noting, opening_global, texts_before, undoing};
 
 use crate::editor::undoing::{rewind, take_flags};

@@ -1,8 +1,8 @@
 //! Lines of the buffer that are joined, moved and copied: `j`, `m` and `t`.
 ghost use Rattle.std.specs.Prelude.{◌≡◌, ◌≢◌, ◌≤◌, IfErr, IsOkAnd, MatchResult, OnErr, OnOk};
 ghost use Rattle.ed_base.specs.declared.fault.Fault.TheVariants.{Memory};
-ghost use Rattle.ed_syntax.specs.States.{last};
-ghost use Rattle.ed_syntax.specs.Effects as effect;
+ghost use Rattle.ed_syntax.specs.meaning.States.{last};
+ghost use Rattle.ed_syntax.specs.meaning.Effects as effect;
 ghost use Rattle.ed_commands.specs.Editors.{left_by, span_value};
 
 use crate::editor::Editor;

@@ -4,7 +4,7 @@ ghost use Rattle.bre_parse.specs.Grammar.{pattern as pattern_of};
 ghost use Rattle.bre_match.specs.Searchers.{searched};
 ghost use Rattle.ed_base.specs.Buffer.{plain_line, texts};
 ghost use Rattle.ed_base.specs.Parts.{between, exchanged, replaced};
-ghost use Rattle.ed_syntax.specs.SubstitutedLines.{each, made_of};
+ghost use Rattle.ed_syntax.specs.meaning.SubstitutedLines.{each, made_of};
 ghost use Rattle.ed_commands.specs.Earlier.{earlier_of, kept_lines};
 ghost use Rattle.ed_commands.specs.Editors.{AreNew};
 ghost use Rattle.ed_commands.specs.Rewriting.{earlier_of_rewritten};

@@ -1,7 +1,7 @@
 //! Searches for a line that a pattern matches (XCU ed, "Addresses in ed").
 ghost use Rattle.std.specs.Prelude.{◌≡◌, ◌+◌, ◌-◌, ◌≤◌, Some, length, reverse, find, IsTrue, IfOk, OnErr, OnOk};
 ghost use Rattle.ed_base.specs.Buffer.{Line};
-ghost use Rattle.ed_syntax.specs.Values.{count_from, lines_backward, lines_forward, matches_line, searched, sought};
+ghost use Rattle.ed_syntax.specs.meaning.Values.{count_from, lines_backward, lines_forward, matches_line, searched, sought};
 ghost use Rattle.ed_commands.specs.Editors.{TellsLine, SameButPattern, with_pattern};
 
 use crate::editor::Editor;

@@ -3,9 +3,9 @@ ghost use Rattle.std.specs.Prelude.{◌≡◌, ◌≢◌, ◌≤◌, length, Som
 ghost use Rattle.std.specs.List.{list_any};
 ghost use Rattle.ed_base.specs.declared.fault.Fault.TheVariants.{Memory};
 ghost use Rattle.ed_syntax.specs.PublicTypes.{suffix_value};
-ghost use Rattle.ed_syntax.specs.States.{last};
-ghost use Rattle.ed_syntax.specs.Verbs.{is_split};
-ghost use Rattle.ed_syntax.specs.SubstitutedLines.{flag_written, substitute};
+ghost use Rattle.ed_syntax.specs.meaning.States.{last};
+ghost use Rattle.ed_syntax.specs.meaning.Verbs.{is_split};
+ghost use Rattle.ed_syntax.specs.meaning.SubstitutedLines.{flag_written, substitute};
 ghost use Rattle.ed_commands.specs.Editors.{Tells, left_by, span_value};
 ghost use Rattle.ed_commands.specs.Rewriting.{remembering};
 

@@ -2,9 +2,9 @@
 ghost use Rattle.std.specs.Prelude.{◌≡◌, ◌+◌, ◌-◌, ◌≤◌, [], length, map, take, drop, IfOk, OnOk};
 ghost use Rattle.ed_base.specs.Buffer.{plain_line, texts};
 ghost use Rattle.ed_base.specs.Parts.{carried, exchanged};
-ghost use Rattle.ed_syntax.specs.States.{unflagged};
-ghost use Rattle.ed_syntax.specs.Effects as effect;
-ghost use Rattle.ed_syntax.specs.Effects.{only};
+ghost use Rattle.ed_syntax.specs.meaning.States.{unflagged};
+ghost use Rattle.ed_syntax.specs.meaning.Effects as effect;
+ghost use Rattle.ed_syntax.specs.meaning.Effects.{only};
 ghost use Rattle.ed_commands.specs.Earlier.{rewound, texts_before};
 ghost use Rattle.ed_commands.specs.Editors.{Tells};
 

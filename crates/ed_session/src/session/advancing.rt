@@ -3,7 +3,7 @@ ghost use Rattle.std.specs.Prelude.{◌≡◌, ◌≢◌, ◌<◌, List, [], Non
 ghost use Rattle.ed_base.specs.declared.fault.Fault.TheVariants.{Memory};
 ghost use Rattle.ed_syntax.specs.Commands.{Command};
 ghost use Rattle.ed_syntax.specs.declared.request.Answer.{Answer};
-ghost use Rattle.ed_syntax.specs.Progress.{failing, quitting};
+ghost use Rattle.ed_syntax.specs.meaning.Progress.{failing, quitting};
 ghost use Rattle.ed_syntax.specs.PublicTypes.{verb_value};
 ghost use Rattle.ed_commands.specs.Editors.{is_global};
 ghost use Rattle.ed_session.specs.declared.phase.Phase.TheVariants as phases;

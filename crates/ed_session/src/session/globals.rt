@@ -1,7 +1,7 @@
 //! How a session runs the list of a global command (XCU ed, "Global Command", "Global Non-Matched Command").
 ghost use Rattle.std.specs.Prelude.{◌≡◌, ◌<◌, List, [], None, true, false, IsSome, IfSome};
-ghost use Rattle.ed_syntax.specs.Globals.{closed};
-ghost use Rattle.ed_syntax.specs.Runs.{steps, with_state};
+ghost use Rattle.ed_syntax.specs.meaning.Globals.{closed};
+ghost use Rattle.ed_syntax.specs.meaning.Runs.{steps, with_state};
 ghost use Rattle.ed_syntax.specs.declared.request.Answer.{Answer};
 ghost use Rattle.ed_commands.specs.Editors.{is_global};
 ghost use Rattle.ed_session.specs.declared.phase.Phase.TheVariants as phases;

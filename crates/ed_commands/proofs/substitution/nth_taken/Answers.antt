@@ -3,7 +3,7 @@ use Rattle.std.proofs.Common.{◌≡◌, ◌∙◌, ℕ, List, drop, ap, sym, su
 use Rattle.std.specs.Prelude.{IfOk}
 use Rattle.bre_parse.specs.Tree.{Tree}
 use Rattle.bre_match.specs.Searchers.{searched}
-use Rattle.ed_syntax.specs.Substitution.{Found}
+use Rattle.ed_syntax.specs.meaning.Substitution.{Found}
 use Rattle.ed_commands.specs.Scans.{left, Goes}
 use Rattle.ed_commands.proofs.Scanning.{nth_told, taken_within}
 use Rattle.ed_commands.proofs.substitution.nth_taken.Goals as goal

@@ -1,7 +1,7 @@
 -- The matches after those that are still passed over are those after all that are.
 use Rattle.std.proofs.Common.{◌≡◌, drop}
 use Rattle.bre_match.specs.Searchers.{searched}
-use Rattle.ed_syntax.specs.Substitution.{taken}
+use Rattle.ed_syntax.specs.meaning.Substitution.{taken}
 use Rattle.ed_commands.specs.Scans.{left}
 use Rattle.ed_commands.proofs.substitution.nth_taken.Given as goal
 

@@ -1,7 +1,7 @@
 -- What was appended, and the parts that are left, make the whole.
 use Rattle.std.proofs.Common.{◌≡◌, ◌++◌, drop, flat_map}
 use Rattle.bre_match.specs.Answer.{spans}
-use Rattle.ed_syntax.specs.Substitution.{expanded}
+use Rattle.ed_syntax.specs.meaning.Substitution.{expanded}
 use Rattle.ed_commands.proofs.substitution.replace.Given as goal
 
 abbrev pub invariant-loop-part : goal.invariant-loop-part

@@ -1,7 +1,7 @@
 -- What was made, and the rest with the matches that are left replaced, make the whole.
 use Rattle.std.proofs.Common.{◌≡◌, ◌++◌, ◌+◌, ◌-◌, ◌≤◌, length}
 use Rattle.bre_match.specs.Searchers.{searched}
-use Rattle.ed_syntax.specs.Substitution.{rewritten, taken}
+use Rattle.ed_syntax.specs.meaning.Substitution.{rewritten, taken}
 use Rattle.ed_commands.specs.Scans.{left}
 use Rattle.ed_commands.proofs.substitution.replace_all.Given as goal
 

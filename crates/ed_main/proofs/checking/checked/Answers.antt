@@ -1,7 +1,7 @@
 -- The verdict is that on the certificate whose text was read, for the script that was read.
 use Rattle.std.proofs.Common.{◌∙◌, ap}
 use Rattle.std.proofs.lemmas.Result.{IfOk-weaker}
-use Rattle.ed_syntax.specs.Reading.{script_of}
+use Rattle.ed_syntax.specs.reading.Reading.{script_of}
 use Rattle.cert_check.specs.Certificates.{certificate_value}
 use Rattle.cert_check.specs.Valid.{judged}
 use Rattle.ed_main.specs.Answers as answers

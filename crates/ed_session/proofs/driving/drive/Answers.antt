@@ -1,5 +1,5 @@
 use Rattle.std.proofs.Common.{◌∙◌, refl, ap, inl, inr, arith}
-use Rattle.ed_syntax.specs.Progress.{Ends}
+use Rattle.ed_syntax.specs.meaning.Progress.{Ends}
 use Rattle.ed_session.proofs.Causes.{rest_by_file, rest_no_output}
 use Rattle.ed_session.proofs.Turning.{driven_output, driven_performs, performed_log, performed_raises, driven_ends, driven_cut_off}
 use Rattle.ed_session.proofs.driving.drive.Goals as goal

@@ -1,10 +1,10 @@
 use Rattle.std.proofs.Common.{◌≡◌, sym, ap, ◌∙◌, length, map, Some, true}
 use Rattle.std.proofs.lemmas.List.{map_push}
-use Rattle.ed_syntax.specs.ReadCommands.{command_at}
-use Rattle.ed_syntax.specs.ReadGlobals.{commands}
-use Rattle.ed_syntax.specs.ReadParts.{command_before}
+use Rattle.ed_syntax.specs.reading.ReadCommands.{command_at}
+use Rattle.ed_syntax.specs.reading.ReadGlobals.{commands}
+use Rattle.ed_syntax.specs.reading.ReadParts.{command_before}
 use Rattle.ed_syntax.specs.PublicTypes.{command_value}
-use Rattle.ed_syntax.proofs.ListSteps.{before_commands, before_commands-next}
+use Rattle.ed_syntax.proofs.reading.ListSteps.{before_commands, before_commands-next}
 use Rattle.ed_syntax.proofs.globals.all_commands.Goals as goal
 
 pub commands-preserved : goal.commands-preserved

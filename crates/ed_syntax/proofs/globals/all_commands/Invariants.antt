@@ -1,8 +1,8 @@
 -- The commands so far, before those of the lines that are left, are all of them.
 use Rattle.std.proofs.Common.{◌≡◌, length, map}
-use Rattle.ed_syntax.specs.ReadGlobals.{commands, all_commands}
+use Rattle.ed_syntax.specs.reading.ReadGlobals.{commands, all_commands}
 use Rattle.ed_syntax.specs.PublicTypes.{command_value}
-use Rattle.ed_syntax.proofs.ListSteps.{before_commands}
+use Rattle.ed_syntax.proofs.reading.ListSteps.{before_commands}
 use Rattle.ed_syntax.proofs.globals.all_commands.Given as goal
 
 abbrev pub invariant-commands : goal.invariant-commands

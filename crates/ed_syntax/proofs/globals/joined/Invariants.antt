@@ -1,6 +1,6 @@
 -- The lines so far, before those that are joined to them, are the whole list; no line's number is skipped.
 use Rattle.std.proofs.Common.{◌≡◌, ◌+◌, ◌≤◌, ◌++◌, length}
-use Rattle.ed_syntax.specs.ReadGlobals.{joined}
+use Rattle.ed_syntax.specs.reading.ReadGlobals.{joined}
 use Rattle.ed_syntax.proofs.globals.joined.Given as goal
 
 abbrev pub invariant-lines : goal.invariant-lines

@@ -1,4 +1,4 @@
-use Rattle.ed_syntax.proofs.ListedLemmas.{global_read}
+use Rattle.ed_syntax.proofs.meaning.ListedLemmas.{global_read}
 use Rattle.ed_syntax.proofs.globals.listing.Goals as goal
 
 pub returns-in-Some : goal.returns-in-Some

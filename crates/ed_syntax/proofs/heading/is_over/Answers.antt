@@ -1,7 +1,7 @@
 use Rattle.std.proofs.Common.{◌≡◌, ℕ, suc, ◌&&◌, true, false, nat_eq, List, [], ◌∷◌, length, refl, ap, ◌∙◌, arith}
 use Rattle.std.proofs.lemmas.Bool.{ne_eqb}
 use Rattle.std.specs.List.{list_all}
-use Rattle.ed_syntax.specs.Characters.{is_blank, after_blanks}
+use Rattle.ed_syntax.specs.spelling.Characters.{is_blank, after_blanks}
 use Rattle.ed_syntax.proofs.heading.is_over.Goals as goal
 
 -- nothing stands after the blanks where all are blanks

@@ -1,5 +1,5 @@
-use Rattle.ed_syntax.proofs.AnswerLemmas.{unasked_answers_do_nothing, nothing_is_asked_twice, only_unserved_files_fail}
-use Rattle.ed_syntax.proofs.CommandSteps.{files_are_written_by_their_path}
+use Rattle.ed_syntax.proofs.meaning.AnswerLemmas.{unasked_answers_do_nothing, nothing_is_asked_twice, only_unserved_files_fail}
+use Rattle.ed_syntax.proofs.meaning.CommandSteps.{files_are_written_by_their_path}
 use Rattle.ed_syntax.proofs.laws.answers_are_asked_for.Goals as goal
 
 pub returns : goal.returns

@@ -1,4 +1,4 @@
-use Rattle.ed_syntax.proofs.PlaceLemmas as place
+use Rattle.ed_syntax.proofs.meaning.PlaceLemmas as place
 use Rattle.ed_syntax.proofs.laws.commands_are_placed.Goals as goal
 
 pub returns : goal.returns

@@ -1,4 +1,4 @@
-use Rattle.ed_syntax.proofs.CommandSteps as command
+use Rattle.ed_syntax.proofs.meaning.CommandSteps as command
 use Rattle.ed_syntax.proofs.laws.files_have_lines.Goals as goal
 
 pub returns : goal.returns

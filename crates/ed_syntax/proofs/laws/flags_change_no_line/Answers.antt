@@ -1,4 +1,4 @@
-use Rattle.ed_syntax.proofs.CommandSteps as command
+use Rattle.ed_syntax.proofs.meaning.CommandSteps as command
 use Rattle.ed_syntax.proofs.laws.flags_change_no_line.Goals as goal
 
 pub returns : goal.returns

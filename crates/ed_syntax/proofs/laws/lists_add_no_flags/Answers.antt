@@ -1,4 +1,4 @@
-use Rattle.ed_syntax.proofs.CommandSteps.{lists_add_no_flags}
+use Rattle.ed_syntax.proofs.meaning.CommandSteps.{lists_add_no_flags}
 use Rattle.ed_syntax.proofs.laws.lists_add_no_flags.Goals as goal
 
 pub returns : goal.returns

@@ -1,4 +1,4 @@
-use Rattle.ed_syntax.proofs.CommandSteps as command
+use Rattle.ed_syntax.proofs.meaning.CommandSteps as command
 use Rattle.ed_syntax.proofs.laws.lists_note_changes.Goals as goal
 
 pub returns : goal.returns

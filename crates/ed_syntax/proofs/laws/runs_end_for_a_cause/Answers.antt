@@ -1,4 +1,4 @@
-use Rattle.ed_syntax.proofs.RunLemmas.{never_memory, never_output, files_have_a_cause}
+use Rattle.ed_syntax.proofs.meaning.RunLemmas.{never_memory, never_output, files_have_a_cause}
 use Rattle.ed_syntax.proofs.laws.runs_end_for_a_cause.Goals as goal
 
 pub returns : goal.returns

@@ -2,9 +2,9 @@ use Rattle.std.proofs.Common.{◌≡◌, ◌<◌, pos, neg_ℤ, ◌+ℤ◌, ◌-
 use Rattle.std.proofs.lemmas.Int.{ints}
 use mir.Val.{to_z, of_z}
 use mir.Syntax.{w128}
-use Rattle.ed_syntax.specs.Tokens.{offsets}
-use Rattle.ed_syntax.proofs.Fronts.{after_first, first_and_others, no_first}
-use Rattle.ed_syntax.proofs.OffsetSteps.{none_summed, plus_first, minus_first, none_left}
+use Rattle.ed_syntax.specs.reading.Tokens.{offsets}
+use Rattle.ed_syntax.proofs.reading.Fronts.{after_first, first_and_others, no_first}
+use Rattle.ed_syntax.proofs.reading.OffsetSteps.{none_summed, plus_first, minus_first, none_left}
 use Rattle.ed_syntax.proofs.offsets.offsets.Goals as goal
 use Rattle.ed_syntax.proofs.offsets.offsets.Goals.{in_default, in_default-2}
 

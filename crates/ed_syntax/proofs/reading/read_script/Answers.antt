@@ -1,10 +1,10 @@
 use Rattle.std.proofs.Common.{◌≡◌, ◌+◌, length, Some, map, sym, ap, ◌∙◌, arith}
 use Rattle.std.proofs.lemmas.List.{map_push}
-use Rattle.ed_syntax.specs.Reading.{script, step_at}
+use Rattle.ed_syntax.specs.reading.Reading.{script, step_at}
 use Rattle.ed_syntax.specs.PublicTypes.{step_value}
-use Rattle.ed_syntax.specs.ReadParts.{step_before}
-use Rattle.ed_syntax.proofs.LawLemmas.{first-stand}
-use Rattle.ed_syntax.proofs.ScriptLemmas.{all_before, all_before-next}
+use Rattle.ed_syntax.specs.reading.ReadParts.{step_before}
+use Rattle.ed_syntax.proofs.reading.LawLemmas.{first-stand}
+use Rattle.ed_syntax.proofs.reading.ScriptLemmas.{all_before, all_before-next}
 use Rattle.ed_syntax.proofs.reading.read_script.Goals as goal
 
 pub commands-preserved : goal.commands-preserved

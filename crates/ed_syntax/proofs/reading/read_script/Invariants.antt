@@ -1,8 +1,8 @@
 -- The steps so far, before the script of the lines that are left, are the whole script.
 use Rattle.std.proofs.Common.{◌≡◌, ◌+◌, length}
-use Rattle.ed_syntax.specs.Reading.{script, script_of}
+use Rattle.ed_syntax.specs.reading.Reading.{script, script_of}
 use Rattle.ed_syntax.specs.PublicTypes.{steps_value}
-use Rattle.ed_syntax.proofs.ScriptLemmas.{all_before}
+use Rattle.ed_syntax.proofs.reading.ScriptLemmas.{all_before}
 use Rattle.ed_syntax.proofs.reading.read_script.Given as goal
 
 abbrev pub invariant-commands : goal.invariant-commands

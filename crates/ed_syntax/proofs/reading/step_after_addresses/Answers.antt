@@ -1,5 +1,5 @@
 use Rattle.ed_syntax.specs.PublicTypes.{addresses_value}
-use Rattle.ed_syntax.proofs.ListedLemmas.{single_result}
+use Rattle.ed_syntax.proofs.meaning.ListedLemmas.{single_result}
 use Rattle.ed_syntax.proofs.reading.step_after_addresses.Goals as goal
 
 pub returns-in-None-clause-value : goal.returns-in-None-clause-value

@@ -1,8 +1,8 @@
 -- The parts so far, before those that are left, are all of them; no line's number is skipped.
 use Rattle.std.proofs.Common.{◌≡◌, ◌+◌, ◌≤◌, length}
 use Rattle.ed_base.specs.Lines.{bytes_of}
-use Rattle.ed_syntax.specs.ReadParameters.{all_parts}
-use Rattle.ed_syntax.proofs.PartsSteps.{PartsLeft}
+use Rattle.ed_syntax.specs.reading.ReadParameters.{all_parts}
+use Rattle.ed_syntax.proofs.reading.PartsSteps.{PartsLeft}
 use Rattle.ed_syntax.proofs.substitution.parts.Given as goal
 
 abbrev pub invariant-parts : goal.invariant-parts

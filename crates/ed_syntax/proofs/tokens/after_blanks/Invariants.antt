@@ -1,6 +1,6 @@
 -- The blanks that were passed don't matter.
 use Rattle.std.proofs.Common.{◌≡◌, ◌≤◌, length}
-use Rattle.ed_syntax.specs.Characters.{after_blanks}
+use Rattle.ed_syntax.specs.spelling.Characters.{after_blanks}
 use Rattle.ed_syntax.proofs.tokens.after_blanks.Given as goal
 
 abbrev pub invariant-blanks : goal.invariant-blanks

@@ -2,7 +2,7 @@ use Rattle.std.proofs.Common.{◌<◌, get_or, ap, ◌∙◌, arith}
 use Rattle.std.proofs.lemmas.List.{get_or-take}
 use Rattle.std.specs.List.{prefix_len}
 use Rattle.std.proofs.lemmas.List.Sums.{prefix_len-le-length, prefix_len_passes}
-use Rattle.ed_syntax.specs.Characters.{is_digit}
+use Rattle.ed_syntax.specs.spelling.Characters.{is_digit}
 use Rattle.ed_syntax.proofs.tokens.number.Goals as goal
 
 pub split_at-requires : goal.split_at-requires

@@ -1,7 +1,7 @@
 -- The text's lines are those of the bytes that are made of it.
 use Rattle.std.proofs.Common.{◌≡◌, subst}
 use Rattle.std.specs.Prelude.{OnOk}
-use Rattle.ed_syntax.specs.Effects.{entered}
+use Rattle.ed_syntax.specs.meaning.Effects.{entered}
 use Rattle.ed_commands.specs.Editors.{left_by}
 use Rattle.ed_commands.proofs.editor.Editor.append.Goals as goal
 

@@ -3,7 +3,7 @@
 use Rattle.std.proofs.Common.{Some, ap, arith, refl}
 use Rattle.std.proofs.lemmas.Result.{err_from_is_err_and}
 use Rattle.ed_syntax.specs.PublicTypes.{command_value}
-use Rattle.ed_syntax.specs.States.{last}
+use Rattle.ed_syntax.specs.meaning.States.{last}
 use Rattle.ed_commands.specs.Editors.{placed_value}
 use Rattle.ed_commands.proofs.Commanding.{refused, failed, done}
 use Rattle.ed_commands.proofs.editor.Editor.carry_out.Goals as goal

@@ -1,8 +1,8 @@
 -- The text's lines are new ones, and there are some.
 use Rattle.std.proofs.Common.{◌≡◌, ◌+◌, ◌-◌, ◌∙◌, ap, sym, subst, length}
 use Rattle.std.specs.Prelude.{OnOk}
-use Rattle.ed_syntax.specs.Effects as effect
-use Rattle.ed_syntax.specs.Effects.{altered}
+use Rattle.ed_syntax.specs.meaning.Effects as effect
+use Rattle.ed_syntax.specs.meaning.Effects.{altered}
 use Rattle.ed_base.specs.Parts.{exchanged}
 use Rattle.ed_commands.specs.Editors.{left_by, span_value}
 use Rattle.ed_commands.proofs.Changes.{made-new, changed-some}

@@ -3,7 +3,7 @@ use Rattle.std.proofs.Common.{◌≡◌, ◌≤◌, ◌+◌, ◌-◌, ◌∙◌,
 use Rattle.std.proofs.lemmas.List.{length-map}
 use Rattle.ed_base.specs.Buffer.{plain_line, texts}
 use Rattle.ed_base.specs.Parts.{block, exchanged, inserted}
-use Rattle.ed_syntax.specs.Effects.{altered}
+use Rattle.ed_syntax.specs.meaning.Effects.{altered}
 use Rattle.ed_commands.specs.Editors.{left_by}
 use Rattle.ed_commands.specs.declared.editor.past.Change.TheVariants as change
 use Rattle.ed_commands.proofs.Blocks.{length-block, length-exchanged, taken-out}

@@ -2,8 +2,8 @@
 use Rattle.std.proofs.Common.{◌≡◌, ◌-◌, ◌∙◌, ap, sym, subst}
 use Rattle.std.specs.Prelude.{OnOk}
 use Rattle.ed_base.specs.Lines.{lines_of}
-use Rattle.ed_syntax.specs.Effects as effect
-use Rattle.ed_syntax.specs.Effects.{entered}
+use Rattle.ed_syntax.specs.meaning.Effects as effect
+use Rattle.ed_syntax.specs.meaning.Effects.{entered}
 use Rattle.ed_commands.specs.Editors.{left_by, span_value}
 use Rattle.ed_commands.proofs.Changes.{inserted-some}
 use Rattle.ed_commands.proofs.editor.Editor.insert.Goals as goal

@@ -1,8 +1,8 @@
 -- What undo would bring back stays.
 use Rattle.std.proofs.Common.{◌≡◌, ◌-◌, refl, ap, ◌∙◌}
 use Rattle.ed_base.specs.Buffer.{marked_at}
-use Rattle.ed_syntax.specs.Ranges as ranges
-use Rattle.ed_syntax.specs.Effects as effect
+use Rattle.ed_syntax.specs.meaning.Ranges as ranges
+use Rattle.ed_syntax.specs.meaning.Effects as effect
 use Rattle.ed_commands.proofs.Changes.{same-texts}
 use Rattle.ed_commands.proofs.Texts.{texts-marked_at}
 use Rattle.ed_commands.proofs.Held.{held}

@@ -6,9 +6,9 @@ use Rattle.ed_base.specs.Buffer.{texts}
 use Rattle.line_store.specs.Marks.{lettered}
 use Rattle.ed_syntax.specs.PublicTypes.{command_value}
 use Rattle.ed_syntax.specs.declared.request.Answer.TheVariants as answer
-use Rattle.ed_syntax.specs.Applied.{command}
-use Rattle.ed_syntax.specs.Globals.{flags}
-use Rattle.ed_syntax.specs.States.{last}
+use Rattle.ed_syntax.specs.meaning.Applied.{command}
+use Rattle.ed_syntax.specs.meaning.Globals.{flags}
+use Rattle.ed_syntax.specs.meaning.States.{last}
 use Rattle.ed_commands.specs.Earlier.{earlier_in, kept_of, opening_global, with_earlier}
 use Rattle.ed_commands.specs.Editors.{BeginsBy}
 use Rattle.ed_commands.proofs.Commanding.{unasked}

@@ -4,7 +4,7 @@ use Rattle.std.proofs.lemmas.Result.{err_from_is_err_and}
 use Rattle.std.specs.Prelude.{IsOkAnd}
 use Rattle.ed_syntax.specs.PublicTypes.{command_value}
 use Rattle.ed_syntax.specs.declared.request.Answer.TheVariants as answer
-use Rattle.ed_syntax.specs.Applied.{command}
+use Rattle.ed_syntax.specs.meaning.Applied.{command}
 use Rattle.ed_commands.specs.Editors.{Replies, asks}
 use Rattle.ed_commands.specs.declared.editor.Reply.TheVariants as reply
 use Rattle.ed_commands.proofs.Commanding.{unasked}

@@ -2,7 +2,7 @@
 use Rattle.std.proofs.Common.{◌≡◌, ◌+◌, ◌≤◌, ◌∙◌, ap, arith, length, sym}
 use Rattle.ed_base.specs.Buffer.{texts}
 use Rattle.ed_base.specs.Parts.{exchanged}
-use Rattle.ed_syntax.specs.Effects.{altered}
+use Rattle.ed_syntax.specs.meaning.Effects.{altered}
 use Rattle.ed_commands.specs.Editors.{left_by}
 use Rattle.ed_commands.specs.declared.editor.past.Change.TheVariants as change
 use Rattle.ed_commands.proofs.Blocks.{length-exchanged, put-back}

@@ -1,8 +1,8 @@
 -- The line is found among those before the current one, or among those from it on, or not at all.
 use Rattle.std.proofs.Common.{◌≡◌, ◌+◌, ◌-◌, reverse, refl, sym, ap, ◌∙◌, Some, None}
 use Rattle.std.specs.Prelude.{find}
-use Rattle.ed_syntax.specs.States.{last}
-use Rattle.ed_syntax.specs.Values.{count_from, lines_backward, matches_line, searched}
+use Rattle.ed_syntax.specs.meaning.States.{last}
+use Rattle.ed_syntax.specs.meaning.Values.{count_from, lines_backward, matches_line, searched}
 use Rattle.ed_commands.proofs.Held.{held}
 use Rattle.ed_commands.proofs.Searching.{leaves, as-sought, looked, backward, found-first, found-second}
 use Rattle.ed_commands.proofs.editor.Editor.search_backward.Goals as goal

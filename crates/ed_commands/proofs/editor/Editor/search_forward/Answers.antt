@@ -1,8 +1,8 @@
 -- The line is found among those after the current one, or among those up to it, or not at all.
 use Rattle.std.proofs.Common.{◌≡◌, ◌+◌, ◌-◌, refl, sym, ap, ◌∙◌, Some, None}
 use Rattle.std.specs.Prelude.{find}
-use Rattle.ed_syntax.specs.States.{last}
-use Rattle.ed_syntax.specs.Values.{count_from, lines_forward, matches_line, searched}
+use Rattle.ed_syntax.specs.meaning.States.{last}
+use Rattle.ed_syntax.specs.meaning.Values.{count_from, lines_forward, matches_line, searched}
 use Rattle.ed_commands.proofs.Held.{held}
 use Rattle.ed_commands.proofs.Searching.{leaves, as-sought, looked, forward, found-first, found-second}
 use Rattle.ed_commands.proofs.editor.Editor.search_forward.Goals as goal

@@ -4,7 +4,7 @@ use Rattle.std.proofs.Math.ListN.{length-set}
 use Rattle.ed_base.specs.Buffer.{flagged_at, plain_line, with_flag}
 use Rattle.std.specs.Prelude.{Ok}
 use Rattle.bre_match.specs.Searchers.{searched}
-use Rattle.ed_syntax.specs.Globals.{wanted}
+use Rattle.ed_syntax.specs.meaning.Globals.{wanted}
 use Rattle.ed_commands.proofs.Globals.{flagged-more, told-of}
 use Rattle.ed_commands.proofs.editor.globals.flag_block.Goals as goal
 use Rattle.ed_commands.proofs.editor.globals.flag_block.Goals.{then-is_wanted, else-is_wanted}

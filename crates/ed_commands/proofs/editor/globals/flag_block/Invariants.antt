@@ -4,7 +4,7 @@ use Rattle.std.specs.Prelude.{Ok}
 use Rattle.bre_parse.specs.Grammar.{pattern}
 use Rattle.bre_match.specs.Searchers.{searched}
 use Rattle.ed_base.specs.Parts.{block, exchanged}
-use Rattle.ed_syntax.specs.Globals.{flagged_line}
+use Rattle.ed_syntax.specs.meaning.Globals.{flagged_line}
 use Rattle.ed_commands.proofs.editor.globals.flag_block.Given as goal
 
 abbrev pub invariant-loop-i : goal.invariant-loop-i

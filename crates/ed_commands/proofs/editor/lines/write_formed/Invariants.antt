@@ -1,7 +1,7 @@
 -- What is written, and the lines that are left, make all.
 use Rattle.std.proofs.Common.{◌≡◌, ◌+◌, ◌++◌, drop, take}
 use Rattle.ed_syntax.specs.PublicTypes.{form_value}
-use Rattle.ed_syntax.specs.Forms.{all_written, lines_written}
+use Rattle.ed_syntax.specs.meaning.Forms.{all_written, lines_written}
 use Rattle.ed_commands.proofs.editor.lines.write_formed.Given as goal
 
 abbrev pub invariant-loop-i : goal.invariant-loop-i

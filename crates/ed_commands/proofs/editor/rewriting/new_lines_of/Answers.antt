@@ -2,7 +2,7 @@
 use Rattle.std.proofs.Common.{List, Some, option_map, map, ap, sym, ◌∙◌}
 use Rattle.ed_base.specs.Buffer.{Line, plain_line}
 use Rattle.bre_match.specs.Searchers.{searched}
-use Rattle.ed_syntax.specs.Substitution.{split_at_newlines}
+use Rattle.ed_syntax.specs.meaning.Substitution.{split_at_newlines}
 use Rattle.ed_commands.proofs.Rewritten.{made-by}
 use Rattle.ed_commands.proofs.editor.rewriting.new_lines_of.Goals as goal
 

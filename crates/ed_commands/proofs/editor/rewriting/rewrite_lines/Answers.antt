@@ -4,7 +4,7 @@ use Rattle.std.specs.Prelude.{is_some, Ok}
 use Rattle.std.proofs.lemmas.List.{take-append-drop, length-append}
 use Rattle.ed_base.specs.Buffer.{plain_line, texts}
 use Rattle.ed_base.specs.Parts.{block, exchanged}
-use Rattle.ed_syntax.specs.SubstitutedLines.{each, made_of}
+use Rattle.ed_syntax.specs.meaning.SubstitutedLines.{each, made_of}
 use Rattle.ed_commands.specs.Earlier.{earlier_of, kept_lines}
 use Rattle.ed_commands.proofs.Blocks.{block-none, length-exchanged}
 use Rattle.ed_commands.proofs.Rewritten.{counted, each-further, first-change, gone, new-made, next-line, none-kept, some-kept, some-made, stands-at, stayed, when-none, with-new, with-none}

@@ -5,7 +5,7 @@ use Rattle.bre_parse.specs.Grammar.{pattern}
 use Rattle.bre_match.specs.Searchers.{searched}
 use Rattle.ed_base.specs.Buffer.{texts}
 use Rattle.ed_base.specs.Parts.{block, exchanged}
-use Rattle.ed_syntax.specs.SubstitutedLines.{each, made_of}
+use Rattle.ed_syntax.specs.meaning.SubstitutedLines.{each, made_of}
 use Rattle.ed_commands.specs.Earlier.{earlier_of, kept_lines}
 use Rattle.ed_commands.specs.Rewriting.{earlier_of_rewritten}
 use Rattle.ed_commands.proofs.editor.rewriting.rewrite_lines.Given as goal

@@ -1,6 +1,6 @@
 -- Each line that is passed doesn't match.
 use Rattle.std.proofs.Common.{◌-◌, sym, ap, ◌∙◌, arith}
-use Rattle.ed_syntax.specs.Values.{matches_line}
+use Rattle.ed_syntax.specs.meaning.Values.{matches_line}
 use Rattle.std.specs.Prelude.{Ok}
 use Rattle.bre_match.specs.Searchers.{searched}
 use Rattle.ed_commands.proofs.Searching.{told, passed-down, found-down}

@@ -3,7 +3,7 @@ use Rattle.std.proofs.Common.{◌≡◌, ◌+◌, ◌-◌, reverse}
 use Rattle.std.specs.Prelude.{find, Ok}
 use Rattle.bre_parse.specs.Grammar.{pattern}
 use Rattle.bre_match.specs.Searchers.{searched}
-use Rattle.ed_syntax.specs.Values.{count_from, matches_line}
+use Rattle.ed_syntax.specs.meaning.Values.{count_from, matches_line}
 use Rattle.ed_commands.proofs.editor.searching.last_match.Given as goal
 
 abbrev pub invariant-loop-i : goal.invariant-loop-i

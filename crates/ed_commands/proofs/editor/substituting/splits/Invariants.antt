@@ -1,7 +1,7 @@
 -- Whether a split is left is whether there is any.
 use Rattle.std.proofs.Common.{◌≡◌, drop}
 use Rattle.std.specs.List.{list_any}
-use Rattle.ed_syntax.specs.Verbs.{is_split}
+use Rattle.ed_syntax.specs.meaning.Verbs.{is_split}
 use Rattle.ed_commands.proofs.editor.substituting.splits.Given as goal
 
 abbrev pub invariant-loop-part : goal.invariant-loop-part

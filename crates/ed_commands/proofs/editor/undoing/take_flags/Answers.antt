@@ -2,7 +2,7 @@
 use Rattle.std.proofs.Common.{◌≡◌, ◌∙◌, None, false, ap, arith, sym}
 use Rattle.std.specs.Prelude.{count_by}
 use Rattle.ed_base.specs.Buffer.{flagged_at, flagged_place}
-use Rattle.ed_syntax.specs.States.{unflagged}
+use Rattle.ed_syntax.specs.meaning.States.{unflagged}
 use Rattle.ed_commands.proofs.Undoing.{fewer-flags, none-flagged, unflagged-taken}
 use Rattle.ed_commands.proofs.editor.undoing.take_flags.Goals as goal
 

@@ -1,7 +1,7 @@
 -- The lines are the same without their flags, and fewer have one.
 use Rattle.std.proofs.Common.{◌≡◌}
 use Rattle.std.specs.Prelude.{count_by}
-use Rattle.ed_syntax.specs.States.{unflagged}
+use Rattle.ed_syntax.specs.meaning.States.{unflagged}
 use Rattle.ed_commands.proofs.editor.undoing.take_flags.Given as goal
 
 abbrev pub invariant-loop-place : goal.invariant-loop-place

@@ -1,6 +1,6 @@
 use Rattle.std.proofs.Common.{◌≡◌, ◌≢◌, ◌≤◌, ◌+◌, ◌∙◌, ap, refl, subst, None, Err, false}
 use Rattle.ed_base.specs.declared.fault.Fault.TheVariants.{Memory}
-use Rattle.ed_syntax.specs.Applied.{command}
+use Rattle.ed_syntax.specs.meaning.Applied.{command}
 use Rattle.ed_syntax.specs.PublicTypes.{command_value}
 use Rattle.ed_session.specs.Insides.{holding}
 use Rattle.ed_session.specs.Sessions.{is_over}

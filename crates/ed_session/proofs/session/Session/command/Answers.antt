@@ -1,6 +1,6 @@
 use Rattle.std.proofs.Common.{◌≡◌, ◌≢◌, ◌≤◌, ◌+◌, ◌∙◌, ap, refl, subst, None, Err}
 use Rattle.ed_base.specs.declared.fault.Fault.TheVariants.{Memory}
-use Rattle.ed_syntax.specs.Applied.{command}
+use Rattle.ed_syntax.specs.meaning.Applied.{command}
 use Rattle.ed_syntax.specs.PublicTypes.{command_value}
 use Rattle.ed_session.specs.Insides.{holding}
 use Rattle.ed_session.proofs.Advancing.{advances_by, hands_out_report, is_false, as_goes, as_awaits, as_hands_out}

@@ -1,6 +1,6 @@
 use Rattle.std.proofs.Common.{◌∙◌, [], ap, refl}
 use Rattle.ed_base.specs.declared.fault.Fault.TheVariants.{Memory}
-use Rattle.ed_syntax.specs.Progress.{report}
+use Rattle.ed_syntax.specs.meaning.Progress.{report}
 use Rattle.ed_session.proofs.Advancing.{breaks_here}
 use Rattle.ed_session.proofs.session.Session.fail_memory.Goals as goal
 

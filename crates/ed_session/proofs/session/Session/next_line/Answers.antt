@@ -1,6 +1,6 @@
 use Rattle.std.proofs.Common.{◌≡◌, ◌≤◌, ◌+◌, ◌∙◌, ap, sym, refl, subst, inr}
 use Rattle.std.specs.Prelude.{is_some}
-use Rattle.ed_syntax.specs.Globals.{next_taken}
+use Rattle.ed_syntax.specs.meaning.Globals.{next_taken}
 use Rattle.ed_session.specs.Sessions.{is_waiting}
 use Rattle.ed_session.proofs.Advancing.{as_goes, is_false}
 use Rattle.ed_session.proofs.Turned.{listing, goes_silently, line_taken, lines_done, taken_is, none_is, taken_again}

@@ -1,6 +1,6 @@
 use Rattle.std.proofs.Common.{sym, ap, ◌∙◌, map}
 use Rattle.ed_syntax.specs.PublicTypes.{command_value, list_value}
-use Rattle.ed_syntax.proofs.ListedLemmas.{list_value_of_global}
+use Rattle.ed_syntax.proofs.meaning.ListedLemmas.{list_value_of_global}
 use Rattle.ed_syntax.proofs.command.Command.list.Goals as goal
 
 -- src/command.rt:145:5

@@ -1,6 +1,6 @@
 -- The lines so far and the text that is left are the whole text; no line's number is skipped.
 use Rattle.std.proofs.Common.{◌≡◌, ◌+◌, ◌≤◌, ◌++◌, length}
-use Rattle.ed_syntax.specs.ReadCommands.{text}
+use Rattle.ed_syntax.specs.reading.ReadCommands.{text}
 use Rattle.ed_syntax.proofs.script_lines.ScriptLines.read_text.Given as goal
 
 abbrev pub invariant-lines : goal.invariant-lines

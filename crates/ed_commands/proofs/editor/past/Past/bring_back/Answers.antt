@@ -2,7 +2,7 @@
 use Rattle.std.proofs.Common.{◌≡◌, ◌-◌, ◌∙◌, None, Some, refl, sym, subst, ap, arith}
 use Rattle.std.specs.Prelude.{vec_len, vec_capacity}
 use Rattle.ed_base.specs.Buffer.{texts}
-use Rattle.ed_syntax.specs.States.{Same}
+use Rattle.ed_syntax.specs.meaning.States.{Same}
 use Rattle.line_store.specs.Marks.{lettered}
 use Rattle.ed_commands.specs.Earlier.{PastValue, Restores, earlier_of, undone_past}
 use Rattle.ed_commands.proofs.Undoing.{restored}

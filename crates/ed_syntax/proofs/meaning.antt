@@ -1,0 +1,26 @@
+-- Lemmas and worked rows on what running a script means.
+pub mod Worked
+pub mod RunRows
+mod AddressRows
+mod CutRows
+mod FileRows
+pub mod CutLemmas
+mod SubstitutionRows
+mod SubstituteRows
+mod GlobalRows
+mod UndoRows
+pub mod StepLemmas
+pub mod ListedLemmas
+pub mod FaultSteps
+pub mod CountLemmas
+pub mod MarkLemmas
+pub mod GlobalLemmas
+pub mod ResultLemmas
+pub mod PlaceLemmas
+pub mod WholeLemmas
+pub mod Reshaping
+pub mod EffectShapes
+pub mod CommandSteps
+pub mod FaultLemmas
+pub mod AnswerLemmas
+pub mod RunLemmas
