@@ -1,12 +1,12 @@
 #!/usr/bin/env python3
-"""Measures bre_bench beside sed, perl and grep in one run: lines made to be slow, many short lines, and long lines.
+"""Measures bre_ask beside sed, perl and grep in one run: lines made to be slow, many short lines, and long lines.
 
     python3 measure.py [hostile] [growth] [lines] [long] [places]
 
 Each figure is processor seconds, the least of three runs, and the most memory in MB; what runs the programs has 11 MB
 itself, so no less is told, and no text is held here. `^` is how the time grows with the line: 1 is in proportion, 2 is with
 its square; it is told where both times are above what starting takes. A program that takes more than 20 seconds is stopped.
-The counts of lines have to agree. Build crates/bre_bench first.
+The counts of lines have to agree. Build crates/bre_ask first.
 """
 import itertools
 import math
@@ -18,7 +18,7 @@ import tempfile
 import time
 
 HERE = os.path.dirname(os.path.abspath(__file__))
-PROGRAM = os.path.join(HERE, '../../crates/bre_bench/out/bre_bench')
+PROGRAM = os.path.join(HERE, '../../crates/bre_ask/out/bre_ask')
 MOST = 20  # seconds
 
 EQUALS = r'\(.*\)=\(.*\)=\1$'
@@ -56,7 +56,7 @@ def extended(pattern):
 def commands(pattern):
     count = '$n++ if /' + extended(pattern) + '/; END { print $n + 0, "\n" }'
     return {
-        'bre_bench': [PROGRAM, 'count', pattern],
+        'bre_ask': [PROGRAM, 'count', pattern],
         'sed -n': ['sed', '-n', f'/{pattern}/p'],
         'perl': ['perl', '-ne', count],
         'grep -c': ['grep', '-c', '--', pattern],
@@ -155,14 +155,14 @@ def measure_growth(folder, starting):
     lines = [written(folder, str(size), 'a' * 1_000, size // 1_000, '\n') for size in (500_000, 1_000_000, 2_000_000)]
     for pattern in NESTED:
         print(f'{pattern}  on a')
-        compare(pattern, lines, starting, ('bre_bench',))
+        compare(pattern, lines, starting, ('bre_ask',))
     lines = [between(folder, size) for size in (500_000, 1_000_000, 2_000_000)]
     for pattern in SEARCHED:
         print(f'{pattern}  on b, a, b')
-        compare(pattern, lines, starting, ('bre_bench',))
+        compare(pattern, lines, starting, ('bre_ask',))
     print('a, 64 times *, bb  on b, a, b, 5002 and 10002 and 20002 bytes')
     lines = [between(folder, size) for size in (5_000, 10_000, 20_000)]
-    compare('a' + '*' * 64 + 'bb', lines, starting, ('bre_bench', 'sed -n', 'grep -c'))
+    compare('a' + '*' * 64 + 'bb', lines, starting, ('bre_ask', 'sed -n', 'grep -c'))
 
 
 def measure_lines(folder, starting):
@@ -184,7 +184,7 @@ def measure_long(folder, starting):
 
 def measure_places(folder, starting):
     """What a find costs that ends after a few bytes of a long line, beside reading the line: a place behind it isn't looked at."""
-    print('\nOne find in a line of 50,000,000 bytes, x but for a word in the middle; bre_bench places')
+    print('\nOne find in a line of 50,000,000 bytes, x but for a word in the middle; bre_ask places')
     half = 25_000_000
     for pattern, word in ((r'\(a\)*b', 'aab'), (r'\(a\)*=\1b', 'a=ab')):
         for name, start in (('reading alone', 2 * half + 1_000), ('from the word', half), ('from the start', 0)):

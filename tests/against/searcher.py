@@ -6,12 +6,12 @@
 There are COUNT patterns: those of patterns/compare.py, patterns over any bytes (NUL and those above 127 too), and patterns with more
 states than a table holds, as `a.\\{8\\}b`, on texts so long that the table fills up again and again. Each has ten texts and more, of which one
 is so long that the searcher makes its automaton. Of each text it is asked whether it matches, and where, from its start or from a place in
-it. A searcher is asked as the texts come, another one from the last to the first, a third one in any order: `bre_bench blocks_searched`. Each
-answer has to be that of `bre_bench blocks`, which has no searcher. Which texts match is also asked of `grep`, but for patterns with
+it. A searcher is asked as the texts come, another one from the last to the first, a third one in any order: `bre_ask blocks_searched`. Each
+answer has to be that of `bre_ask blocks`, which has no searcher. Which texts match is also asked of `grep`, but for patterns with
 back-references or with an anchor elsewhere than at an end, and texts with NUL, where `grep` goes by other rules, and for patterns with more
 than two intervals, over which it can take very long. In one text of at most ten bytes the place is compared with
 patterns/reference.py.
-At the end lines of 50 MB are searched, with a text before and one after. Build crates/bre_bench first. 100,000 patterns take some
+At the end lines of 50 MB are searched, with a text before and one after. Build crates/bre_ask first. 100,000 patterns take some
 minutes, `searcher.py 500` a few seconds.
 """
 import collections
@@ -29,7 +29,7 @@ sys.path.append(os.path.join(HERE, 'patterns'))
 import compare
 import reference
 
-PROGRAM = os.path.abspath(os.path.join(HERE, '../../crates/bre_bench/out/bre_bench'))
+PROGRAM = os.path.abspath(os.path.join(HERE, '../../crates/bre_ask/out/bre_ask'))
 COUNT, SEED, PROCESSES = 100_000, 1, 2
 BATCH = 200
 SHOWN = 10

@@ -1,10 +1,10 @@
 #!/bin/sh
-# Refuses each allocation of bre_bench in turn, while it tells where patterns match: each run has to print nothing at all or,
+# Refuses each allocation of bre_ask in turn, while it tells where patterns match: each run has to print nothing at all or,
 # where the library under it can do without, the match with its groups, as the run does in which none is refused. A searcher is asked
 # again where memory ran out, and has to find the match then.
 # It runs the program that `make test` or `make bench` built, from anywhere, and needs a C compiler. The last line counts the runs.
 cd "$(dirname "$0")" || exit 1
-program=$(cd ../.. && pwd)/crates/bre_bench/out/bre_bench
+program=$(cd ../.. && pwd)/crates/bre_ask/out/bre_ask
 work=$(mktemp -d)
 trap 'rm -rf "$work"' EXIT
 if ! [ -x "$program" ] || ! cc -shared -fPIC -O2 -o "$work/refuse.so" refuse.c -ldl; then

@@ -24,11 +24,11 @@ use Rattle.ed_rules.specs.Formed.{IsCounted}
 use Rattle.ed_rules.specs.Files.{written_paths}
 use Rattle.ed_rules.specs.Globals.{is_global, body_entry}
 use Rattle.ed_rules.proofs.Choosing.{has-union}
-use Rattle.cert_check.specs.Covering.{covers}
-use Rattle.cert_check.specs.declared.verdict.Place.{Place}
-use Rattle.cert_check.specs.declared.verdict.Verdict.TheVariants.{Accepted}
+use Rattle.cert_check.specs.checker.Covering.{covers}
+use Rattle.cert_check.specs.declared.checker.verdict.Place.{Place}
+use Rattle.cert_check.specs.declared.checker.verdict.Verdict.TheVariants.{Accepted}
 use Rattle.cert_check.specs.Certificates.{Looped, Note, Certificate}
-use Rattle.cert_check.specs.Valid.{Check, at_place, inner_at, at, verdict_of, counted, has_quit, are_met, left_by, left_after, is_listed, are_listed, knows_least, knows_most, end_checks, list_checks, looped_checks, step_checks, checks_from, fits_list, are_shaped, judged}
+use Rattle.cert_check.specs.checker.Valid.{Check, at_place, inner_at, at, verdict_of, counted, has_quit, are_met, left_by, left_after, is_listed, are_listed, knows_least, knows_most, end_checks, list_checks, looped_checks, step_checks, checks_from, fits_list, are_shaped, judged}
 use Rattle.analyser.specs.declared.analysis.Start.{Start}
 use Rattle.analyser.specs.Rounds.{all_met, left_by_list, AreInner, turned, round_invariant, IsSettled}
 use Rattle.analyser.specs.Following.{IsKnownOfList, AreNotes, result_from, list_paths, looped_paths, paths_from, end_fault, begun}

@@ -6,9 +6,9 @@ use Rattle.ed_base.specs.declared.fault.Fault.{Fault}
 use Rattle.ed_syntax.specs.Commands.{Script}
 use Rattle.ed_rules.specs.declared.state.State.{State}
 use Rattle.cert_check.specs.declared.certificate.Note as public
-use Rattle.cert_check.specs.declared.verdict.Place.{Place}
+use Rattle.cert_check.specs.declared.checker.verdict.Place.{Place}
 use Rattle.cert_check.specs.Certificates.{note_value}
-use Rattle.cert_check.specs.Valid.{counted, has_quit}
+use Rattle.cert_check.specs.checker.Valid.{counted, has_quit}
 use Rattle.analyser.specs.declared.analysis.Start.{Start}
 use Rattle.analyser.specs.Following.{AreNotes, NotesFail, result_from, end_fault, begun}
 use Rattle.analyser.specs.Analysis.{CommandFails, EndFails}

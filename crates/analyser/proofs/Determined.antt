@@ -5,9 +5,9 @@ use Rattle.ed_base.specs.declared.fault.Fault.{Fault}
 use Rattle.ed_syntax.specs.Commands.{Command, Step, Script}
 use Rattle.ed_rules.specs.declared.state.State.{State}
 use Rattle.ed_rules.specs.Globals.{is_global, body_entry}
-use Rattle.cert_check.specs.declared.verdict.Place.{Place}
+use Rattle.cert_check.specs.declared.checker.verdict.Place.{Place}
 use Rattle.cert_check.specs.Certificates.{Looped, Note, Certificate}
-use Rattle.cert_check.specs.Valid.{counted, has_quit, are_met, left_by, left_after}
+use Rattle.cert_check.specs.checker.Valid.{counted, has_quit, are_met, left_by, left_after}
 use Rattle.analyser.specs.declared.analysis.Start.{Start}
 use Rattle.analyser.specs.Rounds.{round_invariant, ends, AreInner, InnerFail, IsSettled}
 use Rattle.analyser.specs.Following.{IsKnownOfList, IsNote, ListFails, NeedFails, AreNotes, NotesFail, result_from, begun, end_fault}

@@ -26,7 +26,7 @@ use Rattle.ed_rules.specs.Exact.{are_exact}
 use Rattle.ed_rules.specs.LineBounds.{most_lines}
 use Rattle.ed_rules.specs.ExactRules.{Tells, StartIsExact}
 use Rattle.cert_check.specs.Certificates.{certificate_value}
-use Rattle.cert_check.specs.Sound.{start_lines}
+use Rattle.cert_check.specs.checker.Sound.{start_lines}
 use Rattle.analyser.specs.declared.analysis.Start.{Start}
 use Rattle.analyser.specs.declared.analysis.Analysis.{Analysis}
 use Rattle.analyser.specs.declared.analysis.Analysis.TheVariants.{Vouched, Cannot}

@@ -13,7 +13,7 @@ use Rattle.ed_syntax.specs.Commands.{Without, One, Verb, Step, Script, alone, at
 use Rattle.ed_syntax.specs.meaning.Progress.{Ends, stop_of}
 use Rattle.ed_syntax.specs.meaning.Runs.{run}
 use Rattle.cert_check.specs.declared.certificate.Certificate.{Certificate}
-use Rattle.cert_check.specs.declared.verdict.Place.{Place}
+use Rattle.cert_check.specs.declared.checker.verdict.Place.{Place}
 use Rattle.analyser.specs.declared.analysis.Start.{Start}
 use Rattle.analyser.specs.declared.analysis.Analysis.TheVariants.{Vouched, Cannot}
 use Rattle.analyser.specs.Analysis.{most_lines}

@@ -26,7 +26,7 @@ use Rattle.ed_rules.specs.Exact.{are_by_number, is_exact_verb, is_exact, are_exa
 use Rattle.ed_rules.specs.LineBounds.{most_lines}
 use Rattle.ed_rules.specs.ExactRules.{flag_of, Tells, EndAlike, LeavesTold, LeavesFew, CommandIsExact}
 use Rattle.ed_rules.proofs.Basics.{and-both}
-use Rattle.cert_check.specs.Valid.{quits}
+use Rattle.cert_check.specs.checker.Valid.{quits}
 use Rattle.analyser.specs.Exactness.{quit_anyway}
 use Rattle.analyser.proofs.ExactWalks.{ended, walked, goes_on, exact-verb, exact-both}
 

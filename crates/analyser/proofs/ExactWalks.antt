@@ -11,10 +11,10 @@ use Rattle.ed_rules.specs.Rules.{step, fault_of}
 use Rattle.ed_rules.specs.Exact.{are_by_number, is_exact_verb, is_exact, are_exact}
 use Rattle.ed_syntax.specs.spelling.Readable.{is_readable}
 use Rattle.ed_rules.proofs.Basics.{and-both}
-use Rattle.cert_check.specs.declared.verdict.Place.{Place}
+use Rattle.cert_check.specs.declared.checker.verdict.Place.{Place}
 use Rattle.cert_check.specs.Certificates.{Looped, Note, Certificate}
-use Rattle.cert_check.specs.Valid.{quits, counted, has_quit, are_met, left_by, left_after}
-use Rattle.cert_check.proofs.Checks.{met-gives}
+use Rattle.cert_check.specs.checker.Valid.{quits, counted, has_quit, are_met, left_by, left_after}
+use Rattle.cert_check.proofs.checker.Checks.{met-gives}
 use Rattle.analyser.specs.declared.analysis.Start.{Start}
 use Rattle.analyser.specs.Following.{IsKnownOfList, IsNote, NeedFails, AreNotes, NotesFail, result_from, end_fault, begun}
 use Rattle.analyser.specs.Analysis.{IsCertificate, IsFailure}

@@ -11,8 +11,8 @@ use Rattle.ed_rules.specs.Files.{written_paths}
 use Rattle.cert_check.specs.declared.certificate.Looped as looped
 use Rattle.cert_check.specs.declared.certificate.Note as public
 use Rattle.cert_check.specs.Certificates.{Looped, Note, looped_value, note_value}
-use Rattle.cert_check.specs.Valid.{quits, has_quit, counted, left_after}
-use Rattle.cert_check.specs.declared.verdict.Place.{Place}
+use Rattle.cert_check.specs.checker.Valid.{quits, has_quit, counted, left_after}
+use Rattle.cert_check.specs.declared.checker.verdict.Place.{Place}
 use Rattle.analyser.specs.Following.{IsNote, NeedFails, AreNotes, NotesFail, result_from, list_paths, looped_paths, paths_from}
 use Rattle.analyser.specs.declared.walk.Walk.{Walk}
 use Rattle.analyser.specs.declared.walk.End.{End}

@@ -11,10 +11,10 @@ use Rattle.ed_rules.specs.Choices.{Choice, has_choice, are_choices}
 use Rattle.ed_rules.specs.Rules.{step, fault_of}
 use Rattle.ed_rules.specs.Globals.{is_global, body_entry, loop_end}
 use Rattle.ed_rules.proofs.Choosing.{or-right}
-use Rattle.cert_check.specs.Covering.{covers}
+use Rattle.cert_check.specs.checker.Covering.{covers}
 use Rattle.cert_check.specs.declared.certificate.Looped as looped
 use Rattle.cert_check.specs.Certificates.{Looped, Note, looped_value}
-use Rattle.cert_check.specs.Valid.{are_met, left_by}
+use Rattle.cert_check.specs.checker.Valid.{are_met, left_by}
 use Rattle.analyser.specs.declared.rounds.Round.{Round}
 use Rattle.analyser.specs.declared.walk.End.{End}
 use Rattle.analyser.specs.declared.walk.End.TheVariants.{Leaves}

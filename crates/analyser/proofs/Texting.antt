@@ -18,10 +18,10 @@ use Rattle.ed_rules.specs.Order.{join, widen}
 use Rattle.ed_rules.specs.Rules.{step}
 use Rattle.ed_rules.specs.Globals.{is_global, body_entry, loop_end}
 use Rattle.ed_rules.specs.Formed.{ChoiceIsBytes, StateIsFormed, IsFormed, IsEnded, TextsAreBytes, is_rising}
-use Rattle.cert_check.specs.Opening.{IsAtMost}
+use Rattle.cert_check.specs.checker.Opening.{IsAtMost}
 use Rattle.cert_check.specs.Certificates.{Looped, Note, Certificate}
-use Rattle.cert_check.specs.HasText.{LoopedHasText, NoteHasText, is_few, is_limit, is_within, HasText}
-use Rattle.cert_check.specs.Valid.{quits, counted, left_by, left_after}
+use Rattle.cert_check.specs.text.HasText.{LoopedHasText, NoteHasText, is_few, is_limit, is_within, HasText}
+use Rattle.cert_check.specs.checker.Valid.{quits, counted, left_by, left_after}
 use Rattle.analyser.specs.declared.analysis.Start.{Start}
 use Rattle.analyser.specs.Rounds.{left_by_list, AreInner, turned, round_invariant}
 use Rattle.analyser.specs.Following.{IsKnownOfList, AreNotes, result_from, begun}

@@ -8,7 +8,7 @@ use Rattle.zones.specs.Known.{known, is_within, least, greatest}
 use Rattle.zones.specs.Limits.{IsAtMostZero}
 use Rattle.ed_rules.specs.declared.state.State.{State}
 use Rattle.ed_rules.specs.Formed.{IsCounted}
-use Rattle.cert_check.specs.Valid.{knows_least, knows_most}
+use Rattle.cert_check.specs.checker.Valid.{knows_least, knows_most}
 use Rattle.analyser.specs.Analysis.{low_of, high_of}
 
 low-within : (b : Option ℤ) → IsAtMostZero b → is_within b (neg_ℤ (pos (low_of (negative_of b)))) ≡ true

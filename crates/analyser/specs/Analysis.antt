@@ -11,11 +11,11 @@ use Rattle.zones.specs.Known.{least, greatest}
 use Rattle.ed_syntax.specs.Commands.{Script}
 use Rattle.ed_rules.specs.Choices.{Choice}
 pub use Rattle.ed_rules.specs.LineBounds.{most_lines}
-use Rattle.cert_check.specs.declared.verdict.Verdict.TheVariants.{Accepted}
-use Rattle.cert_check.specs.declared.verdict.Place.{Place}
+use Rattle.cert_check.specs.declared.checker.verdict.Verdict.TheVariants.{Accepted}
+use Rattle.cert_check.specs.declared.checker.verdict.Place.{Place}
 use Rattle.cert_check.specs.Certificates.{Note, note_value, Certificate, certificate_value}
-use Rattle.cert_check.specs.HasText.{HasText}
-use Rattle.cert_check.specs.Valid.{counted, has_quit, judged}
+use Rattle.cert_check.specs.text.HasText.{HasText}
+use Rattle.cert_check.specs.checker.Valid.{counted, has_quit, judged}
 use Rattle.analyser.specs.declared.analysis.Start.{Start}
 use Rattle.analyser.specs.declared.analysis.Analysis.{Analysis}
 use Rattle.analyser.specs.declared.analysis.Analysis.TheVariants.{Vouched, Cannot}

@@ -11,7 +11,7 @@ use Rattle.ed_syntax.specs.meaning.Progress.{Stop, Ends, stop_of}
 use Rattle.ed_syntax.specs.meaning.Runs.{run}
 use Rattle.ed_rules.specs.Exact.{are_exact}
 use Rattle.ed_rules.specs.LineBounds.{most_lines}
-use Rattle.cert_check.specs.Sound.{start_lines}
+use Rattle.cert_check.specs.checker.Sound.{start_lines}
 use Rattle.analyser.specs.declared.analysis.Start.{Start}
 use Rattle.analyser.specs.declared.analysis.Analysis.{Analysis}
 use Rattle.analyser.specs.declared.analysis.Analysis.TheVariants.{Vouched, Cannot}

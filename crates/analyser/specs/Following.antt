@@ -10,7 +10,7 @@ use Rattle.ed_rules.specs.Files.{written_paths}
 use Rattle.ed_rules.specs.Rules.{step, fault_of}
 use Rattle.ed_rules.specs.Globals.{is_global, body_entry}
 use Rattle.cert_check.specs.Certificates.{Looped, Note}
-use Rattle.cert_check.specs.Valid.{are_met, left_by, left_after}
+use Rattle.cert_check.specs.checker.Valid.{are_met, left_by, left_after}
 use Rattle.analyser.specs.declared.analysis.Start.{Start}
 use Rattle.analyser.specs.Rounds.{IsSettled, AreInner, InnerFail}
 

@@ -6,8 +6,8 @@ use Rattle.ed_rules.specs.declared.state.State.{State}
 use Rattle.ed_rules.specs.Order.{join, widen}
 use Rattle.ed_rules.specs.Rules.{step, fault_of}
 use Rattle.ed_rules.specs.Globals.{body_entry}
-use Rattle.cert_check.specs.Covering.{covers}
-use Rattle.cert_check.specs.Valid.{are_met, left_by}
+use Rattle.cert_check.specs.checker.Covering.{covers}
+use Rattle.cert_check.specs.checker.Valid.{are_met, left_by}
 
 -- A LIST, from the state on that comes in
 

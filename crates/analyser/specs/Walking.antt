@@ -12,10 +12,10 @@ use Rattle.ed_rules.specs.declared.state.State.{State}
 use Rattle.ed_rules.specs.Choices.{Choice}
 use Rattle.ed_rules.specs.Globals.{body_entry}
 use Rattle.ed_rules.specs.Formed.{TextsAreBytes}
-use Rattle.cert_check.specs.Covering.{covers}
+use Rattle.cert_check.specs.checker.Covering.{covers}
 use Rattle.cert_check.specs.declared.certificate.Looped.{Looped}
 use Rattle.cert_check.specs.Certificates.{looped_value, note_value}
-use Rattle.cert_check.specs.Valid.{counted, has_quit, left_after}
+use Rattle.cert_check.specs.checker.Valid.{counted, has_quit, left_after}
 use Rattle.analyser.specs.declared.rounds.Round.{Round}
 use Rattle.analyser.specs.declared.walk.End.{End}
 use Rattle.analyser.specs.declared.walk.End.TheVariants.{Leaves, Stops}

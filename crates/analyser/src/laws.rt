@@ -3,7 +3,7 @@
 ghost use Rattle.std.specs.Prelude.{◌≡◌, List};
 ghost use Rattle.ed_base.specs.declared.fault.Fault.{Fault};
 ghost use Rattle.ed_syntax.specs.Commands.{Script};
-ghost use Rattle.cert_check.specs.declared.verdict.Place.{Place};
+ghost use Rattle.cert_check.specs.declared.checker.verdict.Place.{Place};
 ghost use Rattle.cert_check.specs.Certificates as plain;
 ghost use Rattle.analyser.specs.declared.analysis.Start.{Start};
 ghost use Rattle.analyser.specs.declared.analysis.Analysis.{Analysis};

@@ -3,7 +3,7 @@
 ghost use Rattle.std.specs.Prelude.{◌≡◌, true, None, Some, Ok, IfOk, option_map};
 ghost use Rattle.ed_syntax.specs.PublicTypes.{verb_value, command_value, step_value, steps_value};
 ghost use Rattle.cert_check.specs.Certificates.{looped_value, note_value};
-ghost use Rattle.cert_check.specs.Valid.{quits, left_by};
+ghost use Rattle.cert_check.specs.checker.Valid.{quits, left_by};
 ghost use Rattle.ed_rules.specs.Rules.{step, fault_of};
 ghost use Rattle.ed_rules.specs.Globals.{is_global};
 ghost use Rattle.analyser.specs.Walking.{IsLastRound, looped_of, IsTaken, IsWalk};

@@ -3,14 +3,18 @@
 ghost use Rattle.std.specs.Prelude.{◌≡◌, IfOk};
 ghost use Rattle.ed_syntax.specs.PublicScript.{script_value};
 ghost use Rattle.cert_check.specs.Certificates.{certificate_value};
-ghost use Rattle.cert_check.specs.Valid.{judged};
-ghost use Rattle.cert_check.specs.Passing.{verdict_at, verdict_after};
-ghost use Rattle.cert_check.specs.Sound.{CannotFail};
+ghost use Rattle.cert_check.specs.checker.Valid.{judged};
+ghost use Rattle.cert_check.specs.checker.Passing.{verdict_at, verdict_after};
+ghost use Rattle.cert_check.specs.checker.Sound.{CannotFail};
+
+pub(crate) mod loops;
+pub(crate) mod passing;
+pub(crate) mod verdict;
 
 use crate::certificate::Certificate;
+use crate::checker::passing::{are_shaped, count, ends_well, go_through};
+use crate::checker::verdict::{Place, Verdict};
 use crate::laws::accepted_scripts_cannot_fail;
-use crate::passing::{are_shaped, count, ends_well, go_through};
-use crate::verdict::{Place, Verdict};
 use ed_rules::State;
 use ed_syntax::Script;
 use std::alloc::AllocError;

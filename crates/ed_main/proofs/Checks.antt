@@ -18,10 +18,10 @@ use Rattle.ed_syntax.specs.meaning.Progress.{Progress, Stops, Writes, Hears, Wai
 use Rattle.ed_syntax.specs.meaning.Runs.{run}
 use Rattle.ed_session.specs.Drives.{Log, answers, requests, added, EndsMissing}
 use Rattle.cert_check.specs.Certificates.{Certificate}
-use Rattle.cert_check.specs.Opening.{IsWithin}
-use Rattle.cert_check.specs.declared.verdict.Verdict.TheVariants.{Accepted}
-use Rattle.cert_check.specs.Valid.{judged}
-use Rattle.cert_check.specs.Sound.{CannotFail, MayAsk, StopsWell, start_lines}
+use Rattle.cert_check.specs.checker.Opening.{IsWithin}
+use Rattle.cert_check.specs.declared.checker.verdict.Verdict.TheVariants.{Accepted}
+use Rattle.cert_check.specs.checker.Valid.{judged}
+use Rattle.cert_check.specs.checker.Sound.{CannotFail, MayAsk, StopsWell, start_lines}
 use Rattle.ed_main.specs.declared.checked.Ran.{Ran}
 use Rattle.ed_main.specs.declared.checked.Ran.TheVariants as ran
 use Rattle.ed_main.specs.Correct as correct

@@ -12,9 +12,9 @@ use Rattle.ed_syntax.specs.reading.Reading.{script_of}
 use Rattle.ed_syntax.specs.spelling.Spellings.{SpellsWhatIsRead}
 use Rattle.ed_session.specs.Drives.{Log}
 use Rattle.cert_check.specs.Certificates.{Certificate}
-use Rattle.cert_check.specs.HasText.{IsText}
-use Rattle.cert_check.specs.declared.verdict.Verdict.{Verdict}
-use Rattle.cert_check.specs.declared.verdict.Verdict.TheVariants.{Accepted, Refused}
+use Rattle.cert_check.specs.text.HasText.{IsText}
+use Rattle.cert_check.specs.declared.checker.verdict.Verdict.{Verdict}
+use Rattle.cert_check.specs.declared.checker.verdict.Verdict.TheVariants.{Accepted, Refused}
 use Rattle.analyser.specs.declared.analysis.Start.{Start}
 use Rattle.analyser.specs.declared.analysis.Analysis.{Analysis}
 use Rattle.analyser.specs.declared.analysis.Analysis.TheVariants.{Vouched, Cannot}

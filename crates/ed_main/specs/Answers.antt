@@ -10,8 +10,8 @@ use Rattle.ed_syntax.specs.declared.options.Options.{Options}
 use Rattle.ed_session.specs.Drives.{Log}
 use Rattle.ed_session.specs.Sinks.{AppendsFront}
 use Rattle.cert_check.specs.Certificates.{Certificate, certificate_value}
-use Rattle.cert_check.specs.HasText.{IsText}
-use Rattle.cert_check.specs.Valid.{judged}
+use Rattle.cert_check.specs.text.HasText.{IsText}
+use Rattle.cert_check.specs.checker.Valid.{judged}
 use Rattle.analyser.specs.Analysis.{IsAnswer, IsValid}
 use Rattle.analyser.specs.declared.analysis.Start.{Start}
 use Rattle.analyser.specs.declared.analysis.Analysis.{Analysis}

@@ -10,12 +10,12 @@ use Rattle.ed_syntax.specs.declared.request.Request.TheVariants as request
 use Rattle.ed_syntax.specs.Commands.{Script}
 use Rattle.ed_syntax.specs.meaning.Runs.{run}
 use Rattle.ed_session.specs.Drives.{Log, answers, requests}
-use Rattle.cert_check.specs.declared.verdict.Place.{Place}
-use Rattle.cert_check.specs.declared.verdict.Verdict.TheVariants.{Accepted, Refused}
+use Rattle.cert_check.specs.declared.checker.verdict.Place.{Place}
+use Rattle.cert_check.specs.declared.checker.verdict.Verdict.TheVariants.{Accepted, Refused}
 use Rattle.cert_check.specs.Certificates.{Certificate}
-use Rattle.cert_check.specs.Opening.{IsWithin}
-use Rattle.cert_check.specs.Sound.{start_lines}
-use Rattle.cert_check.specs.Valid.{judged}
+use Rattle.cert_check.specs.checker.Opening.{IsWithin}
+use Rattle.cert_check.specs.checker.Sound.{start_lines}
+use Rattle.cert_check.specs.checker.Valid.{judged}
 use Rattle.ed_main.specs.declared.checked.Ran.{Ran}
 use Rattle.ed_main.specs.declared.checked.Ran.TheVariants as ran
 use Rattle.ed_main.specs.Correct.{ComesTo}

@@ -1,6 +1,6 @@
 -- What is known of a job's bounds, by which a script may be analysed for them (our choice: at most 10^12 lines).
 use Rattle.std.specs.Prelude.{◌≢◌, ◌≤◌, [], Some, IfSome}
-use Rattle.cert_check.specs.Opening.{IsAtMost}
+use Rattle.cert_check.specs.checker.Opening.{IsAtMost}
 use Rattle.analyser.specs.Analysis.{most_lines}
 use Rattle.analyser.specs.declared.analysis.Start.{Start}
 use Rattle.ed_main.specs.declared.job.Job.{Job}

@@ -7,11 +7,11 @@ use Rattle.ed_base.specs.declared.fault.Fault.TheVariants.{Memory, File, Output}
 use Rattle.ed_syntax.specs.declared.options.Options.{Options}
 use Rattle.ed_syntax.specs.Commands.{Script}
 use Rattle.ed_session.specs.Drives.{Log, answers, requests, EndsMissing}
-use Rattle.cert_check.specs.declared.verdict.Verdict.TheVariants.{Accepted}
+use Rattle.cert_check.specs.declared.checker.verdict.Verdict.TheVariants.{Accepted}
 use Rattle.cert_check.specs.Certificates.{Certificate}
-use Rattle.cert_check.specs.Opening.{IsWithin}
-use Rattle.cert_check.specs.Sound.{MayAsk, start_lines}
-use Rattle.cert_check.specs.Valid.{judged}
+use Rattle.cert_check.specs.checker.Opening.{IsWithin}
+use Rattle.cert_check.specs.checker.Sound.{MayAsk, start_lines}
+use Rattle.cert_check.specs.checker.Valid.{judged}
 use Rattle.ed_main.specs.declared.checked.Ran.{Ran}
 use Rattle.ed_main.specs.declared.checked.Ran.TheVariants.{Done}
 

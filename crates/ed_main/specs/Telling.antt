@@ -3,10 +3,10 @@ use Rattle.std.specs.Prelude.{◌≡◌, ℕ, List, [], ◌∷◌, ◌++◌, Som
 use Rattle.ed_base.specs.Fault.{status_of, text_of}
 use Rattle.ed_base.specs.Lines.{newline}
 use Rattle.ed_base.specs.declared.fault.Fault.{Fault}
-use Rattle.cert_check.specs.declared.verdict.Place.{Place}
-use Rattle.cert_check.specs.declared.verdict.Verdict.{Verdict}
-use Rattle.cert_check.specs.declared.verdict.Verdict.TheVariants.{Accepted, Refused}
-use Rattle.cert_check.specs.Faults.{IsVersionFault, IsLineFault, IsSizeFault}
+use Rattle.cert_check.specs.declared.checker.verdict.Place.{Place}
+use Rattle.cert_check.specs.declared.checker.verdict.Verdict.{Verdict}
+use Rattle.cert_check.specs.declared.checker.verdict.Verdict.TheVariants.{Accepted, Refused}
+use Rattle.cert_check.specs.text.Faults.{IsVersionFault, IsLineFault, IsSizeFault}
 use Rattle.ed_main.specs.declared.checked.Ran.{Ran}
 use Rattle.ed_main.specs.declared.checked.Ran.TheVariants as ran
 use Rattle.ed_main.specs.declared.telling.Told.{Told}

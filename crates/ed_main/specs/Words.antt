@@ -10,7 +10,7 @@ use Rattle.clap.specs.Words.{App, Kinds, Row, Rule, fault_of, first_of, new_app,
 use Rattle.clap.specs.Simple.{on_top}
 use Rattle.clap.specs.declared.builder.action.ArgAction.TheVariants.{Set, SetTrue}
 use Rattle.ed_syntax.specs.declared.options.Options.{Options}
-use Rattle.cert_check.specs.HasText.{is_few, is_within}
+use Rattle.cert_check.specs.text.HasText.{is_few, is_within}
 use Rattle.ed_main.specs.declared.job.Job.{Job}
 use Rattle.ed_main.specs.declared.job.Job.TheVariants as job
 

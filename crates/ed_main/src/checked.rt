@@ -4,7 +4,7 @@ ghost use Rattle.ed_syntax.specs.meaning.Laws.{starts};
 ghost use Rattle.ed_syntax.specs.PublicScript.{script_value};
 ghost use Rattle.ed_session.specs.Drives.{added, EndsMissing};
 ghost use Rattle.cert_check.specs.Certificates.{certificate_value};
-ghost use Rattle.cert_check.specs.Opening.{IsWithin};
+ghost use Rattle.cert_check.specs.checker.Opening.{IsWithin};
 ghost use Rattle.ed_main.specs.CheckedRuns.{CheckedRun, LiesOutside, reading, told_of};
 ghost use Rattle.ed_main.specs.Headline.{Headline, MayFail};
 ghost use Rattle.ed_main.specs.Starts.{KeepsCount, RunsOver, lines_told};

@@ -1,6 +1,6 @@
 //! What the program tells beside a run's own output: at most one line or a certificate, and the status that it ends with.
 ghost use Rattle.std.specs.Prelude.{◌≡◌, ◌<◌, ◌-◌, ◌^◌, ◌++◌, ℕ, List, Ok, Err, IfOk, OnOk};
-ghost use Rattle.cert_check.specs.Faults.{IsReading};
+ghost use Rattle.cert_check.specs.text.Faults.{IsReading};
 ghost use Rattle.ed_main.specs.Answers.{Says};
 ghost use Rattle.ed_main.specs.Telling.{IsUnread, line_told, place_text, verdict_told, cannot_told, outside_told};
 

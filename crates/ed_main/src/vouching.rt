@@ -1,6 +1,6 @@
 //! The certificate of a script, or the need that fails.
 ghost use Rattle.std.specs.Prelude.{◌<◌, ◌≤◌, ◌-◌, ◌^◌, IfOk, IfSome};
-ghost use Rattle.cert_check.specs.Opening.{IsAtMost};
+ghost use Rattle.cert_check.specs.checker.Opening.{IsAtMost};
 ghost use Rattle.analyser.specs.Analysis.{HasTextIfVouched, most_lines};
 ghost use Rattle.ed_main.specs.Answers.{IsToldOf, Says, Vouches};
 ghost use Rattle.ed_main.specs.Vouching.{Answers};

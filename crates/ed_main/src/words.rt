@@ -2,7 +2,7 @@
 ghost use Rattle.std.specs.Prelude.{◌≡◌, ◌≢◌, List, Some, None, false, if◌then◌else◌, map, IfOk, IfErr, option_and_then, option_map};
 ghost use Rattle.clap.specs.Words.{app_of, found_of, first_of, rows_of, rule_of, subcommand_rows_of};
 ghost use Rattle.clap.specs.declared.builder.command.Command.TheViews.{out-Command as fields_of};
-ghost use Rattle.cert_check.specs.HasText as text;
+ghost use Rattle.cert_check.specs.text.HasText as text;
 ghost use Rattle.ed_main.specs.Words as meaning;
 ghost use Rattle.ed_main.specs.Words.{job_of, job_named, options_in};
 ghost use Rattle.ed_main.specs.Given.{IsGiven};

@@ -128,4 +128,9 @@ takes_value t = record {
   text = t.text;
   target = option_map (λ target. address_value target.now) t.target;
   suffix = t.suffix;
+  listed = t.listed;
+  asks = t.asks;
+  alters = t.alters;
+  ends = t.ends;
+  global = t.global;
 }

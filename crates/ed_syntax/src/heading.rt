@@ -196,16 +196,7 @@ fn may_have(given: &Addresses, verb: &Verb) -> bool
 fn may_stand(listed: bool, verb: &Verb) -> bool
     ensures value { result ≡ may_stand listed (verb_value verb.now) }
 {
-    !listed
-        || !matches!(
-            verb,
-            Verb::Edit(_)
-                | Verb::EditAnyway(_)
-                | Verb::Global { .. }
-                | Verb::Undo
-                | Verb::Quit
-                | Verb::QuitAnyway
-        )
+    !listed || verb.takes().listed
 }
 
 // Nothing but blanks is left of the line.

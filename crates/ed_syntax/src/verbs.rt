@@ -1,8 +1,8 @@
 //! What each command takes: the table that the reader, the editor and the rules of the verifier ask.
-ghost use Rattle.std.specs.Prelude.{◌≡◌, true, false, Some, None};
+ghost use Rattle.std.specs.Prelude.{◌≡◌, true, false, None};
 ghost use Rattle.ed_syntax.specs.Commands.{Last, at_base};
 ghost use Rattle.ed_syntax.specs.PublicTypes.{address_value, addresses_value, verb_value, default_value, takes_value};
-ghost use Rattle.ed_syntax.specs.meaning.Verbs.{here, next, takes};
+ghost use Rattle.ed_syntax.specs.meaning.Verbs.{here, next, row, takes};
 
 use crate::{Address, Addresses, Base, Verb};
 
@@ -41,7 +41,16 @@ pub enum DefaultAddresses {
     CurrentAndNext,
 }
 
-/// What a command takes.
+/// How a command ends the run (XCU ed, "Quit Command", "Quit Without Checking").
+#[derive(Clone, Copy, Debug, PartialEq, Eq)]
+pub enum Ends {
+    /// As the end of the script does: a fault where changes would be lost.
+    AsScript,
+    /// Whether or not changes would be lost.
+    Anyway,
+}
+
+/// What a command takes, and what else is asked of it.
 #[derive(Clone, Copy, Debug)]
 pub struct Takes<'a> {
     pub default: DefaultAddresses,
@@ -52,6 +61,16 @@ pub struct Takes<'a> {
     pub target: Option<&'a Address>,
     /// A suffix may follow.
     pub suffix: bool,
+    /// It may stand in the list of a global command.
+    pub listed: bool,
+    /// It asks for a file: one to read, or one to write.
+    pub asks: bool,
+    /// It may change the buffer, as part of a list.
+    pub alters: bool,
+    /// How it ends the run, if it does.
+    pub ends: Option<Ends>,
+    /// It has a list of commands.
+    pub global: bool,
 }
 
 // The current line.
@@ -100,15 +119,9 @@ impl DefaultAddresses {
     }
 }
 
-// What a command takes that has neither text nor target, and that a suffix may follow.
+// What a command takes that changes nothing: no text and no target; a suffix may follow, and it may stand in a list.
 fn row<'a>(default: DefaultAddresses, taking: Taking) -> Takes<'a>
-    ensures value { takes_value result ≡ record {
-      default = default_value default;
-      taking = taking;
-      text = false;
-      target = None;
-      suffix = true;
-    } }
+    ensures value { takes_value result ≡ row (default_value default) taking false None true true false false None false }
 {
     Takes {
         default,
@@ -116,38 +129,54 @@ fn row<'a>(default: DefaultAddresses, taking: Taking) -> Takes<'a>
         text: false,
         target: None,
         suffix: true,
+        listed: true,
+        asks: false,
+        alters: false,
+        ends: None,
+        global: false,
     }
 }
 
 impl Verb {
-    /// What the command takes.
+    /// What the command takes: its row of the table.
     pub fn takes(&self) -> Takes<'_>
         ensures value { takes_value result ≡ takes (verb_value self.now) }
     {
         match self {
             Verb::Append(_) => Takes {
                 text: true,
+                alters: true,
                 ..row(DefaultAddresses::Current, Taking::Place)
             },
             Verb::Change(_) => Takes {
                 text: true,
+                alters: true,
                 ..row(DefaultAddresses::CurrentTwice, Taking::Lines)
             },
-            Verb::Delete => row(DefaultAddresses::CurrentTwice, Taking::Range),
             Verb::Insert(_) => Takes {
                 text: true,
+                alters: true,
                 ..row(DefaultAddresses::Current, Taking::FirstPlace)
             },
-            Verb::Join => row(DefaultAddresses::CurrentAndNext, Taking::Range),
-            Verb::Mark(_) => row(DefaultAddresses::Current, Taking::OneLine),
+            Verb::Delete => Takes {
+                alters: true,
+                ..row(DefaultAddresses::CurrentTwice, Taking::Range)
+            },
+            Verb::Join => Takes {
+                alters: true,
+                ..row(DefaultAddresses::CurrentAndNext, Taking::Range)
+            },
             Verb::Move(to) | Verb::Copy(to) => Takes {
                 target: Some(to),
+                alters: true,
                 ..row(DefaultAddresses::CurrentTwice, Taking::Range)
             },
             Verb::Substitute { .. } => Takes {
                 suffix: false,
+                alters: true,
                 ..row(DefaultAddresses::CurrentTwice, Taking::Range)
             },
+            Verb::Mark(_) => row(DefaultAddresses::Current, Taking::OneLine),
             Verb::LineNumber => row(DefaultAddresses::Last, Taking::Place),
             Verb::Null => Takes {
                 suffix: false,
@@ -156,22 +185,48 @@ impl Verb {
             Verb::Write(_) => row(DefaultAddresses::CurrentTwice, Taking::Range),
             Verb::ReadFile(_) => Takes {
                 suffix: false,
+                asks: true,
+                alters: true,
                 ..row(DefaultAddresses::Last, Taking::Place)
             },
-            Verb::WriteFile(_) | Verb::Global { .. } => Takes {
+            Verb::WriteFile(_) => Takes {
                 suffix: false,
+                asks: true,
                 ..row(DefaultAddresses::Without, Taking::Whole)
             },
-            Verb::Undo | Verb::Help | Verb::HelpMode | Verb::PromptMode => row(
-                DefaultAddresses::Without,
-                Taking::NoAddress,
-            ),
-            Verb::Edit(_)
-            | Verb::EditAnyway(_)
-            | Verb::FileName(_)
-            | Verb::Quit
-            | Verb::QuitAnyway => Takes {
+            Verb::Edit(_) | Verb::EditAnyway(_) => Takes {
                 suffix: false,
+                listed: false,
+                asks: true,
+                ..row(DefaultAddresses::Without, Taking::NoAddress)
+            },
+            Verb::FileName(_) => Takes {
+                suffix: false,
+                ..row(DefaultAddresses::Without, Taking::NoAddress)
+            },
+            Verb::Global { .. } => Takes {
+                suffix: false,
+                listed: false,
+                global: true,
+                ..row(DefaultAddresses::Without, Taking::Whole)
+            },
+            Verb::Undo => Takes {
+                listed: false,
+                ..row(DefaultAddresses::Without, Taking::NoAddress)
+            },
+            Verb::Help | Verb::HelpMode | Verb::PromptMode => {
+                row(DefaultAddresses::Without, Taking::NoAddress)
+            }
+            Verb::Quit => Takes {
+                suffix: false,
+                listed: false,
+                ends: Some(Ends::AsScript),
+                ..row(DefaultAddresses::Without, Taking::NoAddress)
+            },
+            Verb::QuitAnyway => Takes {
+                suffix: false,
+                listed: false,
+                ends: Some(Ends::Anyway),
                 ..row(DefaultAddresses::Without, Taking::NoAddress)
             },
         }

@@ -1,11 +1,11 @@
 #!/usr/bin/env python3
-"""Compares where bre_bench finds random patterns in random texts with where reference.py does.
+"""Compares where bre_ask finds random patterns in random texts with where reference.py does.
 
     python3 compare.py COUNT SEED
 
 Patterns are small and hostile: groups in groups, optional groups of two or three bytes side by side, repeats of repeats,
 turns that may be empty, anchors within groups and repeats, and back-references, also to groups in repeats. A pattern with a
-back-reference whose ways are too many for the reference is left out. Build crates/bre_bench first.
+back-reference whose ways are too many for the reference is left out. Build crates/bre_ask first.
 """
 import collections
 import os
@@ -16,7 +16,7 @@ import sys
 sys.dont_write_bytecode = True
 import reference
 
-PROGRAM = os.path.join(os.path.dirname(os.path.abspath(__file__)), '../../../crates/bre_bench/out/bre_bench')
+PROGRAM = os.path.join(os.path.dirname(os.path.abspath(__file__)), '../../../crates/bre_ask/out/bre_ask')
 REPEATS = [(0, None)] * 4 + [(0, 1)] * 4 + [(1, 2), (0, 2), (2, None), (1, None), (2, 2), (2, 3), (3, 5), (0, 0), (1, 1)]
 
 
@@ -94,7 +94,7 @@ def cases(count, seed):
 
 
 def expected(tree, text, begin):
-    """What bre_bench is to print, or None where that takes too long."""
+    """What bre_ask is to print, or None where that takes too long."""
     try:
         found = reference.Match(text).find(tree, begin)
     except (reference.TooSlow, RecursionError):
@@ -127,7 +127,7 @@ def main():
         tally['equal' if right == answer else 'different'] += 1
         tally['of them without a match'] += right == answer == 'none'
         if right != answer and tally['different'] <= 20:
-            print(f'{line}\n  reference {right}\n  bre_bench {answer}')
+            print(f'{line}\n  reference {right}\n  bre_ask {answer}')
     print(f'seed {seed}, {count} cases: ' + ', '.join(f'{tally[name]} {name}' for name in (
         'equal', 'of them without a match', 'different', 'with a back-reference', 'too slow for the reference', 'left out')))
     sys.exit(tally['different'] > 0)

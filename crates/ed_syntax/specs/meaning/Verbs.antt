@@ -1,11 +1,13 @@
--- What each command takes: addresses, lines of text, a target, a suffix (XCU ed, "Commands in ed").
-use Rattle.std.specs.Prelude.{pos, Bool, true, false, not, ◌&&◌, ◌||◌, nat_le, nat_lt, Option, Some, None}
+-- What each command takes, and what else is asked of it: one table of all commands (XCU ed, "Commands in ed").
+use Rattle.std.specs.Prelude.{pos, Bool, true, false, not, ◌&&◌, ◌||◌, nat_le, nat_lt, Option, Some, None, is_some}
 use Rattle.std.specs.List.{list_all, list_any}
 use Rattle.ed_syntax.specs.Commands as ed
 use Rattle.ed_syntax.specs.Commands.{Address, Addresses, Without, One, Comma, Semicolon, Verb, Command, Step, at_base}
 use Rattle.ed_syntax.specs.declared.replacement.Part.{Part}
 use Rattle.ed_syntax.specs.declared.replacement.Part.TheVariants as part
 use Rattle.ed_syntax.specs.declared.replacement.Which.TheVariants as which
+use Rattle.ed_syntax.specs.declared.verbs.Ends.{Ends}
+use Rattle.ed_syntax.specs.declared.verbs.Ends.TheVariants as ends
 use Rattle.ed_syntax.specs.declared.verbs.Taking.{Taking}
 use Rattle.ed_syntax.specs.declared.verbs.Taking.TheVariants as many
 
@@ -17,42 +19,108 @@ here = at_base ed.Current
 abbrev pub next : Address
 next = record { base = ed.Current; offset = pos 1 }
 
--- What a command takes: the addresses that it has where none are given; how many it takes, and what line 0 means to it; whether the
--- lines of a text follow it; the address that is its target; whether a suffix may follow. Without addresses `g`, `v` and `w` take all lines.
+-- What a command takes, and what else is asked of it: the addresses that it has where none are given; how many it takes, and what line 0
+-- means to it; whether the lines of a text follow it; the address that is its target; whether a suffix may follow; whether it may stand in
+-- the list of a global command (that `e`, `E`, `q`, `Q` and `u` may not is our choice); whether it asks for a file; whether it may change
+-- the buffer, as part of a list; how it ends the run; whether it has a list. Without addresses `g`, `v` and `w` take all lines.
 pub record Takes : Type 0 where
   pub default : Addresses
   pub taking : Taking
   pub text : Bool
   pub target : Option Address
   pub suffix : Bool
+  pub listed : Bool
+  pub asks : Bool
+  pub alters : Bool
+  pub ends : Option Ends
+  pub global : Bool
+
+-- a row of the table, by its columns
+abbrev pub row : Addresses → Taking → (text : Bool) → Option Address → (suffix listed asks alters : Bool) → Option Ends → (global : Bool) → Takes
+row default taking text target suffix listed asks alters ends global = record {
+  default = default;
+  taking = taking;
+  text = text;
+  target = target;
+  suffix = suffix;
+  listed = listed;
+  asks = asks;
+  alters = alters;
+  ends = ends;
+  global = global;
+}
+
+-- The words of the columns: the lines of a text follow, or none; no target; a suffix may follow, or none; it may stand in a list, or not; it
+-- asks for a file, or for none; it may change the buffer, or keeps it; the run goes on; it has a list, or none.
+abbrev pub text_follows : Bool
+text_follows = true
+
+abbrev pub no_text : Bool
+no_text = false
+
+abbrev pub no_target : Option Address
+no_target = None
+
+abbrev pub suffix_may_follow : Bool
+suffix_may_follow = true
+
+abbrev pub no_suffix : Bool
+no_suffix = false
+
+abbrev pub in_lists : Bool
+in_lists = true
+
+abbrev pub not_in_lists : Bool
+not_in_lists = false
+
+abbrev pub wants_file : Bool
+wants_file = true
+
+abbrev pub no_file : Bool
+no_file = false
+
+abbrev pub alters : Bool
+alters = true
+
+abbrev pub keeps_buffer : Bool
+keeps_buffer = false
+
+abbrev pub goes_on : Option Ends
+goes_on = None
+
+abbrev pub has_list : Bool
+has_list = true
+
+abbrev pub no_list : Bool
+no_list = false
 
 -- what each command takes
 abbrev pub takes : Verb → Takes
-takes (ed.Append text) = record { default = One here; taking = many.Place; text = true; target = None; suffix = true }
-takes (ed.Change text) = record { default = Comma here here; taking = many.Lines; text = true; target = None; suffix = true }
-takes ed.Delete = record { default = Comma here here; taking = many.Range; text = false; target = None; suffix = true }
-takes (ed.Insert text) = record { default = One here; taking = many.FirstPlace; text = true; target = None; suffix = true }
-takes ed.Join = record { default = Comma here next; taking = many.Range; text = false; target = None; suffix = true }
-takes (ed.Mark letter) = record { default = One here; taking = many.OneLine; text = false; target = None; suffix = true }
-takes (ed.Move to) = record { default = Comma here here; taking = many.Range; text = false; target = Some to; suffix = true }
-takes (ed.Copy to) = record { default = Comma here here; taking = many.Range; text = false; target = Some to; suffix = true }
+takes (ed.Append text) = row (One here) many.Place text_follows no_target suffix_may_follow in_lists no_file alters goes_on no_list
+takes (ed.Change text) = row (Comma here here) many.Lines text_follows no_target suffix_may_follow in_lists no_file alters goes_on no_list
+takes ed.Delete = row (Comma here here) many.Range no_text no_target suffix_may_follow in_lists no_file alters goes_on no_list
+takes (ed.Insert text) = row (One here) many.FirstPlace text_follows no_target suffix_may_follow in_lists no_file alters goes_on no_list
+takes ed.Join = row (Comma here next) many.Range no_text no_target suffix_may_follow in_lists no_file alters goes_on no_list
+takes (ed.Mark letter) = row (One here) many.OneLine no_text no_target suffix_may_follow in_lists no_file keeps_buffer goes_on no_list
+takes (ed.Move to) = row (Comma here here) many.Range no_text (Some to) suffix_may_follow in_lists no_file alters goes_on no_list
+takes (ed.Copy to) = row (Comma here here) many.Range no_text (Some to) suffix_may_follow in_lists no_file alters goes_on no_list
 takes (ed.Substitute pattern replacement choice form) =
-    record { default = Comma here here; taking = many.Range; text = false; target = None; suffix = false }
-takes ed.LineNumber = record { default = One (at_base ed.Last); taking = many.Place; text = false; target = None; suffix = true }
-takes ed.Null = record { default = One next; taking = many.OneLine; text = false; target = None; suffix = false }
-takes (ed.Write form) = record { default = Comma here here; taking = many.Range; text = false; target = None; suffix = true }
-takes (ed.ReadFile path) = record { default = One (at_base ed.Last); taking = many.Place; text = false; target = None; suffix = false }
-takes (ed.WriteFile path) = record { default = Without; taking = many.Whole; text = false; target = None; suffix = false }
-takes (ed.Edit path) = record { default = Without; taking = many.NoAddress; text = false; target = None; suffix = false }
-takes (ed.EditAnyway path) = record { default = Without; taking = many.NoAddress; text = false; target = None; suffix = false }
-takes (ed.FileName path) = record { default = Without; taking = many.NoAddress; text = false; target = None; suffix = false }
-takes (ed.Global sense pattern) = record { default = Without; taking = many.Whole; text = false; target = None; suffix = false }
-takes ed.Undo = record { default = Without; taking = many.NoAddress; text = false; target = None; suffix = true }
-takes ed.Help = record { default = Without; taking = many.NoAddress; text = false; target = None; suffix = true }
-takes ed.HelpMode = record { default = Without; taking = many.NoAddress; text = false; target = None; suffix = true }
-takes ed.PromptMode = record { default = Without; taking = many.NoAddress; text = false; target = None; suffix = true }
-takes ed.Quit = record { default = Without; taking = many.NoAddress; text = false; target = None; suffix = false }
-takes ed.QuitAnyway = record { default = Without; taking = many.NoAddress; text = false; target = None; suffix = false }
+    row (Comma here here) many.Range no_text no_target no_suffix in_lists no_file alters goes_on no_list
+takes ed.LineNumber = row (One (at_base ed.Last)) many.Place no_text no_target suffix_may_follow in_lists no_file keeps_buffer goes_on no_list
+takes ed.Null = row (One next) many.OneLine no_text no_target no_suffix in_lists no_file keeps_buffer goes_on no_list
+takes (ed.Write form) = row (Comma here here) many.Range no_text no_target suffix_may_follow in_lists no_file keeps_buffer goes_on no_list
+takes (ed.ReadFile path) = row (One (at_base ed.Last)) many.Place no_text no_target no_suffix in_lists wants_file alters goes_on no_list
+takes (ed.WriteFile path) = row Without many.Whole no_text no_target no_suffix in_lists wants_file keeps_buffer goes_on no_list
+takes (ed.Edit path) = row Without many.NoAddress no_text no_target no_suffix not_in_lists wants_file keeps_buffer goes_on no_list
+takes (ed.EditAnyway path) = row Without many.NoAddress no_text no_target no_suffix not_in_lists wants_file keeps_buffer goes_on no_list
+takes (ed.FileName path) = row Without many.NoAddress no_text no_target no_suffix in_lists no_file keeps_buffer goes_on no_list
+takes (ed.Global sense pattern) = row Without many.Whole no_text no_target no_suffix not_in_lists no_file keeps_buffer goes_on has_list
+takes ed.Undo = row Without many.NoAddress no_text no_target suffix_may_follow not_in_lists no_file keeps_buffer goes_on no_list
+takes ed.Help = row Without many.NoAddress no_text no_target suffix_may_follow in_lists no_file keeps_buffer goes_on no_list
+takes ed.HelpMode = row Without many.NoAddress no_text no_target suffix_may_follow in_lists no_file keeps_buffer goes_on no_list
+takes ed.PromptMode = row Without many.NoAddress no_text no_target suffix_may_follow in_lists no_file keeps_buffer goes_on no_list
+takes ed.Quit = row Without many.NoAddress no_text no_target no_suffix not_in_lists no_file keeps_buffer (Some ends.AsScript) no_list
+takes ed.QuitAnyway = row Without many.NoAddress no_text no_target no_suffix not_in_lists no_file keeps_buffer (Some ends.Anyway) no_list
 
 -- the given addresses, or the command's own where there are none
 abbrev pub given_or : Addresses → Addresses → Addresses
@@ -85,15 +153,9 @@ counts_from_one _ = true
 abbrev pub is_sound : Verb → Bool
 is_sound verb = marks_by_letter verb && counts_from_one verb
 
--- it may stand in the list of a global command; that `e`, `E`, `q`, `Q` and `u` may not is our choice
+-- it may stand in the list of a global command
 abbrev pub may_be_listed : Verb → Bool
-may_be_listed (ed.Edit path) = false
-may_be_listed (ed.EditAnyway path) = false
-may_be_listed (ed.Global sense pattern) = false
-may_be_listed ed.Undo = false
-may_be_listed ed.Quit = false
-may_be_listed ed.QuitAnyway = false
-may_be_listed _ = true
+may_be_listed verb = (takes verb).listed
 
 -- it may stand here: in a list, or as a command of the script itself
 abbrev pub may_stand : (listed : Bool) → Verb → Bool
@@ -111,16 +173,19 @@ has_split _ = false
 
 -- a command that may change the buffer, as part of a list
 abbrev pub may_alter : Verb → Bool
-may_alter (ed.Append text) = true
-may_alter (ed.Change text) = true
-may_alter ed.Delete = true
-may_alter (ed.Insert text) = true
-may_alter ed.Join = true
-may_alter (ed.Move to) = true
-may_alter (ed.Copy to) = true
-may_alter (ed.Substitute pattern replacement choice form) = true
-may_alter (ed.ReadFile path) = true
-may_alter _ = false
+may_alter verb = (takes verb).alters
+
+-- a command that needs a file
+abbrev pub asks : Verb → Bool
+asks verb = (takes verb).asks
+
+-- a command that has a list
+abbrev pub is_global : Verb → Bool
+is_global verb = (takes verb).global
+
+-- a command that ends the run
+abbrev pub ends_run : Verb → Bool
+ends_run verb = is_some (takes verb).ends
 
 -- a command of a list
 abbrev pub is_listed : Command → Bool

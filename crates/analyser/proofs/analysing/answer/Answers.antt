@@ -2,7 +2,7 @@ use Rattle.std.proofs.Common.{List, ℕ, Some, ◌≡◌, ◌+◌, length, map, 
 use Rattle.ed_syntax.specs.PublicScript.{script_value}
 use Rattle.ed_syntax.specs.PublicTypes.{steps_value}
 use Rattle.cert_check.specs.Certificates.{note_value}
-use Rattle.cert_check.specs.Valid.{counted}
+use Rattle.cert_check.specs.checker.Valid.{counted}
 use Rattle.analyser.specs.Following.{begun, paths_from}
 use Rattle.analyser.specs.Walking.{IsOutcome}
 use Rattle.analyser.proofs.Listing.{listed-by}

@@ -2,7 +2,7 @@ use Rattle.std.proofs.Common.{List, arith, refl, sym, ap, ◌∙◌, subst, ◌+
 use Rattle.ed_syntax.specs.PublicTypes.{step_value, steps_value}
 use Rattle.ed_syntax.specs.Commands.{Step}
 use Rattle.cert_check.specs.Certificates.{note_value}
-use Rattle.cert_check.specs.Valid.{has_quit, counted}
+use Rattle.cert_check.specs.checker.Valid.{has_quit, counted}
 use Rattle.ed_rules.specs.declared.state.State.{State}
 use Rattle.analyser.specs.declared.walk.Walk.{Walk}
 use Rattle.analyser.specs.declared.walk.Outcome.TheVariants.{Left}

@@ -1,7 +1,7 @@
 use Rattle.std.proofs.Common.{◌≡◌, map, drop}
 use Rattle.ed_syntax.specs.PublicTypes.{steps_value}
 use Rattle.cert_check.specs.Certificates.{note_value}
-use Rattle.cert_check.specs.Valid.{has_quit}
+use Rattle.cert_check.specs.checker.Valid.{has_quit}
 use Rattle.analyser.proofs.Going.{Going, counted_from}
 use Rattle.analyser.proofs.walk.go_through.Given as goal
 

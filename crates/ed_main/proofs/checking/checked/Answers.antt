@@ -3,7 +3,7 @@ use Rattle.std.proofs.Common.{◌∙◌, ap}
 use Rattle.std.proofs.lemmas.Result.{IfOk-weaker}
 use Rattle.ed_syntax.specs.reading.Reading.{script_of}
 use Rattle.cert_check.specs.Certificates.{certificate_value}
-use Rattle.cert_check.specs.Valid.{judged}
+use Rattle.cert_check.specs.checker.Valid.{judged}
 use Rattle.ed_main.specs.Answers as answers
 use Rattle.ed_main.specs.Telling.{verdict_told}
 use Rattle.ed_main.proofs.checking.checked.Goals as goal

@@ -2,7 +2,7 @@
 use Rattle.std.proofs.Common.{◌∙◌, ◌++◌, ℕ, List, Err, ap, subst}
 use Rattle.std.specs.Prelude.{decimal}
 use Rattle.std.proofs.lemmas.Result.{IfOk-weaker}
-use Rattle.cert_check.specs.Faults.{IsReading}
+use Rattle.cert_check.specs.text.Faults.{IsReading}
 use Rattle.ed_main.specs.Telling as telling
 use Rattle.ed_main.specs.Telling.{line_told}
 use Rattle.ed_main.proofs.telling.unread_told.Goals as goal

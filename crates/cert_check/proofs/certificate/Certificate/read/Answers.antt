@@ -2,7 +2,7 @@ use Rattle.std.proofs.Common.{ℕ, suc, List, ◌∙◌, sym, ap, subst}
 use Rattle.std.proofs.lemmas.Result.{err_from_is_err_and}
 use Rattle.ed_base.specs.Lines.{IsLine}
 use Rattle.cert_check.specs.Certificates.{certificate_value}
-use Rattle.cert_check.proofs.Told.{no-version-line, other-version, told-exit, whole-read, more-left, version-read, version-other, at-end, not-at-end}
+use Rattle.cert_check.proofs.text.Told.{no-version-line, other-version, told-exit, whole-read, more-left, version-read, version-other, at-end, not-at-end}
 use Rattle.cert_check.proofs.certificate.Certificate.read.Goals as goal
 
 pub returns-in_default : goal.returns-in_default

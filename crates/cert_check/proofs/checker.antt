@@ -1,0 +1,11 @@
+-- Lemmas on the checks, and on what an accepted certificate means.
+pub mod Checks
+pub mod Quitting
+pub mod Running
+pub mod Turning
+pub mod Stepping
+pub mod Starting
+pub mod Counting
+pub mod Judging
+pub mod Covering
+pub mod Opening

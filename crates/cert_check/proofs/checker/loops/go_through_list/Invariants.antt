@@ -1,0 +1,11 @@
+use Rattle.std.proofs.Common.{◌≡◌, ℕ, List, map}
+use Rattle.ed_syntax.specs.PublicTypes.{command_value}
+use Rattle.ed_rules.specs.declared.state.State.{State}
+use Rattle.cert_check.specs.checker.Valid.{Check, verdict_of, list_checks}
+use Rattle.cert_check.proofs.checker.Judging.{list_from}
+use Rattle.cert_check.proofs.loops.go_through_list.Given as goal
+
+-- the checks before this command hold
+abbrev pub invariant-loop-index : goal.invariant-loop-index
+invariant-loop-index l = (turned : ℕ → State → List Check) →
+    verdict_of (list_checks l.number 1 l.writes l.fn.coming (map command_value l.list) l.states turned) ≡ list_from l.number l.writes l.list l.states turned l.index l.coming

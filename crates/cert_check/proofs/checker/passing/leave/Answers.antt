@@ -1,0 +1,14 @@
+use Rattle.std.proofs.Common.{None, Some}
+use Rattle.ed_syntax.specs.PublicTypes.{command_value}
+use Rattle.cert_check.proofs.checker.Checks.{comes-left}
+use Rattle.cert_check.proofs.passing.leave.Goals as goal
+
+pub returns-in-None : goal.returns-in-None
+returns-in-None c = record {
+  value = comes-left (command_value c.args.command.now) c.args.known.now c.outcome_into.new.after None (rw c.in-None.is at c.in_ok-outcome_into.ensures.exact);
+}
+
+pub returns-in-Some : goal.returns-in-Some
+returns-in-Some c = record {
+  value = comes-left (command_value c.args.command.now) c.args.known.now c.outcome_into.new.after (Some c.in-Some.field-0) (rw c.in-Some.is at c.in_ok-outcome_into.ensures.exact);
+}

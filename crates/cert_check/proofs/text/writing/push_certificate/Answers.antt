@@ -1,0 +1,17 @@
+use Rattle.std.proofs.Common.{◌∙◌, ◌++◌, List, map, ap}
+use Rattle.std.specs.List.{flat_map}
+use Rattle.cert_check.specs.declared.certificate.Note.{Note}
+use Rattle.cert_check.specs.Certificates.{note_value, certificate_value}
+use Rattle.cert_check.specs.text.Text.{lines_text, note_lines}
+use Rattle.cert_check.proofs.text.Written.{certificate-written}
+use Rattle.cert_check.proofs.writing.push_certificate.Goals as goal
+
+pub returns : goal.returns
+returns c = record {
+  appended =
+      certificate-written c.args.out.now c.push_opening.new.out c.push_notes.new.out c.push_closing.new.out (certificate_value c.args.certificate.now)
+      c.in_ok-push_opening.ensures.appended
+      (c.in_ok-push_notes.ensures.appended
+      ∙ ap (λ (ns : List Note). c.push_opening.new.out ++ lines_text (flat_map note_lines (map note_value ns))) c.as_slice.ensures.value)
+      c.in_ok-push_closing.ensures.appended;
+}

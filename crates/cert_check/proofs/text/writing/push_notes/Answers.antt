@@ -1,0 +1,14 @@
+use Rattle.std.proofs.Common.{◌∙◌, ◌+◌, ◌++◌, List, ap, sym, arith, take}
+use Rattle.std.proofs.lemmas.List.Folds.{flat_map-map}
+use Rattle.cert_check.specs.Certificates.{note_value}
+use Rattle.cert_check.specs.text.Text.{Line, lines_text, note_lines}
+use Rattle.cert_check.proofs.text.Written.{one-more}
+use Rattle.cert_check.proofs.writing.push_notes.Goals as goal
+
+pub loop-note-preserved : goal.loop-note-preserved
+loop-note-preserved c =
+    one-more (λ n. note_lines (note_value n)) c.args.notes.now c.loop-note.note-index c.note-item.result c.args.out.now c.loop-note.out c.push_note.new.out
+    (omega arith) c.note-item.is
+    (c.loop-note.invariant ∙ ap (λ (ls : List Line). c.args.out.now ++ lines_text ls) (flat_map-map note_lines note_value (take c.loop-note.note-index c.args.notes.now)))
+    c.in_ok-push_note.ensures.appended
+    ∙ ap (λ (ls : List Line). c.args.out.now ++ lines_text ls) (sym (flat_map-map note_lines note_value (take (c.loop-note.note-index + 1) c.args.notes.now)))

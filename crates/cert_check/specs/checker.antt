@@ -1,0 +1,7 @@
+-- What the checker judges by, and what its verdict means, in the order of reading.
+pub mod Covering
+pub mod Valid
+pub mod Opening
+pub mod Sound
+-- what only serves clauses inside the crate
+pub mod Passing

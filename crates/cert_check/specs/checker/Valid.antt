@@ -1,0 +1,160 @@
+-- Which certificates are valid for a script: the checks in their order, each with its place.
+use Rattle.std.specs.Prelude.{ℕ, ◌+◌, ◌==◌, pos, neg_ℤ, Bool, true, false, not, ◌&&◌, ◌||◌, List, [], ◌∷◌, length, Option, Some, None, is_none, Ok, Err, nat_eq}
+use Rattle.std.specs.List.{list_all, list_any}
+use Rattle.std.specs.Cmp.Lexicographic.{pointwise}
+use Rattle.zones.specs.Name as name
+use Rattle.zones.specs.Name.{last_line}
+use Rattle.zones.specs.Zone.{Bounds}
+use Rattle.zones.specs.Known.{known}
+use Rattle.ed_syntax.specs.Commands as ed
+use Rattle.ed_syntax.specs.Commands.{Verb, Command, Step, Script}
+use Rattle.ed_rules.specs.declared.state.State.{State}
+use Rattle.ed_rules.specs.Choices.{Choice}
+use Rattle.ed_rules.specs.States.{start}
+use Rattle.ed_rules.specs.Files.{written_paths}
+use Rattle.cert_check.specs.checker.Covering.{covers}
+use Rattle.ed_rules.specs.Rules.{step, fault_of}
+use Rattle.ed_rules.specs.Globals.{is_global, body_entry, loop_end}
+use Rattle.cert_check.specs.declared.checker.verdict.Place.{Place}
+use Rattle.cert_check.specs.declared.checker.verdict.Verdict.{Verdict}
+use Rattle.cert_check.specs.declared.checker.verdict.Verdict.TheVariants.{Accepted, Refused}
+use Rattle.cert_check.specs.Certificates.{Looped, Note, Certificate}
+
+-- a check: where it stands, and whether it holds
+pub record Check : Type 0 where
+  pub place : Place
+  pub holds : Bool
+
+abbrev pub at_place : Place → Bool → Check
+at_place place holds = record { place = place; holds = holds }
+
+-- at a command, by its number; at 0 it is one of the shape
+abbrev pub command_at : (number : ℕ) → Place
+command_at number = record { command = number; inner = None }
+
+-- at a command of a global command's list, by both numbers; one past the list it is of what the list leaves
+abbrev pub inner_at : (number inner : ℕ) → Place
+inner_at number inner = record { command = number; inner = Some inner }
+
+abbrev pub at : (number : ℕ) → Bool → Check
+at number holds = at_place (command_at number) holds
+
+-- the first check that fails is the one that is told
+abbrev pub verdict_of : List Check → Verdict
+verdict_of [] = Accepted
+verdict_of (check ∷ later) = elim check.holds [ true ↦ verdict_of later | false ↦ Refused check.place ]
+
+-- a command that ends the run
+abbrev pub quits : Verb → Bool
+quits ed.Quit = true
+quits ed.QuitAnyway = true
+quits _ = false
+
+-- some command ends the run
+abbrev pub has_quit : List Step → Bool
+has_quit steps = list_any (λ x. quits x.command.verb) steps
+
+-- the counted commands: those up to the first that ends the run, or all
+abbrev pub counted : List Step → List Step
+counted [] = []
+counted (x ∷ xs) = x ∷ (elim (quits x.command.verb) [ true ↦ [] | false ↦ counted xs ])
+
+-- all needs of a command hold
+unfoldable pub are_met : Command → State → Bool
+are_met c s = is_none (fault_of (step c s))
+
+-- the state after a command; where a need fails it doesn't matter
+unfoldable pub left_by : Command → State → State
+left_by c s = elim (step c s) [ Ok t ↦ t | Err f ↦ s ]
+
+-- a path that may be written is among those that are listed; where there is none, nothing is written
+abbrev pub is_listed : (writes : List (List ℕ)) → Choice → Bool
+is_listed writes None = true
+is_listed writes (Some path) = list_any (λ listed. pointwise nat_eq listed path) writes
+
+-- each path that a command may write in a state is listed
+abbrev pub are_listed : (writes : List (List ℕ)) → Command → State → Bool
+are_listed writes c s = list_all (is_listed writes) (written_paths c.verb s)
+
+-- at most so many lines are known, where there is a limit
+unfoldable pub knows_most : Bounds → Option ℕ → Bool
+knows_most zone None = true
+knows_most zone (Some high) = known zone last_line name.zero (pos high)
+
+-- at least so many lines are known
+unfoldable pub knows_least : Bounds → ℕ → Bool
+knows_least zone low = known zone name.zero last_line (neg_ℤ (pos low))
+
+-- The checks of the end, of which a state comes in. A script without `q` and `Q` ends by a `q`: all of it can be read, and there is
+-- no change that wasn't written.
+abbrev pub end_checks : (quit : Bool) → (fault : Option ℕ) → Certificate → (number : ℕ) → (coming : State) → List Check
+end_checks quit fault c number coming =
+    at number (quit || is_none fault) ∷ at number (covers c.last coming) ∷ at number (quit || not c.last.changed.yes)
+    ∷ at number (knows_least c.last.zone c.low) ∷ at number (knows_most c.last.zone c.high) ∷ []
+
+-- The checks of a command at its place, of which a state comes in, and those after it: the state that is known before it says no more
+-- than what comes in, the needs of the command hold, and the paths that it may write are listed.
+abbrev pub command_checks : Place → (writes : List (List ℕ)) → Command → (known coming : State) → (later : List Check) → List Check
+command_checks place writes c known coming later =
+    at_place place (covers known coming) ∷ at_place place (are_met c known) ∷ at_place place (are_listed writes c known) ∷ later
+
+-- the checks of the commands of a list from one on, of which a state comes in, and those of what the list leaves
+abbrev pub list_checks : (number inner : ℕ) → (writes : List (List ℕ)) → (coming : State) → List Command → List State → (turned : ℕ → State → List Check) → List Check
+list_checks number inner writes coming [] states turned = turned inner coming
+list_checks number inner writes coming (c ∷ cs) [] turned = turned inner coming
+list_checks number inner writes coming (c ∷ cs) (s ∷ states) turned =
+    command_checks (inner_at number inner) writes c s coming (list_checks number (inner + 1) writes (left_by c s) cs states turned)
+
+-- The checks of what is known of a list, and those after it: the invariant says no more than the state before the first line is taken,
+-- and no more than what the list leaves of the state in which it is run for a line.
+abbrev pub loop_checks : (number : ℕ) → (writes : List (List ℕ)) → List Command → Looped → (start : State) → (later : List Check) → List Check
+loop_checks number writes list l start later =
+    at number (covers l.invariant start)
+    ∷ list_checks number 1 writes (body_entry l.invariant) list l.inner (λ inner turned. at_place (inner_at number inner) (covers l.invariant turned) ∷ later)
+
+-- a global command has a list, of which something is known; all others have none
+abbrev pub looped_checks : Option Looped → (number : ℕ) → (writes : List (List ℕ)) → Step → (known : State) → (later : List Check) → List Check
+looped_checks None number writes x known later = later
+looped_checks (Some l) number writes x known later = loop_checks number writes x.list l (left_by x.command known) later
+
+-- the state after a step
+abbrev pub left_after : Option Looped → Step → (known : State) → State
+left_after None x known = left_by x.command known
+left_after (Some l) x known = loop_end x known l.invariant
+
+-- the checks of a step with its note, of which a state comes in, and those after it
+abbrev pub step_checks : (number : ℕ) → (writes : List (List ℕ)) → Step → Note → (coming : State) → (later : List Check) → List Check
+step_checks number writes x n coming later =
+    command_checks (command_at number) writes x.command n.state coming (looped_checks n.looped number writes x n.state later)
+
+-- the checks of the steps from one on, of which a state comes in, and those of the end
+abbrev pub checks_from : (writes : List (List ℕ)) → (end : ℕ → State → List Check) → (number : ℕ) → (coming : State) → List Step → List Note → List Check
+checks_from writes end number coming [] notes = end number coming
+checks_from writes end number coming (x ∷ xs) [] = end number coming
+checks_from writes end number coming (x ∷ xs) (n ∷ notes) =
+    step_checks number writes x n coming (checks_from writes end (number + 1) (left_after n.looped x n.state) xs notes)
+
+-- something is known of a list just where a command is global, and before each command of it
+abbrev pub fits_list : (global : Bool) → List Command → Option Looped → Bool
+fits_list global list None = not global
+fits_list global list (Some l) = global && (length l.inner == length list)
+
+abbrev pub fits : Step → Note → Bool
+fits x n = fits_list (is_global x.command.verb) x.list n.looped
+
+-- the shape of the notes: one for each counted command, and with a list where that has one
+abbrev pub are_shaped : List Step → List Note → Bool
+are_shaped [] [] = true
+are_shaped [] (n ∷ notes) = false
+are_shaped (x ∷ xs) [] = false
+are_shaped (x ∷ xs) (n ∷ notes) = fits x n && are_shaped xs notes
+
+-- all checks of a certificate: the shape of its notes, and what follows from the start
+abbrev pub checks : Script → Certificate → List Check
+checks script c =
+    at 0 (are_shaped (counted script.steps) c.notes)
+    ∷ checks_from c.writes (end_checks (has_quit script.steps) script.fault c) 1 (start c.path c.min c.max) (counted script.steps) c.notes
+
+-- the verdict on a certificate
+abbrev pub judged : Script → Certificate → Verdict
+judged script c = verdict_of (checks script c)

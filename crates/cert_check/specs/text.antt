@@ -1,0 +1,8 @@
+-- The text of a certificate, in the order of reading.
+pub mod Text
+pub mod HasText
+pub mod Faults
+-- what only serves clauses inside the crate
+pub mod Writing
+pub mod Reading
+pub mod Pieces

@@ -1,0 +1,179 @@
+-- How a certificate is read, one piece of its text after another.
+use Rattle.std.specs.Prelude.{◌≡◌, ℕ, suc, ◌+◌, Bool, true, false, ◌&&◌, ◌||◌, List, [], ◌∷◌, ◌++◌, length, map, codes, Option, Some, is_some, Result, Ok, Err, All}
+use Rattle.std.specs.List.{flat_map}
+use Rattle.ed_base.specs.Lines.{newline, IsLine, bytes_of}
+use Rattle.ed_rules.specs.declared.state.Old.{Old}
+use Rattle.ed_rules.specs.declared.state.Undo.{Undo}
+use Rattle.ed_rules.specs.declared.state.Changed.{Changed}
+use Rattle.ed_rules.specs.declared.state.Replacements.{Replacements}
+use Rattle.ed_rules.specs.declared.state.State.{State}
+use Rattle.ed_rules.specs.Formed.{ZoneIsFormed, OldIsFormed, ChoiceIsBytes, is_rising, StateIsFormed}
+use Rattle.cert_check.specs.declared.text.cursor.Head.{Head}
+use Rattle.cert_check.specs.declared.text.cursor.Head.TheVariants.{AnotherNote, Loop, End}
+use Rattle.cert_check.specs.declared.text.fault.CertFault.{CertFault}
+use Rattle.cert_check.specs.declared.text.fault.CertFault.TheVariants.{Version, Line, Size, Memory}
+use Rattle.cert_check.specs.declared.text.lines.Found.{Found}
+use Rattle.cert_check.specs.declared.text.states.Marked.{Marked}
+use Rattle.cert_check.specs.declared.certificate.Note as note
+use Rattle.cert_check.specs.Certificates.{Looped, Note, Certificate, note_value}
+use Rattle.cert_check.specs.text.Text as text
+use Rattle.cert_check.specs.text.Text.{Word, line_text, zone_line, marks_line, undo_line, old_lines, state_lines, headed_lines, looped_lines, note_lines, path_line, bounds_line, writes_line}
+use Rattle.cert_check.specs.text.Reading.{undo_words_line}
+use Rattle.cert_check.specs.text.HasText.{is_few, is_limit, is_within, NoteHasText}
+
+-- where a reader stands: the bytes that are left, and how many lines stand above them
+pub record Left : Type 0 where
+  pub bytes : List ℕ
+  pub above : ℕ
+
+-- the next line and its newline were read
+pub record IsNext (line : List ℕ) (old new : Left) : Type 0 where
+  pub is_line : IsLine line
+  pub parted : old.bytes ≡ line ++ newline ∷ new.bytes
+  pub counted : new.above ≡ suc old.above
+
+-- these lines were read
+pub record Took (lines : List (List ℕ)) (old new : Left) : Type 0 where
+  pub parted : old.bytes ≡ bytes_of lines ++ new.bytes
+  pub counted : new.above ≡ old.above + length lines
+
+-- lines as bytes
+abbrev pub texts : List text.Line → List (List ℕ)
+texts lines = map line_text lines
+
+-- texts of a kind: these lines are those of some value
+pub record IsOf {A : Type 0} (spell : A → List text.Line) (Has : A → Type 0) (lines : List (List ℕ)) : Type 0 where
+  pub value : A
+  pub has : Has value
+  pub is : texts (spell value) ≡ lines
+
+-- a line that no text of the kind has where it stands, below lines that begin one
+pub record IsStrange (kind : List (List ℕ) → Type 0) (old : Left) (number : ℕ) : Type 0 where
+  pub above : List (List ℕ)
+  pub line : List ℕ
+  pub after : List ℕ
+  pub parted : old.bytes ≡ bytes_of above ++ (line ++ newline ∷ after)
+  pub is_line : IsLine line
+  pub number_is : old.above + suc (length above) ≡ number
+  pub more : List (List ℕ)
+  pub begun : kind (above ++ more)
+  pub stuck : (whole back after : List (List ℕ)) → kind whole → whole ++ back ≡ above ++ line ∷ after → ⊥
+
+-- no whole line is left, and those that were there begin a text of the kind and are none
+pub record IsShort (kind : List (List ℕ) → Type 0) (old : Left) : Type 0 where
+  pub above : List (List ℕ)
+  pub last : List ℕ
+  pub parted : old.bytes ≡ bytes_of above ++ last
+  pub is_line : IsLine last
+  pub more : List (List ℕ)
+  pub begun : kind (above ++ more)
+  pub stuck : (whole back : List (List ℕ)) → kind whole → whole ++ back ≡ above → ⊥
+
+-- why no text of the kind stands there
+abbrev pub IsFault : (kind : List (List ℕ) → Type 0) → Left → CertFault → Type 0
+IsFault kind old Version = ⊥
+IsFault kind old (Line number) = IsStrange kind old number
+IsFault kind old Size = IsShort kind old
+IsFault kind old Memory = Unit {0}
+
+-- a value whose text stood there was read, or none stands there
+abbrev pub Reads : {A B : Type 0} → (value : A → B) → (spell : B → List text.Line) → (Has : B → Type 0) → (old new : Left) → Result A CertFault → Type 0
+Reads value spell Has old new (Ok v) = Has (value v) × Took (texts (spell (value v))) old new
+Reads value spell Has old new (Err fault) = IsFault (IsOf spell Has) old fault
+
+-- a value, read as it is
+abbrev pub same : {A : Type 0} → A → A
+same a = a
+
+-- one line
+abbrev pub alone : {A : Type 0} → (spell : A → text.Line) → A → List text.Line
+alone spell a = spell a ∷ []
+
+-- at least how many lines, and at most
+abbrev pub limits_line : (key : Word) → ℕ × Option ℕ → text.Line
+limits_line key limits = bounds_line key limits.0 limits.1
+
+abbrev pub AreLimits : ℕ × Option ℕ → Type 0
+AreLimits limits = (is_few limits.0 && is_limit limits.1) ≡ true
+
+abbrev pub AreStartLimits : ℕ × Option ℕ → Type 0
+AreStartLimits limits = (is_few limits.0 && is_limit limits.1 && is_within limits.0 limits.1) ≡ true
+
+-- paths that may be written
+abbrev pub ArePaths : List (List ℕ) → Type 0
+ArePaths writes = All ChoiceIsBytes (map (λ path. Some path) writes) × (is_rising (map (λ path. Some path) writes) ≡ true)
+
+-- some replacement, some side of a change, and something that undo may find
+abbrev pub IsSomeReplacement : Replacements → Type 0
+IsSomeReplacement r = (r.none || r.plain || r.split) ≡ true
+
+abbrev pub IsSomeChange : Changed → Type 0
+IsSomeChange c = (c.no || c.yes) ≡ true
+
+abbrev pub IsFound : Found → Type 0
+IsFound f = (f.nothing || f.same || f.was) ≡ true
+
+-- what undo may find, without what an earlier buffer was
+abbrev pub found_line : Found → text.Line
+found_line f = undo_words_line f.nothing f.same f.was
+
+-- of one of two words
+abbrev pub either_line : (one other : Word) → Bool → text.Line
+either_line one other true = one ∷ []
+either_line one other false = other ∷ []
+
+-- what may follow the state of a note
+abbrev pub head_line : Head → text.Line
+head_line AnotherNote = codes "note" ∷ []
+head_line Loop = codes "loop" ∷ []
+head_line End = codes "end" ∷ []
+
+-- a zone and its marks
+abbrev pub marked_lines : (zone_key marks_key : Word) → Old → List text.Line
+marked_lines zone_key marks_key old = zone_line zone_key old.zone ∷ marks_line marks_key old.marks ∷ []
+
+-- a zone and its marks as an earlier buffer
+abbrev pub marked_value : Marked → Old
+marked_value m = record { zone = m.zone; marks = m.marks }
+
+abbrev pub MarkedIsFormed : Old → Type 0
+MarkedIsFormed old = ZoneIsFormed old.marks old.zone
+
+-- what undo may find
+abbrev pub undo_lines : Undo → List text.Line
+undo_lines u = undo_line u ∷ old_lines u.was
+
+abbrev pub UndoIsFormed : Undo → Type 0
+UndoIsFormed u = ((u.nothing || u.same || is_some u.was) ≡ true) × OldIsFormed u.was
+
+-- the states of a list's commands, and the end of the list
+abbrev pub inner_lines : List State → List text.Line
+inner_lines states = flat_map (headed_lines (codes "inner")) states ++ (codes "done" ∷ []) ∷ []
+
+-- the rest of what is known of a list
+abbrev pub list_lines : Looped → List text.Line
+list_lines l = state_lines l.invariant ++ inner_lines l.inner
+
+-- the rest of a note, and the head of the next one or of the end
+abbrev pub noted_lines : Note × Bool → List text.Line
+noted_lines noted = (state_lines noted.0.state ++ looped_lines noted.0.looped) ++ either_line (codes "note") (codes "end") noted.1 ∷ []
+
+-- notes, and the head of the end
+abbrev pub notes_lines : List Note → List text.Line
+notes_lines notes = flat_map note_lines notes ++ (codes "end" ∷ []) ∷ []
+
+abbrev pub ListIsFormed : Looped → Type 0
+ListIsFormed l = StateIsFormed l.invariant × All StateIsFormed l.inner
+
+abbrev pub NotedIsFormed : Note × Bool → Type 0
+NotedIsFormed noted = NoteHasText noted.0
+
+-- what a note in memory stands for, and whether another follows
+abbrev pub noted_value : note.Note × Bool → Note × Bool
+noted_value noted = (note_value noted.0, noted.1)
+
+-- the lines of a certificate below the first
+abbrev pub rest_lines : Certificate → List text.Line
+rest_lines c =
+    path_line c.path ∷ bounds_line (codes "start") c.min c.max
+    ∷ (notes_lines c.notes ++ (state_lines c.last ++ bounds_line (codes "final") c.low c.high ∷ writes_line c.writes ∷ []))

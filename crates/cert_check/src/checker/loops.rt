@@ -1,0 +1,80 @@
+//! The checks of what a certificate says of a global command's list.
+
+ghost use Rattle.std.specs.Prelude.{◌≡◌, true, length, map, IfOk};
+ghost use Rattle.ed_syntax.specs.PublicTypes.{command_value, step_value};
+ghost use Rattle.ed_rules.specs.Globals.{is_global};
+ghost use Rattle.cert_check.specs.Certificates.{looped_value};
+ghost use Rattle.cert_check.specs.checker.Passing.{ListGoesTo, LoopGoesTo};
+
+use crate::certificate::Looped;
+use crate::checker::passing::{is_covered, passes};
+use crate::checker::verdict::Place;
+use ed_base::Bytes;
+use ed_rules::{KeptState, State, body_entry, loop_end};
+use ed_syntax::Command;
+use std::alloc::AllocError;
+
+/// Goes through the commands of a list, with what is known before each, from the state in which the list is run for a line. The
+/// global command has this number. Where no check fails, `coming` becomes what the list leaves.
+fn go_through_list(
+    number: usize,
+    writes: &[Bytes],
+    list: &[Command],
+    states: &[KeptState],
+    before: &mut State,
+    coming: &mut State,
+) -> Result<Option<Place>, AllocError>
+    requires shape { length states.now ≡ length list.now }
+    ensures value { IfOk result (λ failed. ListGoesTo number writes.now (map command_value list.now) states.now coming.old failed coming.new) }
+{
+    for (index, known) in states.iter().enumerate() {
+        let holds = passes(writes, &list[index], known, before, coming)?;
+        if !holds {
+            return Ok(Some(Place {
+                command: number,
+                inner: Some(index + 1),
+            }));
+        }
+    }
+    Ok(None)
+}
+
+/// Goes through the list of a global command, of which `known` is known before it. From the state before its first line, `coming`
+/// becomes the state after the command, where no check fails.
+pub(crate) fn pass_loop(
+    number: usize,
+    writes: &[Bytes],
+    command: &Command,
+    known: &State,
+    coming: &mut State,
+    looped: &Looped,
+) -> Result<Option<Place>, AllocError>
+    requires global { is_global (command_value command.now).verb ≡ true }
+    requires shape { length looped.now.inner.items ≡ length (step_value command.now).list }
+    ensures value { IfOk result (λ failed. LoopGoesTo number writes.now (step_value command.now) (looped_value looped.now) known.now coming.old failed coming.new) }
+{
+    let holds_at_first = is_covered(&looped.invariant, coming);
+    if !holds_at_first {
+        return Ok(Some(Place {
+            command: number,
+            inner: None,
+        }));
+    }
+    let list = command.list();
+    let mut before = looped.invariant.state()?;
+    *coming = body_entry(&before)?;
+    let inner = looped.inner.as_slice();
+    if let Some(place) = go_through_list(number, writes, list, inner, &mut before, coming)? {
+        return Ok(Some(place));
+    }
+    let holds_again = is_covered(&looped.invariant, coming);
+    if !holds_again {
+        return Ok(Some(Place {
+            command: number,
+            inner: Some(list.len() + 1),
+        }));
+    }
+    looped.invariant.restore(&mut before)?;
+    *coming = loop_end(command, known, &before)?;
+    Ok(None)
+}

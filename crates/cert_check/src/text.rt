@@ -1,0 +1,14 @@
+//! The text of a certificate, written and read.
+
+pub(crate) mod cursor;
+pub(crate) mod fault;
+pub(crate) mod has_text;
+pub(crate) mod lines;
+pub(crate) mod notes;
+pub(crate) mod readers;
+pub(crate) mod reading;
+pub(crate) mod states;
+pub(crate) mod words;
+pub(crate) mod words_in;
+pub(crate) mod writing;
+pub(crate) mod zone_lines;

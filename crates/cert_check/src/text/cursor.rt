@@ -1,0 +1,72 @@
+//! Where a reader of a certificate stands.
+
+ghost use Rattle.std.specs.Prelude.{◌≡◌, ◌↔◌, [], IsTrue, MatchOption};
+ghost use Rattle.ed_base.specs.Lines.{IsLine};
+ghost use Rattle.cert_check.specs.text.Pieces.{IsNext};
+
+use memchr::memchr;
+use std::marker::Model;
+
+/// What may follow the state of a note: another note, what is known of its list, or the end.
+#[derive(Clone, Copy, PartialEq, Eq, Debug)]
+pub(crate) enum Head {
+    AnotherNote,
+    Loop,
+    End,
+}
+
+/// The bytes that are left to read, which begin with a line.
+#[derive(Drop)]
+pub(crate) struct Cursor<'a> {
+    rest: &'a [u8],
+    // How many lines were read.
+    above: usize,
+}
+
+impl<'a> Model for Cursor<'a> {
+    ghost use Rattle.std.specs.Prelude.{◌+◌, ◌<◌, ◌^◌, length};
+    ghost use Rattle.cert_check.specs.text.Pieces.{Left};
+
+    ghost Value = { Left };
+
+    ghost view = { λ c. record { bytes = c.rest.now; above = c.above } };
+
+    ghost invariant = { λ c. c.above + length c.rest.now < 2 ^ 64 };
+}
+
+impl<'a> Cursor<'a> {
+    pub(crate) fn new(bytes: &'a [u8]) -> Self
+        ensures bytes { result.bytes ≡ bytes.now }
+        ensures above { result.above ≡ 0 }
+    {
+        Cursor {
+            rest: bytes,
+            above: 0,
+        }
+    }
+
+    /// How many lines were read: the number of the last one.
+    pub(crate) fn above(&self) -> usize
+        ensures value { result ≡ self.now.above }
+    {
+        self.above
+    }
+
+    /// Whether all is read.
+    pub(crate) fn is_at_end(&self) -> bool
+        ensures value { IsTrue result ↔ (self.now.bytes ≡ []) }
+    {
+        self.rest.is_empty()
+    }
+
+    /// The next line, without its newline, where it has one.
+    pub(crate) fn next(&mut self) -> Option<&'a [u8]>
+        ensures exact { MatchOption result (IsLine self.old.bytes) (λ line. IsNext line.now self.old self.new) }
+    {
+        let end = memchr(b'\n', self.rest)?;
+        let line = &self.rest[..end];
+        self.rest = &self.rest[end + 1..];
+        self.above += 1;
+        Some(line)
+    }
+}

@@ -1,0 +1,39 @@
+//! Why bytes are no certificate.
+ghost use Rattle.std.specs.Prelude.{◌≡◌};
+ghost use Rattle.cert_check.specs.declared.text.fault.CertFault.TheVariants.{Memory};
+
+use std::alloc::{AllocError, AllocFailed};
+use thiserror::Error;
+
+/// Why bytes are not the text of a certificate.
+#[derive(Debug, Drop, Error, Clone, Copy, PartialEq, Eq)]
+pub enum CertFault {
+    /// The first line isn't the one that each text begins with.
+    #[error("certificate: version")]
+    Version,
+    /// The line of this number, counted from 1, may not stand after the lines above it.
+    #[error("certificate: line {0}")]
+    Line(usize),
+    /// The bytes end where a whole line is wanted, or go on after the last line.
+    #[error("certificate: size")]
+    Size,
+    /// An allocation that was refused. It may come in place of any other fault.
+    #[error("out of memory")]
+    Memory,
+}
+
+impl From<AllocError> for CertFault {
+    ghost from_gives = { λ _ fault. fault ≡ Memory };
+
+    fn from(_refusal: AllocError) -> CertFault {
+        CertFault::Memory
+    }
+}
+
+impl<T: Drop> From<AllocFailed<T>> for CertFault {
+    ghost from_gives = { λ _ fault. fault ≡ Memory };
+
+    fn from(_refusal: AllocFailed<T>) -> CertFault {
+        CertFault::Memory
+    }
+}

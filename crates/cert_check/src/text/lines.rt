@@ -1,0 +1,234 @@
+//! The lines of a certificate's text, as they are read.
+
+ghost use Rattle.std.specs.Prelude.{◌≡◌, ◌&&◌, ◌||◌, true, Some, All, map, option_map, IfOk, codes};
+ghost use Rattle.ed_rules.specs.Formed.{ChoiceIsBytes, SetIsFormed, is_rising};
+ghost use Rattle.cert_check.specs.text.Text.{spaced, choice_word, replacements_line, changed_line, bounds_line, path_line, choices_line, writes_line};
+ghost use Rattle.cert_check.specs.text.HasText.{is_few, is_limit, is_within};
+ghost use Rattle.cert_check.specs.text.Reading.{ReadsAs, WordReadsAs, undo_words_line};
+
+use crate::text::has_text::{
+    are_bounds, choices_are_bytes, is_within, paths_are_bytes, paths_rise, set_has_text,
+    some_changed, some_replacement,
+};
+use crate::text::words_in::{
+    after_key, choice_in, limit_in, next_word, number_in, path_word_in, possible_in,
+};
+use ed_base::Bytes;
+use ed_rules::{Changed, Choices, Replacements};
+use std::alloc::{AllocError, Global};
+
+/// What undo may find: nothing, the buffer as it is, an earlier one.
+#[derive(Clone, Copy, PartialEq, Eq, Debug)]
+pub(crate) struct Found {
+    pub nothing: bool,
+    pub same: bool,
+    pub was: bool,
+}
+
+/// Which replacements may be remembered.
+pub(crate) fn replacements_in(line: &[u8]) -> Option<Replacements>
+    ensures exact { ReadsAs replacements_line (λ r. (r.none || r.plain || r.split) ≡ true) line.now result }
+{
+    let Some(left) = after_key(b"replacements", line) else {
+        return None;
+    };
+    let (none, left) = possible_in(b" none", left);
+    let (plain, left) = possible_in(b" plain", left);
+    let (split, left) = possible_in(b" split", left);
+    let replacements = Replacements { none, plain, split };
+    if !left.is_empty() {
+        return None;
+    }
+    if !some_replacement(replacements) {
+        return None;
+    }
+    Some(replacements)
+}
+
+/// Whether the buffer may be unchanged, and changed.
+pub(crate) fn changed_in(line: &[u8]) -> Option<Changed>
+    ensures exact { ReadsAs changed_line (λ c. (c.no || c.yes) ≡ true) line.now result }
+{
+    let left = after_key(b"changed", line)?;
+    let (no, left) = possible_in(b" no", left);
+    let (yes, left) = possible_in(b" yes", left);
+    let changed = Changed { no, yes };
+    if !left.is_empty() {
+        return None;
+    }
+    if !some_changed(changed) {
+        return None;
+    }
+    Some(changed)
+}
+
+fn some_found(found: Found) -> bool
+    ensures value { result ≡ (found.nothing || found.same || found.was) }
+{
+    found.nothing || found.same || found.was
+}
+
+/// What undo may find.
+pub(crate) fn undo_in(line: &[u8]) -> Option<Found>
+    ensures exact { ReadsAs (λ f. undo_words_line f.nothing f.same f.was)
+        (λ f. (f.nothing || f.same || f.was) ≡ true) line.now result }
+{
+    let left = after_key(b"undo", line)?;
+    let (nothing, left) = possible_in(b" nothing", left);
+    let (same, left) = possible_in(b" same", left);
+    let (was, left) = possible_in(b" was", left);
+    let found = Found { nothing, same, was };
+    if !left.is_empty() {
+        return None;
+    }
+    if !some_found(found) {
+        return None;
+    }
+    Some(found)
+}
+
+/// The bounds of a number of lines, after a key.
+fn bounds_in(key: &[u8], line: &[u8]) -> Option<(u64, Option<u64>)>
+    ensures exact { ReadsAs (λ (low, high). bounds_line key.now low high)
+        (λ (low, high). (is_few low && is_limit high) ≡ true) line.now result }
+{
+    let Some(left) = after_key(key, line) else {
+        return None;
+    };
+    let Some((low, left)) = next_word(left) else {
+        return None;
+    };
+    let Some((high, left)) = next_word(left) else {
+        return None;
+    };
+    let Some(low) = number_in(low) else {
+        return None;
+    };
+    let Some(high) = limit_in(high) else {
+        return None;
+    };
+    if !left.is_empty() {
+        return None;
+    }
+    if !are_bounds(low, high) {
+        return None;
+    }
+    Some((low, high))
+}
+
+/// How many lines the start may have.
+pub(crate) fn start_in(line: &[u8]) -> Option<(u64, Option<u64>)>
+    ensures exact { ReadsAs (λ (low, high). bounds_line (codes "start") low high)
+        (λ (low, high). (is_few low && is_limit high && is_within low high) ≡ true) line.now result }
+{
+    let (low, high) = bounds_in(b"start", line)?;
+    if !is_within(low, high) {
+        return None;
+    }
+    Some((low, high))
+}
+
+/// How many lines there may be at the end.
+pub(crate) fn final_in(line: &[u8]) -> Option<(u64, Option<u64>)>
+    ensures exact { ReadsAs (λ (low, high). bounds_line (codes "final") low high)
+        (λ (low, high). (is_few low && is_limit high) ≡ true) line.now result }
+{
+    bounds_in(b"final", line)
+}
+
+/// The path of the start file.
+pub(crate) fn path_in(alloc: Global, line: &[u8]) -> Result<Option<Option<Bytes>>, AllocError>
+    ensures exact { IfOk result (λ path. ReadsAs path_line ChoiceIsBytes line.now path) }
+{
+    let Some(left) = after_key(b"path", line) else {
+        return Ok(None);
+    };
+    let Some((word, left)) = next_word(left) else {
+        return Ok(None);
+    };
+    if !left.is_empty() {
+        return Ok(None);
+    }
+    choice_in(alloc, word)
+}
+
+/// The choices that stand in a text, each after a space.
+fn members_in(alloc: Global, text: &[u8]) -> Result<Option<Vec<Option<Bytes>>>, AllocError>
+    ensures exact { IfOk result (λ set. WordReadsAs (λ set. spaced (map choice_word set)) (All ChoiceIsBytes)
+        text.now (option_map (λ set. set.items) set)) }
+{
+    // Most sets have one member.
+    let mut members = Vec::with_capacity(alloc, 1)?;
+    let mut left = text;
+    while let Some((word, later)) = next_word(left) {
+        let Some(choice) = choice_in(alloc, word)? else {
+            return Ok(None);
+        };
+        members.push(choice)?;
+        left = later;
+    }
+    if !left.is_empty() {
+        return Ok(None);
+    }
+    choices_are_bytes(members.as_slice());
+    Ok(Some(members))
+}
+
+/// The texts or paths that may be remembered.
+pub(crate) fn choices_in(
+    alloc: Global,
+    key: &[u8],
+    line: &[u8],
+) -> Result<Option<Choices>, AllocError>
+    ensures exact { IfOk result (λ set. ReadsAs (choices_line key.now) SetIsFormed line.now set) }
+{
+    let Some(left) = after_key(key, line) else {
+        return Ok(None);
+    };
+    let Some(members) = members_in(alloc, left)? else {
+        return Ok(None);
+    };
+    if !set_has_text(members.as_slice()) {
+        return Ok(None);
+    }
+    Ok(Some(Choices::from_rising(members)))
+}
+
+/// The paths that stand in a text, each after a space.
+fn paths_in(alloc: Global, text: &[u8]) -> Result<Option<Vec<Bytes>>, AllocError>
+    ensures exact { IfOk result (λ paths. WordReadsAs (λ paths. spaced (map (λ path. choice_word (Some path)) paths))
+        (λ paths. All ChoiceIsBytes (map (λ path. Some path) paths)) text.now (option_map (λ paths. paths.items) paths)) }
+{
+    let mut paths = Vec::new(alloc);
+    let mut left = text;
+    while let Some((word, later)) = next_word(left) {
+        let Some(path) = path_word_in(alloc, word)? else {
+            return Ok(None);
+        };
+        paths.push(path)?;
+        left = later;
+    }
+    if !left.is_empty() {
+        return Ok(None);
+    }
+    paths_are_bytes(paths.as_slice());
+    Ok(Some(paths))
+}
+
+/// The paths that the script may write.
+pub(crate) fn writes_in(alloc: Global, line: &[u8]) -> Result<Option<Vec<Bytes>>, AllocError>
+    ensures exact { IfOk result (λ writes. ReadsAs writes_line
+        (λ writes. All ChoiceIsBytes (map (λ path. Some path) writes) × (is_rising (map (λ path. Some path) writes) ≡ true))
+        line.now (option_map (λ writes. writes.items) writes)) }
+{
+    let Some(left) = after_key(b"writes", line) else {
+        return Ok(None);
+    };
+    let Some(paths) = paths_in(alloc, left)? else {
+        return Ok(None);
+    };
+    if !paths_rise(paths.as_slice()) {
+        return Ok(None);
+    }
+    Ok(Some(paths))
+}

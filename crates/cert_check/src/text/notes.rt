@@ -1,0 +1,83 @@
+//! Reads what is known before each command.
+
+ghost use Rattle.std.specs.Prelude.{All, map};
+ghost use Rattle.ed_rules.specs.Formed.{StateIsFormed};
+ghost use Rattle.cert_check.specs.Certificates.{boxed_value, note_value};
+ghost use Rattle.cert_check.specs.text.HasText.{NoteHasText};
+ghost use Rattle.cert_check.specs.text.Pieces.{Reads, inner_lines, list_lines, ListIsFormed, noted_lines, noted_value, NotedIsFormed, notes_lines};
+
+use crate::certificate::{Looped, Note};
+use crate::text::cursor::{Cursor, Head};
+use crate::text::fault::CertFault;
+use crate::text::readers::{read_either, read_head};
+use crate::text::states::read_state;
+use ed_rules::KeptState;
+use std::alloc::Global;
+
+/// The states before the commands of a list, up to its end.
+fn read_inner(alloc: Global, cursor: &mut Cursor<'_>) -> Result<Vec<KeptState>, CertFault>
+    ensures exact { Reads (λ v. v.items) inner_lines (All StateIsFormed) cursor.old cursor.new result }
+{
+    let mut states = Vec::new(alloc);
+    'states: while read_either(b"inner", b"done", cursor)? {
+        states.push(read_state(alloc, cursor)?)?;
+    }
+    Ok(states)
+}
+
+/// What is known of a list, after its head.
+fn read_list(alloc: Global, cursor: &mut Cursor<'_>) -> Result<Box<Looped>, CertFault>
+    ensures exact { Reads boxed_value list_lines ListIsFormed cursor.old cursor.new result }
+{
+    let invariant = read_state(alloc, cursor)?;
+    let inner = read_inner(alloc, cursor)?;
+    Ok(Box::new(alloc, Looped { invariant, inner })?)
+}
+
+/// A note after its head, and whether another follows.
+fn read_note(alloc: Global, cursor: &mut Cursor<'_>) -> Result<(Note, bool), CertFault>
+    ensures exact { Reads noted_value noted_lines NotedIsFormed cursor.old cursor.new result }
+{
+    let state = read_state(alloc, cursor)?;
+    match read_head(cursor)? {
+        Head::AnotherNote => Ok((
+            Note {
+                state,
+                looped: None,
+            },
+            true,
+        )),
+        Head::End => Ok((
+            Note {
+                state,
+                looped: None,
+            },
+            false,
+        )),
+        Head::Loop => {
+            let looped = read_list(alloc, cursor)?;
+            let another = read_either(b"note", b"end", cursor)?;
+            Ok((
+                Note {
+                    state,
+                    looped: Some(looped),
+                },
+                another,
+            ))
+        }
+    }
+}
+
+/// The notes, up to the head of what is known at the end.
+pub(crate) fn read_notes(alloc: Global, cursor: &mut Cursor<'_>) -> Result<Vec<Note>, CertFault>
+    ensures exact { Reads (λ notes. map note_value notes.items) notes_lines (All NoteHasText) cursor.old cursor.new result }
+{
+    let mut notes = Vec::new(alloc);
+    let mut another = read_either(b"note", b"end", cursor)?;
+    'notes: while another {
+        let (note, follows) = read_note(alloc, cursor)?;
+        notes.push(note)?;
+        another = follows;
+    }
+    Ok(notes)
+}

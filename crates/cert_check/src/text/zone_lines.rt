@@ -1,0 +1,208 @@
+//! The lines of a zone and of its letters, as they are read.
+
+ghost use Rattle.std.specs.Prelude.{◌≡◌, ◌≢◌, ◌<◌, ◌≤◌, ◌+◌, ◌*◌, ◌++◌, ◌∷◌, ℕ, ℤ, List, Bool, [], IsTrue, ◌↔◌, MatchOption, IfOk, All, length, map};
+ghost use Rattle.zones.specs.KnownBounds.{PlacedBound};
+ghost use Rattle.zones.specs.Written.{Rise};
+ghost use Rattle.ed_rules.specs.Formed.{ZoneIsFormed};
+ghost use Rattle.cert_check.specs.text.Text.{Word, space, spaced, name_word, letter_a, sure_letters, letters_words, zone_line, marks_line};
+ghost use Rattle.cert_check.specs.text.Reading.{ReadsAs, all_marks, IsFirstWord, IsNamed, IsSigned, said_word, IsSaid, spoken_word, IsSpoken};
+
+use crate::text::has_text::zone_has_text;
+use crate::text::words_in::{after_key, signed_in, word_len};
+use ed_rules::Marks;
+use std::alloc::{AllocError, Global};
+use zones::{BOUNDS_OF_THREE_NAMES, KeptEntry, KeptZone, Name};
+
+/// The letters of a word.
+fn letters_in(word: &[u8]) -> Option<Marks>
+    ensures exact { MatchOption result
+        ((marks : List Bool) → length marks ≡ 26 → sure_letters letter_a marks ≢ word.now)
+        (λ marks. (sure_letters letter_a marks ≡ word.now) × (length marks ≡ 26)) }
+{
+    let mut marks = Marks::none();
+    let mut left = word;
+    for letter in 0..26 {
+        let Some(later) = after_key(&[b'a' + letter as u8], left) else {
+            continue;
+        };
+        marks.add(letter);
+        left = later;
+    }
+    if !left.is_empty() {
+        return None;
+    }
+    Some(marks)
+}
+
+/// The word of letters after a space; without letters there is none.
+fn letters_word_in(text: &[u8]) -> Option<&[u8]>
+    ensures exact { MatchOption result ((letters : List ℕ) → spaced (letters_words letters) ≢ text.now)
+        (λ letters. spaced (letters_words letters.now) ≡ text.now) }
+{
+    if text.is_empty() {
+        return Some(text);
+    }
+    let Some(letters) = after_key(b" ", text) else {
+        return None;
+    };
+    if letters.is_empty() {
+        return None;
+    }
+    Some(letters)
+}
+
+/// The letters that are sure beside a zone, each that the zone speaks of among them.
+pub(crate) fn marks_in(key: &[u8], line: &[u8], zone: &KeptZone) -> Option<Marks>
+    ensures exact { ReadsAs (marks_line key.now) (λ marks. ZoneIsFormed marks zone.now) line.now result }
+{
+    let Some(left) = after_key(key, line) else {
+        return None;
+    };
+    let Some(letters) = letters_word_in(left) else {
+        return None;
+    };
+    let Some(marks) = letters_in(letters) else {
+        return None;
+    };
+    if !zone_has_text(&marks, zone) {
+        return None;
+    }
+    Some(marks)
+}
+
+/// Whether texts have the name: the addresses of one command have no text.
+fn is_named(name: Name) -> bool
+    ensures exact { IsTrue result ↔ IsNamed name }
+{
+    let place = name.place();
+    place < 3 || 6 <= place
+}
+
+/// The byte of a name.
+fn name_byte(name: Name) -> u8
+    ensures value { name_word name ≡ result ∷ [] }
+{
+    match name.place() {
+        0 => b'0',
+        1 => b'.',
+        2 => b'$',
+        place => b'a' + (place.saturating_sub(6)) as u8,
+    }
+}
+
+/// What is said of x - y after a space in front, and what is left after it.
+fn bound_in(x: Name, y: Name, text: &[u8]) -> Option<(i64, &[u8])>
+    ensures exact { MatchOption result
+        (IsNamed x → IsNamed y → (number : ℤ) (words : List Word) → IsSigned number →
+        (space ∷ said_word x y number) ++ spaced words ≢ text.now)
+        (λ (number, left). IsSaid x y number left.now text.now) }
+{
+    if !is_named(x) {
+        return None;
+    }
+    if !is_named(y) {
+        return None;
+    }
+    let key = [b' ', name_byte(x), b'-', name_byte(y), b'<', b'='];
+    let Some(rest) = after_key(&key, text) else {
+        return None;
+    };
+    let (number, left) = rest.split_at(word_len(rest));
+    let Some(number) = signed_in(number) else {
+        return None;
+    };
+    Some((number, left))
+}
+
+/// The place of the name that a byte stands for, and 1024 of a byte that stands for none.
+fn name_said(byte: u8) -> usize
+    ensures named { (place : ℕ) → IsNamed place → place < 32 → name_word place ≡ byte ∷ [] → result ≡ place }
+    ensures few { result ≤ 1024 }
+{
+    match byte {
+        b'0' => 0,
+        b'.' => 1,
+        b'$' => 2,
+        b'a'..=b'z' => 6 + usize::from(byte - b'a'),
+        _ => 1024,
+    }
+}
+
+/// The place of the two names of which a text speaks first, and at least 1024 where it speaks of none.
+fn place_said(text: &[u8]) -> usize
+    ensures said { (x y : ℕ) → x < 32 → y < 32 → IsNamed x → IsNamed y → (number : ℤ) (words : List Word) →
+        (space ∷ said_word x y number) ++ spaced words ≡ text.now → result ≡ 32 * x + y }
+{
+    let [_, x, _, y, ..] = text else {
+        return 1024;
+    };
+    32 * name_said(*x) + name_said(*y)
+}
+
+/// The bound that a text says first, after a space in front, and what is left after it.
+fn first_bound(text: &[u8]) -> Option<(KeptEntry, &[u8])>
+    ensures exact { MatchOption result
+        ((b : PlacedBound) (words : List Word) → IsSpoken b → (space ∷ spoken_word b) ++ spaced words ≢ text.now)
+        (λ (entry, left). IsSpoken entry × IsFirstWord text.now (spoken_word entry) left.now) }
+{
+    let place = place_said(text);
+    if place >= 1024 {
+        return None;
+    }
+    let x = Name::from_place(place / 32);
+    let y = Name::from_place(place % 32);
+    let Some((number, left)) = bound_in(x, y, text) else {
+        return None;
+    };
+    let entry = KeptEntry::new(x, y, Some(number));
+    // No zone keeps a number that is clipped.
+    if entry.bound() == Some(number) {
+        return Some((entry, left));
+    }
+    None
+}
+
+/// The bounds that a text says, one after another in rising places. No more are taken up than a zone can have.
+fn bounds_said(alloc: Global, text: &[u8]) -> Result<Option<Vec<KeptEntry>>, AllocError>
+    ensures exact { IfOk result (λ bounds. MatchOption bounds
+        ((others : List PlacedBound) → All IsSpoken others → Rise 0 others → spaced (map spoken_word others) ≢ text.now)
+        (λ bounds. All IsSpoken bounds.items × (spaced (map spoken_word bounds.items) ≡ text.now))) }
+{
+    let mut bounds = Vec::with_capacity(alloc, BOUNDS_OF_THREE_NAMES)?;
+    let mut left = text;
+    let mut from = 0;
+    'words: while !left.is_empty() {
+        let Some(first) = first_bound(left) else {
+            return Ok(None);
+        };
+        let (bound, later) = first;
+        let place = 32 * bound.x().place() + bound.y().place();
+        if place < from {
+            return Ok(None);
+        }
+        from = place + 1;
+        bounds.push(bound)?;
+        left = later;
+    }
+    Ok(Some(bounds))
+}
+
+/// The zone of a line, whatever letters it speaks of.
+pub(crate) fn zone_in(
+    alloc: Global,
+    key: &[u8],
+    line: &[u8],
+) -> Result<Option<KeptZone>, AllocError>
+    ensures exact { IfOk result (λ zone. ReadsAs (zone_line key.now) (ZoneIsFormed all_marks) line.now zone) }
+{
+    let Some(left) = after_key(key, line) else {
+        return Ok(None);
+    };
+    let Some(bounds) = bounds_said(alloc, left)? else {
+        return Ok(None);
+    };
+    let Some(zone) = KeptZone::from_entries(bounds) else {
+        return Ok(None);
+    };
+    Ok(Some(zone))
+}
