@@ -1,5 +1,5 @@
 //! The letters that mark lines.
-ghost use Rattle.std.specs.Prelude.{ℕ, ◌≡◌, ◌<◌, ◌≤◌, ◌↔◌, List, map, count_by};
+ghost use Rattle.std.specs.Prelude.{ℕ, ◌≡◌, ◌<◌, ◌≤◌, ◌↔◌, List, Some, map, count_by};
 ghost use Rattle.ed_base.specs.Buffer.{Line, plain_line, has_letter, letter_of, marked_at, AtMostOnce, KnowLetters};
 
 use std::marker::Model;
@@ -34,7 +34,26 @@ impl Letter {
         }
     }
 
-    /// Its place among the letters.
+    /// How many letters there are.
+    pub const COUNT: usize = 26;
+
+    /// The letter at this place among the letters, from 0. All letters in their order are those at the places from 0 up to
+    /// [`Letter::COUNT`].
+    pub fn at(place: usize) -> Letter
+        requires within { place < 26 }
+        ensures value { result ≡ place }
+    {
+        Letter { place: place as u8 }
+    }
+
+    /// The byte that spells it.
+    pub fn byte(self) -> u8
+        ensures value { letter_of result ≡ Some self }
+    {
+        b'a' + self.place
+    }
+
+    /// Its place among the letters, from 0.
     pub fn place(self) -> usize
         ensures value { result ≡ self }
         ensures within { result < 26 }
