@@ -8,10 +8,10 @@ use Rattle.zones.specs.Steps.{any_zone, after_guard, guard_bound, after_set, aft
 use Rattle.zones.specs.Limits.{IsAtMostZero, HasLowDiagonal}
 use Rattle.zones.proofs.Formulas.{bound-any_zone, bound-after_guard, bound-after_set, bound-after_shift, bound-after_forget, bound-join_of, bound-widening_of, set_bound-corner, set_bound-other, shift_bound-corner, shift_bound-other, forget_bound-corner, forget_bound-other, widening_bound-diagonal}
 
-IsAtMostZero-clip : (c : ℤ) → c ≤ℤ pos 0 → IsAtMostZero (clip c)
+pub IsAtMostZero-clip : (c : ℤ) → c ≤ℤ pos 0 → IsAtMostZero (clip c)
 IsAtMostZero-clip c h = grind (arith, ints)
 
-IsAtMostZero-lesser : (direct way : Option ℤ) → IsAtMostZero direct → IsAtMostZero (clip_bound (lesser_of direct way))
+pub IsAtMostZero-lesser : (direct way : Option ℤ) → IsAtMostZero direct → IsAtMostZero (clip_bound (lesser_of direct way))
 IsAtMostZero-lesser None way h = absurd h
 IsAtMostZero-lesser (Some c) None h = IsAtMostZero-clip c h
 IsAtMostZero-lesser (Some c) (Some d) h =

@@ -17,4 +17,5 @@ pub mod Covering
 pub mod Rising
 pub mod ReachLemmas
 pub mod RowWrites
+pub mod Merging
 pub mod ReachSteps

@@ -16,4 +16,5 @@ pub mod Entry
 -- how far the known names of a zone reach, how tables are written, and how a kept zone is read
 pub mod Reach
 pub mod RowWrites
+pub mod Merging
 pub mod Written

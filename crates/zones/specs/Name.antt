@@ -1,5 +1,5 @@
 -- The 32 names of a zone, each by its place from 0 to 31: the number by which the definitions of zones speak of it.
-use Rattle.std.specs.Prelude.{ℕ, ◌+◌, ◌-◌, ◌≤◌}
+use Rattle.std.specs.Prelude.{ℕ, ◌+◌}
 
 -- the number 0
 abbrev pub zero : ℕ
@@ -23,10 +23,6 @@ second_address = 4
 abbrev pub target_address : ℕ
 target_address = 5
 
--- a byte from `a` to `z`
-abbrev pub IsLowerCase : ℕ → Type 0
-IsLowerCase byte = (97 ≤ byte) × (byte ≤ 122)
-
--- the line that a letter marks, by the letter's byte: the marks follow the other names
-abbrev pub mark : ℕ → ℕ
-mark letter = 6 + (letter - 97)
+-- the line that a letter marks, by the letter's place among the letters: the marks follow the other names
+abbrev pub mark : (letter : ℕ) → ℕ
+mark letter = 6 + letter

@@ -1,8 +1,9 @@
 //! The names whose numbers a zone compares.
 
-ghost use Rattle.std.specs.Prelude.{◌≡◌, ◌<◌, ◌≤◌, IfSome, IfNone, [], ◌∷◌};
-ghost use Rattle.zones.specs.Name.{zero, current_line, last_line, first_address, second_address, target_address, IsLowerCase, mark};
+ghost use Rattle.std.specs.Prelude.{◌≡◌, ◌<◌, IfSome, IfNone, [], ◌∷◌};
+ghost use Rattle.zones.specs.Name.{zero, current_line, last_line, first_address, second_address, target_address, mark};
 
+use ed_base::Letter;
 use std::marker::Model;
 
 /// What a number of an editor's state is called: zero, the current line, the last line, the three
@@ -58,26 +59,24 @@ impl Name {
         ]
     }
 
-    /// The line that a letter marks, by the letter's byte, from `b'a'` to `b'z'`.
-    pub fn mark(letter: u8) -> Self
-        requires lower_case { IsLowerCase letter }
+    /// The line that a letter marks.
+    pub fn of(letter: Letter) -> Self
         ensures value { result ≡ mark letter }
     {
         Name {
-            place: 6 + (letter - b'a'),
+            place: 6 + letter.place() as u8,
         }
     }
 
-    /// The byte of the letter that marks the line; `None` of a name that is no mark.
-    pub fn letter(self) -> Option<u8>
-        ensures lower_case { IfSome result IsLowerCase }
+    /// The letter that marks the line; `None` of a name that is no mark.
+    pub fn letter(self) -> Option<Letter>
         ensures value { IfSome result (λ letter. mark letter ≡ self) }
         ensures unmarked { IfNone result (self < 6) }
     {
         if self.place < 6 {
             None
         } else {
-            Some(b'a' + (self.place - 6))
+            Some(Letter::at(usize::from(self.place - 6)))
         }
     }
 

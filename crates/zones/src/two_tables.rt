@@ -1,63 +1,60 @@
 //! What is done with two tables: joins, widenings, copies and comparisons. Of names from `most` on nothing is known in either.
 
 ghost use Rattle.std.specs.Prelude.{◌≡◌, ℕ, ◌<◌, ◌≤◌, true, IsTrue, ◌↔◌};
-ghost use Rattle.zones.specs.Bound.{greater_of, widen_bound, covers_bound};
+ghost use Rattle.zones.specs.Bound.{covers_bound};
 ghost use Rattle.zones.specs.Zone.{bound, Covers};
-ghost use Rattle.zones.specs.Steps.{join_of, widening_of};
+ghost use Rattle.zones.specs.Merging.{merge_bound, merge_at, merged};
 ghost use Rattle.zones.specs.Reach.{AreUnknown};
 ghost use Rattle.zones.specs.RowWrites.{IsRowWritten};
 
-use crate::entry::{covers_bound, greater, widen_bound, widen_diagonal};
+use crate::entry::{Entry, covers_bound, greater, widen_bound, widen_diagonal};
 use crate::table::Table;
 
-/// Keeps the greater bound of each pair of a row, up to `most`.
-fn join_row(table: &mut Table, other: &Table, most: usize, p: usize)
-    requires most_in_range { most ≤ 32 }
-    requires p_in_range { p < 32 }
-    ensures written { IsRowWritten table.old table.new
-        (λ q. greater_of (bound table.old p q) (bound other.now p q)) p most }
+/// How two tables become one.
+#[derive(Clone, Copy)]
+pub(crate) enum Merge {
+    /// The greater bound of each pair.
+    Join,
+    /// The first table's bound of each pair for which the second's did not rise above it.
+    Widen,
+}
+
+/// Two bounds of the pair (p, q) as one.
+fn merge_bound(merge: Merge, p: usize, q: usize, one: Entry, other: Entry) -> Entry
+    ensures value { result ≡ merge_bound merge p q one other }
 {
-    for q in 0..most {
-        table[32 * p + q] = greater(table[32 * p + q], other[32 * p + q]);
+    match merge {
+        Merge::Join => greater(one, other),
+        Merge::Widen => {
+            if p == q {
+                widen_diagonal(one, other)
+            } else {
+                widen_bound(one, other)
+            }
+        }
     }
 }
 
-/// Keeps the greater bound of each pair.
-pub(crate) fn join_table(table: &mut Table, other: &Table, most: usize)
+/// Merges the bounds of a row, up to `most`.
+fn merge_row(table: &mut Table, other: &Table, merge: Merge, most: usize, p: usize)
+    requires most_in_range { most ≤ 32 }
+    requires p_in_range { p < 32 }
+    ensures written { IsRowWritten table.old table.new (merge_at merge table.old other.now p) p most }
+{
+    for q in 0..most {
+        table[32 * p + q] = merge_bound(merge, p, q, table[32 * p + q], other[32 * p + q]);
+    }
+}
+
+/// Merges the bounds of each pair.
+pub(crate) fn merge_table(table: &mut Table, other: &Table, merge: Merge, most: usize)
     requires most_in_range { most ≤ 32 }
     requires unknown { AreUnknown table.old most }
     requires other_unknown { AreUnknown other.now most }
-    ensures exact { table.new ≡ join_of table.old other.now }
+    ensures exact { table.new ≡ merged merge table.old other.now }
 {
     for p in 0..most {
-        join_row(table, other, most, p);
-    }
-}
-
-/// Keeps the bound of each pair of a row for which it did not rise in a newer table, up to `most`; on the diagonal too, which is
-/// left to the caller.
-fn widen_row(table: &mut Table, new: &Table, most: usize, p: usize)
-    requires most_in_range { most ≤ 32 }
-    requires p_in_range { p < 32 }
-    ensures written { IsRowWritten table.old table.new
-        (λ q. widen_bound (bound table.old p q) (bound new.now p q)) p most }
-{
-    for q in 0..most {
-        table[32 * p + q] = widen_bound(table[32 * p + q], new[32 * p + q]);
-    }
-}
-
-/// Keeps the bound of each pair for which it did not rise in a newer table.
-pub(crate) fn widen_table(table: &mut Table, new: &Table, most: usize)
-    requires most_in_range { most ≤ 32 }
-    requires unknown { AreUnknown table.old most }
-    requires new_unknown { AreUnknown new.now most }
-    ensures exact { table.new ≡ widening_of table.old new.now }
-{
-    for p in 0..most {
-        let itself = widen_diagonal(table[32 * p + p], new[32 * p + p]);
-        widen_row(table, new, most, p);
-        table[32 * p + p] = itself;
+        merge_row(table, other, merge, most, p);
     }
 }
 

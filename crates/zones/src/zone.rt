@@ -5,13 +5,14 @@ ghost use Rattle.zones.specs.Bound.{Obeys, IsKept, negative_of};
 ghost use Rattle.zones.specs.Zone.{Numbers, bound, Holds, ChangesOnly, Covers};
 ghost use Rattle.zones.specs.Steps.{any_zone, after_guard, after_set, after_shift, after_forget, join_of, widening_of, after_put};
 ghost use Rattle.zones.specs.Limits.{IsZone};
+ghost use Rattle.zones.specs.Merging.{merged};
 
 use crate::name::Name;
 use crate::reach::{reach_with, reach_within};
 use crate::table::{
     Table, any_table, forget_table, guard_table, put_table, set_table, shift_table,
 };
-use crate::two_tables::{copy_table, join_table, table_covers, widen_table};
+use crate::two_tables::{Merge, copy_table, merge_table, table_covers};
 use std::marker::Model;
 
 /// To each ordered pair (x, y) of names a number c, meaning that x - y is at most c, or any.
@@ -163,9 +164,7 @@ impl Zone {
         ensures covers { Covers self.new self.old }
         ensures covers_other { Covers self.new other.now }
     {
-        let most = self.reach.max(other.reach);
-        join_table(&mut self.table, &other.table, most);
-        self.reach = reach_within(&self.table, most);
+        self.merge(other, Merge::Join);
     }
 
     /// Keeps what of this zone did not rise in a newer one.
@@ -176,8 +175,14 @@ impl Zone {
         ensures covers { Covers self.new self.old }
         ensures covers_other { Covers self.new new.now }
     {
-        let most = self.reach.max(new.reach);
-        widen_table(&mut self.table, &new.table, most);
+        self.merge(new, Merge::Widen);
+    }
+
+    fn merge(&mut self, other: &Zone, merge: Merge)
+        ensures exact { self.new ≡ merged merge self.old other.now }
+    {
+        let most = self.reach.max(other.reach);
+        merge_table(&mut self.table, &other.table, merge, most);
         self.reach = reach_within(&self.table, most);
     }
 
