@@ -244,7 +244,7 @@ def programs_for(work):
     if work.perl and shutil.which("perl"):
         programs["perl"] = work.perl
     if work.patch and shutil.which("patch"):
-        # It takes the last line, which is none of diff's, for what stands behind the update.
+        # It takes the last line, which is none of diff's, for what stands after the update.
         programs["patch"] = ["patch", "-s", "-e", "-o", os.devnull]
     if work.vim and shutil.which("vim"):
         programs["vim"] = ["vim", "-es", "-u", "NONE", "-n", "-i", "NONE"]

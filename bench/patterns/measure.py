@@ -183,7 +183,7 @@ def measure_long(folder, starting):
 
 
 def measure_places(folder, starting):
-    """What a find costs that ends after a few bytes of a long line, beside reading the line: a place behind it isn't looked at."""
+    """What a find costs that ends after a few bytes of a long line, beside reading the line: a place after its end isn't looked at."""
     print('\nOne find in a line of 50,000,000 bytes, x but for a word in the middle; bre_ask places')
     half = 25_000_000
     for pattern, word in ((r'\(a\)*b', 'aab'), (r'\(a\)*=\1b', 'a=ab')):
