@@ -71,9 +71,23 @@ pub fn find(
     // A literal pattern takes no memory.
     ensures without_memory { IsSome (literal (bre_tree pattern.now)) → IsOk result }
 {
-    if let Some(word) = pattern.literal() {
-        return Ok(find_word(word, text, from));
+    match pattern.literal() {
+        Some(word) => Ok(find_word(word, text, from)),
+        None => find_items(alloc, pattern, text, from),
     }
+}
+
+// The match of a pattern by its items. It is apart from `find`, so that a literal pattern doesn't pay for its many locals.
+fn find_items(
+    alloc: Global,
+    pattern: &Bre,
+    text: &[u8],
+    from: usize,
+) -> Result<Option<Match>, AllocError>
+    requires place { from ≤ length text.now }
+    ensures value { IfOk result (λ found. option_map spans found ≡ match_from (bre_tree pattern.now) text.now from) }
+    ensures within { IfOk result (λ found. IfSome found (LiesWithin from (length text.now))) }
+{
     let items = pattern.items();
     if pattern.refers() || is_quick_row(items) {
         return first_match(alloc, items, text, from);
@@ -101,9 +115,16 @@ pub fn matches(alloc: Global, pattern: &Bre, text: &[u8]) -> Result<bool, AllocE
     ensures value { IfOk result (λ matches. matches ≡ is_some (match_from (bre_tree pattern.now) text.now 0)) }
     ensures without_memory { IsSome (literal (bre_tree pattern.now)) → IsOk result }
 {
-    if let Some(word) = pattern.literal() {
-        return Ok(find_word(word, text, 0).is_some());
+    match pattern.literal() {
+        Some(word) => Ok(find_word(word, text, 0).is_some()),
+        None => matches_items(alloc, pattern, text),
     }
+}
+
+// Whether a pattern matches anywhere in a text, by its items.
+fn matches_items(alloc: Global, pattern: &Bre, text: &[u8]) -> Result<bool, AllocError>
+    ensures value { IfOk result (λ matches. matches ≡ is_some (match_from (bre_tree pattern.now) text.now 0)) }
+{
     let items = pattern.items();
     if is_quick_row(items) || is_too_wide(items) || pattern.refers() {
         let found = first_match(alloc, items, text, 0)?;
