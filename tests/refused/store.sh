@@ -8,7 +8,7 @@ work=$(mktemp -d)
 trap 'rm -rf "$work"' EXIT
 tar --exclude=out -cf - HANDLES crates.txt crates examples tests | tar -xf - -C "$work"
 cd "$work/crates/ed_main" || exit 1
-if ! grep -q ChunkStore src/running.rt || ! sed -i "s/ChunkStore/$store/g" src/running.rt; then
+if ! named=$(grep -rl ChunkStore src) || ! sed -i "s/ChunkStore/$store/g" $named; then
     echo "the program does not name its store"
     echo "0 passed, 1 failed"
     exit 1
