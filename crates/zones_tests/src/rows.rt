@@ -57,7 +57,7 @@ fn rows_of_two_zones()
     ensures diagonal { (widen_diagonal (Some (negsuc 1)) (Some (negsuc 0)) ≡ Some (pos 0))
         × (widen_diagonal (Some (negsuc 0)) (Some (negsuc 1)) ≡ Some (negsuc 0))
         × (widen_diagonal (Some (pos 3)) (Some (pos 4)) ≡ Some (pos 4)) }
-    ensures zones { let a = mark 97 in
+    ensures zones { let a = mark 0 in
         let three = after_put any_zone a 0 (Some (pos 3)) in
         let four = after_put any_zone a 0 (Some (pos 4)) in
         let two = after_put any_zone a 0 (Some (pos 2)) in

@@ -1,5 +1,6 @@
 //! Worked rows of the steps, and of the names.
 
+use ed_base::Letter;
 use zones::{LIMIT, Name, Zone};
 
 // From 1 to 3 lines, of which the last is current.
@@ -79,18 +80,21 @@ fn numbers_are_clipped_to_the_weaker_side(rt: HostRuntime) {
     }
 }
 
-const A: u8 = b'a';
+// The line that the letter `a` marks.
+fn mark_a() -> Name {
+    Name::of(Letter::at(0))
+}
 
 // The line that is marked `a` is at most `number`.
 fn mark_up_to(number: i64) -> Zone {
     let mut zone = Zone::any();
-    zone.put(Name::mark(A), Name::ZERO, Some(number));
+    zone.put(mark_a(), Name::ZERO, Some(number));
     zone
 }
 
 #[test]
 fn a_bound_that_rises_is_joined_and_widened(rt: HostRuntime) {
-    let mark = Name::mark(A);
+    let mark = mark_a();
     let mut joined = mark_up_to(3);
     joined.join(&mark_up_to(4));
     assert_eq!(rt; joined.bound(mark, Name::ZERO), Some(4));
@@ -135,9 +139,10 @@ fn names_go_in_their_order(rt: HostRuntime) {
         assert_eq!(rt; name.place(), place);
         assert_eq!(rt; name.letter(), None, "place {place}");
     }
-    assert_eq!(rt; Name::from_place(31), Name::mark(b'z'));
-    assert_eq!(rt; Name::mark(b'a').place(), 6);
-    for letter in b'a'..=b'z' {
-        assert_eq!(rt; Name::mark(letter).letter(), Some(letter));
+    assert_eq!(rt; mark_a().place(), 6);
+    for place in 0..Letter::COUNT {
+        let letter = Letter::at(place);
+        assert_eq!(rt; Name::of(letter), Name::from_place(6 + place));
+        assert_eq!(rt; Name::of(letter).letter(), Some(letter));
     }
 }
