@@ -1,3 +1,3 @@
-pub mod spelling
+pub mod spelled
 pub mod meaning
-pub mod reading
+pub mod reader

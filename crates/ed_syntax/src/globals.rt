@@ -1,4 +1,7 @@
 //! Reads a global command: its letter, its pattern and its list.
+//!
+//! What could be one function is several: where a function that holds a `Verb` exits early, the `Verb` is dropped, and the proof of each
+//! such exit takes some 250 steps.
 ghost use Rattle.std.specs.Prelude.{◌≡◌, ◌+◌, ◌≤◌, length, MatchOption, Some, None, option_map, IfOk};
 ghost use Rattle.ed_syntax.specs.spelling.Characters.{goes_on, after_blanks};
 ghost use Rattle.ed_syntax.specs.spelling.Spellings.{print};

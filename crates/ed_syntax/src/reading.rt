@@ -44,8 +44,10 @@ pub fn first_lines(alloc: Global, bytes: &[u8]) -> Result<Vec<usize>, AllocError
     let mut lines = ScriptLines::new(bytes);
     'commands: while let Some(line) = lines.next() {
         numbers.push(lines.number())?;
-        if read_step(alloc, line, &mut lines)?.is_none() {
-            break;
+        match read_step(alloc, line, &mut lines)? {
+            // Dropped by a call: dropped in place it would give the proof a case for each kind of command.
+            Some(command) => drop(command),
+            None => break,
         }
     }
     Ok(numbers)

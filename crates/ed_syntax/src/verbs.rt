@@ -65,7 +65,7 @@ pub struct Takes<'a> {
     pub listed: bool,
     /// It asks for a file: one to read, or one to write.
     pub asks: bool,
-    /// It may change the buffer, as part of a list.
+    /// It may change the buffer; a global command may by its list.
     pub alters: bool,
     /// How it ends the run, if it does.
     pub ends: Option<Ends>,
@@ -198,6 +198,7 @@ impl Verb {
                 suffix: false,
                 listed: false,
                 asks: true,
+                alters: true,
                 ..row(DefaultAddresses::Without, Taking::NoAddress)
             },
             Verb::FileName(_) => Takes {
@@ -207,11 +208,13 @@ impl Verb {
             Verb::Global { .. } => Takes {
                 suffix: false,
                 listed: false,
+                alters: true,
                 global: true,
                 ..row(DefaultAddresses::Without, Taking::Whole)
             },
             Verb::Undo => Takes {
                 listed: false,
+                alters: true,
                 ..row(DefaultAddresses::Without, Taking::NoAddress)
             },
             Verb::Help | Verb::HelpMode | Verb::PromptMode => {

@@ -34,7 +34,7 @@ use Rattle.ed_syntax.specs.meaning.Applied.{making, effect_of}
 use Rattle.ed_syntax.specs.meaning.CommandLaws.{InOrder, AreWhole}
 use Rattle.ed_syntax.proofs.meaning.StepLemmas.{either}
 use Rattle.ed_syntax.proofs.meaning.ResultLemmas.{IfOk-bind, IfOk-itself, IfOk-after}
-use Rattle.ed_syntax.proofs.spelling.ReadableLemmas.{lines-are}
+use Rattle.ed_syntax.proofs.spelled.ReadableLemmas.{lines-are}
 use Rattle.ed_syntax.proofs.meaning.WholeLemmas.{lines_of-lines, whole-block, whole-texts, line-concat}
 use Rattle.ed_syntax.proofs.meaning.Reshaping as shape
 use Rattle.ed_syntax.proofs.meaning.Reshaping.{Reshaped}

@@ -16,8 +16,8 @@ use Rattle.ed_syntax.specs.reading.ReadGlobals.{sense_at}
 use Rattle.ed_syntax.specs.reading.Reading.{step_by, step_after_addresses}
 use Rattle.ed_syntax.specs.reading.ReadParts.{command_before, step_before, global_before, listed_before}
 use Rattle.ed_syntax.specs.PublicTypes.{row_value, command_of, command_value, verb_value, list_value}
-use Rattle.ed_syntax.proofs.reading.LetterLemmas.{is_global}
-use Rattle.ed_syntax.proofs.reading.StandLemmas.{command_after_addresses-stands}
+use Rattle.ed_syntax.proofs.reader.LetterLemmas.{is_global}
+use Rattle.ed_syntax.proofs.reader.StandLemmas.{command_after_addresses-stands}
 
 pub row_value-items : (n : _) (row : Row_of-Command n) → row_value row ≡ map command_value (items-the_row-Command n row)
 row_value-items _ end_of-Command = refl
@@ -38,7 +38,7 @@ none_listed (verb.Global' _ _ _ list) single = absurd (false≢true single)
 none_listed _ single = refl
 
 -- a global command with this list after it, before the lines after that
-abbrev listing : ed.Addresses → Sense → Option (List ℕ) → List (List ℕ) → List ed.Command → After ed.Step
+abbrev listing : ed.Addresses → Sense → Option (List ℕ) → List (List ℕ) → List ed.Command → Taken ed.Step
 listing given which pattern left cs = Some (record { command = global_of given which pattern; list = cs }, left)
 
 -- a global command with the commands of its list, as it lies in memory
@@ -52,12 +52,12 @@ global_read given which pattern list cs left is =
 pub single_read : (given : ed.Addresses) (own : List ℕ) (later : List (List ℕ)) (c : Option Command) (left : List (List ℕ)) → sense_at own ≡ None → command_before c left ≡ command_after_addresses false given own later →
     step_before c left ≡ step_after_addresses given own later
 single_read given own later None left unsensed is =
-    ap (λ (o : After ed.Command). o >>= λ r. Some (ed.alone r.0, r.1)) is ∙ ap (λ (o : Parsed Sense). step_by o given own later) (sym unsensed)
+    ap (λ (o : Taken ed.Command). o >>= λ r. Some (ed.alone r.0, r.1)) is ∙ ap (λ (o : Parsed Sense). step_by o given own later) (sym unsensed)
 single_read given own later (Some c) left unsensed is =
     let stands = (command_after_addresses-stands false given own later (command_value c, left) (sym is)).sound in
     let single = none_listed (out-Command c).verb (and_parts (not (is_global (command_value c).verb)) (is_sound (command_value c).verb) stands).0 in
     ap (λ list. Some (record { command = command_value c; list = list }, left)) single
-    ∙ ap (λ (o : After ed.Command). o >>= λ r. Some (ed.alone r.0, r.1)) is
+    ∙ ap (λ (o : Taken ed.Command). o >>= λ r. Some (ed.alone r.0, r.1)) is
     ∙ ap (λ (o : Parsed Sense). step_by o given own later) (sym unsensed)
 
 -- the same of what may come of reading

@@ -22,7 +22,7 @@ next = record { base = ed.Current; offset = pos 1 }
 -- What a command takes, and what else is asked of it: the addresses that it has where none are given; how many it takes, and what line 0
 -- means to it; whether the lines of a text follow it; the address that is its target; whether a suffix may follow; whether it may stand in
 -- the list of a global command (that `e`, `E`, `q`, `Q` and `u` may not is our choice); whether it asks for a file; whether it may change
--- the buffer, as part of a list; how it ends the run; whether it has a list. Without addresses `g`, `v` and `w` take all lines.
+-- the buffer, `g` and `v` by their list; how it ends the run; whether it has a list. Without addresses `g`, `v` and `w` take all lines.
 pub record Takes : Type 0 where
   pub default : Addresses
   pub taking : Taking
@@ -111,11 +111,11 @@ takes ed.Null = row (One next) many.OneLine no_text no_target no_suffix in_lists
 takes (ed.Write form) = row (Comma here here) many.Range no_text no_target suffix_may_follow in_lists no_file keeps_buffer goes_on no_list
 takes (ed.ReadFile path) = row (One (at_base ed.Last)) many.Place no_text no_target no_suffix in_lists wants_file alters goes_on no_list
 takes (ed.WriteFile path) = row Without many.Whole no_text no_target no_suffix in_lists wants_file keeps_buffer goes_on no_list
-takes (ed.Edit path) = row Without many.NoAddress no_text no_target no_suffix not_in_lists wants_file keeps_buffer goes_on no_list
-takes (ed.EditAnyway path) = row Without many.NoAddress no_text no_target no_suffix not_in_lists wants_file keeps_buffer goes_on no_list
+takes (ed.Edit path) = row Without many.NoAddress no_text no_target no_suffix not_in_lists wants_file alters goes_on no_list
+takes (ed.EditAnyway path) = row Without many.NoAddress no_text no_target no_suffix not_in_lists wants_file alters goes_on no_list
 takes (ed.FileName path) = row Without many.NoAddress no_text no_target no_suffix in_lists no_file keeps_buffer goes_on no_list
-takes (ed.Global sense pattern) = row Without many.Whole no_text no_target no_suffix not_in_lists no_file keeps_buffer goes_on has_list
-takes ed.Undo = row Without many.NoAddress no_text no_target suffix_may_follow not_in_lists no_file keeps_buffer goes_on no_list
+takes (ed.Global sense pattern) = row Without many.Whole no_text no_target no_suffix not_in_lists no_file alters goes_on has_list
+takes ed.Undo = row Without many.NoAddress no_text no_target suffix_may_follow not_in_lists no_file alters goes_on no_list
 takes ed.Help = row Without many.NoAddress no_text no_target suffix_may_follow in_lists no_file keeps_buffer goes_on no_list
 takes ed.HelpMode = row Without many.NoAddress no_text no_target suffix_may_follow in_lists no_file keeps_buffer goes_on no_list
 takes ed.PromptMode = row Without many.NoAddress no_text no_target suffix_may_follow in_lists no_file keeps_buffer goes_on no_list
@@ -171,7 +171,7 @@ abbrev pub has_split : Verb → Bool
 has_split (ed.Substitute pattern (Some parts) choice form) = list_any is_split parts
 has_split _ = false
 
--- a command that may change the buffer, as part of a list
+-- a command that may change the buffer
 abbrev pub may_alter : Verb → Bool
 may_alter verb = (takes verb).alters
 

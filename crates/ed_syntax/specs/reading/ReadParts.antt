@@ -33,18 +33,18 @@ heading_before given None = None
 heading_before given (Some order) = Some (record { addresses = given; verb = verb_value order.verb; suffix = suffix_value order.suffix })
 
 -- a command with these addresses before the lines after it, where it can be read
-abbrev pub order_before : (listed : Bool) → ed.Addresses → Option Order → List (List ℕ) → After ed.Command
+abbrev pub order_before : (listed : Bool) → ed.Addresses → Option Order → List (List ℕ) → Taken ed.Command
 order_before listed given None later = None
 order_before listed given (Some order) later =
     Some (record { addresses = given; verb = verb_value order.verb; suffix = suffix_value order.suffix; listed = listed }, later)
 
 -- a command before the lines after it, where it can be read
-abbrev pub command_before : Option Command → List (List ℕ) → After ed.Command
+abbrev pub command_before : Option Command → List (List ℕ) → Taken ed.Command
 command_before None later = None
 command_before (Some c) later = Some (command_value c, later)
 
 -- the same as a step, with its list
-abbrev pub step_before : Option Command → List (List ℕ) → After ed.Step
+abbrev pub step_before : Option Command → List (List ℕ) → Taken ed.Step
 step_before None later = None
 step_before (Some c) later = Some (step_value c, later)
 
@@ -54,11 +54,11 @@ optional_commands None = None
 optional_commands (Some cs) = Some (map command_value cs)
 
 -- a global command with its list after these addresses, before the lines after it, where it can be read
-abbrev pub global_before : ed.Addresses → Option Verb → List (List ℕ) → After ed.Step
+abbrev pub global_before : ed.Addresses → Option Verb → List (List ℕ) → Taken ed.Step
 global_before given None later = None
 global_before given (Some verb) later =
     Some (record { command = record { addresses = given; verb = verb_value verb; suffix = None; listed = false }; list = list_value verb }, later)
 
 -- a global command with these commands for its list, before the lines after it, where they can be read
-abbrev pub listed_before : ed.Addresses → Sense → Option (List ℕ) → Option (List Command) → List (List ℕ) → After ed.Step
+abbrev pub listed_before : ed.Addresses → Sense → Option (List ℕ) → Option (List Command) → List (List ℕ) → Taken ed.Step
 listed_before given which pattern cs later = optional_commands cs >>= λ cs. Some (record { command = global_of given which pattern; list = cs }, later)

@@ -4,7 +4,7 @@ use Rattle.ed_syntax.specs.reading.ReadCommands.{command_at}
 use Rattle.ed_syntax.specs.reading.ReadGlobals.{commands}
 use Rattle.ed_syntax.specs.reading.ReadParts.{command_before}
 use Rattle.ed_syntax.specs.PublicTypes.{command_value}
-use Rattle.ed_syntax.proofs.reading.ListSteps.{before_commands, before_commands-next}
+use Rattle.ed_syntax.proofs.reader.ListSteps.{before_commands, before_commands-next}
 use Rattle.ed_syntax.proofs.globals.all_commands.Goals as goal
 
 pub commands-preserved : goal.commands-preserved

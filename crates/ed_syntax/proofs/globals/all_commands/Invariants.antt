@@ -2,7 +2,7 @@
 use Rattle.std.proofs.Common.{◌≡◌, length, map}
 use Rattle.ed_syntax.specs.reading.ReadGlobals.{commands, all_commands}
 use Rattle.ed_syntax.specs.PublicTypes.{command_value}
-use Rattle.ed_syntax.proofs.reading.ListSteps.{before_commands}
+use Rattle.ed_syntax.proofs.reader.ListSteps.{before_commands}
 use Rattle.ed_syntax.proofs.globals.all_commands.Given as goal
 
 abbrev pub invariant-commands : goal.invariant-commands

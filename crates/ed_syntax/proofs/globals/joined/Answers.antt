@@ -1,6 +1,6 @@
 use Rattle.std.proofs.Common.{List, ℕ, [], ◌∷◌, ◌++◌, sym, ap, ◌∙◌, append_assoc}
 use Rattle.ed_base.specs.Lines.{newline}
-use Rattle.ed_syntax.proofs.reading.JoinedLemmas.{last-read}
+use Rattle.ed_syntax.proofs.reader.JoinedLemmas.{last-read}
 use Rattle.ed_syntax.proofs.globals.joined.Goals as goal
 
 pub returns-clause-value : goal.returns-clause-value

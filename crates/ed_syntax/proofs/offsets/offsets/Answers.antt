@@ -3,8 +3,8 @@ use Rattle.std.proofs.lemmas.Int.{ints}
 use mir.Val.{to_z, of_z}
 use mir.Syntax.{w128}
 use Rattle.ed_syntax.specs.reading.Tokens.{offsets}
-use Rattle.ed_syntax.proofs.reading.Fronts.{after_first, first_and_others, no_first}
-use Rattle.ed_syntax.proofs.reading.OffsetSteps.{none_summed, plus_first, minus_first, none_left}
+use Rattle.ed_syntax.proofs.reader.Fronts.{after_first, first_and_others, no_first}
+use Rattle.ed_syntax.proofs.reader.OffsetSteps.{none_summed, plus_first, minus_first, none_left}
 use Rattle.ed_syntax.proofs.offsets.offsets.Goals as goal
 use Rattle.ed_syntax.proofs.offsets.offsets.Goals.{in_default, in_default-2}
 

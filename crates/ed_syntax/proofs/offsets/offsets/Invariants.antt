@@ -1,7 +1,7 @@
 -- The offsets that are left, after the sum so far, are all of them. Each took a byte at least, so the sum is far from the ends of its type.
 use Rattle.std.proofs.Common.{◌-◌, ◌*◌, ◌≤◌, length, pos, neg_ℤ, ◌≤ℤ◌}
 use Rattle.ed_syntax.specs.reading.Tokens.{offsets}
-use Rattle.ed_syntax.proofs.reading.OffsetSteps.{OffsetsLeft}
+use Rattle.ed_syntax.proofs.reader.OffsetSteps.{OffsetsLeft}
 use Rattle.ed_syntax.proofs.offsets.offsets.Given as goal
 
 abbrev pub invariant-offsets : goal.invariant-offsets

@@ -1,7 +1,7 @@
 use Rattle.std.proofs.Common.{length, get_or, sym, arith}
 use Rattle.ed_syntax.specs.reading.Tokens.{quoted}
-use Rattle.ed_syntax.proofs.reading.Fronts.{after_first, first_and_others}
-use Rattle.ed_syntax.proofs.reading.QuotedSteps as step
+use Rattle.ed_syntax.proofs.reader.Fronts.{after_first, first_and_others}
+use Rattle.ed_syntax.proofs.reader.QuotedSteps as step
 use Rattle.ed_syntax.proofs.quoting.quoted.Goals as goal
 
 pub bytes-preserved-in_ok-push_unescaped-in-len1-up-rest : goal.bytes-preserved-in_ok-push_unescaped-in-len1-up-rest

@@ -1,7 +1,7 @@
 -- The pattern that is left, after the bytes so far, is all of it.
 use Rattle.std.proofs.Common.{length}
 use Rattle.ed_syntax.specs.reading.Tokens.{quoted}
-use Rattle.ed_syntax.proofs.reading.QuotedSteps.{QuotedLeft}
+use Rattle.ed_syntax.proofs.reader.QuotedSteps.{QuotedLeft}
 use Rattle.ed_syntax.proofs.quoting.quoted.Given as goal
 
 abbrev pub invariant-bytes : goal.invariant-bytes

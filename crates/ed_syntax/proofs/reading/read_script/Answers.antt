@@ -3,8 +3,8 @@ use Rattle.std.proofs.lemmas.List.{map_push}
 use Rattle.ed_syntax.specs.reading.Reading.{script, step_at}
 use Rattle.ed_syntax.specs.PublicTypes.{step_value}
 use Rattle.ed_syntax.specs.reading.ReadParts.{step_before}
-use Rattle.ed_syntax.proofs.reading.LawLemmas.{first-stand}
-use Rattle.ed_syntax.proofs.reading.ScriptLemmas.{all_before, all_before-next}
+use Rattle.ed_syntax.proofs.reader.LawLemmas.{first-stand}
+use Rattle.ed_syntax.proofs.reader.ScriptLemmas.{all_before, all_before-next}
 use Rattle.ed_syntax.proofs.reading.read_script.Goals as goal
 
 pub commands-preserved : goal.commands-preserved

@@ -2,7 +2,7 @@
 use Rattle.std.proofs.Common.{◌≡◌, ◌+◌, length}
 use Rattle.ed_syntax.specs.reading.Reading.{script, script_of}
 use Rattle.ed_syntax.specs.PublicTypes.{steps_value}
-use Rattle.ed_syntax.proofs.reading.ScriptLemmas.{all_before}
+use Rattle.ed_syntax.proofs.reader.ScriptLemmas.{all_before}
 use Rattle.ed_syntax.proofs.reading.read_script.Given as goal
 
 abbrev pub invariant-commands : goal.invariant-commands

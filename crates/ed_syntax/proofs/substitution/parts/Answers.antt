@@ -1,7 +1,7 @@
 use Rattle.std.proofs.Common.{get_or, ◌∙◌, arith, rules}
 use Rattle.ed_syntax.specs.reading.ReadParameters.{all_parts}
-use Rattle.ed_syntax.proofs.reading.Fronts.{after_first, first_and_others}
-use Rattle.ed_syntax.proofs.reading.PartsSteps as step
+use Rattle.ed_syntax.proofs.reader.Fronts.{after_first, first_and_others}
+use Rattle.ed_syntax.proofs.reader.PartsSteps as step
 use Rattle.ed_syntax.proofs.substitution.parts.Goals as goal
 
 pub parts-init : goal.parts-init

@@ -2,7 +2,7 @@
 use Rattle.std.proofs.Common.{◌≡◌, ◌+◌, ◌≤◌, length}
 use Rattle.ed_base.specs.Lines.{bytes_of}
 use Rattle.ed_syntax.specs.reading.ReadParameters.{all_parts}
-use Rattle.ed_syntax.proofs.reading.PartsSteps.{PartsLeft}
+use Rattle.ed_syntax.proofs.reader.PartsSteps.{PartsLeft}
 use Rattle.ed_syntax.proofs.substitution.parts.Given as goal
 
 abbrev pub invariant-parts : goal.invariant-parts

@@ -13,7 +13,7 @@ use Rattle.ed_syntax.specs.spelling.Characters.{backslash, goes_on}
 use Rattle.ed_syntax.specs.spelling.Spellings.{SpellsJoined}
 use Rattle.ed_syntax.specs.reading.ReadGlobals.{without_last, joined}
 use Rattle.ed_syntax.proofs.meaning.StepLemmas.{either}
-use Rattle.ed_syntax.proofs.reading.TextLemmas.{first_line, no_lines, LeftLines}
+use Rattle.ed_syntax.proofs.reader.TextLemmas.{first_line, no_lines, LeftLines}
 
 without_last-end : (own : List ℕ) (byte : ℕ) → without_last (own ++ byte ∷ []) ≡ own
 without_last-end own byte =

@@ -10,10 +10,10 @@ use Rattle.ed_syntax.specs.Commands as ed
 use Rattle.ed_syntax.specs.Commands.{Verb}
 use Rattle.ed_syntax.specs.meaning.Verbs.{is_split, has_split}
 use Rattle.ed_syntax.specs.spelling.Parameters.{SpellsEscape, SpellsParts, SpellsReplacement}
-use Rattle.ed_syntax.proofs.reading.EndLemmas.{End, end-of, end-after, pattern-end}
-use Rattle.ed_syntax.proofs.reading.LetterLemmas.{letter-simple}
-use Rattle.ed_syntax.proofs.reading.SubstitutionLemmas.{SpellsSubstitution, no_backslash}
-use Rattle.ed_syntax.proofs.reading.HeadLemmas.{SpellsHead}
+use Rattle.ed_syntax.proofs.reader.EndLemmas.{End, end-of, end-after, pattern-end}
+use Rattle.ed_syntax.proofs.reader.LetterLemmas.{letter-simple}
+use Rattle.ed_syntax.proofs.reader.SubstitutionLemmas.{SpellsSubstitution, no_backslash}
+use Rattle.ed_syntax.proofs.reader.HeadLemmas.{SpellsHead}
 
 -- whether an odd number of backslashes stands there after these bytes too
 abbrev odd_after : Bool → List ℕ → Bool

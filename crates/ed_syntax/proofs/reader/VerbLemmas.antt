@@ -10,8 +10,8 @@ use Rattle.ed_syntax.specs.spelling.Parameters.{SpellsForm, SpellsPath}
 use Rattle.ed_syntax.specs.reading.Tokens.{Parsed, ◌>>=◌, letter, address}
 use Rattle.ed_syntax.specs.reading.ReadVerbs.{beside_letter, plain_verbs, file_verbs, path_at, file_verb, lettered, target, verb_at}
 use Rattle.ed_syntax.proofs.meaning.StepLemmas.{Some-same, none_some, bind-some, either}
-use Rattle.ed_syntax.proofs.reading.PathLemmas.{path-sound, path-complete}
-use Rattle.ed_syntax.proofs.reading.AddressLemmas.{letter-sound, letter-complete, address-sound, address-complete}
+use Rattle.ed_syntax.proofs.reader.PathLemmas.{path-sound, path-complete}
+use Rattle.ed_syntax.proofs.reader.AddressLemmas.{letter-sound, letter-complete, address-sound, address-complete}
 
 -- a letter that has no parameters on its line, and its verb before a text is read
 pub data PlainVerb : ℕ → Verb → Type 0 where

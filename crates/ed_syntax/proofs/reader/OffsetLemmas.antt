@@ -6,8 +6,8 @@ use Rattle.ed_syntax.specs.spelling.Characters.{plus_sign, hyphen, is_digit, is_
 use Rattle.ed_syntax.specs.spelling.Addressing.{SpellsDistance, SpellsOffsets}
 use Rattle.ed_syntax.specs.reading.Tokens.{Parsed, ◌>>=◌, number, distance, summed, offsets}
 use Rattle.ed_syntax.proofs.meaning.StepLemmas.{Some-same, bind-some, chosen, either}
-use Rattle.ed_syntax.proofs.reading.BlankLemmas.{after_blanks-short}
-use Rattle.ed_syntax.proofs.reading.NumberLemmas.{number-sound, number-complete, number-first, number-shorter}
+use Rattle.ed_syntax.proofs.reader.BlankLemmas.{after_blanks-short}
+use Rattle.ed_syntax.proofs.reader.NumberLemmas.{number-sound, number-complete, number-first, number-shorter}
 
 -- a distance that is read is spelled so
 pub distance-sound : (text : List ℕ) (r : ℕ × List ℕ) → distance text ≡ Some r → SpellsDistance text r.1 r.0

@@ -13,7 +13,7 @@ use Rattle.ed_syntax.specs.spelling.Characters.{backslash, left_square_bracket}
 use Rattle.ed_syntax.specs.spelling.Quoting.{as_itself, SpellsQuoted, SpellsPattern, SpellsClosing}
 use Rattle.ed_syntax.specs.reading.Tokens.{Parsed, ◌>>=◌, after_bytes, unescaped, quoted, pattern_of, pattern_at}
 use Rattle.ed_syntax.proofs.meaning.StepLemmas.{Some-same, none_some, bind-some, chosen, either}
-use Rattle.ed_syntax.proofs.reading.BracketLemmas.{bracket_front, take_front, bracket-sound, bracket-complete}
+use Rattle.ed_syntax.proofs.reader.BracketLemmas.{bracket_front, take_front, bracket-sound, bracket-complete}
 
 -- bytes of a pattern that are read are spelled so
 abbrev QuotedSpelled : (delimiter : ℕ) → List ℕ → Parsed (List ℕ) → Type 0

@@ -13,18 +13,18 @@ use Rattle.ed_syntax.specs.spelling.Parameters.{SpellsText, SpellsForm, SpellsPa
 use Rattle.ed_syntax.specs.spelling.Spellings.{SpellsVerb, SpellsCommand}
 use Rattle.ed_syntax.specs.spelling.Addressing.{SpellsAddresses}
 use Rattle.ed_syntax.specs.reading.Tokens.{Parsed, ◌>>=◌, addresses}
-use Rattle.ed_syntax.specs.reading.ReadCommands.{Heading, Headed, text, with_text, heading_after_addresses, finished, After, command_after_addresses, command_at}
+use Rattle.ed_syntax.specs.reading.ReadCommands.{Heading, Headed, text, with_text, heading_after_addresses, finished, Taken, command_after_addresses, command_at}
 use Rattle.ed_syntax.specs.reading.ReadGlobals.{sense_at}
 use Rattle.ed_syntax.proofs.meaning.StepLemmas.{Some-same, bind-some}
-use Rattle.ed_syntax.proofs.reading.LineParts.{bytes_of-append, same_lines, taken-length}
-use Rattle.ed_syntax.proofs.reading.AddressesLemmas.{addresses-sound, addresses-complete}
-use Rattle.ed_syntax.proofs.reading.LetterLemmas.{text-keeps}
-use Rattle.ed_syntax.proofs.reading.VerbLemmas.{PlainVerb, FileVerb, SpellsLetter}
-use Rattle.ed_syntax.proofs.reading.SubstitutionLemmas.{SpellsSubstitution, substitution-left}
-use Rattle.ed_syntax.proofs.reading.HeadLemmas.{SpellsHead}
-use Rattle.ed_syntax.proofs.reading.SuffixLemmas.{suffix-same}
-use Rattle.ed_syntax.proofs.reading.HeadingLemmas.{SpellsHeading, ReadsHeading, heading-sound, heading-complete}
-use Rattle.ed_syntax.proofs.reading.TextLemmas.{first_line, LeftLines, text-sound, text-complete}
+use Rattle.ed_syntax.proofs.reader.LineParts.{bytes_of-append, same_lines, taken-length}
+use Rattle.ed_syntax.proofs.reader.AddressesLemmas.{addresses-sound, addresses-complete}
+use Rattle.ed_syntax.proofs.reader.LetterLemmas.{text-keeps}
+use Rattle.ed_syntax.proofs.reader.VerbLemmas.{PlainVerb, FileVerb, SpellsLetter}
+use Rattle.ed_syntax.proofs.reader.SubstitutionLemmas.{SpellsSubstitution, substitution-left}
+use Rattle.ed_syntax.proofs.reader.HeadLemmas.{SpellsHead}
+use Rattle.ed_syntax.proofs.reader.SuffixLemmas.{suffix-same}
+use Rattle.ed_syntax.proofs.reader.HeadingLemmas.{SpellsHeading, ReadsHeading, heading-sound, heading-complete}
+use Rattle.ed_syntax.proofs.reader.TextLemmas.{first_line, LeftLines, text-sound, text-complete}
 
 -- the lines of a verb's text, read from lines: its bytes, and as many lines as they are
 pub record ReadsVerb (own more : List ℕ) (lines : List (List ℕ)) (r : Verb × List (List ℕ)) : Type 0 where

@@ -7,7 +7,7 @@ use Rattle.ed_syntax.specs.Commands.{Verb}
 use Rattle.ed_syntax.specs.meaning.Verbs.{takes, is_sound, has_split}
 use Rattle.ed_syntax.specs.reading.ReadCommands.{text, entering, with_text}
 use Rattle.ed_syntax.proofs.meaning.StepLemmas.{either}
-use Rattle.ed_syntax.proofs.reading.VerbLemmas.{PlainVerb, FileVerb, SpellsLetter}
+use Rattle.ed_syntax.proofs.reader.VerbLemmas.{PlainVerb, FileVerb, SpellsLetter}
 
 -- a command that has a list
 abbrev pub is_global : Verb → Bool

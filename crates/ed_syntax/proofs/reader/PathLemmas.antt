@@ -6,7 +6,7 @@ use Rattle.ed_syntax.specs.spelling.Characters.{exclamation_mark, is_blank, afte
 use Rattle.ed_syntax.specs.spelling.Parameters.{SpellsPath}
 use Rattle.ed_syntax.specs.reading.ReadVerbs.{name_of, path_at}
 use Rattle.ed_syntax.proofs.meaning.StepLemmas.{Some-same, none_some, chosen, either}
-use Rattle.ed_syntax.proofs.reading.BlankLemmas.{IsBlank, only_blanks, no_others}
+use Rattle.ed_syntax.proofs.reader.BlankLemmas.{IsBlank, only_blanks, no_others}
 
 -- a path that is read of these bytes is spelled so
 abbrev PathRead : List ℕ → Option (Option (List ℕ)) → Type 0

@@ -14,9 +14,9 @@ use Rattle.ed_syntax.specs.spelling.Parameters.{SpellsForm, SpellsWhich, SpellsF
 use Rattle.ed_syntax.specs.reading.Tokens.{Parsed, ◌>>=◌, number}
 use Rattle.ed_syntax.specs.reading.ReadParameters.{form_of, form_at, nth, count_at, which_at, later_which, flags, end_at}
 use Rattle.ed_syntax.proofs.meaning.StepLemmas.{Some-same, none_some, bind-some, either}
-use Rattle.ed_syntax.proofs.reading.BlankLemmas.{IsBlank}
-use Rattle.ed_syntax.proofs.reading.NumberLemmas.{number-sound, number-complete, number-first}
-use Rattle.ed_syntax.proofs.reading.SuffixLemmas.{form_of-sound, form_of-complete, form_of-blank}
+use Rattle.ed_syntax.proofs.reader.BlankLemmas.{IsBlank}
+use Rattle.ed_syntax.proofs.reader.NumberLemmas.{number-sound, number-complete, number-first}
+use Rattle.ed_syntax.proofs.reader.SuffixLemmas.{form_of-sound, form_of-complete, form_of-blank}
 
 -- a count or `g`, or nothing
 data WhichRead (text : List ℕ) : Option Which × List ℕ → Type 0 where

@@ -10,9 +10,9 @@ use Rattle.ed_syntax.specs.spelling.Quoting.{SpellsPattern, SpellsClosing}
 use Rattle.ed_syntax.specs.spelling.Addressing.{SpellsBase, SpellsOffsets, SpellsAddress}
 use Rattle.ed_syntax.specs.reading.Tokens.{Parsed, ◌>>=◌, number, letter, pattern_at, offsets, base, with_offsets, address}
 use Rattle.ed_syntax.proofs.meaning.StepLemmas.{Some-same, none_some, bind-some, chosen, either}
-use Rattle.ed_syntax.proofs.reading.NumberLemmas.{number-sound, number-complete, number-first}
-use Rattle.ed_syntax.proofs.reading.QuotingLemmas.{pattern_at-sound, pattern_at-complete, pattern-closing, closing-complete}
-use Rattle.ed_syntax.proofs.reading.OffsetLemmas.{offsets-sound, offsets-complete}
+use Rattle.ed_syntax.proofs.reader.NumberLemmas.{number-sound, number-complete, number-first}
+use Rattle.ed_syntax.proofs.reader.QuotingLemmas.{pattern_at-sound, pattern_at-complete, pattern-closing, closing-complete}
+use Rattle.ed_syntax.proofs.reader.OffsetLemmas.{offsets-sound, offsets-complete}
 
 -- a letter's byte
 letter_of-sound : (b l : ℕ) → letter_of b ≡ Some l → (l < 26) × (b ≡ letter_a + l)

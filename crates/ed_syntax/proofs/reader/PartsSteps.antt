@@ -6,7 +6,7 @@ use Rattle.ed_base.specs.Lines.{newline, bytes_of}
 use Rattle.ed_syntax.specs.declared.replacement.Part.{Part}
 use Rattle.ed_syntax.specs.reading.Tokens.{◌>>=◌}
 use Rattle.ed_syntax.specs.reading.ReadParameters.{ParsedAt, place, part_at, after_part, parts, all_parts}
-use Rattle.ed_syntax.proofs.reading.PartsLemmas.{further, at_part}
+use Rattle.ed_syntax.proofs.reader.PartsLemmas.{further, at_part}
 
 -- parts before those that are read after them
 abbrev pub before_parts : List Part → ParsedAt (List Part) → ParsedAt (List Part)

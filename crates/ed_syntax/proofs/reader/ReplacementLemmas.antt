@@ -10,9 +10,9 @@ use Rattle.ed_syntax.specs.spelling.Parameters.{SpellsParts, IsClosed, SpellsRep
 use Rattle.ed_syntax.specs.reading.Tokens.{◌>>=◌}
 use Rattle.ed_syntax.specs.reading.ReadParameters.{Place, ParsedAt, place, all_parts, is_closed, is_percent, replacement}
 use Rattle.ed_syntax.proofs.meaning.StepLemmas.{Some-same, bind-some, chosen, either}
-use Rattle.ed_syntax.proofs.reading.TextLemmas.{LeftLines}
-use Rattle.ed_syntax.proofs.reading.LineParts.{ReadsOver}
-use Rattle.ed_syntax.proofs.reading.PartsLemmas.{parts-sound, parts-complete}
+use Rattle.ed_syntax.proofs.reader.TextLemmas.{LeftLines}
+use Rattle.ed_syntax.proofs.reader.LineParts.{ReadsOver}
+use Rattle.ed_syntax.proofs.reader.PartsLemmas.{parts-sound, parts-complete}
 
 -- after parts stands their delimiter, or the line's end
 pub parts-closed : {delimiter : ℕ} {own more text : List ℕ} {ps : List Part} → SpellsParts delimiter own more text ps → IsClosed delimiter more

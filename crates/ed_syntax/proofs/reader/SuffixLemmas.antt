@@ -14,7 +14,7 @@ use Rattle.ed_syntax.specs.spelling.Spellings.{SpellsSuffix}
 use Rattle.ed_syntax.specs.reading.ReadParameters.{form_of}
 use Rattle.ed_syntax.specs.reading.ReadCommands.{is_over, suffix_at}
 use Rattle.ed_syntax.proofs.meaning.StepLemmas.{Some-same, none_some, chosen, either}
-use Rattle.ed_syntax.proofs.reading.BlankLemmas.{IsBlank}
+use Rattle.ed_syntax.proofs.reader.BlankLemmas.{IsBlank}
 
 -- a line that is over has nothing but blanks
 is_over-blanks : (bytes : List ℕ) → is_over bytes ≡ true → Blanks bytes

@@ -14,11 +14,11 @@ use Rattle.ed_syntax.specs.spelling.Parameters.{SpellsReplacement, SpellsEnd}
 use Rattle.ed_syntax.specs.reading.Tokens.{Parsed, ◌>>=◌, pattern_at}
 use Rattle.ed_syntax.specs.reading.ReadParameters.{Place, ParsedAt, place, replacement, end_at, substitution_with, substitution_by, substitution}
 use Rattle.ed_syntax.proofs.meaning.StepLemmas.{Some-same, none_some, bind-some, chosen, either}
-use Rattle.ed_syntax.proofs.reading.TextLemmas.{LeftLines}
-use Rattle.ed_syntax.proofs.reading.LineParts.{ReadsOver}
-use Rattle.ed_syntax.proofs.reading.QuotingLemmas.{pattern_at-sound, pattern_at-complete, pattern-closing}
-use Rattle.ed_syntax.proofs.reading.ReplacementLemmas.{replacement-sound, replacement-complete}
-use Rattle.ed_syntax.proofs.reading.FlagsLemmas.{end-sound, end-complete}
+use Rattle.ed_syntax.proofs.reader.TextLemmas.{LeftLines}
+use Rattle.ed_syntax.proofs.reader.LineParts.{ReadsOver}
+use Rattle.ed_syntax.proofs.reader.QuotingLemmas.{pattern_at-sound, pattern_at-complete, pattern-closing}
+use Rattle.ed_syntax.proofs.reader.ReplacementLemmas.{replacement-sound, replacement-complete}
+use Rattle.ed_syntax.proofs.reader.FlagsLemmas.{end-sound, end-complete}
 
 -- `s` with its parameters, what stands after it on its last line, and the further lines that were taken for it
 pub data SpellsSubstitution : (own more text : List ℕ) → Verb → Type 0 where

@@ -11,9 +11,9 @@ use Rattle.ed_syntax.specs.spelling.Spellings as spelled
 use Rattle.ed_syntax.specs.spelling.Spellings.{Spells, SpellsEach, SpellsSteps, SpellsWhatIsRead, ReadsWhatIsSpelled, line_at_rest}
 use Rattle.ed_syntax.specs.reading.Reading.{step_at, script, script_of, followed}
 use Rattle.ed_syntax.proofs.meaning.StepLemmas.{none_some}
-use Rattle.ed_syntax.proofs.reading.TextLemmas.{LeftLines, no_lines}
-use Rattle.ed_syntax.proofs.reading.ScriptSteps.{step-sound, step-complete}
-use Rattle.ed_syntax.proofs.reading.ScriptLemmas.{all_before, from_step, step_at-later, script-next}
+use Rattle.ed_syntax.proofs.reader.TextLemmas.{LeftLines, no_lines}
+use Rattle.ed_syntax.proofs.reader.ScriptSteps.{step-sound, step-complete}
+use Rattle.ed_syntax.proofs.reader.ScriptLemmas.{all_before, from_step, step_at-later, script-next}
 
 -- no front of these lines spells a step
 abbrev Stuck : List (List ℕ) → Type 0

@@ -12,20 +12,20 @@ use Rattle.ed_syntax.specs.meaning.Verbs.{is_sound, may_be_listed, has_split, is
 use Rattle.ed_syntax.specs.spelling.Spellings as spelled
 use Rattle.ed_syntax.specs.spelling.Spellings.{SpellsCommand, SpellsEach, SpellsList, print}
 use Rattle.ed_syntax.specs.reading.Tokens.{◌>>=◌, addresses}
-use Rattle.ed_syntax.specs.reading.ReadCommands.{is_dot, text, entering, with_text, heading_after_addresses, finished, After, command_after_addresses, command_at}
+use Rattle.ed_syntax.specs.reading.ReadCommands.{is_dot, text, entering, with_text, heading_after_addresses, finished, Taken, command_after_addresses, command_at}
 use Rattle.ed_syntax.specs.reading.ReadGlobals.{commands, all_commands, is_newline, list_of}
 use Rattle.ed_syntax.specs.meaning.Verbs.{takes}
 use Rattle.ed_syntax.proofs.meaning.StepLemmas.{Some-same, bind-some, chosen, either}
-use Rattle.ed_syntax.proofs.reading.EndLemmas.{End, end-all, end-after, end-of, end-keeps, addresses-end}
-use Rattle.ed_syntax.proofs.reading.AddressesLemmas.{addresses-sound}
-use Rattle.ed_syntax.proofs.reading.TextLemmas.{no_lines}
-use Rattle.ed_syntax.proofs.reading.LetterLemmas.{is_global, text-keeps}
-use Rattle.ed_syntax.proofs.reading.StandLemmas.{command_after_addresses-stands}
-use Rattle.ed_syntax.proofs.reading.HeadingLemmas.{heading-sound}
-use Rattle.ed_syntax.proofs.reading.SplitLemmas.{head-whole}
-use Rattle.ed_syntax.proofs.reading.JoinedLemmas.{Even}
-use Rattle.ed_syntax.proofs.reading.CommandLemmas.{command-sound, command-complete}
-use Rattle.ed_syntax.proofs.reading.ScriptLemmas.{command_at-later}
+use Rattle.ed_syntax.proofs.reader.EndLemmas.{End, end-all, end-after, end-of, end-keeps, addresses-end}
+use Rattle.ed_syntax.proofs.reader.AddressesLemmas.{addresses-sound}
+use Rattle.ed_syntax.proofs.reader.TextLemmas.{no_lines}
+use Rattle.ed_syntax.proofs.reader.LetterLemmas.{is_global, text-keeps}
+use Rattle.ed_syntax.proofs.reader.StandLemmas.{command_after_addresses-stands}
+use Rattle.ed_syntax.proofs.reader.HeadingLemmas.{heading-sound}
+use Rattle.ed_syntax.proofs.reader.SplitLemmas.{head-whole}
+use Rattle.ed_syntax.proofs.reader.JoinedLemmas.{Even}
+use Rattle.ed_syntax.proofs.reader.CommandLemmas.{command-sound, command-complete}
+use Rattle.ed_syntax.proofs.reader.ScriptLemmas.{command_at-later}
 
 -- the lines after a text are the last ones
 text-end : (lines : List (List ℕ)) → End lines (text lines).1

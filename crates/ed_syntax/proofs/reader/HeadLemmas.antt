@@ -14,11 +14,11 @@ use Rattle.ed_syntax.specs.reading.ReadParameters.{Place, ParsedAt, place}
 use Rattle.ed_syntax.specs.reading.ReadVerbs.{path_at, verb_at}
 use Rattle.ed_syntax.specs.reading.ReadCommands.{verb_from}
 use Rattle.ed_syntax.proofs.meaning.StepLemmas.{Some-same, none_some, bind-some, chosen, either}
-use Rattle.ed_syntax.proofs.reading.TextLemmas.{LeftLines}
-use Rattle.ed_syntax.proofs.reading.LineParts.{ReadsOver}
-use Rattle.ed_syntax.proofs.reading.SuffixLemmas.{suffix-blanks}
-use Rattle.ed_syntax.proofs.reading.VerbLemmas.{SpellsLetter, verb_at-sound, verb_at-complete}
-use Rattle.ed_syntax.proofs.reading.SubstitutionLemmas.{SpellsSubstitution, substitution-sound, substitution-complete}
+use Rattle.ed_syntax.proofs.reader.TextLemmas.{LeftLines}
+use Rattle.ed_syntax.proofs.reader.LineParts.{ReadsOver}
+use Rattle.ed_syntax.proofs.reader.SuffixLemmas.{suffix-blanks}
+use Rattle.ed_syntax.proofs.reader.VerbLemmas.{SpellsLetter, verb_at-sound, verb_at-complete}
+use Rattle.ed_syntax.proofs.reader.SubstitutionLemmas.{SpellsSubstitution, substitution-sound, substitution-complete}
 
 -- a command's letter with its parameters, before its text is read: what stands after it, and the further lines that were taken for it
 pub data SpellsHead : (own more text : List ℕ) → Verb → Type 0 where

@@ -12,8 +12,8 @@ use Rattle.ed_syntax.specs.spelling.Parameters.{SpellsEscape, SpellsParts}
 use Rattle.ed_syntax.specs.reading.Tokens.{◌>>=◌}
 use Rattle.ed_syntax.specs.reading.ReadParameters.{Place, ParsedAt, place, part_escaped, unescaped_part, escaped_at, part_at, after_part, parts}
 use Rattle.ed_syntax.proofs.meaning.StepLemmas.{Some-same, none_some, bind-some, either}
-use Rattle.ed_syntax.proofs.reading.TextLemmas.{first_line, LeftLines}
-use Rattle.ed_syntax.proofs.reading.LineParts.{ReadsOver}
+use Rattle.ed_syntax.proofs.reader.TextLemmas.{first_line, LeftLines}
+use Rattle.ed_syntax.proofs.reader.LineParts.{ReadsOver}
 
 -- neither of two
 or_parts : (a b : Bool) → (a || b) ≡ false → (a ≡ false) × (b ≡ false)

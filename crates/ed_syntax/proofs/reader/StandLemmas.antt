@@ -15,9 +15,9 @@ use Rattle.ed_syntax.specs.reading.ReadParameters.{Place, ParsedAt, place, repla
 use Rattle.ed_syntax.specs.reading.ReadVerbs.{verb_at}
 use Rattle.ed_syntax.specs.reading.ReadCommands.{Heading, Headed, verb_from, suffix_at, suffix_with, text, heading_with, headed, heading_after_addresses, finished, command_after_addresses}
 use Rattle.ed_syntax.proofs.meaning.StepLemmas.{Some-same, none_some, bind-some, either}
-use Rattle.ed_syntax.proofs.reading.VerbLemmas.{verb_at-sound}
-use Rattle.ed_syntax.proofs.reading.LetterLemmas.{stands, letter-simple, text-keeps}
-use Rattle.ed_syntax.proofs.reading.FlagsLemmas.{flags-sound}
+use Rattle.ed_syntax.proofs.reader.VerbLemmas.{verb_at-sound}
+use Rattle.ed_syntax.proofs.reader.LetterLemmas.{stands, letter-simple, text-keeps}
+use Rattle.ed_syntax.proofs.reader.FlagsLemmas.{flags-sound}
 
 module _ (pattern : Option (List ℕ)) (replaced : Option (List Part)) where
   which-stands : {text rest : List ℕ} {w : Which} (form : Option Form) → SpellsWhich text rest w → stands (ed.Substitute pattern replaced w form) ≡ true

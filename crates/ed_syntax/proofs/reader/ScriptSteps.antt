@@ -19,16 +19,16 @@ use Rattle.ed_syntax.specs.reading.ReadCommands.{Taken, command_after_addresses}
 use Rattle.ed_syntax.specs.reading.ReadGlobals.{joined, list_of, with_list, global_by, global_after_addresses, sense_at}
 use Rattle.ed_syntax.specs.reading.Reading.{step_by, step_after_addresses, step_at}
 use Rattle.ed_syntax.proofs.meaning.StepLemmas.{Some-same, none_some, bind-some, chosen, either}
-use Rattle.ed_syntax.proofs.reading.AddressesLemmas.{addresses-sound, addresses-complete}
-use Rattle.ed_syntax.proofs.reading.QuotingLemmas.{pattern_at-sound, pattern_at-complete, pattern-closing, closing-complete}
-use Rattle.ed_syntax.proofs.reading.SubstitutionLemmas.{no_backslash}
-use Rattle.ed_syntax.proofs.reading.TextLemmas.{first_line}
-use Rattle.ed_syntax.proofs.reading.EndLemmas.{end-of, end-keeps, end-after, addresses-end, pattern-end, closing-end}
-use Rattle.ed_syntax.proofs.reading.LetterLemmas.{is_global}
-use Rattle.ed_syntax.proofs.reading.StandLemmas.{command_after_addresses-stands}
-use Rattle.ed_syntax.proofs.reading.JoinedLemmas.{joined-sound, joined-complete, joined-whole, joined-even}
-use Rattle.ed_syntax.proofs.reading.ListSteps.{list-sound, list-complete}
-use Rattle.ed_syntax.proofs.reading.CommandLemmas.{ReadsFirst, FirstRead, command_after_addresses-sound, command_after_addresses-complete}
+use Rattle.ed_syntax.proofs.reader.AddressesLemmas.{addresses-sound, addresses-complete}
+use Rattle.ed_syntax.proofs.reader.QuotingLemmas.{pattern_at-sound, pattern_at-complete, pattern-closing, closing-complete}
+use Rattle.ed_syntax.proofs.reader.SubstitutionLemmas.{no_backslash}
+use Rattle.ed_syntax.proofs.reader.TextLemmas.{first_line}
+use Rattle.ed_syntax.proofs.reader.EndLemmas.{end-of, end-keeps, end-after, addresses-end, pattern-end, closing-end}
+use Rattle.ed_syntax.proofs.reader.LetterLemmas.{is_global}
+use Rattle.ed_syntax.proofs.reader.StandLemmas.{command_after_addresses-stands}
+use Rattle.ed_syntax.proofs.reader.JoinedLemmas.{joined-sound, joined-complete, joined-whole, joined-even}
+use Rattle.ed_syntax.proofs.reader.ListSteps.{list-sound, list-complete}
+use Rattle.ed_syntax.proofs.reader.CommandLemmas.{ReadsFirst, FirstRead, command_after_addresses-sound, command_after_addresses-complete}
 
 -- a step that is read is spelled so, and may be one of a script
 pub record ReadsStep (lines : List (List ℕ)) (r : Step × List (List ℕ)) : Type 0 where

@@ -7,7 +7,7 @@ use Rattle.ed_syntax.specs.Commands.{Address, Addresses}
 use Rattle.ed_syntax.specs.spelling.Addressing.{alone, comma, semicolon, SpellsAddress, SpellsAddresses}
 use Rattle.ed_syntax.specs.reading.Tokens.{Parsed, ◌>>=◌, address, pair, addresses}
 use Rattle.ed_syntax.proofs.meaning.StepLemmas.{Some-same, bind-some, either}
-use Rattle.ed_syntax.proofs.reading.AddressLemmas.{address-sound, address-complete}
+use Rattle.ed_syntax.proofs.reader.AddressLemmas.{address-sound, address-complete}
 
 -- addresses that are read are spelled so
 abbrev AddressesRead : List ℕ → Parsed Addresses → Type 0

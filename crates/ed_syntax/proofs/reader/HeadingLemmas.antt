@@ -9,9 +9,9 @@ use Rattle.ed_syntax.specs.reading.Tokens.{◌>>=◌}
 use Rattle.ed_syntax.specs.reading.ReadParameters.{ParsedAt}
 use Rattle.ed_syntax.specs.reading.ReadCommands.{Heading, Headed, verb_from, suffix_at, suffix_with, heading_with, headed, heading_after_addresses}
 use Rattle.ed_syntax.proofs.meaning.StepLemmas.{Some-same, none_some, bind-some, chosen, either}
-use Rattle.ed_syntax.proofs.reading.TextLemmas.{LeftLines}
-use Rattle.ed_syntax.proofs.reading.HeadLemmas.{SpellsHead, verb_from-sound, verb_from-complete}
-use Rattle.ed_syntax.proofs.reading.SuffixLemmas.{suffix_at-sound, suffix_at-complete}
+use Rattle.ed_syntax.proofs.reader.TextLemmas.{LeftLines}
+use Rattle.ed_syntax.proofs.reader.HeadLemmas.{SpellsHead, verb_from-sound, verb_from-complete}
+use Rattle.ed_syntax.proofs.reader.SuffixLemmas.{suffix_at-sound, suffix_at-complete}
 
 -- how what stands after the addresses on a command's own line is spelled, before its text is read, with the further lines that were
 -- taken for it
