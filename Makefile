@@ -4,6 +4,7 @@
 
 PREFIX ?= /usr/local
 PROGRAM = crates/ed_main/out/ed_main
+EXAMPLES = $(patsubst examples/%,%,$(wildcard examples/*/script.ed examples/*/before examples/*/after))
 
 .PHONY: all program install check test wrong-bodies wrong-rules bench
 
@@ -17,9 +18,18 @@ program:
 	mkdir -p crates/ed_main/out
 	cd crates/ed_main && rt run -- edit -s data/F <stdin >out/first_run
 
-install: program
+# Copies what is built, and calls nothing of the toolchain: under `sudo` it makes no file in this tree.
+install:
+	@test -x $(PROGRAM) || { echo "make install: $(PROGRAM) isn't built; run make first" >&2; exit 1; }
 	install -D -m 755 $(PROGRAM) $(DESTDIR)$(PREFIX)/bin/ed_main
+	install -D -m 755 packaging/ed $(DESTDIR)$(PREFIX)/libexec/ed_main/ed
 	install -D -m 644 man/ed_main.1 $(DESTDIR)$(PREFIX)/share/man/man1/ed_main.1
+	install -D -m 644 docs/VERIFIER.md $(DESTDIR)$(PREFIX)/share/doc/ed_main/VERIFIER.md
+	for example in $(EXAMPLES); do \
+	  install -D -m 644 examples/$$example $(DESTDIR)$(PREFIX)/share/doc/ed_main/examples/$$example || exit 1; \
+	done
+	install -D -m 644 packaging/completions/ed_main.bash $(DESTDIR)$(PREFIX)/share/bash-completion/completions/ed_main
+	install -D -m 644 packaging/completions/_ed_main $(DESTDIR)$(PREFIX)/share/zsh/site-functions/_ed_main
 
 check:
 	tests/check

@@ -1,0 +1,31 @@
+# Completion of ed_main's words for bash.
+_ed_main() {
+  local word=${COMP_WORDS[COMP_CWORD]} before=${COMP_WORDS[COMP_CWORD - 1]} job=${COMP_WORDS[1]:-}
+  COMPREPLY=()
+  if [ "$COMP_CWORD" -eq 1 ]; then
+    mapfile -t COMPREPLY < <(compgen -W "edit vouch check run --help --version" -- "$word")
+    return
+  fi
+  case $before in
+  --min) return ;;
+  --max)
+    mapfile -t COMPREPLY < <(compgen -W any -- "$word")
+    return
+    ;;
+  -p) return ;;
+  esac
+  case $word in
+  -*)
+    local words=
+    case $job in
+    edit) words="-s -p --help" ;;
+    vouch) words="--min --max --help" ;;
+    check) words="--help" ;;
+    run) words="-s --help" ;;
+    esac
+    mapfile -t COMPREPLY < <(compgen -W "$words" -- "$word")
+    ;;
+  *) mapfile -t COMPREPLY < <(compgen -f -- "$word") ;;
+  esac
+}
+complete -o filenames -F _ed_main ed_main
