@@ -1,11 +1,11 @@
 -- At the start and at each rule's end it is known that there are at least 0 lines.
 use Rattle.std.proofs.Common.{◌≡◌, ◌<◌, ℕ, ℤ, pos, neg_ℤ, ◌≤ℤ◌, int_lt, Bool, true, false, cond, List, Option, None, Some, refl, arith}
 use Rattle.std.proofs.lemmas.Int.{ints}
-use Rattle.zones.specs.Bound.{clip, clip_bound, lesser_of, sum_of}
+use Rattle.zones.specs.Bound.{clip_bound, lesser_of, sum_of}
 use Rattle.zones.specs.Zone.{Bounds, bound}
 use Rattle.zones.specs.Limits.{IsAtMostZero, HasLowDiagonal}
 use Rattle.zones.specs.Steps.{any_zone, after_guard, guard_bound, after_set, set_bound, after_forget}
-use Rattle.zones.proofs.Diagonal.{HasLowDiagonal-any_zone, HasLowDiagonal-after_guard, HasLowDiagonal-after_forget}
+use Rattle.zones.proofs.Diagonal.{IsAtMostZero-clip, IsAtMostZero-lesser, HasLowDiagonal-any_zone, HasLowDiagonal-after_guard, HasLowDiagonal-after_forget}
 use Rattle.zones.proofs.Formulas.{bound-after_guard, bound-after_set}
 use Rattle.ed_rules.specs.Marks.{for_each_sure}
 use Rattle.ed_rules.specs.States.{limited}
@@ -15,25 +15,13 @@ use Rattle.ed_rules.proofs.Finishing.{for_each_sure-by}
 
 -- BOUNDS
 
-clip-low : (c : ℤ) → c ≤ℤ pos 0 → IsAtMostZero (clip c)
-clip-low c h = grind (arith, ints)
-
-lesser-direct : (direct way : Option ℤ) → IsAtMostZero direct → IsAtMostZero (clip_bound (lesser_of direct way))
-lesser-direct None way h = absurd h
-lesser-direct (Some c) None h = clip-low c h
-lesser-direct (Some c) (Some d) h =
-    elim (int_lt d c) as (λ r. int_lt d c ≡ r → IsAtMostZero (clip_bound (cond r (Some d) (Some c)))) [
-      | true ↦ λ e. clip-low d (grind (arith, ints))
-      | false ↦ λ e. clip-low c h
-    ] refl
-
 lesser-way : (direct way : Option ℤ) → IsAtMostZero way → IsAtMostZero (clip_bound (lesser_of direct way))
 lesser-way direct None h = absurd h
-lesser-way None (Some d) h = clip-low d h
+lesser-way None (Some d) h = IsAtMostZero-clip d h
 lesser-way (Some c) (Some d) h =
     elim (int_lt d c) as (λ r. int_lt d c ≡ r → IsAtMostZero (clip_bound (cond r (Some d) (Some c)))) [
-      | true ↦ λ e. clip-low d h
-      | false ↦ λ e. clip-low c (grind (arith, ints))
+      | true ↦ λ e. IsAtMostZero-clip d h
+      | false ↦ λ e. IsAtMostZero-clip c (grind (arith, ints))
     ] refl
 
 sum-low : (to from : Option ℤ) (c : ℤ) → IsAtMostZero to → c ≤ℤ pos 0 → IsAtMostZero from → IsAtMostZero (sum_of (sum_of to (Some c)) from)
@@ -48,7 +36,7 @@ guarded-stays : (zone : Bounds) (x y : ℕ) (c : ℤ) (p q : ℕ) → p < 32 →
 unfolding guard_bound
 guarded-stays zone x y c p q hp hq h =
     rw (bound-after_guard zone x y c p q hp hq)
-    (lesser-direct (bound zone p q) (sum_of (sum_of (bound zone p x) (Some c)) (bound zone y q)) h)
+    (IsAtMostZero-lesser (bound zone p q) (sum_of (sum_of (bound zone p x) (Some c)) (bound zone y q)) h)
 
 guarded-way : (zone : Bounds) (x y : ℕ) (c : ℤ) (p q : ℕ) → p < 32 → q < 32 → IsAtMostZero (bound zone p x) → c ≤ℤ pos 0 →
     IsAtMostZero (bound zone y q) → IsAtMostZero (bound (after_guard zone x y c) p q)

@@ -1,28 +1,40 @@
 -- The folds over sure letters, one letter more.
-use Rattle.std.proofs.Common.{◌≡◌, ℕ, ◌+◌, Bool, true, false, List, get_or, refl, add-one}
+use Rattle.std.proofs.Common.{◌≡◌, ℕ, ◌+◌, Bool, true, false, List, refl, add-one, ◌∙◌, ap, sym, subst}
+use Rattle.zones.specs.Name.{mark}
 use Rattle.zones.specs.Zone.{Bounds}
 use Rattle.zones.specs.Steps.{after_forget}
-use Rattle.ed_rules.specs.Marks.{mark_name, for_each_sure}
+use Rattle.ed_rules.specs.Marks.{is_sure, for_each_sure}
 use Rattle.ed_rules.specs.Files.{without_letters}
 
 pub for_each_sure-none : {A : Type 0} (step : ℕ → A → A) (sure : List Bool) (a : A) → for_each_sure step sure 0 a ≡ a
 unfolding for_each_sure
 for_each_sure-none step sure a = refl
 
-pub for_each_sure-on : {A : Type 0} (step : ℕ → A → A) (sure : List Bool) (k : ℕ) (a : A) → get_or sure k false ≡ true →
+pub for_each_sure-on : {A : Type 0} (step : ℕ → A → A) (sure : List Bool) (k : ℕ) (a : A) → is_sure sure k ≡ true →
     for_each_sure step sure (k + 1) a ≡ step k (for_each_sure step sure k a)
 unfolding for_each_sure
 for_each_sure-on step sure k a e = rw (add-one, e) refl
 
-pub for_each_sure-off : {A : Type 0} (step : ℕ → A → A) (sure : List Bool) (k : ℕ) (a : A) → get_or sure k false ≡ false →
+pub for_each_sure-off : {A : Type 0} (step : ℕ → A → A) (sure : List Bool) (k : ℕ) (a : A) → is_sure sure k ≡ false →
     for_each_sure step sure (k + 1) a ≡ for_each_sure step sure k a
 unfolding for_each_sure
 for_each_sure-off step sure k a e = rw (add-one, e) refl
+
+-- a loop over the places of the letters goes on by a step where the letter is sure, and by none where it isn't
+pub sure-taken : {A : Type 0} (step : ℕ → A → A) (sure : List Bool) (k letter : ℕ) (start before after : A) → letter ≡ k →
+    before ≡ for_each_sure step sure k start → is_sure sure letter ≡ true → after ≡ step letter before → after ≡ for_each_sure step sure (k + 1) start
+sure-taken step sure k letter start before after same so_far e next =
+    next ∙ ap (step letter) so_far ∙ rw same (sym (for_each_sure-on step sure k start (subst (λ (n : ℕ). is_sure sure n ≡ true) same e)))
+
+pub sure-left_out : {A : Type 0} (step : ℕ → A → A) (sure : List Bool) (k letter : ℕ) (start before after : A) → letter ≡ k →
+    before ≡ for_each_sure step sure k start → is_sure sure letter ≡ false → after ≡ before → after ≡ for_each_sure step sure (k + 1) start
+sure-left_out step sure k letter start before after same so_far e next =
+    next ∙ so_far ∙ sym (for_each_sure-off step sure k start (subst (λ (n : ℕ). is_sure sure n ≡ false) same e))
 
 pub without_letters-none : (zone : Bounds) → without_letters 0 zone ≡ zone
 unfolding without_letters
 without_letters-none zone = refl
 
-pub without_letters-next : (k : ℕ) (zone : Bounds) → without_letters (k + 1) zone ≡ after_forget (without_letters k zone) (mark_name k)
+pub without_letters-next : (k : ℕ) (zone : Bounds) → without_letters (k + 1) zone ≡ after_forget (without_letters k zone) (mark k)
 unfolding without_letters
 without_letters-next k zone = rw add-one refl

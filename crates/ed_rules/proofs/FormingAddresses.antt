@@ -4,6 +4,7 @@ use Rattle.std.specs.Prelude.{nat_lt, not, IfOk}
 use Rattle.std.specs.List.{list_all}
 use Rattle.std.proofs.lemmas.Bool.{and_parts, ltb-true}
 use Rattle.ed_base.specs.declared.fault.Fault.TheVariants as fault
+use Rattle.zones.specs.Name.{mark}
 use Rattle.zones.specs.Known.{known}
 use Rattle.zones.specs.Steps.{after_set}
 use Rattle.ed_syntax.specs.declared.verbs.Taking.{Taking}
@@ -13,7 +14,7 @@ use Rattle.ed_syntax.specs.Commands.{Base, Address, Addresses, Without, One, Com
 use Rattle.ed_syntax.specs.meaning.Verbs.{takes, given_or}
 use Rattle.ed_rules.specs.declared.state.State.{State}
 use Rattle.ed_rules.specs.Choices.{has_choice}
-use Rattle.ed_rules.specs.Marks.{mark_name, is_sure}
+use Rattle.ed_rules.specs.Marks.{is_sure}
 use Rattle.ed_rules.specs.Formed.{ChoiceIsBytes, SetIsFormed, BaseIsBytes, AddressesAreBytes, VerbIsBytes}
 use Rattle.ed_rules.specs.Pieces.{with_zone, lifted}
 use Rattle.ed_rules.specs.Addresses.{is_always, possible_patterns, in_buffer, copied, set_from, found, searched, evaluated_base, evaluated, addressed, standing, last_given, targeted, ranged}
@@ -56,10 +57,10 @@ base-formed x (ed.Number n) k s hx b h = set_from-formed x 0 (pos n +ℤ k) s hx
 base-formed x ed.Current k s hx b h = set_from-formed x 1 k s hx (spoken s.marks 1 refl) h
 base-formed x ed.Last k s hx b h = set_from-formed x 2 k s hx (spoken s.marks 2 refl) h
 base-formed x (ed.Marked letter) k s hx b h =
-    IfOk-need_then Forming (nat_lt letter 26 && is_sure s.marks letter) fault.Mark s (set_from x (mark_name letter) k)
+    IfOk-need_then Forming (nat_lt letter 26 && is_sure s.marks letter) fault.Mark s (set_from x (mark letter) k)
     (λ e.
     let p = and_parts (nat_lt letter 26) (is_sure s.marks letter) e in
-    set_from-formed x (mark_name letter) k s hx (letter-spoken s.marks letter (ltb-true letter 26 p.0) p.1) h)
+    set_from-formed x (mark letter) k s hx (letter-spoken s.marks letter (ltb-true letter 26 p.0) p.1) h)
 base-formed x (ed.Forward text) k s hx b h = searched-formed x text k s hx b h
 base-formed x (ed.Backward text) k s hx b h = searched-formed x text k s hx b h
 

@@ -6,6 +6,7 @@ use Rattle.std.proofs.lemmas.Bool.{and_parts, ltb-true, cond_both, or_right}
 use Rattle.std.proofs.lemmas.List.{length-set}
 use Rattle.ed_base.specs.declared.fault.Fault.{Fault}
 use Rattle.ed_base.specs.declared.fault.Fault.TheVariants as fault
+use Rattle.zones.specs.Name.{mark}
 use Rattle.zones.specs.Zone.{Bounds}
 use Rattle.zones.specs.Known.{known, least, greatest}
 use Rattle.zones.specs.Steps.{after_guard, after_set, after_shift, after_forget}
@@ -18,7 +19,7 @@ use Rattle.ed_rules.specs.declared.state.Changed.{Changed}
 use Rattle.ed_rules.specs.declared.state.Replacements.{Replacements}
 use Rattle.ed_rules.specs.declared.state.State.{State}
 use Rattle.ed_rules.specs.Choices.{has_choice}
-use Rattle.ed_rules.specs.Marks.{mark_name, is_sure, for_each_sure}
+use Rattle.ed_rules.specs.Marks.{is_sure, for_each_sure}
 use Rattle.ed_rules.specs.Formed.{ChoiceIsBytes, SetIsFormed}
 use Rattle.ed_rules.specs.StandsFor.{ends_line}
 use Rattle.ed_rules.specs.States.{changed, old_of, undo_to}
@@ -50,15 +51,15 @@ marking-same : (sure : List Bool) (k : ℕ) (s : State) → Marking sure k s →
 marking-same sure k s h = record { forming = h.forming; later = λ letter l. h.later letter (omega arith) }
 
 -- the letter is one of which the zone may speak
-marking-named : (sure : List Bool) (k : ℕ) (s : State) → k < 26 → is_sure sure k ≡ true → Marking sure k s → IsNamed (is_spoken s.marks) (mark_name k)
+marking-named : (sure : List Bool) (k : ℕ) (s : State) → k < 26 → is_sure sure k ≡ true → Marking sure k s → IsNamed (is_spoken s.marks) (mark k)
 marking-named sure k s l e h = letter-spoken s.marks k l (h.later k (omega arith) ∙ e)
 
 marking-shift : (sure : List Bool) (k : ℕ) (s : State) (low high : Option ℤ) → k < 26 → is_sure sure k ≡ true → Marking sure k s →
-    Marking sure (suc k) (with_zone (after_shift s.zone (mark_name k) low high) s)
+    Marking sure (suc k) (with_zone (after_shift s.zone (mark k) low high) s)
 marking-shift sure k s low high l e h = record {
   forming =
-      forming-zone s (after_shift s.zone (mark_name k) low high)
-      (Speaks-shift (is_spoken s.marks) s.zone (mark_name k) low high (marking-named sure k s l e h) h.forming.zone) h.forming;
+      forming-zone s (after_shift s.zone (mark k) low high)
+      (Speaks-shift (is_spoken s.marks) s.zone (mark k) low high (marking-named sure k s l e h) h.forming.zone) h.forming;
   later = λ letter q. h.later letter (omega arith);
 }
 
@@ -91,9 +92,9 @@ moved-marking n sure k s l e h = marking-shift sure k s _ _ l e h
 replaced-marking : (n : ℕ) (sure : List Bool) (k : ℕ) (s : State) → k < 26 → is_sure sure k ≡ true → Marking sure k s → Marking sure (suc k) (mark_replaced n k s)
 unfolding mark_replaced
 replaced-marking n sure k s l e h =
-    cond_both (known s.zone (mark_name k) 3 (negsuc 0)) _ _ (λ (t : State). Marking sure (suc k) t) (λ q. marking-same sure k s h)
+    cond_both (known s.zone (mark k) 3 (negsuc 0)) _ _ (λ (t : State). Marking sure (suc k) t) (λ q. marking-same sure k s h)
     (λ q.
-    cond_both (known s.zone 4 (mark_name k) (negsuc 0)) _ _ (λ (t : State). Marking sure (suc k) t) (λ r. moved-marking n sure k s l e h)
+    cond_both (known s.zone 4 (mark k) (negsuc 0)) _ _ (λ (t : State). Marking sure (suc k) t) (λ r. moved-marking n sure k s l e h)
     (λ r. marking-lost sure k s h))
 
 replaced-formed : (n : ℕ) (s : State) → Forming s → Forming (replaced n s)
@@ -201,10 +202,10 @@ pattern-formed own s b h =
 substituted-marking : (splits : Bool) (sure : List Bool) (k : ℕ) (s : State) → k < 26 → is_sure sure k ≡ true → Marking sure k s → Marking sure (suc k) (mark_substituted splits k s)
 unfolding mark_substituted
 substituted-marking splits sure k s l e h =
-    cond_both (known s.zone 4 (mark_name k) (negsuc 0)) _ _ (λ (t : State). Marking sure (suc k) t)
+    cond_both (known s.zone 4 (mark k) (negsuc 0)) _ _ (λ (t : State). Marking sure (suc k) t)
     (λ q. cond_both splits _ _ (λ (t : State). Marking sure (suc k) t) (λ r. marking-shift sure k s (Some (pos 0)) None l e h) (λ r. marking-same sure k s h))
     (λ q.
-    cond_both (known s.zone (mark_name k) 3 (negsuc 0)) _ _ (λ (t : State). Marking sure (suc k) t) (λ r. marking-same sure k s h)
+    cond_both (known s.zone (mark k) 3 (negsuc 0)) _ _ (λ (t : State). Marking sure (suc k) t) (λ r. marking-same sure k s h)
     (λ r. marking-lost sure k s h))
 
 marks_substituted-formed : (splits : Bool) (s : State) → Forming s → Forming (marks_substituted splits s)

@@ -3,6 +3,7 @@ use Rattle.std.proofs.Common.{◌≡◌, ◌≢◌, ◌<◌, ◌≤◌, inl, inr
 use Rattle.std.proofs.lemmas.Int.{ints}
 use Rattle.std.proofs.lemmas.Bool.{cases_eq, cases_lt}
 use Rattle.ed_base.specs.Buffer.{Line, marked_place}
+use Rattle.zones.specs.Name.{mark}
 use Rattle.zones.specs.Bound.{Obeys, negative_of}
 use Rattle.zones.specs.Zone.{Bounds, Numbers, Holds, updated}
 use Rattle.zones.specs.Steps.{after_shift}
@@ -11,7 +12,7 @@ use Rattle.ed_rules.specs.StandsFor.{HoldsBy}
 use Rattle.ed_rules.proofs.LettersInLines.{line_with, line_with-place, place-line_with, line_with-inserted_before, line_with-inserted_after, length-inserted, line_with-range}
 use Rattle.ed_rules.proofs.Finishing.{for_each_sure-by}
 use Rattle.zones.specs.Known.{known}
-use Rattle.ed_rules.specs.Marks.{mark_name, for_each_sure}
+use Rattle.ed_rules.specs.Marks.{for_each_sure}
 use Rattle.ed_rules.specs.Pieces.{mark_pushed, inserted}
 use Rattle.zones.proofs.Known.{updated-same, updated-other, known-true, Obeys-less}
 use Rattle.ed_base.specs.Parts as parts
@@ -20,10 +21,10 @@ abbrev pub OnLine : ℕ → List Line → Numbers → Type 0
 OnLine x ls v = (i : ℕ) × (line_with x ls ≡ Some i) × (v (6 + x) ≡ pos i)
 
 -- a letter's line by the landed place, and the other way round
-pub OnLine-reads : (x : ℕ) (ls : List Line) (v : Numbers) → ((place : ℕ) × (marked_place x ls ≡ Some place) × (v (mark_name x) ≡ pos (place + 1))) → OnLine x ls v
+pub OnLine-reads : (x : ℕ) (ls : List Line) (v : Numbers) → ((place : ℕ) × (marked_place x ls ≡ Some place) × (v (mark x) ≡ pos (place + 1))) → OnLine x ls v
 OnLine-reads x ls v o = (o.0 + 1, line_with-place x ls o.0 o.1, o.2)
 
-pub reads-OnLine : (x : ℕ) (ls : List Line) (v : Numbers) → OnLine x ls v → (place : ℕ) × (marked_place x ls ≡ Some place) × (v (mark_name x) ≡ pos (place + 1))
+pub reads-OnLine : (x : ℕ) (ls : List Line) (v : Numbers) → OnLine x ls v → (place : ℕ) × (marked_place x ls ≡ Some place) × (v (mark x) ≡ pos (place + 1))
 reads-OnLine x ls v o =
     let r = line_with-range x ls o.0 o.1 in
     (o.0 - 1, place-line_with x ls o.0 o.1, o.2 ∙ ap pos (omega arith))
@@ -57,12 +58,12 @@ module _ (y : ℕ) (c : ℤ) (low high : Option ℤ) (sure : List Bool) (ls new 
   -- the mark moves to line j
   Pushed-shifted : (k : ℕ) (z : Bounds) (q : Pushed sure (parts.inserted place new ls) v k z) (i j : ℕ) (lo hi : Option ℤ) → k < 26 → v (6 + k) ≡ pos i →
       line_with k (parts.inserted place new ls) ≡ Some j → Obeys (pos j -ℤ pos i) hi → Obeys (pos i -ℤ pos j) (negative_of lo) →
-      Pushed sure (parts.inserted place new ls) v (suc k) (after_shift z (mark_name k) lo hi)
+      Pushed sure (parts.inserted place new ls) v (suc k) (after_shift z (mark k) lo hi)
   Pushed-shifted k z q i j lo hi h vi there above below =
       let w : Numbers = updated q.numbers (6 + k) (pos j) in
       let wj : w (6 + k) ≡ pos j = updated-same q.numbers (6 + k) (pos j) in
       let qi : q.numbers (6 + k) ≡ pos i = q.rest (6 + k) (omega arith) ∙ vi in
-      Pushed-more sure (parts.inserted place new ls) v k z (after_shift z (mark_name k) lo hi) q w
+      Pushed-more sure (parts.inserted place new ls) v k z (after_shift z (mark k) lo hi) q w
       (Holds-after_shift z (6 + k) lo hi q.numbers w (omega arith) q.holds (updated-other q.numbers (6 + k) (pos j)) (rw (wj, qi) above) (rw (wj, qi) below))
       (updated-other q.numbers (6 + k) (pos j)) (λ e. (j, there, wj))
 
@@ -76,13 +77,13 @@ module _ (y : ℕ) (c : ℤ) (low high : Option ℤ) (sure : List Bool) (ls new 
       let qi : q.numbers (6 + k) ≡ pos i = q.rest (6 + k) (omega arith) ∙ vi in
       let qy : q.numbers y ≡ v y = q.low y hy in
       let G : Bounds → Type 0 = Pushed sure (parts.inserted place new ls) v (suc k) in
-      (elim (known z (mark_name k) y c) as (λ r. known z (mark_name k) y c ≡ r → G (cond r z (cond (known z y (mark_name k) (negsuc 0 -ℤ c)) (after_shift z (mark_name k) low high) (after_shift z (mark_name k) (Some (pos 0)) high)))) [
+      (elim (known z (mark k) y c) as (λ r. known z (mark k) y c ≡ r → G (cond r z (cond (known z y (mark k) (negsuc 0 -ℤ c)) (after_shift z (mark k) low high) (after_shift z (mark k) (Some (pos 0)) high)))) [
         | true ↦ λ a.
             let d = known-true z q.numbers (6 + k) y c a (omega arith) (omega arith) q.holds in
             let le : i ≤ place = omega (arith, ints) in
             Pushed-more sure (parts.inserted place new ls) v k z z q q.numbers q.holds (λ p n. refl) (λ _. (i, line_with-inserted_before k ls new place i o.1 le, qi))
         | false ↦ λ _.
-            (elim (known z y (mark_name k) (negsuc 0 -ℤ c)) as (λ r. known z y (mark_name k) (negsuc 0 -ℤ c) ≡ r → G (cond r (after_shift z (mark_name k) low high) (after_shift z (mark_name k) (Some (pos 0)) high))) [
+            (elim (known z y (mark k) (negsuc 0 -ℤ c)) as (λ r. known z y (mark k) (negsuc 0 -ℤ c) ≡ r → G (cond r (after_shift z (mark k) low high) (after_shift z (mark k) (Some (pos 0)) high))) [
               | true ↦ λ b.
                   let d = known-true z q.numbers y (6 + k) (negsuc 0 -ℤ c) b (omega arith) (omega arith) q.holds in
                   let lt : place < i = omega (arith, ints) in

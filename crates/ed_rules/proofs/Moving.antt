@@ -7,13 +7,13 @@ use Rattle.ed_base.specs.Buffer.{Line, plain_line, has_letter, AtMostOnce}
 use Rattle.ed_base.specs.Parts as parts
 use Rattle.ed_syntax.specs.meaning.CommandLaws.{WellMarked}
 use Rattle.ed_syntax.proofs.meaning.MarkLemmas.{well-carried}
+use Rattle.zones.specs.Name.{mark}
 use Rattle.zones.specs.Bound.{Obeys, sum_of, negative_of}
 use Rattle.zones.specs.Zone.{Bounds, Numbers, Holds, bound, updated}
 use Rattle.zones.specs.Steps.{after_shift, after_set, after_forget}
 use Rattle.zones.specs.Known.{known, least, greatest}
 use Rattle.zones.proofs.Soundness.{Obeys-sum_of, Obeys-bound, Holds-after_shift, Holds-after_set, Holds-after_forget}
 use Rattle.zones.proofs.Known.{known-true, updated-same, updated-other, Obeys-twice_negative}
-use Rattle.ed_rules.specs.Marks.{mark_name}
 use Rattle.ed_rules.specs.Move.{less, mark_moved_up, moved_up, mark_moved_down, moved_down}
 use Rattle.ed_rules.proofs.Basics.{and-both, Obeys-lowered}
 use Rattle.ed_rules.proofs.LettersInLines.{line_with, one_more, one_more-some, line_with-range, no_letter}
@@ -159,20 +159,20 @@ module _ (ls : List Line) (a b place : ℕ) (ab : a ≤ b) (inside : b ≤ lengt
 -- the marks of a move, letter by letter
 
 shifted-to : (sure : List Bool) (lines : List Line) (u : Numbers) (k : ℕ) (z : Bounds) (q : Pushed sure lines u k z) (i j : ℕ) (lo hi : Option ℤ) → k < 26 → u (6 + k) ≡ pos i →
-    line_with k lines ≡ Some j → Obeys (pos j -ℤ pos i) hi → Obeys (pos i -ℤ pos j) (negative_of lo) → Pushed sure lines u (suc k) (after_shift z (mark_name k) lo hi)
+    line_with k lines ≡ Some j → Obeys (pos j -ℤ pos i) hi → Obeys (pos i -ℤ pos j) (negative_of lo) → Pushed sure lines u (suc k) (after_shift z (mark k) lo hi)
 shifted-to sure lines u k z q i j lo hi h ui there above below =
     let w : Numbers = updated q.numbers (6 + k) (pos j) in
     let wj : w (6 + k) ≡ pos j = updated-same q.numbers (6 + k) (pos j) in
     let qi : q.numbers (6 + k) ≡ pos i = q.rest (6 + k) (omega arith) ∙ ui in
-    Pushed-more sure lines u k z (after_shift z (mark_name k) lo hi) q w
+    Pushed-more sure lines u k z (after_shift z (mark k) lo hi) q w
     (Holds-after_shift z (6 + k) lo hi q.numbers w (omega arith) q.holds (updated-other q.numbers (6 + k) (pos j)) (rw (wj, qi) above) (rw (wj, qi) below))
     (updated-other q.numbers (6 + k) (pos j)) (λ e. (j, there, wj))
 
 forgotten-to : (sure : List Bool) (lines : List Line) (u : Numbers) (k : ℕ) (z : Bounds) (q : Pushed sure lines u k z) (j : ℕ) → k < 26 →
-    line_with k lines ≡ Some j → Pushed sure lines u (suc k) (after_forget z (mark_name k))
+    line_with k lines ≡ Some j → Pushed sure lines u (suc k) (after_forget z (mark k))
 forgotten-to sure lines u k z q j h there =
     let w : Numbers = updated q.numbers (6 + k) (pos j) in
-    Pushed-more sure lines u k z (after_forget z (mark_name k)) q w
+    Pushed-more sure lines u k z (after_forget z (mark k)) q w
     (Holds-after_forget z (6 + k) q.numbers w q.holds (updated-other q.numbers (6 + k) (pos j)))
     (updated-other q.numbers (6 + k) (pos j)) (λ e. (j, there, updated-same q.numbers (6 + k) (pos j)))
 
@@ -204,7 +204,7 @@ module _ (ls : List Line) (a b t : ℕ) (ab : a < b) (inside : b ≤ length ls) 
         let le : a ≤ b = omega arith in
         let at : t + (b - a) ≤ length ls = omega arith in
         let G : Bounds → Type 0 = Pushed sure N u (suc k) in
-        let x : ℕ = mark_name k in
+        let x : ℕ = mark k in
         let passed : Bounds = after_shift z x (sum_of (least before 4 3) (Some (pos 1))) (sum_of (greatest before 4 3) (Some (pos 1))) in
         let taken : Bounds = after_shift z x (less (pos 1) (greatest before 3 5)) (less (pos 1) (least before 3 5)) in
         let lost : Bounds = after_forget z x in
@@ -295,7 +295,7 @@ module _ (ls : List Line) (a b t : ℕ) (ab : a < b) (inside : b ≤ length ls) 
         let at : place + (b - a) ≤ length ls = omega arith in
         let from : a ≤ place = omega arith in
         let G : Bounds → Type 0 = Pushed sure N u (suc k) in
-        let x : ℕ = mark_name k in
+        let x : ℕ = mark k in
         let passed : Bounds = after_shift z x (less (negsuc 0) (greatest before 4 3)) (less (negsuc 0) (least before 4 3)) in
         let taken : Bounds = after_shift z x (least before 5 4) (greatest before 5 4) in
         let lost : Bounds = after_forget z x in

@@ -4,11 +4,12 @@ use Rattle.std.specs.Prelude.{nat_lt, nat_le, slice_set}
 use Rattle.std.proofs.lemmas.Bool.{lt-ltb, le-ltb, le-leb, lt-leb, ltb-false, or_parts, or_right, or_left, and_from, and_cases, and_left, and_right, or_from, cases_lt}
 use Rattle.std.proofs.lemmas.Bool.Decides.{eqb_tells}
 use Rattle.std.proofs.lemmas.List.FromFn.{get_or-map-range_with_len, length-map-range_with_len}
+use Rattle.zones.specs.Name.{mark}
 use Rattle.zones.specs.Zone.{Bounds}
 use Rattle.zones.specs.Steps.{after_set, after_forget}
 use Rattle.zones.specs.Isolated.{IsIsolated}
 use Rattle.zones.proofs.Isolated.{IsIsolated-after_forget, IsIsolated-forgotten}
-use Rattle.ed_rules.specs.Marks.{mark_name, is_sure, no_marks, both_sure}
+use Rattle.ed_rules.specs.Marks.{is_sure, no_marks, both_sure}
 use Rattle.ed_rules.specs.Formed.{has_name}
 use Rattle.ed_rules.specs.Pieces.{without_addresses}
 use Rattle.ed_rules.specs.Files.{without_letters}
@@ -21,22 +22,22 @@ is_spoken marks x = nat_lt x 6 || is_sure marks (x - 6)
 pub low-spoken : (marks : List Bool) (x : ℕ) → x < 6 → IsNamed (is_spoken marks) x
 low-spoken marks x h = record { inside = omega arith; named = or_left (nat_lt x 6) (is_sure marks (x - 6)) (lt-ltb x 6 h) }
 
-letter-place : (letter : ℕ) → mark_name letter - 6 ≡ letter
+letter-place : (letter : ℕ) → mark letter - 6 ≡ letter
 letter-place letter = omega arith
 
-sure-place : (marks : List Bool) (letter : ℕ) → is_sure marks letter ≡ true → is_sure marks (mark_name letter - 6) ≡ true
+sure-place : (marks : List Bool) (letter : ℕ) → is_sure marks letter ≡ true → is_sure marks (mark letter - 6) ≡ true
 sure-place marks letter e = ap (λ (k : ℕ). get_or marks k false) (letter-place letter) ∙ e
 
-pub letter-spoken : (marks : List Bool) (letter : ℕ) → letter < 26 → is_sure marks letter ≡ true → IsNamed (is_spoken marks) (mark_name letter)
+pub letter-spoken : (marks : List Bool) (letter : ℕ) → letter < 26 → is_sure marks letter ≡ true → IsNamed (is_spoken marks) (mark letter)
 letter-spoken marks letter h e =
-    record { inside = omega arith; named = or_right (nat_lt (mark_name letter) 6) (is_sure marks (mark_name letter - 6)) (sure-place marks letter e) }
+    record { inside = omega arith; named = or_right (nat_lt (mark letter) 6) (is_sure marks (mark letter - 6)) (sure-place marks letter e) }
 
-pub letter-named : (marks : List Bool) (letter : ℕ) → letter < 26 → is_sure marks letter ≡ true → IsNamed (has_name marks) (mark_name letter)
+pub letter-named : (marks : List Bool) (letter : ℕ) → letter < 26 → is_sure marks letter ≡ true → IsNamed (has_name marks) (mark letter)
 letter-named marks letter h e = record {
   inside = omega arith;
   named =
-      or_right (nat_lt (mark_name letter) 3) (nat_le 6 (mark_name letter) && is_sure marks (mark_name letter - 6))
-      (and_from (nat_le 6 (mark_name letter)) (is_sure marks (mark_name letter - 6)) (le-leb 6 (mark_name letter) (omega arith)) (sure-place marks letter e));
+      or_right (nat_lt (mark letter) 3) (nat_le 6 (mark letter) && is_sure marks (mark letter - 6))
+      (and_from (nat_le 6 (mark letter)) (is_sure marks (mark letter - 6)) (le-leb 6 (mark letter) (omega arith)) (sure-place marks letter e));
 }
 
 -- a name that isn't spoken of is that of a letter
@@ -87,9 +88,9 @@ Speaks-without_addresses marks zone h =
 -- LETTERS
 
 -- a letter that is no longer sure is forgotten
-pub Speaks-lost : (marks : List Bool) (zone : Bounds) (letter : ℕ) → Speaks (is_spoken marks) zone → Speaks (is_spoken (slice_set marks letter false)) (after_forget zone (mark_name letter))
+pub Speaks-lost : (marks : List Bool) (zone : Bounds) (letter : ℕ) → Speaks (is_spoken marks) zone → Speaks (is_spoken (slice_set marks letter false)) (after_forget zone (mark letter))
 Speaks-lost marks zone letter h =
-    Speaks-forget (is_spoken marks) (is_spoken (slice_set marks letter false)) zone (mark_name letter)
+    Speaks-forget (is_spoken marks) (is_spoken (slice_set marks letter false)) zone (mark letter)
     (λ z ne n.
     let u = unspoken (slice_set marks letter false) z n in
     let l : 6 ≤ z = u.0 in
@@ -106,11 +107,11 @@ set-spoken marks letter x h n =
 
 -- a letter becomes sure, and is set
 pub Speaks-marked : (marks : List Bool) (zone : Bounds) (letter x : ℕ) (c : ℤ) → letter < 26 → x < 6 → length marks ≡ 26 → Speaks (is_spoken marks) zone →
-    Speaks (is_spoken (slice_set marks letter true)) (after_set zone (mark_name letter) x c)
+    Speaks (is_spoken (slice_set marks letter true)) (after_set zone (mark letter) x c)
 Speaks-marked marks zone letter x c h hx size s =
     let many : List Bool = slice_set marks letter true in
     let here : letter < length marks = omega arith in
-    Speaks-set (is_spoken many) zone (mark_name letter) x c (letter-spoken many letter h (get_or-set_same marks letter true false here)) (low-spoken many x hx)
+    Speaks-set (is_spoken many) zone (mark letter) x c (letter-spoken many letter h (get_or-set_same marks letter true false here)) (low-spoken many x hx)
     (Speaks-more (is_spoken marks) (is_spoken many) zone (λ z n. set-spoken marks letter z here n) s)
 
 -- the letters of both
@@ -151,17 +152,17 @@ named-both one other x hx n =
 Speaks-without_letters : (names : ℕ → Bool) (zone : Bounds) (k : ℕ) → Speaks names zone → Speaks names (without_letters k zone)
 unfolding without_letters
 Speaks-without_letters names zone zero h = h
-Speaks-without_letters names zone (suc k) h = Speaks-forgetting names (without_letters k zone) (mark_name k) (Speaks-without_letters names zone k h)
+Speaks-without_letters names zone (suc k) h = Speaks-forgetting names (without_letters k zone) (mark k) (Speaks-without_letters names zone k h)
 
-IsIsolated-without_letters : (zone : Bounds) (k letter : ℕ) → k ≤ 26 → letter < k → IsIsolated (without_letters k zone) (mark_name letter)
+IsIsolated-without_letters : (zone : Bounds) (k letter : ℕ) → k ≤ 26 → letter < k → IsIsolated (without_letters k zone) (mark letter)
 unfolding without_letters
 IsIsolated-without_letters zone zero letter h l = absurd (omega arith)
 IsIsolated-without_letters zone (suc k) letter h l =
     elim (eqb_tells letter k) [
-      | inl e ↦ rw e.1 (IsIsolated-forgotten (without_letters k zone) (mark_name k) (omega arith))
+      | inl e ↦ rw e.1 (IsIsolated-forgotten (without_letters k zone) (mark k) (omega arith))
       | inr e ↦
           let ne : letter ≢ k = e.1 in
-          IsIsolated-after_forget (without_letters k zone) (mark_name letter) (mark_name k) (omega arith) (λ q. ne (omega arith))
+          IsIsolated-after_forget (without_letters k zone) (mark letter) (mark k) (omega arith) (λ q. ne (omega arith))
           (IsIsolated-without_letters zone k letter (omega arith) (omega arith))
     ]
 
@@ -174,6 +175,6 @@ Speaks-without_letters_all marks zone h =
       silent = λ x hx n.
           let u = unspoken no_marks x n in
           let l : 6 ≤ x = u.0 in
-          let at : mark_name (x - 6) ≡ x = omega arith in
+          let at : mark (x - 6) ≡ x = omega arith in
           rw at at (IsIsolated-without_letters zone 26 (x - 6) (omega arith) (omega arith));
     }

@@ -4,6 +4,7 @@ use Rattle.std.proofs.lemmas.Int.{ints}
 use Rattle.std.proofs.lemmas.List.{length-map}
 use Rattle.ed_base.specs.Buffer.{Line, plain_line}
 use Rattle.ed_base.specs.Parts as parts
+use Rattle.zones.specs.Name.{mark}
 use Rattle.zones.specs.Bound.{Obeys}
 use Rattle.zones.specs.Zone.{Bounds, Numbers, Holds, bound, updated}
 use Rattle.zones.specs.Steps.{after_guard, after_forget}
@@ -12,7 +13,7 @@ use Rattle.zones.proofs.Known.{updated-other}
 use Rattle.ed_syntax.specs.meaning.States as editor
 use Rattle.ed_syntax.specs.meaning.Ranges.{Span}
 use Rattle.ed_rules.specs.declared.state.State.{State}
-use Rattle.ed_rules.specs.Marks.{mark_name, no_marks}
+use Rattle.ed_rules.specs.Marks.{no_marks}
 use Rattle.ed_rules.specs.StandsFor.{HoldsBy}
 use Rattle.ed_rules.specs.Pieces.{inserted}
 use Rattle.ed_rules.specs.Files.{current_read, without_letters, zone_loaded}
@@ -66,7 +67,7 @@ read-buffer t e x r ts =
 Holds-without_letters : (k : ℕ) (zone : Bounds) (v : Numbers) → Holds zone v → Holds (without_letters k zone) v
 unfolding without_letters
 Holds-without_letters zero zone v h = h
-Holds-without_letters (suc k) zone v h = Holds-after_forget (without_letters k zone) (mark_name k) v v (Holds-without_letters k zone v h) (λ p n. refl)
+Holds-without_letters (suc k) zone v h = Holds-after_forget (without_letters k zone) (mark k) v v (Holds-without_letters k zone v h) (λ p n. refl)
 
 -- any lines, the last one current
 pub loaded-buffer : (zone : Bounds) (v : Numbers) → Holds zone v → v 0 ≡ pos 0 → (lines : List Line) → (w : Numbers) × HoldsBy (zone_loaded zone) no_marks lines (length lines) w

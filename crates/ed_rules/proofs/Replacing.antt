@@ -3,6 +3,7 @@ use Rattle.std.proofs.Common.{◌≡◌, ◌≢◌, ◌<◌, ◌≤◌, inl, inr
 use Rattle.std.proofs.lemmas.Int.{ints}
 use Rattle.std.proofs.lemmas.Bool.{cases_eq}
 use Rattle.ed_base.specs.Buffer.{Line}
+use Rattle.zones.specs.Name.{mark}
 use Rattle.zones.specs.Bound.{Obeys, negative_of}
 use Rattle.zones.specs.Zone.{Bounds, Numbers, Holds, bound, updated}
 use Rattle.zones.specs.Steps.{after_shift, after_set, after_guard, after_forget}
@@ -17,7 +18,7 @@ use Rattle.ed_rules.proofs.Inserting.{OnLine, OnLine-reads, reads-OnLine}
 use Rattle.ed_rules.proofs.Spans.{Ranges}
 use Rattle.zones.specs.Known.{known}
 use Rattle.ed_rules.specs.Pieces.{guarded_by, mark_moved, mark_lost, mark_replaced, left_over, current_left, current_replaced, replaced}
-use Rattle.ed_rules.specs.Marks.{mark_name, for_each_sure}
+use Rattle.ed_rules.specs.Marks.{for_each_sure}
 use Rattle.zones.proofs.Known.{updated-same, updated-other, known-true, Obeys-twice_negative}
 use Rattle.ed_rules.proofs.Basics.{Obeys-lowered}
 use Rattle.ed_base.specs.Parts as parts
@@ -61,7 +62,7 @@ Passed-lost k t h m =
 
 module _ (a b : ℕ) (ls new : List Line) (s : State) (v : Numbers) (ha : 1 ≤ a) (hab : a ≤ b) (va : v 3 ≡ pos a) (vb : v 4 ≡ pos b)
     (on : (x : ℕ) → x < 26 → get_or s.marks x false ≡ true → OnLine x ls v) (none : (x : ℕ) → line_with x new ≡ None) where
-  Passed-moved : (k : ℕ) (t : State) → k < 26 → (m : Passed s (parts.replaced a b new ls) v k t) → (o : OnLine k ls v) → known t.zone 4 (mark_name k) (negsuc 0) ≡ true →
+  Passed-moved : (k : ℕ) (t : State) → k < 26 → (m : Passed s (parts.replaced a b new ls) v k t) → (o : OnLine k ls v) → known t.zone 4 (mark k) (negsuc 0) ≡ true →
       Passed s (parts.replaced a b new ls) v (suc k) (mark_moved (length new) k t)
   unfolding mark_moved
   Passed-moved k t h m o e =
@@ -93,13 +94,13 @@ module _ (a b : ℕ) (ls new : List Line) (s : State) (v : Numbers) (ha : 1 ≤ 
       let m3 : w 3 ≡ pos a = m.low 3 (omega arith) ∙ va in
       let mk : w (6 + k) ≡ pos o.0 = m.rest (6 + k) (omega arith) ∙ o.2 in
       let G : State → Type 0 = Passed s (parts.replaced a b new ls) v (suc k) in
-      (elim (known t.zone (mark_name k) 3 (negsuc 0)) as (λ r. known t.zone (mark_name k) 3 (negsuc 0) ≡ r → G (cond r t (cond (known t.zone 4 (mark_name k) (negsuc 0)) (mark_moved (length new) k t) (mark_lost k t)))) [
+      (elim (known t.zone (mark k) 3 (negsuc 0)) as (λ r. known t.zone (mark k) 3 (negsuc 0) ≡ r → G (cond r t (cond (known t.zone 4 (mark k) (negsuc 0)) (mark_moved (length new) k t) (mark_lost k t)))) [
         | true ↦ λ q.
             let d = known-true t.zone w (6 + k) 3 (negsuc 0) q (omega arith) (omega arith) m.holds in
             let before : o.0 < a = omega (arith, ints) in
             Passed-more k t t m w m.holds (λ p g. refl) (λ y g. refl) m.aside (λ _. (o.0, line_with-replaced_before k ls new a b o.0 o.1 before, mk))
         | false ↦ λ _.
-            (elim (known t.zone 4 (mark_name k) (negsuc 0)) as (λ r. known t.zone 4 (mark_name k) (negsuc 0) ≡ r → G (cond r (mark_moved (length new) k t) (mark_lost k t))) [
+            (elim (known t.zone 4 (mark k) (negsuc 0)) as (λ r. known t.zone 4 (mark k) (negsuc 0) ≡ r → G (cond r (mark_moved (length new) k t) (mark_lost k t))) [
               | true ↦ λ q. Passed-moved k t h m o q
               | false ↦ λ _. Passed-lost k t h m
             ]) refl

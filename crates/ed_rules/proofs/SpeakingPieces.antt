@@ -2,12 +2,13 @@
 use Rattle.std.proofs.Common.{◌≡◌, ◌<◌, ◌&&◌, ℕ, zero, suc, ℤ, pos, negsuc, Bool, true, false, cond, List, Option, None, Some, refl, arith}
 use Rattle.std.specs.Prelude.{nat_lt}
 use Rattle.std.proofs.lemmas.Bool.{cond_both, ltb-true}
+use Rattle.zones.specs.Name.{mark}
 use Rattle.zones.specs.Bound.{sum_of}
 use Rattle.zones.specs.Zone.{Bounds}
 use Rattle.zones.specs.Known.{known, least, greatest}
 use Rattle.zones.specs.Steps.{any_zone, after_guard, after_set, after_shift, after_forget}
 use Rattle.ed_syntax.specs.Commands.{Addresses, Without, One, Comma, Semicolon}
-use Rattle.ed_rules.specs.Marks.{mark_name, is_sure, no_marks, for_each_sure}
+use Rattle.ed_rules.specs.Marks.{is_sure, no_marks, for_each_sure}
 use Rattle.ed_rules.specs.Formed.{has_name}
 use Rattle.ed_rules.specs.States.{limited}
 use Rattle.ed_rules.specs.Pieces.{guarded_by, mark_bounded, ended, mark_pushed, inserted, lifted, left_over, current_left, current_replaced}
@@ -59,7 +60,7 @@ Speaks-for_each names step sure zone each h =
     for_each_sure-by (λ k z. Speaks names z) step sure zone h (λ k z l e q. each k z l e q) (λ k z l e q. q) 26 (omega arith)
 
 Inner-letters : (marks : List Bool) (step : ℕ → Bounds → Bounds) (zone : Bounds) →
-    ((k : ℕ) (z : Bounds) → IsNamed (is_spoken marks) (mark_name k) → Inner marks z → Inner marks (step k z)) → Inner marks zone → Inner marks (for_each_sure step marks 26 zone)
+    ((k : ℕ) (z : Bounds) → IsNamed (is_spoken marks) (mark k) → Inner marks z → Inner marks (step k z)) → Inner marks zone → Inner marks (for_each_sure step marks 26 zone)
 Inner-letters marks step zone each h = Speaks-for_each (is_spoken marks) step marks zone (λ k z l e q. each k z (letter-spoken marks k l e) q) h
 
 -- THE END OF EACH RULE
@@ -67,11 +68,11 @@ Inner-letters marks step zone each h = Speaks-for_each (is_spoken marks) step ma
 named : (marks : List Bool) (x : ℕ) → x < 32 → has_name marks x ≡ true → IsNamed (has_name marks) x
 named marks x h e = record { inside = h; named = e }
 
-Speaks-mark_bounded : (marks : List Bool) (k : ℕ) (zone : Bounds) → IsNamed (has_name marks) (mark_name k) → Speaks (has_name marks) zone → Speaks (has_name marks) (mark_bounded k zone)
+Speaks-mark_bounded : (marks : List Bool) (k : ℕ) (zone : Bounds) → IsNamed (has_name marks) (mark k) → Speaks (has_name marks) zone → Speaks (has_name marks) (mark_bounded k zone)
 unfolding mark_bounded
 Speaks-mark_bounded marks k zone n h =
-    Speaks-guard (has_name marks) _ (mark_name k) 2 (pos 0) n (named marks 2 (omega arith) refl)
-    (Speaks-guard (has_name marks) zone 0 (mark_name k) (negsuc 0) (named marks 0 (omega arith) refl) n h)
+    Speaks-guard (has_name marks) _ (mark k) 2 (pos 0) n (named marks 2 (omega arith) refl)
+    (Speaks-guard (has_name marks) zone 0 (mark k) (negsuc 0) (named marks 0 (omega arith) refl) n h)
 
 pub Speaks-ended : (marks : List Bool) (zone : Bounds) → Inner marks zone → Speaks (has_name marks) (ended marks zone)
 unfolding ended
@@ -99,7 +100,7 @@ Inner-found marks x k zone hx h =
 
 -- INS AND LIFT
 
-Inner-mark_pushed : (marks : List Bool) (x : ℕ) (c : ℤ) (low high : Option ℤ) (k : ℕ) (zone : Bounds) → IsNamed (is_spoken marks) (mark_name k) → Inner marks zone → Inner marks (mark_pushed x c low high k zone)
+Inner-mark_pushed : (marks : List Bool) (x : ℕ) (c : ℤ) (low high : Option ℤ) (k : ℕ) (zone : Bounds) → IsNamed (is_spoken marks) (mark k) → Inner marks zone → Inner marks (mark_pushed x c low high k zone)
 unfolding mark_pushed
 Inner-mark_pushed marks x c low high k zone n h =
     Inner-if marks _ _ _ h (Inner-if marks _ _ _ (Speaks-shift (is_spoken marks) zone _ low high n h) (Speaks-shift (is_spoken marks) zone _ _ high n h))
@@ -153,10 +154,10 @@ Inner-current_replaced marks (suc n) zone h = Inner-set marks zone 1 3 _ refl re
 
 -- MOVES
 
-Inner-mark_moved_up : (marks : List Bool) (before : Bounds) (k : ℕ) (zone : Bounds) → IsNamed (is_spoken marks) (mark_name k) → Inner marks zone → Inner marks (mark_moved_up before k zone)
+Inner-mark_moved_up : (marks : List Bool) (before : Bounds) (k : ℕ) (zone : Bounds) → IsNamed (is_spoken marks) (mark k) → Inner marks zone → Inner marks (mark_moved_up before k zone)
 unfolding mark_moved_up
 Inner-mark_moved_up marks before k zone n h =
-    let x : ℕ = mark_name k in
+    let x : ℕ = mark k in
     Inner-if marks _ _ _ h
     (Inner-if marks (known before 5 x (negsuc 0) && known before x 3 (negsuc 0)) _ _
     (Speaks-shift (is_spoken marks) zone x (sum_of (least before 4 3) (Some (pos 1))) (sum_of (greatest before 4 3) (Some (pos 1))) n h)
@@ -170,10 +171,10 @@ Inner-moved_up marks before h =
     Inner-letters marks (mark_moved_up before) _ (λ k z n q. Inner-mark_moved_up marks before k z n q)
     (Inner-shift marks _ 1 _ _ refl (Inner-set marks before 1 5 _ refl refl h))
 
-Inner-mark_moved_down : (marks : List Bool) (before : Bounds) (k : ℕ) (zone : Bounds) → IsNamed (is_spoken marks) (mark_name k) → Inner marks zone → Inner marks (mark_moved_down before k zone)
+Inner-mark_moved_down : (marks : List Bool) (before : Bounds) (k : ℕ) (zone : Bounds) → IsNamed (is_spoken marks) (mark k) → Inner marks zone → Inner marks (mark_moved_down before k zone)
 unfolding mark_moved_down
 Inner-mark_moved_down marks before k zone n h =
-    let x : ℕ = mark_name k in
+    let x : ℕ = mark k in
     Inner-if marks _ _ _ h
     (Inner-if marks (known before 4 x (negsuc 0) && known before x 5 (pos 0)) _ _
     (Speaks-shift (is_spoken marks) zone x (less (negsuc 0) (greatest before 4 3)) (less (negsuc 0) (least before 4 3)) n h)

@@ -4,6 +4,7 @@ use Rattle.std.proofs.lemmas.Int.{ints}
 use Rattle.std.proofs.lemmas.Bool.{cases_eq}
 use Rattle.ed_base.specs.Buffer.{Line}
 use Rattle.ed_base.specs.Parts as parts
+use Rattle.zones.specs.Name.{mark}
 use Rattle.zones.specs.Bound.{Obeys}
 use Rattle.zones.specs.Zone.{Bounds, Numbers, Holds, bound, updated}
 use Rattle.zones.specs.Steps.{after_shift, after_set, after_guard, after_forget}
@@ -13,7 +14,6 @@ use Rattle.zones.proofs.Known.{updated-same, updated-other, known-true}
 use Rattle.ed_syntax.specs.meaning.Ranges.{Span}
 use Rattle.ed_syntax.specs.meaning.States as editor
 use Rattle.ed_rules.specs.declared.state.State.{State}
-use Rattle.ed_rules.specs.Marks.{mark_name}
 use Rattle.ed_rules.specs.Pieces.{with_zone, mark_lost}
 use Rattle.ed_rules.specs.Substituting.{mark_substituted, marks_substituted, current_split}
 use Rattle.ed_rules.proofs.LettersInLines.{line_with, line_with-replaced_before, line_with-replaced_after, length-replaced}
@@ -35,7 +35,7 @@ module _ (splits : Bool) (a b : ℕ) (ls new : List Line) (s : State) (v : Numbe
     (on : (x : ℕ) → x < 26 → get_or s.marks x false ≡ true → OnLine x ls v) (by : Exchanges splits a b ls new) where
   -- a mark after the lines, where there may be more of them
   done-down : (k : ℕ) (t : State) → k < 26 → (m : Passed s (parts.replaced a b new ls) v k t) → (o : OnLine k ls v) → b < o.0 →
-      Passed s (parts.replaced a b new ls) v (suc k) (with_zone (after_shift t.zone (mark_name k) (Some (pos 0)) None) t)
+      Passed s (parts.replaced a b new ls) v (suc k) (with_zone (after_shift t.zone (mark k) (Some (pos 0)) None) t)
   done-down k t h m o after =
       let w : Numbers = m.numbers in
       let mk : w (6 + k) ≡ pos o.0 = m.rest (6 + k) (omega arith) ∙ o.2 in
@@ -43,7 +43,7 @@ module _ (splits : Bool) (a b : ℕ) (ls new : List Line) (s : State) (v : Numbe
       let to : ℕ = o.0 + length new - (b + 1 - a) in
       let w' : Numbers = updated w (6 + k) (pos to) in
       let q : w' (6 + k) ≡ pos to = updated-same w (6 + k) (pos to) in
-      let u : State = with_zone (after_shift t.zone (mark_name k) (Some (pos 0)) None) t in
+      let u : State = with_zone (after_shift t.zone (mark k) (Some (pos 0)) None) t in
       Passed-more k t u m w'
       (Holds-after_shift t.zone (6 + k) (Some (pos 0)) None w w' (omega arith) m.holds (updated-other w (6 + k) (pos to)) tt (omega (arith, ints)))
       (updated-other w (6 + k) (pos to)) (λ y g. refl) (ap (λ (q : State). record q { zone = u.zone }) m.aside)
@@ -68,9 +68,9 @@ module _ (splits : Bool) (a b : ℕ) (ls new : List Line) (s : State) (v : Numbe
       let m3 : w 3 ≡ pos a = m.low 3 (omega arith) ∙ va in
       let m4 : w 4 ≡ pos b = m.low 4 (omega arith) ∙ vb in
       let mk : w (6 + k) ≡ pos o.0 = m.rest (6 + k) (omega arith) ∙ o.2 in
-      let down : State = with_zone (after_shift t.zone (mark_name k) (Some (pos 0)) None) t in
+      let down : State = with_zone (after_shift t.zone (mark k) (Some (pos 0)) None) t in
       let G : State → Type 0 = Passed s (parts.replaced a b new ls) v (suc k) in
-      (elim (known t.zone 4 (mark_name k) (negsuc 0)) as (λ r. known t.zone 4 (mark_name k) (negsuc 0) ≡ r → G (cond r (cond splits down t) (cond (known t.zone (mark_name k) 3 (negsuc 0)) t (mark_lost k t)))) [
+      (elim (known t.zone 4 (mark k) (negsuc 0)) as (λ r. known t.zone 4 (mark k) (negsuc 0) ≡ r → G (cond r (cond splits down t) (cond (known t.zone (mark k) 3 (negsuc 0)) t (mark_lost k t)))) [
         | true ↦ λ q.
             let d = known-true t.zone w 4 (6 + k) (negsuc 0) q (omega arith) (omega arith) m.holds in
             let after : b < o.0 = omega (arith, ints) in
@@ -79,7 +79,7 @@ module _ (splits : Bool) (a b : ℕ) (ls new : List Line) (s : State) (v : Numbe
               | false ↦ λ whole. done-still whole k t h m o after
             ]) refl
         | false ↦ λ _.
-            (elim (known t.zone (mark_name k) 3 (negsuc 0)) as (λ r. known t.zone (mark_name k) 3 (negsuc 0) ≡ r → G (cond r t (mark_lost k t))) [
+            (elim (known t.zone (mark k) 3 (negsuc 0)) as (λ r. known t.zone (mark k) 3 (negsuc 0) ≡ r → G (cond r t (mark_lost k t))) [
               | true ↦ λ q.
                   let d = known-true t.zone w (6 + k) 3 (negsuc 0) q (omega arith) (omega arith) m.holds in
                   let before : o.0 < a = omega (arith, ints) in

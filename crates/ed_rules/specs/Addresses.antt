@@ -7,7 +7,7 @@ use Rattle.ed_base.specs.declared.fault.Fault.TheVariants as fault
 use Rattle.bre_parse.specs.Grammar.{pattern}
 use Rattle.bre_parse.specs.Always.{always}
 use Rattle.zones.specs.Name as name
-use Rattle.zones.specs.Name.{current_line, last_line, first_address, second_address, target_address}
+use Rattle.zones.specs.Name.{current_line, last_line, first_address, second_address, target_address, mark}
 use Rattle.zones.specs.Zone.{Bounds}
 use Rattle.zones.specs.Known.{known}
 use Rattle.zones.specs.Steps.{after_set, after_guard, after_shift, after_forget}
@@ -17,7 +17,7 @@ use Rattle.ed_syntax.specs.meaning.Verbs.{here}
 use Rattle.ed_syntax.specs.meaning.Values.{◌>>◌}
 use Rattle.ed_rules.specs.declared.state.State.{State}
 use Rattle.ed_rules.specs.Choices.{Choice, has_choice}
-use Rattle.ed_rules.specs.Marks.{mark_name, is_sure}
+use Rattle.ed_rules.specs.Marks.{is_sure}
 use Rattle.ed_rules.specs.Pieces.{needing, with_zone}
 
 -- the pattern has a match in every line; a text that is no pattern has none
@@ -59,7 +59,7 @@ abbrev pub evaluated_base : ℕ → Base → ℤ → State → Result State Faul
 evaluated_base x (ed.Number n) k s = set_from x name.zero (pos n +ℤ k) s
 evaluated_base x ed.Current k s = set_from x current_line k s
 evaluated_base x ed.Last k s = set_from x last_line k s
-evaluated_base x (ed.Marked letter) k s = needing (nat_lt letter 26 && is_sure s.marks letter) fault.Mark s >> set_from x (mark_name letter) k
+evaluated_base x (ed.Marked letter) k s = needing (nat_lt letter 26 && is_sure s.marks letter) fault.Mark s >> set_from x (mark letter) k
 evaluated_base x (ed.Forward text) k s = searched x text k s
 evaluated_base x (ed.Backward text) k s = searched x text k s
 

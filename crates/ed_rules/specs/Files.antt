@@ -4,7 +4,7 @@ use Rattle.std.specs.Prelude.{ℕ, zero, suc, pos, negsuc, Bool, true, false, �
 use Rattle.ed_base.specs.declared.fault.Fault.{Fault}
 use Rattle.ed_base.specs.declared.fault.Fault.TheVariants as fault
 use Rattle.zones.specs.Name as name
-use Rattle.zones.specs.Name.{current_line, last_line, first_address, second_address}
+use Rattle.zones.specs.Name.{current_line, last_line, first_address, second_address, mark}
 use Rattle.zones.specs.Zone.{Bounds}
 use Rattle.zones.specs.Known.{known, greatest}
 use Rattle.zones.specs.Steps.{after_guard, after_set, after_forget}
@@ -15,7 +15,7 @@ use Rattle.ed_rules.specs.declared.state.Changed.{Changed}
 use Rattle.ed_rules.specs.declared.state.Undo.{Undo}
 use Rattle.ed_rules.specs.declared.state.State.{State}
 use Rattle.ed_rules.specs.Choices.{Choice, has_choice, union}
-use Rattle.ed_rules.specs.Marks.{mark_name, no_marks}
+use Rattle.ed_rules.specs.Marks.{no_marks}
 use Rattle.ed_rules.specs.States.{unchanged, changed, nothing_to_undo, old_of, undo_to}
 use Rattle.ed_rules.specs.Order.{changed_of_both, undo_of_both}
 use Rattle.ed_rules.specs.Pieces.{needing, with_zone, guarded_by, inserted}
@@ -105,7 +105,7 @@ written_paths _ s = []
 -- the first k letters are forgotten
 unfoldable pub without_letters : (k : ℕ) → Bounds → Bounds
 without_letters zero zone = zone
-without_letters (suc k) zone = after_forget (without_letters k zone) (mark_name k)
+without_letters (suc k) zone = after_forget (without_letters k zone) (mark k)
 
 -- any number of lines, the last one current
 unfoldable pub zone_loaded : Bounds → Bounds

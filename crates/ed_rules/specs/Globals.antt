@@ -7,19 +7,13 @@ use Rattle.zones.specs.Name as name
 use Rattle.zones.specs.Name.{current_line, last_line}
 use Rattle.zones.specs.Zone.{Bounds}
 use Rattle.zones.specs.Steps.{after_guard, after_forget}
-use Rattle.ed_syntax.specs.Commands as ed
-use Rattle.ed_syntax.specs.Commands.{Verb, Command, Step}
+use Rattle.ed_syntax.specs.Commands.{Command, Step}
 use Rattle.ed_syntax.specs.meaning.Verbs.{may_alter}
 use Rattle.ed_rules.specs.declared.state.Old.{Old}
 use Rattle.ed_rules.specs.declared.state.Undo.{Undo}
 use Rattle.ed_rules.specs.declared.state.State.{State}
 use Rattle.ed_rules.specs.States.{old_of}
 use Rattle.ed_rules.specs.Pieces.{with_zone, ended}
-
--- `g` or `v`
-abbrev pub is_global : Verb → Bool
-is_global (ed.Global sense pattern) = true
-is_global _ = false
 
 -- the end of a rule
 abbrev pub finished : State → State

@@ -1,14 +1,13 @@
 -- The rules of the commands on lines, in the order of the page on rules: what each makes of the state with its addresses evaluated
 -- (XCU ed, "Commands in ed").
 use Rattle.std.specs.Prelude.{ℕ, zero, suc, ℤ, pos, negsuc, Bool, true, Option, Some, slice_set, if◌then◌else◌}
-use Rattle.zones.specs.Name.{current_line, last_line, first_address, second_address, target_address}
+use Rattle.zones.specs.Name.{current_line, last_line, first_address, second_address, target_address, mark}
 use Rattle.zones.specs.Bound.{sum_of}
 use Rattle.zones.specs.Zone.{Bounds}
 use Rattle.zones.specs.Known.{known, least, greatest}
 use Rattle.zones.specs.Steps.{after_guard, after_set, after_shift, after_forget}
 use Rattle.ed_syntax.specs.Commands.{Addresses, Without, One, Comma, Semicolon}
 use Rattle.ed_rules.specs.declared.state.State.{State}
-use Rattle.ed_rules.specs.Marks.{mark_name}
 use Rattle.ed_rules.specs.Order.{join}
 use Rattle.ed_rules.specs.Pieces.{with_zone, modified, inserted, lifted, replaced}
 
@@ -70,7 +69,7 @@ joined_given (Semicolon a b) listed start s = joined listed start s
 
 -- `k`
 abbrev pub marked : ℕ → State → State
-marked letter s = record s { zone = after_set s.zone (mark_name letter) first_address (pos 0); marks = slice_set s.marks letter true }
+marked letter s = record s { zone = after_set s.zone (mark letter) first_address (pos 0); marks = slice_set s.marks letter true }
 
 -- `l`, `n`, `p`, and the null command: a line is current
 abbrev pub current_at : ℕ → State → State

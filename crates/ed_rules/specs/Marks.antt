@@ -1,10 +1,6 @@
 -- Sure marks: for each of the 26 letters whether it surely marks a line. Letters count from 0, which is `a`.
-use Rattle.std.specs.Prelude.{◌≡◌, ℕ, zero, suc, ◌+◌, ◌<◌, Bool, true, false, ◌&&◌, List, map, replicate, slice_index_or, if◌then◌else◌}
+use Rattle.std.specs.Prelude.{◌≡◌, ℕ, zero, suc, ◌<◌, Bool, true, false, ◌&&◌, List, map, replicate, slice_index_or, if◌then◌else◌}
 use Rattle.std.specs.List.{range_with_len}
-
--- the name of the line that a letter marks
-abbrev pub mark_name : (letter : ℕ) → ℕ
-mark_name letter = 6 + letter
 
 -- the letter surely marks a line
 abbrev pub is_sure : List Bool → (letter : ℕ) → Bool

@@ -2,14 +2,16 @@
 use Rattle.std.specs.Prelude.{ℕ, ℤ, pos, negsuc, ◌&&◌, ◌||◌, Bool, List, Option, Some, if◌then◌else◌, Result, Ok, Err}
 use Rattle.ed_base.specs.declared.fault.Fault.{Fault}
 use Rattle.ed_base.specs.declared.fault.Fault.TheVariants as fault
-use Rattle.zones.specs.Name.{current_line, first_address, second_address, target_address}
+use Rattle.zones.specs.Name.{current_line, first_address, second_address, target_address, mark}
 use Rattle.zones.specs.Bound.{sum_of, negative_of}
 use Rattle.zones.specs.Zone.{Bounds}
 use Rattle.zones.specs.Known.{known, least, greatest}
 use Rattle.zones.specs.Steps.{after_set, after_shift, after_forget}
 use Rattle.ed_syntax.specs.meaning.Values.{◌>>◌}
+use Rattle.ed_rules.specs.declared.moves.Way.{Way}
+use Rattle.ed_rules.specs.declared.moves.Way.TheVariants as ways
 use Rattle.ed_rules.specs.declared.state.State.{State}
-use Rattle.ed_rules.specs.Marks.{mark_name, for_each_sure}
+use Rattle.ed_rules.specs.Marks.{for_each_sure}
 use Rattle.ed_rules.specs.Pieces.{with_zone, modified}
 
 -- a number less a bound
@@ -19,7 +21,7 @@ less c bound = sum_of (negative_of bound) (Some c)
 -- one mark of a move up: the lines that are passed go down by the lines that are moved, and these by what is passed
 unfoldable pub mark_moved_up : (before : Bounds) → ℕ → Bounds → Bounds
 mark_moved_up before letter zone =
-    let x = mark_name letter in
+    let x = mark letter in
     if known before x target_address (pos 0) || known before second_address x (negsuc 0) then zone
     else if known before target_address x (negsuc 0) && known before x first_address (negsuc 0)
     then after_shift zone x (sum_of (least before second_address first_address) (Some (pos 1)))
@@ -38,13 +40,18 @@ moved_up marks before =
 -- one mark of a move down
 unfoldable pub mark_moved_down : (before : Bounds) → ℕ → Bounds → Bounds
 mark_moved_down before letter zone =
-    let x = mark_name letter in
+    let x = mark letter in
     if known before x first_address (negsuc 0) || known before target_address x (negsuc 0) then zone
     else if known before second_address x (negsuc 0) && known before x target_address (pos 0)
     then after_shift zone x (less (negsuc 0) (greatest before second_address first_address)) (less (negsuc 0) (least before second_address first_address))
     else if known before first_address x (pos 0) && known before x second_address (pos 0)
     then after_shift zone x (least before target_address second_address) (greatest before target_address second_address)
     else after_forget zone x
+
+-- one mark of a move up or down
+abbrev pub mark_moved : Way → (before : Bounds) → ℕ → Bounds → Bounds
+mark_moved ways.Up = mark_moved_up
+mark_moved ways.Down = mark_moved_down
 
 -- the target is after the lines: the last of them comes to its place
 unfoldable pub moved_down : List Bool → Bounds → Bounds

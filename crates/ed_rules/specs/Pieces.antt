@@ -2,14 +2,14 @@
 use Rattle.std.specs.Prelude.{ℕ, zero, suc, ℤ, pos, negsuc, ◌-ℤ◌, Bool, true, false, List, Option, Some, None, slice_set, if◌then◌else◌, Result, Ok, Err}
 use Rattle.ed_base.specs.declared.fault.Fault.{Fault}
 use Rattle.zones.specs.Name as name
-use Rattle.zones.specs.Name.{current_line, last_line, first_address, second_address, target_address}
+use Rattle.zones.specs.Name.{current_line, last_line, first_address, second_address, target_address, mark}
 use Rattle.zones.specs.Bound.{sum_of}
 use Rattle.zones.specs.Zone.{Bounds}
 use Rattle.zones.specs.Known.{known, least, greatest}
 use Rattle.zones.specs.Steps.{after_guard, after_set, after_shift, after_forget}
 use Rattle.ed_rules.specs.declared.state.Undo.{Undo}
 use Rattle.ed_rules.specs.declared.state.State.{State}
-use Rattle.ed_rules.specs.Marks.{mark_name, for_each_sure}
+use Rattle.ed_rules.specs.Marks.{for_each_sure}
 use Rattle.ed_rules.specs.States.{changed, old_of, undo_to}
 
 -- what a need gives: the value where it is met, else its fault
@@ -32,7 +32,7 @@ without_addresses zone = after_forget (after_forget (after_forget zone first_add
 
 -- a line that is marked lies from 1 to the last line
 unfoldable pub mark_bounded : ℕ → Bounds → Bounds
-mark_bounded letter zone = after_guard (after_guard zone name.zero (mark_name letter) (negsuc 0)) (mark_name letter) last_line (pos 0)
+mark_bounded letter zone = after_guard (after_guard zone name.zero (mark letter) (negsuc 0)) (mark letter) last_line (pos 0)
 
 -- the addresses are forgotten, and what all buffers have is taken up
 unfoldable pub ended : List Bool → Bounds → Bounds
@@ -56,9 +56,9 @@ modified listed start s = record s { changed = changed; undo = undo_after listed
 -- one mark, where low to high lines come after x + c
 unfoldable pub mark_pushed : ℕ → ℤ → Option ℤ → Option ℤ → ℕ → Bounds → Bounds
 mark_pushed x c low high letter zone =
-    if known zone (mark_name letter) x c then zone
-    else if known zone x (mark_name letter) (negsuc 0 -ℤ c) then after_shift zone (mark_name letter) low high
-    else after_shift zone (mark_name letter) (Some (pos 0)) high
+    if known zone (mark letter) x c then zone
+    else if known zone x (mark letter) (negsuc 0 -ℤ c) then after_shift zone (mark letter) low high
+    else after_shift zone (mark letter) (Some (pos 0)) high
 
 -- low to high lines come after x + c
 unfoldable pub inserted : ℕ → ℤ → Option ℤ → Option ℤ → List Bool → Bounds → Bounds
@@ -80,18 +80,18 @@ lifted x zone =
 unfoldable pub mark_moved : ℕ → ℕ → State → State
 mark_moved n letter s =
     with_zone
-    (after_shift s.zone (mark_name letter) (sum_of (least s.zone first_address second_address) (Some (pos n -ℤ pos 1)))
+    (after_shift s.zone (mark letter) (sum_of (least s.zone first_address second_address) (Some (pos n -ℤ pos 1)))
     (sum_of (greatest s.zone first_address second_address) (Some (pos n -ℤ pos 1)))) s
 
 -- the line of the letter may be gone
 unfoldable pub mark_lost : ℕ → State → State
-mark_lost letter s = record s { zone = after_forget s.zone (mark_name letter); marks = slice_set s.marks letter false }
+mark_lost letter s = record s { zone = after_forget s.zone (mark letter); marks = slice_set s.marks letter false }
 
 -- one letter of the replacement of the addressed lines by n lines
 unfoldable pub mark_replaced : ℕ → ℕ → State → State
 mark_replaced n letter s =
-    if known s.zone (mark_name letter) first_address (negsuc 0) then s
-    else if known s.zone second_address (mark_name letter) (negsuc 0) then mark_moved n letter s
+    if known s.zone (mark letter) first_address (negsuc 0) then s
+    else if known s.zone second_address (mark letter) (negsuc 0) then mark_moved n letter s
     else mark_lost letter s
 
 -- the target becomes the number of lines that are left: the first address less the second is from low to high, the last line less the second is

@@ -1,6 +1,7 @@
 -- What a state stands for: the editor's states of which all that it says is true.
 use Rattle.std.specs.Prelude.{◌≡◌, ℕ, ◌+◌, ◌<◌, ◌≤◌, pos, Bool, true, false, List, length, Option, Some, None, nat_eq, if◌then◌else◌}
 use Rattle.std.specs.List.{list_any}
+use Rattle.zones.specs.Name.{mark}
 use Rattle.zones.specs.Name as name
 use Rattle.zones.specs.Zone.{Bounds, Numbers, Holds}
 use Rattle.ed_base.specs.Buffer.{Line, marked_place, KnowLetters, AtMostOnce}
@@ -16,7 +17,7 @@ use Rattle.ed_rules.specs.declared.state.Replacements.{Replacements}
 use Rattle.ed_rules.specs.declared.state.Undo.{Undo}
 use Rattle.ed_rules.specs.declared.state.State.{State}
 use Rattle.ed_rules.specs.Choices.{has_choice}
-use Rattle.ed_rules.specs.Marks.{mark_name, is_sure}
+use Rattle.ed_rules.specs.Marks.{is_sure}
 
 -- the numbers are those of these lines and this current line: each sure letter marks a line, and its number is that line's
 pub record Reads (marks : List Bool) (lines : List Line) (current : ℕ) (number : Numbers) : Type 0 where
@@ -24,7 +25,7 @@ pub record Reads (marks : List Bool) (lines : List Line) (current : ℕ) (number
   pub current_is : number name.current_line ≡ pos current
   pub last_is : number name.last_line ≡ pos (length lines)
   pub marks_are : (letter : ℕ) → letter < 26 → is_sure marks letter ≡ true →
-      (place : ℕ) × (marked_place letter lines ≡ Some place) × (number (mark_name letter) ≡ pos (place + 1))
+      (place : ℕ) × (marked_place letter lines ≡ Some place) × (number (mark letter) ≡ pos (place + 1))
 
 -- the zone and the sure marks hold of lines and a current line among them, by these numbers
 pub record HoldsBy (zone : Bounds) (marks : List Bool) (lines : List Line) (current : ℕ) (number : Numbers) : Type 0 where

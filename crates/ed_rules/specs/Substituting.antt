@@ -3,7 +3,7 @@ use Rattle.std.specs.Prelude.{ℕ, pos, negsuc, Bool, true, false, ◌&&◌, not
 use Rattle.std.specs.List.{list_all, list_any}
 use Rattle.ed_base.specs.declared.fault.Fault.{Fault}
 use Rattle.ed_base.specs.declared.fault.Fault.TheVariants as fault
-use Rattle.zones.specs.Name.{current_line, last_line, first_address, second_address}
+use Rattle.zones.specs.Name.{current_line, last_line, first_address, second_address, mark}
 use Rattle.zones.specs.Zone.{Bounds}
 use Rattle.zones.specs.Known.{known, greatest}
 use Rattle.zones.specs.Steps.{after_guard, after_set, after_shift, after_forget}
@@ -13,7 +13,7 @@ use Rattle.ed_syntax.specs.declared.replacement.Which.TheVariants as which
 use Rattle.ed_syntax.specs.meaning.Values.{◌>>◌}
 use Rattle.ed_rules.specs.declared.state.Replacements.{Replacements}
 use Rattle.ed_rules.specs.declared.state.State.{State}
-use Rattle.ed_rules.specs.Marks.{mark_name, for_each_sure}
+use Rattle.ed_rules.specs.Marks.{for_each_sure}
 use Rattle.ed_rules.specs.Choices.{Choice}
 use Rattle.ed_rules.specs.StandsFor.{ends_line}
 use Rattle.ed_rules.specs.Order.{join}
@@ -59,9 +59,9 @@ is_sure_to_match patterns choice = list_all is_always patterns && takes_first ch
 -- One mark: after the lines it stays, or goes down by what splits may add; before them it stays; among them it may be lost.
 unfoldable pub mark_substituted : (splits : Bool) → ℕ → State → State
 mark_substituted splits letter s =
-    if known s.zone second_address (mark_name letter) (negsuc 0)
-    then (if splits then with_zone (after_shift s.zone (mark_name letter) (Some (pos 0)) None) s else s)
-    else if known s.zone (mark_name letter) first_address (negsuc 0) then s
+    if known s.zone second_address (mark letter) (negsuc 0)
+    then (if splits then with_zone (after_shift s.zone (mark letter) (Some (pos 0)) None) s else s)
+    else if known s.zone (mark letter) first_address (negsuc 0) then s
     else mark_lost letter s
 
 abbrev pub marks_substituted : (splits : Bool) → State → State

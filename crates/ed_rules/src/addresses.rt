@@ -9,7 +9,6 @@ ghost use Rattle.ed_rules.specs.Addresses.{is_always, in_buffer, set_from, found
 ghost use Rattle.ed_rules.specs.Reaching.{Reaches};
 
 use crate::choices::Choices;
-use crate::pieces::mark;
 use crate::state::State;
 use bre_parse::Bre;
 use bre_parse::fault::BreFault;
@@ -157,8 +156,8 @@ impl State {
             Base::Current => self.set_from(x, Name::CURRENT_LINE, address.offset),
             Base::Last => self.set_from(x, Name::LAST_LINE, address.offset),
             Base::Marked(letter) => {
-                if self.marks.is_sure(letter.place()) {
-                    self.set_from(x, mark(letter.place()), address.offset)
+                if self.marks.is_sure(*letter) {
+                    self.set_from(x, Name::of(*letter), address.offset)
                 } else {
                     Err(Fault::Mark)
                 }

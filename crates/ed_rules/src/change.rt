@@ -1,13 +1,13 @@
 //! What rules do to a whole state when the buffer changes: the change itself, and the replacement of lines.
 
-ghost use Rattle.std.specs.Prelude.{◌≡◌, ◌<◌};
+ghost use Rattle.std.specs.Prelude.{◌≡◌};
 ghost use Rattle.ed_rules.specs.Marks.{for_each_sure};
 ghost use Rattle.ed_rules.specs.Pieces.{modified, mark_moved, mark_lost, mark_replaced, replaced};
-ghost use Rattle.ed_rules.specs.States.{old_of};
 
 use crate::marks::Marks;
-use crate::pieces::{Distances, mark, move_mark, set_current_replaced, set_left_over};
+use crate::pieces::{Distances, move_mark, set_current_replaced, set_left_over};
 use crate::state::{Changed, State, find_old};
+use ed_base::Letter;
 use zones::Name;
 
 impl State {
@@ -24,21 +24,20 @@ impl State {
     }
 
     #[tactic(auto, unfolding(crate::specs::Pieces::mark_lost))]
-    pub(crate) fn lose_mark(&mut self, letter: usize)
-        requires letter { letter < 26 }
+    pub(crate) fn lose_mark(&mut self, letter: Letter)
         ensures exact { self.new ≡ mark_lost letter self.old }
     {
-        self.zone.forget(mark(letter));
+        self.zone.forget(Name::of(letter));
         self.marks.remove(letter);
     }
 
     #[tactic(auto, unfolding(crate::specs::Pieces::mark_replaced, crate::specs::Pieces::mark_moved))]
-    fn replace_mark(&mut self, count: usize, letter: usize)
-        requires letter { letter < 26 }
+    fn replace_mark(&mut self, count: usize, letter: Letter)
         ensures exact { self.new ≡ mark_replaced count letter self.old }
     {
-        if !self.zone.is_known(mark(letter), Name::FIRST_ADDRESS, -1) {
-            if self.zone.is_known(Name::SECOND_ADDRESS, mark(letter), -1) {
+        let mark = Name::of(letter);
+        if !self.zone.is_known(mark, Name::FIRST_ADDRESS, -1) {
+            if self.zone.is_known(Name::SECOND_ADDRESS, mark, -1) {
                 move_mark(&mut self.zone, count, letter);
             } else {
                 self.lose_mark(letter);
@@ -49,7 +48,8 @@ impl State {
     fn replace_marks(&mut self, count: usize, marks: &Marks)
         ensures exact { self.new ≡ for_each_sure (mark_replaced count) marks.now 26 self.old }
     {
-        for letter in 0..26 {
+        for place in 0..Letter::COUNT {
+            let letter = Letter::at(place);
             if marks.is_sure(letter) {
                 self.replace_mark(count, letter);
             }

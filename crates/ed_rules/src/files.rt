@@ -1,6 +1,6 @@
 //! The rules of the commands on files (XCU ed, "Edit Command", "Filename Command", "Quit Command", "Read Command", "Write Command").
 
-ghost use Rattle.std.specs.Prelude.{◌≡◌, IfOk, OnOk};
+ghost use Rattle.std.specs.Prelude.{◌≡◌, OnOk};
 ghost use Rattle.ed_syntax.specs.PublicTypes.{addresses_value};
 ghost use Rattle.ed_rules.specs.Files.{named, named_first, named_anew, maybe_modified, current_read, lines_read, file_read, whole_or_ranged, changed_by_lines, changed_by_write, file_written, without_letters, zone_loaded, loaded, saved, edited, edited_anyway, file_named};
 ghost use Rattle.ed_rules.specs.Reaching.{Reaches};
@@ -8,9 +8,9 @@ ghost use Rattle.ed_rules.specs.Reaching.{Reaches};
 use crate::choices::Choices;
 use crate::marks::Marks;
 use crate::order::{changed_of_both, undo_of_both};
-use crate::pieces::{guard_by, insert, mark, wide};
+use crate::pieces::{guard_by, insert, wide};
 use crate::state::{Changed, State, Undo};
-use ed_base::{Bytes, Fault};
+use ed_base::{Bytes, Fault, Letter};
 use ed_syntax::Addresses;
 use std::alloc::AllocError;
 use zones::{Name, Zone};
@@ -61,8 +61,8 @@ fn changed_by_write(given: &Addresses, zone: &Zone, changed: Changed) -> Changed
 fn forget_letters(zone: &mut Zone)
     ensures exact { zone.new ≡ without_letters 26 zone.old }
 {
-    for letter in 0..26 {
-        zone.forget(mark(letter));
+    for place in 0..Letter::COUNT {
+        zone.forget(Name::of(Letter::at(place)));
     }
 }
 

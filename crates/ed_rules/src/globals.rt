@@ -1,7 +1,8 @@
 //! The rules of global commands (XCU ed, "Global Command", "Global Non-Matched Command").
 
 ghost use Rattle.std.specs.Prelude.{◌≡◌, true, Ok, Option, None, IfOk};
-ghost use Rattle.ed_syntax.specs.PublicTypes.{verb_value, command_value, step_value};
+ghost use Rattle.ed_syntax.specs.PublicTypes.{command_value, step_value};
+ghost use Rattle.ed_syntax.specs.meaning.Verbs.{is_global};
 ghost use Rattle.ed_syntax.specs.meaning.States as editor;
 ghost use Rattle.ed_syntax.specs.meaning.States.{Kept};
 ghost use Rattle.ed_syntax.specs.meaning.Effects.{Outcome, Makes};
@@ -10,15 +11,14 @@ ghost use Rattle.ed_syntax.specs.meaning.Applied as editing;
 ghost use Rattle.ed_syntax.specs.declared.request.Answer.{Answer};
 ghost use Rattle.ed_rules.specs.Rules.{step, fault_of};
 ghost use Rattle.ed_rules.specs.StandsFor.{StandsFor};
-ghost use Rattle.ed_syntax.specs.meaning.Verbs.{may_alter};
-ghost use Rattle.ed_rules.specs.Globals.{is_global, line_taken, body_entry, list_may_alter, loop_end};
+ghost use Rattle.ed_rules.specs.Globals.{line_taken, body_entry, list_may_alter, loop_end};
 ghost use Rattle.ed_rules.specs.GlobalSoundness.{TurnIsSound, EndIsSound};
 
 use crate::laws::globals_are_sound;
 use crate::pieces::end;
 use crate::rules::after;
 use crate::state::{State, Undo};
-use ed_syntax::{Command, Verb};
+use ed_syntax::Command;
 use std::alloc::AllocError;
 use zones::{Name, Zone};
 
@@ -32,30 +32,12 @@ fn take_line(zone: &mut Zone)
     zone.guard(Name::CURRENT_LINE, Name::LAST_LINE, 0);
 }
 
-/// Whether a command may change the buffer, as part of a list.
-fn may_alter(verb: &Verb) -> bool
-    ensures value { result ≡ may_alter (verb_value verb.now) }
-{
-    match verb {
-        Verb::Append(_)
-        | Verb::Change(_)
-        | Verb::Delete
-        | Verb::Insert(_)
-        | Verb::Join
-        | Verb::Move(_)
-        | Verb::Copy(_)
-        | Verb::Substitute { .. }
-        | Verb::ReadFile(_) => true,
-        _ => false,
-    }
-}
-
 /// Whether a command of a list may change the buffer.
 fn list_may_alter(command: &Command) -> bool
     ensures value { result ≡ list_may_alter (step_value command.now).list }
 {
     for listed in command.list() {
-        if may_alter(&listed.verb) {
+        if listed.verb.takes().alters {
             return true;
         }
     }

@@ -9,6 +9,7 @@ mod globals;
 mod kept;
 mod kept_undo;
 mod laws;
+mod line_bounds;
 mod lines;
 mod marks;
 mod moves;
@@ -27,6 +28,7 @@ pub use laws::{
     commands_are_sound, exact_commands_are_exact, globals_are_sound, states_stay_formed,
     weaker_states_stand_for_more,
 };
+pub use line_bounds::LineBounds;
 pub use marks::Marks;
 pub use rules::{after, needs, outcome_into};
 pub use state::{Changed, Old, Replacements, State, Undo};

@@ -5,8 +5,9 @@ ghost use Rattle.ed_syntax.specs.PublicTypes.{addresses_value};
 ghost use Rattle.ed_rules.specs.Pieces.{with_zone};
 ghost use Rattle.ed_rules.specs.Lines.{appended, current_inserted, put_before, lifted_range, changed_to, deleted, joined, joined_given, marked, current_at, copied_lines};
 
-use crate::pieces::{insert, lift, mark, plus};
+use crate::pieces::{insert, lift, plus};
 use crate::state::State;
+use ed_base::Letter;
 use ed_syntax::Addresses;
 use std::alloc::AllocError;
 use zones::{Name, Zone};
@@ -141,11 +142,11 @@ impl State {
     }
 
     /// `k`
-    pub(crate) fn mark_line(&mut self, letter: usize)
-        requires letter { letter < 26 }
+    pub(crate) fn mark_line(&mut self, letter: Letter)
         ensures exact { self.new ≡ marked letter self.old }
+        ensures within { letter < 26 }
     {
-        self.zone.set(mark(letter), Name::FIRST_ADDRESS, 0);
+        self.zone.set(Name::of(letter), Name::FIRST_ADDRESS, 0);
         self.marks.add(letter);
     }
 

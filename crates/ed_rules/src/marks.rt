@@ -1,14 +1,15 @@
 //! The letters that surely mark a line.
 
-ghost use Rattle.std.specs.Prelude.{◌≡◌, ◌<◌, true, false, length, slice_set, IsTrue, ◌↔◌};
+ghost use Rattle.std.specs.Prelude.{◌≡◌, true, false, length, slice_set, IsTrue, ◌↔◌};
 ghost use Rattle.ed_rules.specs.Marks.{is_sure, no_marks, both_sure, AreAmong};
 
+use ed_base::Letter;
 use std::marker::Model;
 
-/// For each of the letters `a` to `z` whether it surely marks a line. Letters count from 0, which is `a`.
+/// For each letter whether it surely marks a line.
 #[derive(Clone, Copy, PartialEq, Eq, Debug)]
 pub struct Marks {
-    sure: [bool; 26],
+    sure: [bool; Letter::COUNT],
 }
 
 impl Model for Marks {
@@ -28,41 +29,40 @@ impl Marks {
     pub fn none() -> Self
         ensures value { result ≡ no_marks }
     {
-        Marks { sure: [false; 26] }
+        Marks {
+            sure: [false; Letter::COUNT],
+        }
     }
 
     /// Whether a letter is sure.
-    pub fn is_sure(&self, letter: usize) -> bool
-        requires letter { letter < 26 }
+    pub fn is_sure(&self, letter: Letter) -> bool
         ensures value { result ≡ is_sure self.now letter }
         ensures well_formed { length self.now ≡ 26 }
     {
-        self.sure[letter]
+        self.sure[letter.place()]
     }
 
     /// Makes a letter sure.
-    pub fn add(&mut self, letter: usize)
-        requires letter { letter < 26 }
+    pub fn add(&mut self, letter: Letter)
         ensures value { self.new ≡ slice_set self.old letter true }
     {
-        self.sure[letter] = true;
+        self.sure[letter.place()] = true;
     }
 
     /// Makes a letter unsure.
-    pub fn remove(&mut self, letter: usize)
-        requires letter { letter < 26 }
+    pub fn remove(&mut self, letter: Letter)
         ensures value { self.new ≡ slice_set self.old letter false }
     {
-        self.sure[letter] = false;
+        self.sure[letter.place()] = false;
     }
 
     /// The letters that are sure in both.
     pub fn both(&self, other: &Marks) -> Marks
         ensures value { result ≡ both_sure self.now other.now }
     {
-        let mut sure = [false; 26];
-        for letter in 0..26 {
-            sure[letter] = self.sure[letter] && other.sure[letter];
+        let mut sure = [false; Letter::COUNT];
+        for place in 0..Letter::COUNT {
+            sure[place] = self.sure[place] && other.sure[place];
         }
         Marks { sure }
     }
@@ -71,8 +71,8 @@ impl Marks {
     pub fn are_among(&self, many: &Marks) -> bool
         ensures exact { IsTrue result ↔ AreAmong self.now many.now }
     {
-        for letter in 0..26 {
-            if self.sure[letter] && !many.sure[letter] {
+        for place in 0..Letter::COUNT {
+            if self.sure[place] && !many.sure[place] {
                 return false;
             }
         }

@@ -1,14 +1,14 @@
 //! The rule of `m`.
 
-ghost use Rattle.std.specs.Prelude.{◌≡◌, ◌<◌, ◌+ℤ◌, ◌≤ℤ◌, ◌^◌, pos};
+ghost use Rattle.std.specs.Prelude.{◌≡◌, ◌+ℤ◌, ◌≤ℤ◌, ◌^◌, pos};
 ghost use Rattle.ed_rules.specs.Marks.{for_each_sure};
-ghost use Rattle.ed_rules.specs.Move.{less, mark_moved_up, moved_up, mark_moved_down, moved_down, moved_lines};
+ghost use Rattle.ed_rules.specs.Move.{less, mark_moved_up, mark_moved_down, mark_moved, moved_up, moved_down, moved_lines};
 ghost use Rattle.ed_rules.specs.Reaching.{Reaches};
 
 use crate::marks::Marks;
-use crate::pieces::{mark, plus};
+use crate::pieces::plus;
 use crate::state::State;
-use ed_base::Fault;
+use ed_base::{Fault, Letter};
 use zones::{Name, Zone};
 
 /// A number less a bound.
@@ -24,11 +24,10 @@ fn less(number: i128, bound: Option<i64>) -> Option<i128>
 
 /// One mark of a move up. All tests ask the zone before.
 #[tactic(auto, unfolding(crate::specs::Move::mark_moved_up))]
-fn move_mark_up(zone: &mut Zone, before: &Zone, letter: usize)
-    requires letter { letter < 26 }
+fn move_mark_up(zone: &mut Zone, before: &Zone, letter: Letter)
     ensures exact { zone.new ≡ mark_moved_up before.now letter zone.old }
 {
-    let x = mark(letter);
+    let x = Name::of(letter);
     if before.is_known(x, Name::TARGET_ADDRESS, 0) || before.is_known(Name::SECOND_ADDRESS, x, -1) {
         return;
     }
@@ -47,39 +46,12 @@ fn move_mark_up(zone: &mut Zone, before: &Zone, letter: usize)
     }
 }
 
-fn move_marks_up(zone: &mut Zone, before: &Zone, marks: &Marks)
-    ensures exact { zone.new ≡ for_each_sure (mark_moved_up before.now) marks.now 26 zone.old }
-{
-    for letter in 0..26 {
-        if marks.is_sure(letter) {
-            move_mark_up(zone, before, letter);
-        }
-    }
-}
-
-/// The target is above the lines.
-#[tactic(auto, unfolding(crate::specs::Move::moved_up))]
-fn move_up(before: &Zone, marks: &Marks) -> Zone
-    ensures exact { result ≡ moved_up marks.now before.now }
-{
-    let mut zone = *before;
-    zone.set(Name::CURRENT_LINE, Name::TARGET_ADDRESS, 1);
-    zone.shift(
-        Name::CURRENT_LINE,
-        before.least(Name::SECOND_ADDRESS, Name::FIRST_ADDRESS),
-        before.bound(Name::SECOND_ADDRESS, Name::FIRST_ADDRESS),
-    );
-    move_marks_up(&mut zone, before, marks);
-    zone
-}
-
 /// One mark of a move down. All tests ask the zone before.
 #[tactic(auto, unfolding(crate::specs::Move::mark_moved_down))]
-fn move_mark_down(zone: &mut Zone, before: &Zone, letter: usize)
-    requires letter { letter < 26 }
+fn move_mark_down(zone: &mut Zone, before: &Zone, letter: Letter)
     ensures exact { zone.new ≡ mark_moved_down before.now letter zone.old }
 {
-    let x = mark(letter);
+    let x = Name::of(letter);
     if before.is_known(x, Name::FIRST_ADDRESS, -1) || before.is_known(Name::TARGET_ADDRESS, x, -1) {
         return;
     }
@@ -98,14 +70,47 @@ fn move_mark_down(zone: &mut Zone, before: &Zone, letter: usize)
     }
 }
 
-fn move_marks_down(zone: &mut Zone, before: &Zone, marks: &Marks)
-    ensures exact { zone.new ≡ for_each_sure (mark_moved_down before.now) marks.now 26 zone.old }
+/// Where the target of a move is: above the lines, or after them.
+#[derive(Clone, Copy)]
+pub(crate) enum Way {
+    Up,
+    Down,
+}
+
+fn move_mark(zone: &mut Zone, before: &Zone, way: Way, letter: Letter)
+    ensures exact { zone.new ≡ mark_moved way before.now letter zone.old }
 {
-    for letter in 0..26 {
+    match way {
+        Way::Up => move_mark_up(zone, before, letter),
+        Way::Down => move_mark_down(zone, before, letter),
+    }
+}
+
+fn move_marks(zone: &mut Zone, before: &Zone, way: Way, marks: &Marks)
+    ensures exact { zone.new ≡ for_each_sure (mark_moved way before.now) marks.now 26 zone.old }
+{
+    for place in 0..Letter::COUNT {
+        let letter = Letter::at(place);
         if marks.is_sure(letter) {
-            move_mark_down(zone, before, letter);
+            move_mark(zone, before, way, letter);
         }
     }
+}
+
+/// The target is above the lines.
+#[tactic(auto, unfolding(crate::specs::Move::moved_up))]
+fn move_up(before: &Zone, marks: &Marks) -> Zone
+    ensures exact { result ≡ moved_up marks.now before.now }
+{
+    let mut zone = *before;
+    zone.set(Name::CURRENT_LINE, Name::TARGET_ADDRESS, 1);
+    zone.shift(
+        Name::CURRENT_LINE,
+        before.least(Name::SECOND_ADDRESS, Name::FIRST_ADDRESS),
+        before.bound(Name::SECOND_ADDRESS, Name::FIRST_ADDRESS),
+    );
+    move_marks(&mut zone, before, Way::Up, marks);
+    zone
 }
 
 /// The target is after the lines.
@@ -115,7 +120,7 @@ fn move_down(before: &Zone, marks: &Marks) -> Zone
 {
     let mut zone = *before;
     zone.set(Name::CURRENT_LINE, Name::TARGET_ADDRESS, 0);
-    move_marks_down(&mut zone, before, marks);
+    move_marks(&mut zone, before, Way::Down, marks);
     zone
 }
 

@@ -1,24 +1,17 @@
 //! The pieces that rules share, on a zone: the end of a rule, insertion, line 0 as 1.
 
-ghost use Rattle.std.specs.Prelude.{◌≡◌, ◌<◌, ◌+ℤ◌, ◌-ℤ◌, ◌≤ℤ◌, ◌^◌, pos, Some};
-ghost use Rattle.zones.specs.Name.{last_line, first_address, second_address};
-ghost use Rattle.zones.specs.Bound.{sum_of, negative_of};
+ghost use Rattle.std.specs.Prelude.{◌≡◌, ◌+ℤ◌, ◌-ℤ◌, ◌≤ℤ◌, ◌^◌, pos, Some};
+ghost use Rattle.zones.specs.Name.{last_line, first_address, second_address, mark};
+ghost use Rattle.zones.specs.Bound.{sum_of};
 ghost use Rattle.zones.specs.Zone.{bound};
 ghost use Rattle.zones.specs.Known.{least, greatest};
 ghost use Rattle.zones.specs.Steps.{after_shift};
-ghost use Rattle.ed_rules.specs.Marks.{mark_name, for_each_sure};
+ghost use Rattle.ed_rules.specs.Marks.{for_each_sure};
 ghost use Rattle.ed_rules.specs.Pieces.{guarded_by, without_addresses, mark_bounded, ended, mark_pushed, inserted, lifted, left_by, current_left, current_replaced};
 
 use crate::marks::Marks;
+use ed_base::Letter;
 use zones::{Name, Zone};
-
-/// The name of the line that a letter marks.
-pub(crate) fn mark(letter: usize) -> Name
-    requires letter { letter < 26 }
-    ensures value { result ≡ mark_name letter }
-{
-    Name::from_place(6 + letter)
-}
 
 /// A bound as a wide number.
 pub(crate) fn wide(bound: Option<i64>) -> Option<i128>
@@ -51,18 +44,18 @@ pub(crate) fn guard_by(zone: &mut Zone, x: Name, y: Name, c: Option<i128>)
 }
 
 #[tactic(auto, unfolding(crate::specs::Pieces::mark_bounded))]
-fn bound_mark(zone: &mut Zone, letter: usize)
-    requires letter { letter < 26 }
+fn bound_mark(zone: &mut Zone, letter: Letter)
     ensures exact { zone.new ≡ mark_bounded letter zone.old }
 {
-    zone.guard(Name::ZERO, mark(letter), -1);
-    zone.guard(mark(letter), Name::LAST_LINE, 0);
+    zone.guard(Name::ZERO, Name::of(letter), -1);
+    zone.guard(Name::of(letter), Name::LAST_LINE, 0);
 }
 
 fn bound_marks(zone: &mut Zone, marks: &Marks)
     ensures exact { zone.new ≡ for_each_sure mark_bounded marks.now 26 zone.old }
 {
-    for letter in 0..26 {
+    for place in 0..Letter::COUNT {
+        let letter = Letter::at(place);
         if marks.is_sure(letter) {
             bound_mark(zone, letter);
         }
@@ -91,16 +84,23 @@ pub(crate) fn end(zone: &mut Zone, marks: &Marks)
 
 /// One mark, where `low` to `high` lines come after `x + c`.
 #[tactic(auto, unfolding(crate::specs::Pieces::mark_pushed))]
-fn push_mark(zone: &mut Zone, x: Name, c: i64, low: Option<i128>, high: Option<i128>, letter: usize)
-    requires letter { letter < 26 }
+fn push_mark(
+    zone: &mut Zone,
+    x: Name,
+    c: i64,
+    low: Option<i128>,
+    high: Option<i128>,
+    letter: Letter,
+)
     requires small { (pos 0 ≤ℤ (c +ℤ pos 1)) × (c ≤ℤ pos 0) }
     ensures exact { zone.new ≡ mark_pushed x c low high letter zone.old }
 {
-    if !zone.is_known(mark(letter), x, c) {
-        if zone.is_known(x, mark(letter), -1 - c) {
-            zone.shift_wide(mark(letter), low, high);
+    let mark = Name::of(letter);
+    if !zone.is_known(mark, x, c) {
+        if zone.is_known(x, mark, -1 - c) {
+            zone.shift_wide(mark, low, high);
         } else {
-            zone.shift_wide(mark(letter), Some(0), high);
+            zone.shift_wide(mark, Some(0), high);
         }
     }
 }
@@ -116,7 +116,8 @@ fn push_marks(
     requires small { (pos 0 ≤ℤ (c +ℤ pos 1)) × (c ≤ℤ pos 0) }
     ensures exact { zone.new ≡ for_each_sure (mark_pushed x c low high) marks.now 26 zone.old }
 {
-    for letter in 0..26 {
+    for place in 0..Letter::COUNT {
+        let letter = Letter::at(place);
         if marks.is_sure(letter) {
             push_mark(zone, x, c, low, high, letter);
         }
@@ -157,16 +158,15 @@ pub(crate) fn lift(zone: &mut Zone, x: Name)
 }
 
 /// A mark after the replaced lines moves as they become `count` lines.
-pub(crate) fn move_mark(zone: &mut Zone, count: usize, letter: usize)
-    requires letter { letter < 26 }
-    ensures exact { zone.new ≡ after_shift zone.old (mark_name letter)
+pub(crate) fn move_mark(zone: &mut Zone, count: usize, letter: Letter)
+    ensures exact { zone.new ≡ after_shift zone.old (mark letter)
         (sum_of (least zone.old 3 4) (Some (pos count -ℤ pos 1)))
         (sum_of (greatest zone.old 3 4) (Some (pos count -ℤ pos 1))) }
 {
     let low = zone.least(Name::FIRST_ADDRESS, Name::SECOND_ADDRESS);
     let high = zone.bound(Name::FIRST_ADDRESS, Name::SECOND_ADDRESS);
     let growth = count as i128 - 1;
-    zone.shift_wide(mark(letter), plus(low, growth), plus(high, growth));
+    zone.shift_wide(Name::of(letter), plus(low, growth), plus(high, growth));
 }
 
 /// How far the addresses and the last line lie from each other, where a zone says it.

@@ -106,7 +106,7 @@ impl State {
                 if !self.zone.is_known(Name::FIRST_ADDRESS, Name::LAST_LINE, 0) {
                     return Err(Fault::Address);
                 }
-                self.mark_line(letter.place());
+                self.mark_line(*letter);
             }
             Verb::Write(_) => self.make_current(Name::SECOND_ADDRESS),
             Verb::Null => self.make_current(Name::FIRST_ADDRESS),

@@ -1,6 +1,6 @@
 //! The rule of `s` (XCU ed, "Substitute Command").
 
-ghost use Rattle.std.specs.Prelude.{◌≡◌, ◌<◌, IfOk};
+ghost use Rattle.std.specs.Prelude.{◌≡◌, IfOk};
 ghost use Rattle.std.specs.List.{list_any};
 ghost use Rattle.ed_rules.specs.Marks.{for_each_sure};
 ghost use Rattle.ed_rules.specs.StandsFor.{ends_line};
@@ -10,9 +10,9 @@ ghost use Rattle.ed_rules.specs.Reaching.{Reaches};
 use crate::addresses::all_match_always;
 use crate::choices::Choices;
 use crate::marks::Marks;
-use crate::pieces::{guard_by, mark, wide};
+use crate::pieces::{guard_by, wide};
 use crate::state::{Replacements, State};
-use ed_base::Fault;
+use ed_base::{Fault, Letter};
 use ed_syntax::{Part, Pattern, Replacement, Which};
 use std::alloc::AllocError;
 use zones::{Name, Zone};
@@ -113,15 +113,15 @@ impl State {
     }
 
     #[tactic(auto, unfolding(crate::specs::Substituting::mark_substituted))]
-    fn substitute_mark(&mut self, splits: bool, letter: usize)
-        requires letter { letter < 26 }
+    fn substitute_mark(&mut self, splits: bool, letter: Letter)
         ensures exact { self.new ≡ mark_substituted splits letter self.old }
     {
-        if self.zone.is_known(Name::SECOND_ADDRESS, mark(letter), -1) {
+        let mark = Name::of(letter);
+        if self.zone.is_known(Name::SECOND_ADDRESS, mark, -1) {
             if splits {
-                self.zone.shift(mark(letter), Some(0), None);
+                self.zone.shift(mark, Some(0), None);
             }
-        } else if !self.zone.is_known(mark(letter), Name::FIRST_ADDRESS, -1) {
+        } else if !self.zone.is_known(mark, Name::FIRST_ADDRESS, -1) {
             self.lose_mark(letter);
         }
     }
@@ -129,7 +129,8 @@ impl State {
     fn substitute_marks(&mut self, splits: bool, marks: &Marks)
         ensures exact { self.new ≡ for_each_sure (mark_substituted splits) marks.now 26 self.old }
     {
-        for letter in 0..26 {
+        for place in 0..Letter::COUNT {
+            let letter = Letter::at(place);
             if marks.is_sure(letter) {
                 self.substitute_mark(splits, letter);
             }

@@ -3,5 +3,5 @@ use Rattle.ed_rules.specs.Marks.{for_each_sure}
 use Rattle.ed_rules.specs.Pieces.{mark_pushed}
 use Rattle.ed_rules.proofs.pieces.push_marks.Given as goal
 
-abbrev pub invariant-loop-letter : goal.invariant-loop-letter
-invariant-loop-letter l = l.zone ≡ for_each_sure (mark_pushed l.x l.c l.low l.high) l.marks l.letter l.initial.zone
+abbrev pub invariant-loop-place : goal.invariant-loop-place
+invariant-loop-place l = l.zone ≡ for_each_sure (mark_pushed l.x l.c l.low l.high) l.marks l.place l.initial.zone

@@ -1,6 +1,6 @@
 use Rattle.std.proofs.Common.{ℕ, List, subst}
 use Rattle.ed_base.specs.Lines.{AreLines}
-use Rattle.ed_syntax.proofs.spelling.ReadableLemmas.{are-lines}
+use Rattle.ed_syntax.proofs.spelled.ReadableLemmas.{are-lines}
 use Rattle.ed_rules.proofs.rules.text_is_lines.Goals as goal
 
 pub returns : goal.returns

@@ -3,10 +3,10 @@ use Rattle.ed_rules.proofs.Letters.{both_sure-each}
 use Rattle.ed_rules.proofs.marks.Marks.both.Goals as goal
 
 pub invariant_of-result : goal.invariant_of-result
-invariant_of-result c = c.loop-letter.invariant.size
+invariant_of-result c = c.loop-place.invariant.size
 
 pub returns : goal.returns
 returns c = record {
   value = rw (← c.self.view_is, ← c.other.view_is)
-      (both_sure-each c.loop-letter.sure c.self.inside.sure c.other.inside.sure c.loop-letter.invariant.size (λ k h. c.loop-letter.invariant.done k (omega arith)));
+      (both_sure-each c.loop-place.sure c.self.inside.sure c.other.inside.sure c.loop-place.invariant.size (λ k h. c.loop-place.invariant.done k (omega arith)));
 }

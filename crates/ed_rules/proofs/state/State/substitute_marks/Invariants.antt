@@ -3,5 +3,5 @@ use Rattle.ed_rules.specs.Marks.{for_each_sure}
 use Rattle.ed_rules.specs.Substituting.{mark_substituted}
 use Rattle.ed_rules.proofs.state.State.substitute_marks.Given as goal
 
-abbrev pub invariant-loop-letter : goal.invariant-loop-letter
-invariant-loop-letter l = l.self ≡ for_each_sure (mark_substituted l.splits) l.marks l.letter l.initial.self
+abbrev pub invariant-loop-place : goal.invariant-loop-place
+invariant-loop-place l = l.self ≡ for_each_sure (mark_substituted l.splits) l.marks l.place l.initial.self
