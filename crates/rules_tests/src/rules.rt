@@ -1,7 +1,7 @@
 //! What the rules need of commands, and what they leave.
 
 use crate::walking::{Start, Unreached, lines, pass_all, state_of, walk};
-use ed_base::Fault;
+use ed_base::{Fault, Letter};
 use ed_rules::{Changed, State};
 use std::alloc::{AllocError, Global};
 use std::test::Fail;
@@ -187,14 +187,14 @@ fn bring_back(one: &State, state: &mut State) -> Result<(), AllocError> {
 /// Whether a state is one of four lines at most where `a` is sure and undo finds a buffer.
 fn is_near(state: &State) -> bool {
     state.zone.bound(Name::LAST_LINE, Name::ZERO) == Some(4)
-        && state.marks.is_sure(0)
+        && state.marks.is_sure(Letter::at(0))
         && state.undo.was.is_some()
 }
 
 /// Whether a state is one of nine lines at most where `a` isn't sure and undo finds no buffer.
 fn is_wide(state: &State) -> bool {
     state.zone.bound(Name::LAST_LINE, Name::ZERO) == Some(9)
-        && !state.marks.is_sure(0)
+        && !state.marks.is_sure(Letter::at(0))
         && state.undo.was.is_none()
 }
 

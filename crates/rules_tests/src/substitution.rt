@@ -1,7 +1,7 @@
 //! What `s` needs, and what it leaves.
 
 use crate::walking::{Known, Start, Unreached, first_unlike, lines, pass_all, state_of};
-use ed_base::Fault;
+use ed_base::{Fault, Letter};
 use ed_rules::{Changed, Replacements, State, after, needs};
 use ed_syntax::{Command, read_script};
 use std::alloc::{AllocError, Global};
@@ -145,7 +145,8 @@ static LEFT: [Left; 3] = [
 
 /// Only the marks on the lines themselves are given up.
 fn keeps_the_marks_around(state: &State) -> bool {
-    state.marks.is_sure(0) && !state.marks.is_sure(1) && state.marks.is_sure(2)
+    let marks = &state.marks;
+    marks.is_sure(Letter::at(0)) && !marks.is_sure(Letter::at(1)) && marks.is_sure(Letter::at(2))
 }
 
 /// What a state tells otherwise than the row.

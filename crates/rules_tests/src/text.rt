@@ -3,7 +3,7 @@
 use crate::certifying::{Final, fill, opened};
 use crate::walking::{Start, lines, named};
 use cert_check::{CertFault, Certificate};
-use ed_base::Bytes;
+use ed_base::{Bytes, Letter};
 use ed_rules::{Choices, State};
 use ed_syntax::{Script, read_script};
 use std::alloc::{AllocError, Global};
@@ -172,7 +172,7 @@ fn change_state(alloc: Global, change: &Change, state: &mut State) -> Result<(),
         state.zone.put(named(letter), Name::LAST_LINE, Some(0));
     }
     if change.z_is_sure {
-        state.marks.add(25);
+        state.marks.add(Letter::at(25));
     }
     state.patterns = choices(alloc, change.patterns)?;
     Ok(())

@@ -1,6 +1,6 @@
 //! The way of states through scripts, by the rules alone, and what is known of a state.
 
-use ed_base::{Bytes, Fault};
+use ed_base::{Bytes, Fault, Letter};
 use ed_rules::{State, outcome_into};
 use ed_syntax::{Command, read_script};
 use std::alloc::{AllocError, Global};
@@ -115,8 +115,10 @@ pub(crate) struct Known {
 
 /// The name that a byte spells.
 pub(crate) fn named(byte: u8) -> Name {
+    if let Some(letter) = Letter::new(byte) {
+        return Name::of(letter);
+    }
     match byte {
-        b'a'..=b'z' => Name::mark(byte),
         b'.' => Name::CURRENT_LINE,
         b'$' => Name::LAST_LINE,
         _ => Name::ZERO,
