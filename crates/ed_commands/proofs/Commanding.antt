@@ -12,7 +12,8 @@ use Rattle.ed_syntax.specs.meaning.Effects.{Outcome, Effect, Makes, Asks}
 use Rattle.ed_syntax.specs.meaning.Applied.{Placed, command, completed, effect_of, placed, settled, suffix_written}
 use Rattle.ed_commands.specs.declared.editor.past.Before.{Before}
 use Rattle.ed_commands.specs.declared.editor.Reply.TheVariants as reply
-use Rattle.ed_commands.specs.Editors.{Leaves, Replies, asks, kept_at, suffixed}
+use Rattle.ed_syntax.specs.meaning.Verbs.{asks}
+use Rattle.ed_commands.specs.Editors.{Leaves, Replies, kept_at, suffixed}
 use Rattle.ed_commands.proofs.Kept.{kept-same}
 
 -- a command at the lines that it names

@@ -23,7 +23,8 @@ use Rattle.ed_syntax.proofs.meaning.CommandSteps.{InOrder, PlacedWell, placed-we
 use Rattle.ed_syntax.proofs.meaning.FaultSteps.{Gives, gives, bind-gives, bind-any}
 use Rattle.ed_commands.specs.declared.editor.Reply.TheVariants as reply
 use Rattle.ed_commands.specs.Earlier.{PastValue, earlier_in, earlier_of, kept_of, opening_global, with_earlier}
-use Rattle.ed_commands.specs.Editors.{BeginsBy, Replies, asks, is_global, with_pattern}
+use Rattle.ed_syntax.specs.meaning.Verbs.{asks, is_global}
+use Rattle.ed_commands.specs.Editors.{BeginsBy, Replies, with_pattern}
 use Rattle.ed_commands.proofs.Blocks.{block-more, length-block, set-one, whole}
 use Rattle.ed_commands.proofs.Changes.{same-texts}
 use Rattle.ed_commands.proofs.Commanding.{unasked}

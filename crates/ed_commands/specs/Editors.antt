@@ -1,5 +1,5 @@
 -- An editor as a value: what it holds, and the fault that it has failed by.
-use Rattle.std.specs.Prelude.{ℕ, ◌≡◌, ◌≢◌, ◌+◌, ◌≤◌, Bool, true, false, ◌&&◌, List, [], ◌∷◌, ◌++◌, map, nat_le, Option, Some, None, Result, Ok, Err, IsOkAnd, MatchResult}
+use Rattle.std.specs.Prelude.{ℕ, ◌≡◌, ◌≢◌, ◌+◌, ◌≤◌, true, false, ◌&&◌, List, [], ◌∷◌, ◌++◌, map, nat_le, Option, Some, None, Result, Ok, Err, IsOkAnd, MatchResult}
 use Rattle.ed_base.specs.Buffer.{Line, plain_line, texts}
 use Rattle.ed_base.specs.declared.fault.Fault.{Fault}
 use Rattle.ed_base.specs.declared.fault.Fault.TheVariants.{Destination, Memory}
@@ -120,22 +120,9 @@ Leaves b old new output (Asks request) = ⊥
 abbrev pub suffixed : List ℕ → Option ed.Form → State → Result (List ℕ) Fault
 suffixed output suffix s = suffix_written suffix s >> λ more. Ok (output ++ more)
 
--- whether a command needs a file
-abbrev pub asks : ed.Verb → Bool
-asks (ed.ReadFile path) = true
-asks (ed.WriteFile path) = true
-asks (ed.Edit path) = true
-asks (ed.EditAnyway path) = true
-asks _ = false
-
 -- the state in which the path that a command uses is remembered where none was, or why there is none
 abbrev pub naming : Option (List ℕ) → State → Result State Fault
 naming path s = used_path path s >> λ used. Ok (named_first used s)
-
--- whether a command is a global one
-abbrev pub is_global : ed.Verb → Bool
-is_global (ed.Global sense pattern) = true
-is_global _ = false
 
 -- A global command begins: its list is run on the state that its own effect leaves, in which so many lines have the flag, and after
 -- what that wrote.

@@ -26,7 +26,6 @@ mod undoing;
 
 use ed_base::{Bytes, Fault, Pieces};
 use ed_syntax::{Answer, Command, Pattern, Replacement, Request};
-use files::asks;
 pub use globals::Begun;
 use line_store::LineStore;
 use lines::file_store;
@@ -65,7 +64,19 @@ impl<S: LineStore> Model for Editor<S> {
 
     ghost Value = { EditorValue };
 
-    ghost view = { λ e. record { state = record { lines = S.lines e.store; current = e.current; pattern = e.pattern; replacement = e.replacement; name = e.name; changed = e.changed; past = (earlier_of e.past (texts (S.lines e.store))).past; global = (earlier_of e.past (texts (S.lines e.store))).global }; failed = e.failed } };
+    ghost view = { λ e. record {
+      state = record {
+        lines = S.lines e.store;
+        current = e.current;
+        pattern = e.pattern;
+        replacement = e.replacement;
+        name = e.name;
+        changed = e.changed;
+        past = (earlier_of e.past (texts (S.lines e.store))).past;
+        global = (earlier_of e.past (texts (S.lines e.store))).global;
+      };
+      failed = e.failed;
+    } };
 
     ghost invariant = { λ e. e.current ≤ length (S.lines e.store) };
 }
@@ -172,7 +183,7 @@ impl<S: LineStore> Editor<S> {
     {
         match answer {
             Some(given) => Ok(Reply::Done(self.carry_out(command, given)?)),
-            None if asks(&command.verb) => Ok(Reply::Wants(self.request(command)?)),
+            None if command.verb.takes().asks => Ok(Reply::Wants(self.request(command)?)),
             // An answer that isn't asked for isn't looked at.
             None => Ok(Reply::Done(self.carry_out(command, Answer::Refused)?)),
         }

@@ -3,12 +3,11 @@ ghost use Rattle.std.specs.Prelude.{◌≡◌, ◌≢◌, ◌≤◌, ℕ, Bool, 
 ghost use Rattle.ed_base.specs.declared.fault.Fault.TheVariants.{Memory};
 ghost use Rattle.ed_syntax.specs.PublicTypes.{command_value, verb_value};
 ghost use Rattle.ed_syntax.specs.meaning.States.{last};
-ghost use Rattle.ed_syntax.specs.meaning.Verbs.{takes};
+ghost use Rattle.ed_syntax.specs.meaning.Verbs.{asks, takes};
 ghost use Rattle.ed_syntax.specs.meaning.Effects.{Asks, Makes, only};
 ghost use Rattle.ed_syntax.specs.meaning.Applied as applied;
 ghost use Rattle.ed_syntax.specs.meaning.Applied.{effect_of};
 ghost use Rattle.ed_syntax.specs.meaning.Files as file;
-ghost use Rattle.ed_commands.specs.Editors as editors;
 ghost use Rattle.ed_commands.specs.Editors.{Fits, Leaves, Tells, naming, span_value};
 
 use crate::editor::Editor;
@@ -19,16 +18,6 @@ use ed_base::{Bytes, Fault, Pieces};
 use ed_syntax::{Answer, Command, Pattern, Request, Verb};
 use line_store::LineStore;
 use std::alloc::AllocError;
-
-/// Whether a command needs a file.
-pub fn asks(verb: &Verb) -> bool
-    ensures value { result ≡ editors.asks (verb_value verb.now) }
-{
-    matches!(
-        verb,
-        Verb::ReadFile(_) | Verb::WriteFile(_) | Verb::Edit(_) | Verb::EditAnyway(_)
-    )
-}
 
 // The bytes of a file that was read; one that is missing is refused.
 fn bytes_read(answer: Answer) -> Result<Bytes, Fault>
@@ -43,7 +32,7 @@ fn bytes_read(answer: Answer) -> Result<Bytes, Fault>
 impl<S: LineStore> Editor<S> {
     /// The file that a command needs. Its addresses are evaluated again once there is an answer: what they change is put back.
     pub(crate) fn request(&mut self, command: &Command) -> Result<Request, Fault>
-        requires asks { IsTrue (editors.asks (command_value command.now).verb) }
+        requires asks { IsTrue (asks (command_value command.now).verb) }
         ensures exact { Tells Asks (applied.command self.old.state (command_value command.now) None) result }
         ensures unchanged { OnOk result (self.new ≡ self.old) }
         ensures failed { self.new.failed ≡ self.old.failed }
@@ -69,7 +58,7 @@ impl<S: LineStore> Editor<S> {
 
     // What a command asks for at the lines of a span.
     fn wanted(&self, verb: &Verb, span: Span) -> Result<Request, Fault>
-        requires asks { IsTrue (editors.asks (verb_value verb.now)) }
+        requires asks { IsTrue (asks (verb_value verb.now)) }
         requires fits { Fits (takes (verb_value verb.now)).taking span (last self.now.state) }
         ensures exact { (listed : Bool) (target : ℕ) →
             Tells Asks (effect_of (verb_value verb.now) listed (span_value span) target self.now.state None) result }

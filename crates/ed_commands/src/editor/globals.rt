@@ -7,7 +7,8 @@ ghost use Rattle.ed_syntax.specs.meaning.States.{last};
 ghost use Rattle.ed_syntax.specs.meaning.Applied as applied;
 ghost use Rattle.ed_syntax.specs.meaning.Globals as globals;
 ghost use Rattle.ed_syntax.specs.meaning.Globals.{closed, flagged, flagged_line, next_taken};
-ghost use Rattle.ed_commands.specs.Editors.{Begins, Tells, failure_of, is_global, span_value};
+ghost use Rattle.ed_syntax.specs.meaning.Verbs.{is_global};
+ghost use Rattle.ed_commands.specs.Editors.{Begins, Tells, failure_of, span_value};
 
 use crate::editor::Editor;
 use crate::editor::addressing::Span;
