@@ -49,3 +49,4 @@ pub mod ExactCommands
 pub mod ExactStart
 mod SubstitutingRows
 mod FilesRows
+pub mod CoveringStates

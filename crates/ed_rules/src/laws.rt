@@ -53,6 +53,16 @@ pub fn weaker_states_stand_for_more()
         StandsFor weak e }
 {}
 
+/// Covering is an order of states, in which a join and a widening cover both.
+pub fn covering_states_is_an_order()
+    ensures same { (s : State) → Covers s s }
+    ensures through { (a b c : State) → Covers a b → Covers b c → Covers a c }
+    ensures join { (one other : State) → Covers (join one other) one }
+    ensures join_other { (one other : State) → Covers (join one other) other }
+    ensures widen { (old new : State) → Covers (widen old new) old }
+    ensures widen_other { (old new : State) → Covers (widen old new) new }
+{}
+
 /// The start is formed, and so is what each rule makes of formed states. At its end it is known that there are at least 0 lines.
 pub fn states_stay_formed()
     ensures start { (path : Choice) (min : ℕ) (max : Option ℕ) → ChoiceIsBytes path →

@@ -25,8 +25,8 @@ pub use globals::{body_entry, loop_end, loop_start};
 pub use kept::KeptState;
 pub use kept_undo::{KeptOld, KeptUndo};
 pub use laws::{
-    commands_are_sound, exact_commands_are_exact, globals_are_sound, states_stay_formed,
-    weaker_states_stand_for_more,
+    commands_are_sound, covering_states_is_an_order, exact_commands_are_exact, globals_are_sound,
+    states_stay_formed, weaker_states_stand_for_more,
 };
 pub use line_bounds::LineBounds;
 pub use marks::Marks;

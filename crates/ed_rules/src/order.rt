@@ -20,6 +20,10 @@ impl State {
             StandsFor joined e) }
         ensures sound_of_other { IfOk result (λ joined. (e : editor.State) → StandsFor other.now e →
             StandsFor joined e) }
+
+        // What it says both say.
+        ensures covers { IfOk result (λ joined. Covers joined self.now) }
+        ensures covers_other { IfOk result (λ joined. Covers joined other.now) }
     {
         let mut zone = self.zone;
         zone.join(&other.zone);
@@ -36,6 +40,10 @@ impl State {
             StandsFor widened e) }
         ensures sound_of_other { IfOk result (λ widened. (e : editor.State) → StandsFor new.now e →
             StandsFor widened e) }
+
+        // What it says both say.
+        ensures covers { IfOk result (λ widened. Covers widened self.now) }
+        ensures covers_other { IfOk result (λ widened. Covers widened new.now) }
     {
         let mut zone = self.zone;
         zone.widen(&new.zone);

@@ -1,0 +1,154 @@
+-- Covering is an order of states, in which what unites two states covers both.
+use Rattle.std.proofs.Common.{◌≡◌, ◌<◌, ℕ, Bool, true, false, ◌||◌, ◌&&◌, List, [], ◌∷◌, Option, None, Some, refl, ◌∙◌, sym, arith}
+use Rattle.std.specs.Ordering.{is_eq}
+use Rattle.std.proofs.lemmas.List.FromFn.{get_or-map-range_with_len}
+use Rattle.zones.specs.Zone as zones
+use Rattle.zones.specs.Zone.{Bounds}
+use Rattle.zones.specs.Steps.{join_of, widening_of}
+use Rattle.zones.proofs.Order.{Covers-same, Covers-through, Covers-join_of, Covers-join_of_other, Covers-widening_of, Covers-widening_of_other}
+use Rattle.ed_rules.specs.declared.state.Old.{Old}
+use Rattle.ed_rules.specs.declared.state.State.{State}
+use Rattle.ed_rules.specs.Choices.{Choice, order_of, has_choice, union, are_choices}
+use Rattle.ed_rules.specs.Marks.{is_sure, both_sure}
+use Rattle.ed_rules.specs.Order.{old_of_both, united, join, widen, CoversOld, Covers}
+use Rattle.ed_rules.proofs.Choosing.{choice-itself, or-left, or-right, has_choice-all, has-union, has-union_other}
+
+-- SETS OF CHOICES
+
+both : (a b : Bool) → a ≡ true → b ≡ true → a && b ≡ true
+both true b h k = k
+both false b h k = cc
+
+parts : (a b : Bool) → a && b ≡ true → (a ≡ true) × (b ≡ true)
+parts true b h = (refl, h)
+parts false b h = cc
+
+choices-more : (few many : List Choice) → ((c : Choice) → has_choice few c ≡ true → has_choice many c ≡ true) → are_choices few many ≡ true
+choices-more [] many h = refl
+choices-more (c ∷ few) many h =
+    both (has_choice many c) (are_choices few many) (h c (or-left (is_eq (order_of c c)) (has_choice few c) (choice-itself c)))
+    (choices-more few many (λ d k. h d (or-right (is_eq (order_of d c)) (has_choice few d) k)))
+
+choices-same : (set : List Choice) → are_choices set set ≡ true
+choices-same set = choices-more set set (λ c h. h)
+
+choices-through : (few many more : List Choice) → are_choices few many ≡ true → are_choices many more ≡ true → are_choices few more ≡ true
+choices-through few many more h k = choices-more few more (λ c e. has_choice-all (has_choice more) many c k (has_choice-all (has_choice many) few c h e))
+
+choices-union : (one other : List Choice) → are_choices one (union one other) ≡ true
+choices-union one other = choices-more one (union one other) (λ c h. has-union one other c h)
+
+choices-union_other : (one other : List Choice) → are_choices other (union one other) ≡ true
+choices-union_other one other = choices-more other (union one other) (λ c h. has-union_other one other c h)
+
+-- MARKS
+
+sure-both : (one other : List Bool) (letter : ℕ) → letter < 26 → is_sure (both_sure one other) letter ≡ true → (is_sure one letter ≡ true) × (is_sure other letter ≡ true)
+unfolding both_sure
+sure-both one other letter l e =
+    parts (is_sure one letter) (is_sure other letter)
+    (sym (get_or-map-range_with_len (λ (k : ℕ). is_sure one k && is_sure other k) 0 26 letter letter false l (omega arith)) ∙ e)
+
+-- WHAT UNDO KEEPS
+
+old-same : (old : Option Old) → CoversOld old old
+old-same None = tt
+old-same (Some old) = (Covers-same old.zone, λ letter l e. e)
+
+old-through : (a b c : Option Old) → CoversOld a b → CoversOld b c → CoversOld a c
+old-through a b None h k = tt
+old-through a None (Some c) h k = absurd k
+old-through None (Some b) (Some c) h k = absurd h
+old-through (Some a) (Some b) (Some c) h k = (Covers-through a.zone b.zone c.zone h.0 k.0, λ letter l e. k.1 letter l (h.1 letter l e))
+
+old-both : (one other : Option Old) → CoversOld (old_of_both one other) one
+old-both None other = tt
+old-both (Some one) None = old-same (Some one)
+old-both (Some one) (Some other) = (Covers-join_of one.zone other.zone, λ letter l e. (sure-both one.marks other.marks letter l e).0)
+
+old-both_other : (one other : Option Old) → CoversOld (old_of_both one other) other
+old-both_other one None = tt
+old-both_other None (Some other) = old-same (Some other)
+old-both_other (Some one) (Some other) = (Covers-join_of_other one.zone other.zone, λ letter l e. (sure-both one.marks other.marks letter l e).1)
+
+-- STATES
+
+pub Covers-itself : (s : State) → Covers s s
+Covers-itself s = record {
+  zone = Covers-same s.zone;
+  marks = λ letter l e. e;
+  patterns = choices-same s.patterns;
+  no_replacement = λ e. e;
+  plain_replacement = λ e. e;
+  split_replacement = λ e. e;
+  names = choices-same s.names;
+  unchanged = λ e. e;
+  changed = λ e. e;
+  nothing = λ e. e;
+  same = λ e. e;
+  was = old-same s.undo.was;
+}
+
+pub Covers-on : (a b c : State) → Covers a b → Covers b c → Covers a c
+Covers-on a b c h k = record {
+  zone = Covers-through a.zone b.zone c.zone h.zone k.zone;
+  marks = λ letter l e. k.marks letter l (h.marks letter l e);
+  patterns = choices-through c.patterns b.patterns a.patterns k.patterns h.patterns;
+  no_replacement = λ e. h.no_replacement (k.no_replacement e);
+  plain_replacement = λ e. h.plain_replacement (k.plain_replacement e);
+  split_replacement = λ e. h.split_replacement (k.split_replacement e);
+  names = choices-through c.names b.names a.names k.names h.names;
+  unchanged = λ e. h.unchanged (k.unchanged e);
+  changed = λ e. h.changed (k.changed e);
+  nothing = λ e. h.nothing (k.nothing e);
+  same = λ e. h.same (k.same e);
+  was = old-through a.undo.was b.undo.was c.undo.was h.was k.was;
+}
+
+united-covers : (one other : State) (zone : Bounds) → zones.Covers zone one.zone → Covers (united one other zone) one
+united-covers one other zone z = record {
+  zone = z;
+  marks = λ letter l e. (sure-both one.marks other.marks letter l e).0;
+  patterns = choices-union one.patterns other.patterns;
+  no_replacement = λ e. or-left one.replacements.none other.replacements.none e;
+  plain_replacement = λ e. or-left one.replacements.plain other.replacements.plain e;
+  split_replacement = λ e. or-left one.replacements.split other.replacements.split e;
+  names = choices-union one.names other.names;
+  unchanged = λ e. or-left one.changed.no other.changed.no e;
+  changed = λ e. or-left one.changed.yes other.changed.yes e;
+  nothing = λ e. or-left one.undo.nothing other.undo.nothing e;
+  same = λ e. or-left one.undo.same other.undo.same e;
+  was = old-both one.undo.was other.undo.was;
+}
+
+united-covers_other : (one other : State) (zone : Bounds) → zones.Covers zone other.zone → Covers (united one other zone) other
+united-covers_other one other zone z = record {
+  zone = z;
+  marks = λ letter l e. (sure-both one.marks other.marks letter l e).1;
+  patterns = choices-union_other one.patterns other.patterns;
+  no_replacement = λ e. or-right one.replacements.none other.replacements.none e;
+  plain_replacement = λ e. or-right one.replacements.plain other.replacements.plain e;
+  split_replacement = λ e. or-right one.replacements.split other.replacements.split e;
+  names = choices-union_other one.names other.names;
+  unchanged = λ e. or-right one.changed.no other.changed.no e;
+  changed = λ e. or-right one.changed.yes other.changed.yes e;
+  nothing = λ e. or-right one.undo.nothing other.undo.nothing e;
+  same = λ e. or-right one.undo.same other.undo.same e;
+  was = old-both_other one.undo.was other.undo.was;
+}
+
+pub Covers-join : (one other : State) → Covers (join one other) one
+unfolding join
+Covers-join one other = united-covers one other (join_of one.zone other.zone) (Covers-join_of one.zone other.zone)
+
+pub Covers-join_other : (one other : State) → Covers (join one other) other
+unfolding join
+Covers-join_other one other = united-covers_other one other (join_of one.zone other.zone) (Covers-join_of_other one.zone other.zone)
+
+pub Covers-widen : (old new : State) → Covers (widen old new) old
+unfolding widen
+Covers-widen old new = united-covers old new (widening_of old.zone new.zone) (Covers-widening_of old.zone new.zone)
+
+pub Covers-widen_other : (old new : State) → Covers (widen old new) new
+unfolding widen
+Covers-widen_other old new = united-covers_other old new (widening_of old.zone new.zone) (Covers-widening_of_other old.zone new.zone)
