@@ -1,2 +1,2 @@
-pub mod checker
-pub mod text
+pub mod verdicts
+pub mod texts

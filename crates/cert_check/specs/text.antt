@@ -2,6 +2,7 @@
 pub mod Text
 pub mod HasText
 pub mod Faults
+pub mod Wanted
 -- what only serves clauses inside the crate
 pub mod Writing
 pub mod Reading

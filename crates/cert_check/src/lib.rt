@@ -14,3 +14,5 @@ pub use laws::{
     texts_are_unambiguous,
 };
 pub use text::fault::CertFault;
+pub use text::reading::wanted;
+pub use text::wanted::{LineKind, Wanted};

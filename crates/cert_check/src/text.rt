@@ -8,6 +8,7 @@ pub(crate) mod notes;
 pub(crate) mod readers;
 pub(crate) mod reading;
 pub(crate) mod states;
+pub(crate) mod wanted;
 pub(crate) mod words;
 pub(crate) mod words_in;
 pub(crate) mod writing;

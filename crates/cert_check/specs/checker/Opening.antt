@@ -1,25 +1,17 @@
 -- Soundness of the start: what the rules begin with stands for an editor with a file of that many lines.
-use Rattle.std.specs.Prelude.{ℕ, ◌≤◌, List, map, length, Option, Some, None}
+use Rattle.std.specs.Prelude.{ℕ, List, map, length, Option}
 use Rattle.ed_base.specs.Buffer.{plain_line}
 use Rattle.ed_base.specs.Lines.{lines_of}
 use Rattle.ed_syntax.specs.meaning.States as editor
 use Rattle.ed_syntax.specs.meaning.States.{opening}
 use Rattle.ed_rules.specs.Choices.{Choice}
 use Rattle.ed_rules.specs.States.{start}
+use Rattle.ed_rules.specs.LineBounds.{IsWithin}
 use Rattle.ed_rules.specs.StandsFor.{StandsFor}
 
 -- an editor that was just opened over a file of these bytes, with this path remembered
 abbrev pub opened : (path : Choice) → (bytes : List ℕ) → editor.State
 opened path bytes = let lines = map plain_line (lines_of bytes) in record opening { lines = lines; current = length lines; name = path }
-
--- at most so many, where there is a limit
-abbrev pub IsAtMost : ℕ → Option ℕ → Type 0
-IsAtMost n None = Unit {0}
-IsAtMost n (Some most) = n ≤ most
-
--- a number of lines within two bounds
-abbrev pub IsWithin : (low : ℕ) → (high : Option ℕ) → ℕ → Type 0
-IsWithin low high n = (low ≤ n) × IsAtMost n high
 
 -- the start stands for each editor that was opened over a file of as many lines as it allows
 abbrev pub StartIsSound : Type 0

@@ -11,7 +11,7 @@ use Rattle.ed_syntax.specs.declared.request.Request.TheVariants as request
 use Rattle.ed_syntax.specs.Commands.{Script}
 use Rattle.ed_syntax.specs.meaning.Progress.{Stop, Waits, Ends, asked_of, stop_of}
 use Rattle.ed_syntax.specs.meaning.Runs.{run}
-use Rattle.cert_check.specs.checker.Opening.{IsWithin}
+use Rattle.ed_rules.specs.LineBounds.{IsWithin}
 use Rattle.cert_check.specs.Certificates.{Certificate}
 
 -- the number of lines of the start, where there is one: without a path, or where its file is missing, there are none

@@ -6,15 +6,15 @@ use Rattle.zones.specs.Name as name
 use Rattle.zones.specs.Name.{last_line}
 use Rattle.zones.specs.Zone.{Bounds}
 use Rattle.zones.specs.Known.{known}
-use Rattle.ed_syntax.specs.Commands as ed
-use Rattle.ed_syntax.specs.Commands.{Verb, Command, Step, Script}
+use Rattle.ed_syntax.specs.Commands.{Command, Step, Script}
+use Rattle.ed_syntax.specs.meaning.Verbs.{is_global, ends_run}
 use Rattle.ed_rules.specs.declared.state.State.{State}
 use Rattle.ed_rules.specs.Choices.{Choice}
 use Rattle.ed_rules.specs.States.{start}
 use Rattle.ed_rules.specs.Files.{written_paths}
 use Rattle.cert_check.specs.checker.Covering.{covers}
 use Rattle.ed_rules.specs.Rules.{step, fault_of}
-use Rattle.ed_rules.specs.Globals.{is_global, body_entry, loop_end}
+use Rattle.ed_rules.specs.Globals.{body_entry, loop_end}
 use Rattle.cert_check.specs.declared.checker.verdict.Place.{Place}
 use Rattle.cert_check.specs.declared.checker.verdict.Verdict.{Verdict}
 use Rattle.cert_check.specs.declared.checker.verdict.Verdict.TheVariants.{Accepted, Refused}
@@ -44,20 +44,14 @@ abbrev pub verdict_of : List Check → Verdict
 verdict_of [] = Accepted
 verdict_of (check ∷ later) = elim check.holds [ true ↦ verdict_of later | false ↦ Refused check.place ]
 
--- a command that ends the run
-abbrev pub quits : Verb → Bool
-quits ed.Quit = true
-quits ed.QuitAnyway = true
-quits _ = false
-
 -- some command ends the run
 abbrev pub has_quit : List Step → Bool
-has_quit steps = list_any (λ x. quits x.command.verb) steps
+has_quit steps = list_any (λ x. ends_run x.command.verb) steps
 
 -- the counted commands: those up to the first that ends the run, or all
 abbrev pub counted : List Step → List Step
 counted [] = []
-counted (x ∷ xs) = x ∷ (elim (quits x.command.verb) [ true ↦ [] | false ↦ counted xs ])
+counted (x ∷ xs) = x ∷ (elim (ends_run x.command.verb) [ true ↦ [] | false ↦ counted xs ])
 
 -- all needs of a command hold
 unfoldable pub are_met : Command → State → Bool

@@ -1,6 +1,7 @@
 -- Which certificates have a text, and which bytes are the text of one.
-use Rattle.std.specs.Prelude.{◌≡◌, ℕ, Bool, true, ◌&&◌, List, map, Option, Some, None, nat_le, All}
+use Rattle.std.specs.Prelude.{◌≡◌, ℕ, true, ◌&&◌, List, map, Option, Some, None, All}
 use Rattle.ed_rules.specs.Formed.{ChoiceIsBytes, is_rising, StateIsFormed}
+use Rattle.ed_rules.specs.LineBounds.{is_few, is_limit, is_within}
 use Rattle.cert_check.specs.Certificates.{Looped, Note, Certificate}
 use Rattle.cert_check.specs.text.Text.{text_of}
 
@@ -10,18 +11,6 @@ LoopedHasText (Some l) = StateIsFormed l.invariant × All StateIsFormed l.inner
 
 abbrev pub NoteHasText : Note → Type 0
 NoteHasText n = StateIsFormed n.state × LoopedHasText n.looped
-
--- a number of lines that a text speaks of is at most 10^12
-abbrev pub is_few : ℕ → Bool
-is_few n = nat_le n 1000000000000
-
-abbrev pub is_limit : Option ℕ → Bool
-is_limit None = true
-is_limit (Some n) = is_few n
-
-abbrev pub is_within : ℕ → Option ℕ → Bool
-is_within n None = true
-is_within n (Some most) = nat_le n most
 
 -- a certificate that has a text
 pub record HasText (c : Certificate) : Type 0 where

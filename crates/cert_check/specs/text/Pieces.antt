@@ -8,18 +8,25 @@ use Rattle.ed_rules.specs.declared.state.Changed.{Changed}
 use Rattle.ed_rules.specs.declared.state.Replacements.{Replacements}
 use Rattle.ed_rules.specs.declared.state.State.{State}
 use Rattle.ed_rules.specs.Formed.{ZoneIsFormed, OldIsFormed, ChoiceIsBytes, is_rising, StateIsFormed}
+use Rattle.ed_rules.specs.LineBounds.{is_few, is_limit, is_within}
 use Rattle.cert_check.specs.declared.text.cursor.Head.{Head}
 use Rattle.cert_check.specs.declared.text.cursor.Head.TheVariants.{AnotherNote, Loop, End}
 use Rattle.cert_check.specs.declared.text.fault.CertFault.{CertFault}
-use Rattle.cert_check.specs.declared.text.fault.CertFault.TheVariants.{Version, Line, Size, Memory}
+use Rattle.cert_check.specs.declared.text.fault.CertFault.TheVariants as fault
+use Rattle.cert_check.specs.declared.text.fault.Unread.{Unread}
+use Rattle.cert_check.specs.declared.text.fault.Unread.TheVariants.{Version, Line, Size, Memory}
 use Rattle.cert_check.specs.declared.text.lines.Found.{Found}
 use Rattle.cert_check.specs.declared.text.states.Marked.{Marked}
+use Rattle.cert_check.specs.declared.text.wanted.Wanted.{Wanted}
+use Rattle.cert_check.specs.declared.certificate.Certificate as public
 use Rattle.cert_check.specs.declared.certificate.Note as note
-use Rattle.cert_check.specs.Certificates.{Looped, Note, Certificate, note_value}
+use Rattle.cert_check.specs.Certificates.{Looped, Note, Certificate, note_value, certificate_value}
 use Rattle.cert_check.specs.text.Text as text
 use Rattle.cert_check.specs.text.Text.{Word, line_text, zone_line, marks_line, undo_line, old_lines, state_lines, headed_lines, looped_lines, note_lines, path_line, bounds_line, writes_line}
 use Rattle.cert_check.specs.text.Reading.{undo_words_line}
-use Rattle.cert_check.specs.text.HasText.{is_few, is_limit, is_within, NoteHasText}
+use Rattle.cert_check.specs.text.HasText.{NoteHasText, IsText}
+use Rattle.cert_check.specs.text.Faults.{IsVersionFault, IsSizeFault}
+use Rattle.cert_check.specs.text.Wanted.{IsOfKind, IsWanted}
 
 -- where a reader stands: the bytes that are left, and how many lines stand above them
 pub record Left : Type 0 where
@@ -47,17 +54,18 @@ pub record IsOf {A : Type 0} (spell : A → List text.Line) (Has : A → Type 0)
   pub has : Has value
   pub is : texts (spell value) ≡ lines
 
--- a line that no text of the kind has where it stands, below lines that begin one
-pub record IsStrange (kind : List (List ℕ) → Type 0) (old : Left) (number : ℕ) : Type 0 where
+-- a line that no text of the kind has where it stands, below lines that begin one; those that have one there have one of this kind of lines
+pub record IsStrange (kind : List (List ℕ) → Type 0) (old : Left) (wanted : Wanted) : Type 0 where
   pub above : List (List ℕ)
   pub line : List ℕ
   pub after : List ℕ
   pub parted : old.bytes ≡ bytes_of above ++ (line ++ newline ∷ after)
   pub is_line : IsLine line
-  pub number_is : old.above + suc (length above) ≡ number
+  pub number_is : old.above + suc (length above) ≡ wanted.line
   pub more : List (List ℕ)
   pub begun : kind (above ++ more)
   pub stuck : (whole back after : List (List ℕ)) → kind whole → whole ++ back ≡ above ++ line ∷ after → ⊥
+  pub other : (whole back after : List (List ℕ)) (next : List ℕ) → kind whole → whole ++ back ≡ above ++ next ∷ after → IsOfKind wanted.kind next
 
 -- no whole line is left, and those that were there begin a text of the kind and are none
 pub record IsShort (kind : List (List ℕ) → Type 0) (old : Left) : Type 0 where
@@ -70,16 +78,31 @@ pub record IsShort (kind : List (List ℕ) → Type 0) (old : Left) : Type 0 whe
   pub stuck : (whole back : List (List ℕ)) → kind whole → whole ++ back ≡ above → ⊥
 
 -- why no text of the kind stands there
-abbrev pub IsFault : (kind : List (List ℕ) → Type 0) → Left → CertFault → Type 0
+abbrev pub IsFault : (kind : List (List ℕ) → Type 0) → Left → Unread → Type 0
 IsFault kind old Version = ⊥
-IsFault kind old (Line number) = IsStrange kind old number
+IsFault kind old (Line wanted) = IsStrange kind old wanted
 IsFault kind old Size = IsShort kind old
 IsFault kind old Memory = Unit {0}
 
 -- a value whose text stood there was read, or none stands there
-abbrev pub Reads : {A B : Type 0} → (value : A → B) → (spell : B → List text.Line) → (Has : B → Type 0) → (old new : Left) → Result A CertFault → Type 0
+abbrev pub Reads : {A B : Type 0} → (value : A → B) → (spell : B → List text.Line) → (Has : B → Type 0) → (old new : Left) → Result A Unread → Type 0
 Reads value spell Has old new (Ok v) = Has (value v) × Took (texts (spell (value v))) old new
 Reads value spell Has old new (Err fault) = IsFault (IsOf spell Has) old fault
+
+-- the fault that is told
+abbrev pub fault_of : Unread → CertFault
+fault_of Version = fault.Version
+fault_of (Line wanted) = fault.Line wanted.line
+fault_of Size = fault.Size
+fault_of Memory = fault.Memory
+
+-- what bytes are read as, with what is wanted where a line may not stand
+abbrev pub IsReadAs : (bytes : List ℕ) → Result public.Certificate Unread → Type 0
+IsReadAs bytes (Ok c) = IsText bytes (certificate_value c)
+IsReadAs bytes (Err Version) = IsVersionFault bytes
+IsReadAs bytes (Err (Line wanted)) = IsWanted wanted bytes
+IsReadAs bytes (Err Size) = IsSizeFault bytes
+IsReadAs bytes (Err Memory) = Unit {0}
 
 -- a value, read as it is
 abbrev pub same : {A : Type 0} → A → A

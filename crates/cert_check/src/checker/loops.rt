@@ -2,7 +2,7 @@
 
 ghost use Rattle.std.specs.Prelude.{◌≡◌, true, length, map, IfOk};
 ghost use Rattle.ed_syntax.specs.PublicTypes.{command_value, step_value};
-ghost use Rattle.ed_rules.specs.Globals.{is_global};
+ghost use Rattle.ed_syntax.specs.meaning.Verbs.{is_global};
 ghost use Rattle.cert_check.specs.Certificates.{looped_value};
 ghost use Rattle.cert_check.specs.checker.Passing.{ListGoesTo, LoopGoesTo};
 

@@ -3,10 +3,10 @@
 ghost use Rattle.std.specs.Prelude.{◌≡◌, true, length, map, option_map, IfOk};
 ghost use Rattle.std.specs.List.{list_all};
 ghost use Rattle.ed_syntax.specs.PublicTypes.{verb_value, command_value, step_value, steps_value};
-ghost use Rattle.ed_rules.specs.Globals.{is_global};
+ghost use Rattle.ed_syntax.specs.meaning.Verbs.{is_global};
 ghost use Rattle.cert_check.specs.checker.Covering.{covers};
 ghost use Rattle.cert_check.specs.Certificates.{note_value, certificate_value};
-ghost use Rattle.cert_check.specs.checker.Valid.{quits, is_listed, are_listed, counted, has_quit, fits, are_shaped, knows_least, knows_most};
+ghost use Rattle.cert_check.specs.checker.Valid.{is_listed, are_listed, counted, has_quit, fits, are_shaped, knows_least, knows_most};
 ghost use Rattle.cert_check.specs.checker.Passing.{Passes, left_where_met, passed, ends_well, StepGoesTo, GoesTo};
 
 use crate::certificate::{Certificate, Note};
@@ -26,21 +26,12 @@ pub(crate) struct Counted {
     pub quit: bool,
 }
 
-fn quits(verb: &Verb) -> bool
-    ensures value { result ≡ quits (verb_value verb.now) }
-{
-    match verb {
-        Verb::Quit | Verb::QuitAnyway => true,
-        _ => false,
-    }
-}
-
 pub(crate) fn count(commands: &[Command]) -> Counted
     ensures number { result.number ≡ length (counted (steps_value commands.now)) }
     ensures quit { result.quit ≡ has_quit (steps_value commands.now) }
 {
     for (index, command) in commands.iter().enumerate() {
-        if quits(&command.verb) {
+        if command.verb.takes().ends.is_some() {
             return Counted {
                 number: index + 1,
                 quit: true,
@@ -131,21 +122,10 @@ pub(crate) fn passes(
 fn fits(command: &Command, note: &Note) -> bool
     ensures value { result ≡ fits (step_value command.now) (note_value note.now) }
 {
+    let global = command.verb.takes().global;
     match &note.looped {
-        None => !is_global(&command.verb),
-        Some(looped) => {
-            let states = looped.inner.len();
-            is_global(&command.verb) && states == command.list().len()
-        }
-    }
-}
-
-fn is_global(verb: &Verb) -> bool
-    ensures value { result ≡ is_global (verb_value verb.now) }
-{
-    match verb {
-        Verb::Global { .. } => true,
-        _ => false,
+        None => !global,
+        Some(looped) => global && looped.inner.len() == command.list().len(),
     }
 }
 
@@ -215,7 +195,7 @@ pub(crate) fn go_through(
     Ok(None)
 }
 
-#[tactic(auto, unfolding(crate::specs::Valid::knows_least, zones::specs::Known::known))]
+#[tactic(auto, unfolding(crate::specs::checker::Valid::knows_least, zones::specs::Known::known))]
 fn knows_least(zone: &Zone, low: u64) -> bool
     ensures value { result ≡ knows_least zone.now low }
 {
@@ -225,7 +205,7 @@ fn knows_least(zone: &Zone, low: u64) -> bool
     }
 }
 
-#[tactic(auto, unfolding(crate::specs::Valid::knows_most, zones::specs::Known::known))]
+#[tactic(auto, unfolding(crate::specs::checker::Valid::knows_most, zones::specs::Known::known))]
 fn knows_most(zone: &Zone, high: Option<u64>) -> bool
     ensures value { result ≡ knows_most zone.now high }
 {

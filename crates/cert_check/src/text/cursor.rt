@@ -1,9 +1,12 @@
 //! Where a reader of a certificate stands.
 
-ghost use Rattle.std.specs.Prelude.{◌≡◌, ◌↔◌, [], IsTrue, MatchOption};
+ghost use Rattle.std.specs.Prelude.{◌≡◌, ◌↔◌, [], Ok, Err, IsTrue, MatchOption, IfOk, IfErr};
 ghost use Rattle.ed_base.specs.Lines.{IsLine};
+ghost use Rattle.cert_check.specs.declared.text.fault.Unread.TheVariants.{Line, Size};
 ghost use Rattle.cert_check.specs.text.Pieces.{IsNext};
 
+use crate::text::fault::Unread;
+use crate::text::wanted::{LineKind, Wanted};
 use memchr::memchr;
 use std::marker::Model;
 
@@ -45,13 +48,6 @@ impl<'a> Cursor<'a> {
         }
     }
 
-    /// How many lines were read: the number of the last one.
-    pub(crate) fn above(&self) -> usize
-        ensures value { result ≡ self.now.above }
-    {
-        self.above
-    }
-
     /// Whether all is read.
     pub(crate) fn is_at_end(&self) -> bool
         ensures value { IsTrue result ↔ (self.now.bytes ≡ []) }
@@ -68,5 +64,27 @@ impl<'a> Cursor<'a> {
         self.rest = &self.rest[end + 1..];
         self.above += 1;
         Some(line)
+    }
+
+    /// The next line; where there is none, the bytes are too short.
+    pub(crate) fn line(&mut self) -> Result<&'a [u8], Unread>
+        ensures next { IfOk result (λ line. IsNext line.now self.old self.new) }
+        ensures none { IfErr result (λ unread. (unread ≡ Size) × IsLine self.old.bytes) }
+    {
+        self.next().ok_or(Unread::Size)
+    }
+
+    /// What the last line was read as. One that was read as nothing isn't of the kind that is wanted there.
+    pub(crate) fn read_as<T>(&self, kind: LineKind, read: Option<T>) -> Result<T, Unread>
+        ensures exact { MatchOption read (result ≡ Err (Line (record { line = self.now.above; kind = kind })))
+            (λ value. result ≡ Ok value) }
+    {
+        match read {
+            Some(value) => Ok(value),
+            None => Err(Unread::Line(Wanted {
+                line: self.above,
+                kind,
+            })),
+        }
     }
 }

@@ -1,28 +1,34 @@
 //! Whether a certificate has a text.
 
-ghost use Rattle.std.specs.Prelude.{◌≡◌, ◌<◌, ◌↔◌, ◌&&◌, ◌||◌, is_some, true, Some, IsTrue, All, length, map, option_map};
+ghost use Rattle.std.specs.Prelude.{◌≡◌, ◌<◌, ◌↔◌, ◌&&◌, ◌||◌, nat_lt, is_some, true, Some, IsTrue, All, length, map, option_map};
 ghost use Rattle.std.specs.Ordering.{is_lt};
 ghost use Rattle.zones.specs.Limits.{IsZone};
 ghost use Rattle.ed_rules.specs.Choices.{order_of};
 ghost use Rattle.cert_check.specs.Certificates.{boxed_value, note_value, certificate_value};
 ghost use Rattle.ed_rules.specs.Formed.{has_name, may_say, ZoneIsFormed, OldIsFormed, ChoiceIsBytes, is_rising, SetIsFormed, StateIsFormed};
-ghost use Rattle.cert_check.specs.text.HasText.{LoopedHasText, NoteHasText, is_few, is_limit, is_within, HasText};
+ghost use Rattle.cert_check.specs.text.HasText.{LoopedHasText, NoteHasText, HasText};
 ghost use Rattle.ed_rules.specs.Formed.{says_nothing};
 
 use crate::certificate::{Certificate, Looped, Note};
-use ed_base::Bytes;
-use ed_rules::{Changed, KeptOld, KeptState, KeptUndo, Marks, Replacements};
+use ed_base::{Bytes, Letter};
+use ed_rules::{Changed, KeptOld, KeptState, KeptUndo, LineBounds, Marks, Replacements};
 use std::cmp::Ordering;
 use zones::{KeptZone, Name};
 
-/// The most lines that a text may speak of.
-const MOST_LINES: u64 = 1_000_000_000_000;
+/// Whether a name is no letter's and not that of an address of one command: no text has those.
+fn is_fixed(name: Name) -> bool
+    ensures value { result ≡ nat_lt name 3 }
+{
+    name == Name::ZERO || name == Name::CURRENT_LINE || name == Name::LAST_LINE
+}
 
 fn has_name(marks: &Marks, name: Name) -> bool
     ensures value { result ≡ has_name marks.now name }
 {
-    let place = name.place();
-    place < 3 || (6 <= place && marks.is_sure(place - 6))
+    match name.letter() {
+        Some(letter) => marks.is_sure(letter),
+        None => is_fixed(name),
+    }
 }
 
 fn may_say(marks: &Marks, x: Name, y: Name, bound: Option<i64>) -> bool
@@ -38,7 +44,7 @@ fn may_say(marks: &Marks, x: Name, y: Name, bound: Option<i64>) -> bool
 pub(crate) fn letters_are_counted(marks: &Marks)
     ensures size { length marks.now ≡ 26 }
 {
-    let _first = marks.is_sure(0);
+    let _first = marks.is_sure(Letter::at(0));
 }
 
 /// Whether a zone speaks only of the lines and of the letters that are sure beside it. A bound that isn't known may be said.
@@ -115,24 +121,6 @@ pub(crate) fn set_has_text(set: &[Option<Bytes>]) -> bool
 {
     choices_are_bytes(set);
     !set.is_empty() && is_rising(set)
-}
-
-pub(crate) fn is_limit(limit: Option<u64>) -> bool
-    ensures value { result ≡ is_limit limit }
-{
-    match limit {
-        Some(limit) => limit <= MOST_LINES,
-        None => true,
-    }
-}
-
-pub(crate) fn is_within(number: u64, limit: Option<u64>) -> bool
-    ensures value { result ≡ is_within number limit }
-{
-    match limit {
-        Some(limit) => number <= limit,
-        None => true,
-    }
 }
 
 pub(crate) fn some_replacement(replacements: Replacements) -> bool
@@ -221,12 +209,6 @@ fn notes_have_text(notes: &[Note]) -> bool
     true
 }
 
-pub(crate) fn are_bounds(low: u64, high: Option<u64>) -> bool
-    ensures value { result ≡ (is_few low && is_limit high) }
-{
-    low <= MOST_LINES && is_limit(high)
-}
-
 pub(crate) fn paths_are_bytes(paths: &[Bytes])
     ensures bytes { All ChoiceIsBytes (map (λ path. Some path) paths.now) }
 {
@@ -260,7 +242,11 @@ impl Certificate {
     {
         choice_is_bytes(&self.path);
         paths_are_bytes(self.writes.as_slice());
-        if !(are_bounds(self.min, self.max) && is_within(self.min, self.max)) {
+        let start = LineBounds {
+            min: self.min,
+            max: self.max,
+        };
+        if !(start.are_few() && start.in_order()) {
             return false;
         }
         if !notes_have_text(self.notes.as_slice()) {
@@ -269,6 +255,10 @@ impl Certificate {
         if !state_has_text(&self.last) {
             return false;
         }
-        are_bounds(self.low, self.high) && paths_rise(self.writes.as_slice())
+        let end = LineBounds {
+            min: self.low,
+            max: self.high,
+        };
+        end.are_few() && paths_rise(self.writes.as_slice())
     }
 }

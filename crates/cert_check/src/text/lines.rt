@@ -2,19 +2,18 @@
 
 ghost use Rattle.std.specs.Prelude.{◌≡◌, ◌&&◌, ◌||◌, true, Some, All, map, option_map, IfOk, codes};
 ghost use Rattle.ed_rules.specs.Formed.{ChoiceIsBytes, SetIsFormed, is_rising};
+ghost use Rattle.ed_rules.specs.LineBounds.{is_few, is_limit, is_within};
 ghost use Rattle.cert_check.specs.text.Text.{spaced, choice_word, replacements_line, changed_line, bounds_line, path_line, choices_line, writes_line};
-ghost use Rattle.cert_check.specs.text.HasText.{is_few, is_limit, is_within};
 ghost use Rattle.cert_check.specs.text.Reading.{ReadsAs, WordReadsAs, undo_words_line};
 
 use crate::text::has_text::{
-    are_bounds, choices_are_bytes, is_within, paths_are_bytes, paths_rise, set_has_text,
-    some_changed, some_replacement,
+    choices_are_bytes, paths_are_bytes, paths_rise, set_has_text, some_changed, some_replacement,
 };
 use crate::text::words_in::{
     after_key, choice_in, limit_in, next_word, number_in, path_word_in, possible_in,
 };
 use ed_base::Bytes;
-use ed_rules::{Changed, Choices, Replacements};
+use ed_rules::{Changed, Choices, LineBounds, Replacements};
 use std::alloc::{AllocError, Global};
 
 /// What undo may find: nothing, the buffer as it is, an earlier one.
@@ -110,7 +109,11 @@ fn bounds_in(key: &[u8], line: &[u8]) -> Option<(u64, Option<u64>)>
     if !left.is_empty() {
         return None;
     }
-    if !are_bounds(low, high) {
+    let bounds = LineBounds {
+        min: low,
+        max: high,
+    };
+    if !bounds.are_few() {
         return None;
     }
     Some((low, high))
@@ -122,7 +125,11 @@ pub(crate) fn start_in(line: &[u8]) -> Option<(u64, Option<u64>)>
         (λ (low, high). (is_few low && is_limit high && is_within low high) ≡ true) line.now result }
 {
     let (low, high) = bounds_in(b"start", line)?;
-    if !is_within(low, high) {
+    let bounds = LineBounds {
+        min: low,
+        max: high,
+    };
+    if !bounds.in_order() {
         return None;
     }
     Some((low, high))

@@ -8,25 +8,26 @@ ghost use Rattle.cert_check.specs.text.Pieces.{Reads, inner_lines, list_lines, L
 
 use crate::certificate::{Looped, Note};
 use crate::text::cursor::{Cursor, Head};
-use crate::text::fault::CertFault;
+use crate::text::fault::Unread;
 use crate::text::readers::{read_either, read_head};
 use crate::text::states::read_state;
+use crate::text::wanted::LineKind;
 use ed_rules::KeptState;
 use std::alloc::Global;
 
 /// The states before the commands of a list, up to its end.
-fn read_inner(alloc: Global, cursor: &mut Cursor<'_>) -> Result<Vec<KeptState>, CertFault>
+fn read_inner(alloc: Global, cursor: &mut Cursor<'_>) -> Result<Vec<KeptState>, Unread>
     ensures exact { Reads (λ v. v.items) inner_lines (All StateIsFormed) cursor.old cursor.new result }
 {
     let mut states = Vec::new(alloc);
-    'states: while read_either(b"inner", b"done", cursor)? {
+    'states: while read_either(LineKind::InnerOrDone, b"done", cursor)? {
         states.push(read_state(alloc, cursor)?)?;
     }
     Ok(states)
 }
 
 /// What is known of a list, after its head.
-fn read_list(alloc: Global, cursor: &mut Cursor<'_>) -> Result<Box<Looped>, CertFault>
+fn read_list(alloc: Global, cursor: &mut Cursor<'_>) -> Result<Box<Looped>, Unread>
     ensures exact { Reads boxed_value list_lines ListIsFormed cursor.old cursor.new result }
 {
     let invariant = read_state(alloc, cursor)?;
@@ -35,7 +36,7 @@ fn read_list(alloc: Global, cursor: &mut Cursor<'_>) -> Result<Box<Looped>, Cert
 }
 
 /// A note after its head, and whether another follows.
-fn read_note(alloc: Global, cursor: &mut Cursor<'_>) -> Result<(Note, bool), CertFault>
+fn read_note(alloc: Global, cursor: &mut Cursor<'_>) -> Result<(Note, bool), Unread>
     ensures exact { Reads noted_value noted_lines NotedIsFormed cursor.old cursor.new result }
 {
     let state = read_state(alloc, cursor)?;
@@ -56,7 +57,7 @@ fn read_note(alloc: Global, cursor: &mut Cursor<'_>) -> Result<(Note, bool), Cer
         )),
         Head::Loop => {
             let looped = read_list(alloc, cursor)?;
-            let another = read_either(b"note", b"end", cursor)?;
+            let another = read_either(LineKind::NoteOrEnd, b"end", cursor)?;
             Ok((
                 Note {
                     state,
@@ -69,11 +70,11 @@ fn read_note(alloc: Global, cursor: &mut Cursor<'_>) -> Result<(Note, bool), Cer
 }
 
 /// The notes, up to the head of what is known at the end.
-pub(crate) fn read_notes(alloc: Global, cursor: &mut Cursor<'_>) -> Result<Vec<Note>, CertFault>
+pub(crate) fn read_notes(alloc: Global, cursor: &mut Cursor<'_>) -> Result<Vec<Note>, Unread>
     ensures exact { Reads (λ notes. map note_value notes.items) notes_lines (All NoteHasText) cursor.old cursor.new result }
 {
     let mut notes = Vec::new(alloc);
-    let mut another = read_either(b"note", b"end", cursor)?;
+    let mut another = read_either(LineKind::NoteOrEnd, b"end", cursor)?;
     'notes: while another {
         let (note, follows) = read_note(alloc, cursor)?;
         notes.push(note)?;

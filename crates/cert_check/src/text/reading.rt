@@ -1,20 +1,23 @@
 //! Reads a certificate.
 
 ghost use Rattle.cert_check.specs.Certificates.{certificate_value};
-ghost use Rattle.cert_check.specs.text.Faults.{IsReading};
+ghost use Rattle.std.specs.Prelude.{◌≡◌, ℕ, MatchOption, IfOk};
+ghost use Rattle.cert_check.specs.text.Faults.{IsLineFault, IsReading};
 ghost use Rattle.cert_check.specs.text.HasText.{HasText};
-ghost use Rattle.cert_check.specs.text.Pieces.{Reads, rest_lines};
+ghost use Rattle.cert_check.specs.text.Pieces.{Reads, IsReadAs, rest_lines};
+ghost use Rattle.cert_check.specs.text.Wanted.{IsWanted};
 
 use crate::certificate::Certificate;
 use crate::text::cursor::Cursor;
-use crate::text::fault::CertFault;
+use crate::text::fault::{CertFault, Unread};
 use crate::text::notes::read_notes;
 use crate::text::readers::{read_final, read_path, read_start, read_writes};
 use crate::text::states::read_state;
-use std::alloc::Global;
+use crate::text::wanted::Wanted;
+use std::alloc::{AllocError, Global};
 
 /// A certificate, from its second line to its last.
-fn read_rest(alloc: Global, cursor: &mut Cursor<'_>) -> Result<Certificate, CertFault>
+fn read_rest(alloc: Global, cursor: &mut Cursor<'_>) -> Result<Certificate, Unread>
     ensures exact { Reads certificate_value rest_lines HasText cursor.old cursor.new result }
 {
     let path = read_path(alloc, cursor)?;
@@ -35,23 +38,47 @@ fn read_rest(alloc: Global, cursor: &mut Cursor<'_>) -> Result<Certificate, Cert
     })
 }
 
+/// All of it, and nothing else.
+fn read_all(alloc: Global, bytes: &[u8]) -> Result<Certificate, Unread>
+    ensures exact { IsReadAs bytes.now result }
+{
+    let mut cursor = Cursor::new(bytes);
+    let Some(line) = cursor.next() else {
+        return Err(Unread::Version);
+    };
+    if line != b"ed-certificate 1".as_slice() {
+        return Err(Unread::Version);
+    }
+    let certificate = read_rest(alloc, &mut cursor)?;
+    if !cursor.is_at_end() {
+        return Err(Unread::Size);
+    }
+    Ok(certificate)
+}
+
 impl Certificate {
     /// The certificate whose text the bytes are, or why there is none: the fault of the first line that may not stand where it
     /// stands. What `write` gave is read as the same certificate. It goes through the bytes once.
     pub fn read(alloc: Global, bytes: &[u8]) -> Result<Certificate, CertFault>
         ensures exact { IsReading bytes.now result }
     {
-        let mut cursor = Cursor::new(bytes);
-        let Some(line) = cursor.next() else {
-            return Err(CertFault::Version);
-        };
-        if line != b"ed-certificate 1".as_slice() {
-            return Err(CertFault::Version);
-        }
-        let certificate = read_rest(alloc, &mut cursor)?;
-        if !cursor.is_at_end() {
-            return Err(CertFault::Size);
-        }
-        Ok(certificate)
+        Ok(read_all(alloc, bytes)?)
+    }
+}
+
+/// The line of a [`CertFault::Line`], and which kind of line could stand there; `None` of bytes that have no such fault. It reads
+/// them again: whoever tells people of a fault asks for it.
+pub fn wanted(alloc: Global, bytes: &[u8]) -> Result<Option<Wanted>, AllocError>
+    ensures exact { IfOk result (λ wanted. MatchOption wanted ((number : ℕ) → IsLineFault number bytes.now → ⊥)
+        (λ wanted. IsWanted wanted bytes.now)) }
+{
+    let Some(unread) = read_all(alloc, bytes).err() else {
+        return Ok(None);
+    };
+    match unread {
+        Unread::Version => Ok(None),
+        Unread::Line(wanted) => Ok(Some(wanted)),
+        Unread::Size => Ok(None),
+        Unread::Memory => Err(AllocError),
     }
 }

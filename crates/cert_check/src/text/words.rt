@@ -1,10 +1,10 @@
 //! The words of a certificate's text, as they are written.
 
-ghost use Rattle.std.specs.Prelude.{◌≡◌, ◌++◌, ◌∷◌, ◌<◌, Some, flat_map, OnOk};
+ghost use Rattle.std.specs.Prelude.{◌≡◌, ◌++◌, ◌∷◌, ◌<◌, [], Some, flat_map, OnOk};
 ghost use Rattle.std.specs.Fmt.{signed_decimal};
 ghost use Rattle.cert_check.specs.text.Text.{space, spaced, name_word, bound_words, bounds_words, letter_a, sure_letters, letters_words, hexadecimal, is_itself, byte_text, choice_word, possible, limit_word};
 
-use ed_base::{Bytes, push_number};
+use ed_base::{Bytes, Letter, push_number};
 use ed_rules::Marks;
 use std::alloc::AllocError;
 use zones::{KeptZone, Name};
@@ -28,16 +28,29 @@ fn push_signed(out: &mut Bytes, number: i64) -> Result<(), AllocError>
     push_number(out, number.unsigned_abs())
 }
 
+/// The byte of a name. Of the addresses of one command there is none, and no text names them.
+pub(crate) fn name_byte(name: Name) -> u8
+    ensures value { name_word name ≡ result ∷ [] }
+{
+    if name == Name::ZERO {
+        return b'0';
+    }
+    if name == Name::CURRENT_LINE {
+        return b'.';
+    }
+    if name == Name::LAST_LINE {
+        return b'$';
+    }
+    match name.letter() {
+        Some(letter) => letter.byte(),
+        None => b'a',
+    }
+}
+
 fn push_name(out: &mut Bytes, name: Name) -> Result<(), AllocError>
     ensures appended { OnOk result (out.new ≡ out.old ++ name_word name) }
 {
-    let byte = match name.place() {
-        0 => b'0',
-        1 => b'.',
-        2 => b'$',
-        // The addresses of one command have no letter, and no text names them.
-        place => b'a' + (place.saturating_sub(6)) as u8,
-    };
+    let byte = name_byte(name);
     out.push(byte)
 }
 
@@ -75,13 +88,14 @@ pub(crate) fn push_marks(out: &mut Bytes, marks: &Marks) -> Result<(), AllocErro
         (out.new ≡ out.old ++ spaced (letters_words (sure_letters letter_a marks.now))) }
 {
     let mut begun = false;
-    for letter in 0..26 {
+    for place in 0..Letter::COUNT {
+        let letter = Letter::at(place);
         if marks.is_sure(letter) {
             if !begun {
                 out.push(b' ')?;
                 begun = true;
             }
-            out.push(b'a' + letter as u8)?;
+            out.push(letter.byte())?;
         }
     }
     Ok(())

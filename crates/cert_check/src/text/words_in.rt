@@ -4,12 +4,13 @@ ghost use Rattle.std.specs.Prelude.{◌≡◌, ◌≢◌, ◌<◌, ◌/◌, ◌%
 ghost use Rattle.std.specs.List.{prefix_len};
 ghost use Rattle.std.specs.Fmt.{signed_decimal};
 ghost use Rattle.ed_rules.specs.Formed.{ChoiceIsBytes};
-ghost use Rattle.cert_check.specs.text.HasText.{is_limit};
+ghost use Rattle.ed_rules.specs.LineBounds.{is_limit};
 ghost use Rattle.cert_check.specs.text.Text.{space, hexadecimal, is_itself, byte_text, choice_word, limit_word};
 ghost use Rattle.cert_check.specs.text.Reading.{is_in_word, WordReadsAs, IsFirstWord, IsNumber, IsSigned};
 
-use crate::text::has_text::{are_bytes, is_limit};
+use crate::text::has_text::are_bytes;
 use ed_base::Bytes;
+use ed_rules::LineBounds;
 use itoa::Buffer;
 use std::alloc::{AllocError, Global};
 use std::str::from_utf8;
@@ -94,7 +95,7 @@ pub(crate) fn limit_in(word: &[u8]) -> Option<Option<u64>>
     let Some(number) = number_in(word) else {
         return None;
     };
-    if !is_limit(Some(number)) {
+    if number > LineBounds::MOST {
         return None;
     }
     Some(Some(number))

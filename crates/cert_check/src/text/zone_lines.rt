@@ -1,6 +1,6 @@
 //! The lines of a zone and of its letters, as they are read.
 
-ghost use Rattle.std.specs.Prelude.{◌≡◌, ◌≢◌, ◌<◌, ◌≤◌, ◌+◌, ◌*◌, ◌++◌, ◌∷◌, ℕ, ℤ, List, Bool, [], IsTrue, ◌↔◌, MatchOption, IfOk, All, length, map};
+ghost use Rattle.std.specs.Prelude.{◌≡◌, ◌≢◌, ◌<◌, ◌≤◌, ◌+◌, ◌*◌, ◌++◌, ◌∷◌, ℕ, ℤ, List, Bool, [], Some, MatchOption, IfSome, IfOk, All, length, map};
 ghost use Rattle.zones.specs.KnownBounds.{PlacedBound};
 ghost use Rattle.zones.specs.Written.{Rise};
 ghost use Rattle.ed_rules.specs.Formed.{ZoneIsFormed};
@@ -8,7 +8,9 @@ ghost use Rattle.cert_check.specs.text.Text.{Word, space, spaced, name_word, let
 ghost use Rattle.cert_check.specs.text.Reading.{ReadsAs, all_marks, IsFirstWord, IsNamed, IsSigned, said_word, IsSaid, spoken_word, IsSpoken};
 
 use crate::text::has_text::zone_has_text;
+use crate::text::words::name_byte;
 use crate::text::words_in::{after_key, signed_in, word_len};
+use ed_base::Letter;
 use ed_rules::Marks;
 use std::alloc::{AllocError, Global};
 use zones::{BOUNDS_OF_THREE_NAMES, KeptEntry, KeptZone, Name};
@@ -21,8 +23,9 @@ fn letters_in(word: &[u8]) -> Option<Marks>
 {
     let mut marks = Marks::none();
     let mut left = word;
-    for letter in 0..26 {
-        let Some(later) = after_key(&[b'a' + letter as u8], left) else {
+    for place in 0..Letter::COUNT {
+        let letter = Letter::at(place);
+        let Some(later) = after_key(&[letter.byte()], left) else {
             continue;
         };
         marks.add(letter);
@@ -70,39 +73,14 @@ pub(crate) fn marks_in(key: &[u8], line: &[u8], zone: &KeptZone) -> Option<Marks
     Some(marks)
 }
 
-/// Whether texts have the name: the addresses of one command have no text.
-fn is_named(name: Name) -> bool
-    ensures exact { IsTrue result ↔ IsNamed name }
-{
-    let place = name.place();
-    place < 3 || 6 <= place
-}
-
-/// The byte of a name.
-fn name_byte(name: Name) -> u8
-    ensures value { name_word name ≡ result ∷ [] }
-{
-    match name.place() {
-        0 => b'0',
-        1 => b'.',
-        2 => b'$',
-        place => b'a' + (place.saturating_sub(6)) as u8,
-    }
-}
-
 /// What is said of x - y after a space in front, and what is left after it.
 fn bound_in(x: Name, y: Name, text: &[u8]) -> Option<(i64, &[u8])>
+    requires row { IsNamed x }
+    requires column { IsNamed y }
     ensures exact { MatchOption result
-        (IsNamed x → IsNamed y → (number : ℤ) (words : List Word) → IsSigned number →
-        (space ∷ said_word x y number) ++ spaced words ≢ text.now)
+        ((number : ℤ) (words : List Word) → IsSigned number → (space ∷ said_word x y number) ++ spaced words ≢ text.now)
         (λ (number, left). IsSaid x y number left.now text.now) }
 {
-    if !is_named(x) {
-        return None;
-    }
-    if !is_named(y) {
-        return None;
-    }
     let key = [b' ', name_byte(x), b'-', name_byte(y), b'<', b'='];
     let Some(rest) = after_key(&key, text) else {
         return None;
@@ -114,29 +92,35 @@ fn bound_in(x: Name, y: Name, text: &[u8]) -> Option<(i64, &[u8])>
     Some((number, left))
 }
 
-/// The place of the name that a byte stands for, and 1024 of a byte that stands for none.
-fn name_said(byte: u8) -> usize
-    ensures named { (place : ℕ) → IsNamed place → place < 32 → name_word place ≡ byte ∷ [] → result ≡ place }
-    ensures few { result ≤ 1024 }
+/// The name that a byte stands for.
+fn name_said(byte: u8) -> Option<Name>
+    ensures named { IfSome result IsNamed }
+    ensures exact { (place : ℕ) → place < 32 → IsNamed place → name_word place ≡ byte ∷ [] → result ≡ Some place }
 {
     match byte {
-        b'0' => 0,
-        b'.' => 1,
-        b'$' => 2,
-        b'a'..=b'z' => 6 + usize::from(byte - b'a'),
-        _ => 1024,
+        b'0' => Some(Name::ZERO),
+        b'.' => Some(Name::CURRENT_LINE),
+        b'$' => Some(Name::LAST_LINE),
+        _ => match Letter::new(byte) {
+            Some(letter) => Some(Name::of(letter)),
+            None => None,
+        },
     }
 }
 
-/// The place of the two names of which a text speaks first, and at least 1024 where it speaks of none.
-fn place_said(text: &[u8]) -> usize
-    ensures said { (x y : ℕ) → x < 32 → y < 32 → IsNamed x → IsNamed y → (number : ℤ) (words : List Word) →
-        (space ∷ said_word x y number) ++ spaced words ≡ text.now → result ≡ 32 * x + y }
+/// The two names of which a text speaks first.
+fn names_said(text: &[u8]) -> Option<(Name, Name)>
+    ensures named { IfSome result (λ (x, y). IsNamed x × IsNamed y) }
+    ensures exact { (x y : ℕ) → x < 32 → y < 32 → IsNamed x → IsNamed y → (number : ℤ) (words : List Word) →
+        (space ∷ said_word x y number) ++ spaced words ≡ text.now → result ≡ Some (x, y) }
 {
     let [_, x, _, y, ..] = text else {
-        return 1024;
+        return None;
     };
-    32 * name_said(*x) + name_said(*y)
+    match (name_said(*x), name_said(*y)) {
+        (Some(x), Some(y)) => Some((x, y)),
+        _ => None,
+    }
 }
 
 /// The bound that a text says first, after a space in front, and what is left after it.
@@ -145,12 +129,10 @@ fn first_bound(text: &[u8]) -> Option<(KeptEntry, &[u8])>
         ((b : PlacedBound) (words : List Word) → IsSpoken b → (space ∷ spoken_word b) ++ spaced words ≢ text.now)
         (λ (entry, left). IsSpoken entry × IsFirstWord text.now (spoken_word entry) left.now) }
 {
-    let place = place_said(text);
-    if place >= 1024 {
+    let Some(names) = names_said(text) else {
         return None;
-    }
-    let x = Name::from_place(place / 32);
-    let y = Name::from_place(place % 32);
+    };
+    let (x, y) = names;
     let Some((number, left)) = bound_in(x, y, text) else {
         return None;
     };
@@ -176,7 +158,7 @@ fn bounds_said(alloc: Global, text: &[u8]) -> Result<Option<Vec<KeptEntry>>, All
             return Ok(None);
         };
         let (bound, later) = first;
-        let place = 32 * bound.x().place() + bound.y().place();
+        let place = Name::COUNT * bound.x().place() + bound.y().place();
         if place < from {
             return Ok(None);
         }

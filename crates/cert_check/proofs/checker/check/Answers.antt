@@ -1,6 +1,6 @@
 use Rattle.ed_syntax.specs.PublicScript.{script_value}
 use Rattle.cert_check.specs.Certificates.{certificate_value}
-use Rattle.cert_check.proofs.checker.Judging.{sound-by}
+use Rattle.cert_check.proofs.verdicts.Judging.{sound-by}
 use Rattle.cert_check.proofs.checker.check.Goals as goal
 
 pub returns-clause-sound : goal.returns-clause-sound

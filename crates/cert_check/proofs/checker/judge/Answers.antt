@@ -3,7 +3,7 @@ use Rattle.ed_syntax.specs.PublicTypes.{steps_value}
 use Rattle.ed_syntax.specs.PublicScript.{script_value}
 use Rattle.cert_check.specs.Certificates.{note_value, certificate_value}
 use Rattle.cert_check.specs.checker.Valid.{counted, has_quit}
-use Rattle.cert_check.proofs.checker.Judging.{judged-by, judged-by_shape}
+use Rattle.cert_check.proofs.verdicts.Judging.{judged-by, judged-by_shape}
 use Rattle.cert_check.proofs.checker.judge.Goals as goal
 
 pub returns-then-not-are_shaped : goal.returns-then-not-are_shaped

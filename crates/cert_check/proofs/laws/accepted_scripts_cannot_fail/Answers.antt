@@ -1,5 +1,5 @@
-use Rattle.cert_check.proofs.checker.Running.{Laws}
-use Rattle.cert_check.proofs.checker.Starting.{accepted-safe}
+use Rattle.cert_check.proofs.verdicts.Running.{Laws}
+use Rattle.cert_check.proofs.verdicts.Starting.{accepted-safe}
 use Rattle.cert_check.proofs.laws.accepted_scripts_cannot_fail.Goals as goal
 
 pub returns : goal.returns

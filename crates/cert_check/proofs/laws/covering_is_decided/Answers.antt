@@ -1,4 +1,4 @@
-use Rattle.cert_check.proofs.checker.Covering.{covers-says, says-covers}
+use Rattle.cert_check.proofs.verdicts.Covering.{covers-says, says-covers}
 use Rattle.cert_check.proofs.laws.covering_is_decided.Goals as goal
 
 pub returns : goal.returns

@@ -1,4 +1,4 @@
-use Rattle.cert_check.proofs.text.Apart.{text-apart, version-apart, line-apart, size-apart}
+use Rattle.cert_check.proofs.texts.Apart.{text-apart, version-apart, line-apart, size-apart}
 use Rattle.cert_check.proofs.laws.readings_are_told_apart.Goals as goal
 
 pub returns : goal.returns

@@ -1,4 +1,4 @@
-use Rattle.cert_check.proofs.checker.Opening.{start-sound}
+use Rattle.cert_check.proofs.verdicts.Opening.{start-sound}
 use Rattle.cert_check.proofs.laws.starts_are_sound.Goals as goal
 
 pub returns : goal.returns

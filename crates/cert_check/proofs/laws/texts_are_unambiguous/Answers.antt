@@ -1,4 +1,4 @@
-use Rattle.cert_check.proofs.text.OneText.{one-text}
+use Rattle.cert_check.proofs.texts.OneText.{one-text}
 use Rattle.cert_check.proofs.laws.texts_are_unambiguous.Goals as goal
 
 pub returns : goal.returns

@@ -1,6 +1,6 @@
 use Rattle.std.proofs.Common.{arith, refl, ◌∙◌}
-use Rattle.cert_check.proofs.checker.Judging.{list-on, list-off, list-over}
-use Rattle.cert_check.proofs.loops.go_through_list.Goals as goal
+use Rattle.cert_check.proofs.verdicts.Judging.{list-on, list-off, list-over}
+use Rattle.cert_check.proofs.checker.loops.go_through_list.Goals as goal
 
 pub loop-index-init : goal.loop-index-init
 loop-index-init c = λ turned. refl

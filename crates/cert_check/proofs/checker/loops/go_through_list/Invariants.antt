@@ -2,8 +2,8 @@ use Rattle.std.proofs.Common.{◌≡◌, ℕ, List, map}
 use Rattle.ed_syntax.specs.PublicTypes.{command_value}
 use Rattle.ed_rules.specs.declared.state.State.{State}
 use Rattle.cert_check.specs.checker.Valid.{Check, verdict_of, list_checks}
-use Rattle.cert_check.proofs.checker.Judging.{list_from}
-use Rattle.cert_check.proofs.loops.go_through_list.Given as goal
+use Rattle.cert_check.proofs.verdicts.Judging.{list_from}
+use Rattle.cert_check.proofs.checker.loops.go_through_list.Given as goal
 
 -- the checks before this command hold
 abbrev pub invariant-loop-index : goal.invariant-loop-index

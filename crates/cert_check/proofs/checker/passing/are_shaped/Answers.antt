@@ -1,7 +1,7 @@
 use Rattle.std.proofs.Common.{arith, rules, refl, sym, ◌∙◌, ◌<◌, length}
-use Rattle.cert_check.proofs.checker.Counting.{counted-bounded}
-use Rattle.cert_check.proofs.checker.Judging.{shape-on, shape-off, shape-over, shape-size}
-use Rattle.cert_check.proofs.passing.are_shaped.Goals as goal
+use Rattle.cert_check.proofs.verdicts.Counting.{counted-bounded}
+use Rattle.cert_check.proofs.verdicts.Judging.{shape-on, shape-off, shape-over, shape-size}
+use Rattle.cert_check.proofs.checker.passing.are_shaped.Goals as goal
 
 pub returns-then-notes-number : goal.returns-then-notes-number
 returns-then-notes-number c = record { value = sym (shape-size c.args.commands.now c.args.notes.now c.args.number c.requires.counted c.if-notes-number.true) }

@@ -1,6 +1,6 @@
 use Rattle.std.proofs.Common.{◌≡◌}
-use Rattle.cert_check.proofs.checker.Judging.{shape_from}
-use Rattle.cert_check.proofs.passing.are_shaped.Given as goal
+use Rattle.cert_check.proofs.verdicts.Judging.{shape_from}
+use Rattle.cert_check.proofs.checker.passing.are_shaped.Given as goal
 
 -- the notes before this one fit
 abbrev pub invariant-loop-index : goal.invariant-loop-index

@@ -1,6 +1,8 @@
-use Rattle.std.proofs.Common.{arith, refl, sym, ◌∙◌}
-use Rattle.cert_check.proofs.checker.Counting.{count-on, count-off, count-end}
-use Rattle.cert_check.proofs.passing.count.Goals as goal
+use Rattle.std.proofs.Common.{arith, refl, sym, ap, ◌∙◌}
+use Rattle.std.specs.Prelude.{is_some}
+use Rattle.ed_syntax.specs.meaning.Verbs.{Takes}
+use Rattle.cert_check.proofs.verdicts.Counting.{count-on, count-off, count-end}
+use Rattle.cert_check.proofs.checker.passing.count.Goals as goal
 
 pub loop-index-init : goal.loop-index-init
 loop-index-init c = record { number = omega arith; quit = refl }
@@ -8,12 +10,12 @@ loop-index-init c = record { number = omega arith; quit = refl }
 pub loop-index-preserved : goal.loop-index-preserved
 loop-index-preserved c =
     count-on c.args.commands.now c.loop-index.index c.index-commands-index.result (omega arith) c.index-commands-index.is
-    (sym c.quits.ensures.value ∙ c.if-quits.false) c.loop-index.invariant
+    (sym (ap (λ (t : Takes). is_some t.ends) c.takes.ensures.value) ∙ sym c.is_some.ensures ∙ c.if-is_some.false) c.loop-index.invariant
 
-pub returns-then-quits : goal.returns-then-quits
-returns-then-quits c =
+pub returns-then-is_some : goal.returns-then-is_some
+returns-then-is_some c =
     let last = count-off c.args.commands.now c.loop-index.index c.index-commands-index.result (omega arith) c.index-commands-index.is
-    (sym c.quits.ensures.value ∙ c.if-quits.true) c.loop-index.invariant in
+    (sym (ap (λ (t : Takes). is_some t.ends) c.takes.ensures.value) ∙ sym c.is_some.ensures ∙ c.if-is_some.true) c.loop-index.invariant in
     record { number = last.0; quit = last.1 }
 
 pub returns : goal.returns

@@ -1,5 +1,5 @@
-use Rattle.cert_check.proofs.checker.Counting.{CountedTo}
-use Rattle.cert_check.proofs.passing.count.Given as goal
+use Rattle.cert_check.proofs.verdicts.Counting.{CountedTo}
+use Rattle.cert_check.proofs.checker.passing.count.Given as goal
 
 -- what is counted from here on
 abbrev pub invariant-loop-index : goal.invariant-loop-index

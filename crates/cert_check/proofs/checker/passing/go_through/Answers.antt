@@ -1,7 +1,7 @@
 use Rattle.std.proofs.Common.{arith, rules, refl, sym, ◌∙◌, ◌<◌, length}
-use Rattle.cert_check.proofs.checker.Counting.{counted-bounded}
-use Rattle.cert_check.proofs.checker.Judging.{go-on, stop-here, gone-through, shape-on, shape-fits, noted-length}
-use Rattle.cert_check.proofs.passing.go_through.Goals as goal
+use Rattle.cert_check.proofs.verdicts.Counting.{counted-bounded}
+use Rattle.cert_check.proofs.verdicts.Judging.{go-on, stop-here, gone-through, shape-on, shape-fits, noted-length}
+use Rattle.cert_check.proofs.checker.passing.go_through.Goals as goal
 
 pub loop-index-init : goal.loop-index-init
 loop-index-init c = record { shape = c.requires.shape; checks = λ end. refl }

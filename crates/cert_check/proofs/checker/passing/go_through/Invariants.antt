@@ -3,8 +3,8 @@ use Rattle.ed_syntax.specs.PublicTypes.{steps_value}
 use Rattle.ed_rules.specs.declared.state.State.{State}
 use Rattle.cert_check.specs.Certificates.{note_value}
 use Rattle.cert_check.specs.checker.Valid.{Check, verdict_of, counted, checks_from}
-use Rattle.cert_check.proofs.checker.Judging.{verdict_from, shape_from}
-use Rattle.cert_check.proofs.passing.go_through.Given as goal
+use Rattle.cert_check.proofs.verdicts.Judging.{verdict_from, shape_from}
+use Rattle.cert_check.proofs.checker.passing.go_through.Given as goal
 
 -- the checks before this note hold, and those from here on have the shape of the notes
 abbrev pub invariant-loop-index : goal.invariant-loop-index

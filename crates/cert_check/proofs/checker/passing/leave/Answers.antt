@@ -1,7 +1,7 @@
 use Rattle.std.proofs.Common.{None, Some}
 use Rattle.ed_syntax.specs.PublicTypes.{command_value}
-use Rattle.cert_check.proofs.checker.Checks.{comes-left}
-use Rattle.cert_check.proofs.passing.leave.Goals as goal
+use Rattle.cert_check.proofs.verdicts.Checks.{comes-left}
+use Rattle.cert_check.proofs.checker.passing.leave.Goals as goal
 
 pub returns-in-None : goal.returns-in-None
 returns-in-None c = record {

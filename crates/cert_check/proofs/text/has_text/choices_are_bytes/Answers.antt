@@ -1,7 +1,7 @@
 use Rattle.std.proofs.Common.{arith}
 use Rattle.ed_rules.specs.Formed.{ChoiceIsBytes}
-use Rattle.cert_check.proofs.text.Limited.{all-more, all-end}
-use Rattle.cert_check.proofs.has_text.choices_are_bytes.Goals as goal
+use Rattle.cert_check.proofs.texts.Limited.{all-more, all-end}
+use Rattle.cert_check.proofs.text.has_text.choices_are_bytes.Goals as goal
 
 pub loop-choice-preserved : goal.loop-choice-preserved
 loop-choice-preserved c =

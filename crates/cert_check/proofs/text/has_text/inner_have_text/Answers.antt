@@ -1,7 +1,7 @@
 use Rattle.std.proofs.Common.{arith}
 use Rattle.ed_rules.specs.Formed.{StateIsFormed}
-use Rattle.cert_check.proofs.text.Limited.{all-more, all-end, all-fails}
-use Rattle.cert_check.proofs.has_text.inner_have_text.Goals as goal
+use Rattle.cert_check.proofs.texts.Limited.{all-more, all-end, all-fails}
+use Rattle.cert_check.proofs.text.has_text.inner_have_text.Goals as goal
 
 pub loop-state-preserved : goal.loop-state-preserved
 loop-state-preserved c =

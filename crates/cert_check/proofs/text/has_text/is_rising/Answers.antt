@@ -1,6 +1,6 @@
 use Rattle.std.proofs.Common.{◌∙◌, arith, sym}
-use Rattle.cert_check.proofs.text.Limited.{last-rises}
-use Rattle.cert_check.proofs.has_text.is_rising.Goals as goal
+use Rattle.cert_check.proofs.texts.Limited.{last-rises}
+use Rattle.cert_check.proofs.text.has_text.is_rising.Goals as goal
 
 pub returns : goal.returns
 returns c = record {

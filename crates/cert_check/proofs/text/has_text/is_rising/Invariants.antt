@@ -1,6 +1,6 @@
 use Rattle.std.proofs.Common.{◌≡◌, ◌-◌, drop}
 use Rattle.ed_rules.specs.Formed.{is_rising}
-use Rattle.cert_check.proofs.has_text.is_rising.Given as goal
+use Rattle.cert_check.proofs.text.has_text.is_rising.Given as goal
 
 -- the choices before this one rise
 abbrev pub invariant-loop-next : goal.invariant-loop-next

@@ -2,8 +2,8 @@ use Rattle.std.proofs.Common.{arith}
 use Rattle.cert_check.specs.Certificates.{note_value}
 use Rattle.cert_check.specs.text.HasText.{NoteHasText}
 use Rattle.std.proofs.lemmas.List.Elements.{All-map}
-use Rattle.cert_check.proofs.text.Limited.{all-more, all-end, all-fails, from-map}
-use Rattle.cert_check.proofs.has_text.notes_have_text.Goals as goal
+use Rattle.cert_check.proofs.texts.Limited.{all-more, all-end, all-fails, from-map}
+use Rattle.cert_check.proofs.text.has_text.notes_have_text.Goals as goal
 
 pub loop-note-preserved : goal.loop-note-preserved
 loop-note-preserved c =

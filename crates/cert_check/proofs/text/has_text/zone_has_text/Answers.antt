@@ -1,9 +1,9 @@
 use Rattle.std.proofs.Common.{List, arith, sym, ◌∙◌, subst}
 use Rattle.std.specs.List.{All}
 use Rattle.zones.specs.KnownBounds.{PlacedBound}
-use Rattle.cert_check.proofs.text.Known.{MaySay, may-placed, says-formed, formed-says}
-use Rattle.cert_check.proofs.text.Limited.{all-more, all-end, all-fails}
-use Rattle.cert_check.proofs.has_text.zone_has_text.Goals as goal
+use Rattle.cert_check.proofs.texts.Known.{MaySay, may-placed, says-formed, formed-says}
+use Rattle.cert_check.proofs.texts.Limited.{all-more, all-end, all-fails}
+use Rattle.cert_check.proofs.text.has_text.zone_has_text.Goals as goal
 
 pub loop-entry-preserved : goal.loop-entry-preserved
 loop-entry-preserved c =

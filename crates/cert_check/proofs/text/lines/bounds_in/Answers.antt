@@ -1,13 +1,13 @@
 use Rattle.std.proofs.Common.{◌≡◌, [], ◌∷◌, ℕ, true, false, ◌&&◌, Option, ◌∙◌, sym, ap}
 use Rattle.std.specs.Prelude.{decimal}
-use Rattle.cert_check.specs.text.HasText.{is_few, is_limit}
+use Rattle.ed_rules.specs.LineBounds.{is_few, is_limit}
 use Rattle.cert_check.specs.text.Text.{limit_word}
-use Rattle.cert_check.proofs.text.Separated.{and-both}
-use Rattle.cert_check.proofs.text.OneText.{few}
-use Rattle.cert_check.proofs.text.Cutting.{no-words}
-use Rattle.cert_check.proofs.text.ReadWords.{not-nothing}
-use Rattle.cert_check.proofs.text.ReadLines.{no-word, one-word, two-words, bounds-words, bounds-same}
-use Rattle.cert_check.proofs.lines.bounds_in.Goals as goal
+use Rattle.cert_check.proofs.texts.Separated.{and-both}
+use Rattle.cert_check.proofs.texts.OneText.{few}
+use Rattle.cert_check.proofs.texts.Cutting.{no-words}
+use Rattle.cert_check.proofs.texts.ReadWords.{not-nothing}
+use Rattle.cert_check.proofs.texts.ReadLines.{no-word, one-word, two-words, bounds-words, bounds-same}
+use Rattle.cert_check.proofs.text.lines.bounds_in.Goals as goal
 
 pub returns-in_default-next_word : goal.returns-in_default-next_word
 returns-in_default-next_word c = record {
@@ -51,8 +51,8 @@ returns-then-not-is_empty c = record {
       not-nothing c.in-Some-next_word-2.left.now c.if-not-is_empty.ensures two.none_left;
 }
 
-pub returns-then-not-are_bounds : goal.returns-then-not-are_bounds
-returns-then-not-are_bounds c = record {
+pub returns-then-not-are_few : goal.returns-then-not-are_few
+returns-then-not-are_few c = record {
   exact = λ v h e.
       let words = bounds-words v.0 v.1 h in
       let two = two-words c.args.key.now c.args.line.now c.in-Some.left.now c.in-Some-next_word.low.now c.in-Some-next_word.left.now c.in-Some-next_word-2.high.now
@@ -62,6 +62,6 @@ returns-then-not-are_bounds c = record {
       let same = bounds-same v.0 c.in-Some-number_in.low v.1 c.in-Some-limit_in.high c.in-Some-next_word.low.now c.in-Some-next_word-2.high.now h low.1 high.1
       two.first two.second low.0 high.0 in
       let refused : false ≡ true =
-      c.if-not-are_bounds.ensures.value ∙ ap (λ (n : ℕ). is_few n && is_limit c.in-Some-limit_in.high) (sym same.0) ∙ ap (λ (m : Option ℕ). is_few v.0 && is_limit m) (sym same.1) ∙ h in
+      c.if-not-are_few.ensures.value ∙ ap (λ (n : ℕ). is_few n && is_limit c.in-Some-limit_in.high) (sym same.0) ∙ ap (λ (m : Option ℕ). is_few v.0 && is_limit m) (sym same.1) ∙ h in
       absurd cc;
 }

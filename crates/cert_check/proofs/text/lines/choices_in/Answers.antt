@@ -2,8 +2,8 @@ use Rattle.std.proofs.Common.{◌≡◌, true, false, List, map, ◌∙◌, sym,
 use Rattle.ed_rules.specs.Choices.{Choice}
 use Rattle.ed_rules.specs.Formed.{SetIsFormed}
 use Rattle.cert_check.specs.text.Text.{choice_word}
-use Rattle.cert_check.proofs.text.ReadSets.{choices-are-names, spaced-same, after-its-key}
-use Rattle.cert_check.proofs.lines.choices_in.Goals as goal
+use Rattle.cert_check.proofs.texts.ReadSets.{choices-are-names, spaced-same, after-its-key}
+use Rattle.cert_check.proofs.text.lines.choices_in.Goals as goal
 
 pub returns-in_default-2 : goal.returns-in_default-2
 returns-in_default-2 c = record {

@@ -1,7 +1,7 @@
 use Rattle.ed_rules.specs.Formed.{ChoiceIsBytes}
 use Rattle.cert_check.specs.text.Text.{choice_word}
-use Rattle.cert_check.proofs.text.ReadSets.{choices-are-names, stopped}
-use Rattle.cert_check.proofs.lines.members_in.Goals as goal
+use Rattle.cert_check.proofs.texts.ReadSets.{choices-are-names, stopped}
+use Rattle.cert_check.proofs.text.lines.members_in.Goals as goal
 
 pub returns-in_default-2 : goal.returns-in_default-2
 returns-in_default-2 c = record {

@@ -2,7 +2,7 @@
 use Rattle.std.proofs.Common.{◌≡◌, ◌<◌, ◌++◌, map, length}
 use Rattle.cert_check.specs.text.Text.{spaced, choice_word}
 use Rattle.cert_check.specs.text.Reading.{EndsWord}
-use Rattle.cert_check.proofs.lines.members_in.Given as goal
+use Rattle.cert_check.proofs.text.lines.members_in.Given as goal
 
 abbrev pub invariant-loop-word : goal.invariant-loop-word
 invariant-loop-word l = record {

@@ -1,10 +1,10 @@
 use Rattle.std.proofs.Common.{[]}
 use Rattle.std.specs.Prelude.{codes}
 use Rattle.cert_check.specs.text.Text.{choice_word}
-use Rattle.cert_check.proofs.text.Chosen.{choice-above}
-use Rattle.cert_check.proofs.text.ReadWords.{not-nothing}
-use Rattle.cert_check.proofs.text.ReadLines.{one-word}
-use Rattle.cert_check.proofs.lines.path_in.Goals as goal
+use Rattle.cert_check.proofs.texts.Chosen.{choice-above}
+use Rattle.cert_check.proofs.texts.ReadWords.{not-nothing}
+use Rattle.cert_check.proofs.texts.ReadLines.{one-word}
+use Rattle.cert_check.proofs.text.lines.path_in.Goals as goal
 
 pub returns-then-not-is_empty : goal.returns-then-not-is_empty
 returns-then-not-is_empty c = record {

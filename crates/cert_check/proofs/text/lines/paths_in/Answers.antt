@@ -1,10 +1,10 @@
 use Rattle.std.proofs.Common.{ℕ, List, Some}
 use Rattle.ed_rules.specs.Formed.{ChoiceIsBytes}
 use Rattle.cert_check.specs.text.Text.{choice_word}
-use Rattle.cert_check.proofs.text.Limited.{from-map}
-use Rattle.cert_check.proofs.text.ReadWords.{not-nothing}
-use Rattle.cert_check.proofs.text.ReadSets.{paths-are-names, stopped, ended}
-use Rattle.cert_check.proofs.lines.paths_in.Goals as goal
+use Rattle.cert_check.proofs.texts.Limited.{from-map}
+use Rattle.cert_check.proofs.texts.ReadWords.{not-nothing}
+use Rattle.cert_check.proofs.texts.ReadSets.{paths-are-names, stopped, ended}
+use Rattle.cert_check.proofs.text.lines.paths_in.Goals as goal
 
 pub returns-in_default-2 : goal.returns-in_default-2
 returns-in_default-2 c = record {

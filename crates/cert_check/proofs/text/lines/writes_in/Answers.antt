@@ -2,8 +2,8 @@ use Rattle.std.proofs.Common.{◌≡◌, ℕ, true, false, List, map, Some, ◌�
 use Rattle.std.specs.Prelude.{codes}
 use Rattle.ed_rules.specs.Formed.{is_rising}
 use Rattle.cert_check.specs.text.Text.{choice_word}
-use Rattle.cert_check.proofs.text.ReadSets.{paths-are-names, spaced-same, after-its-key}
-use Rattle.cert_check.proofs.lines.writes_in.Goals as goal
+use Rattle.cert_check.proofs.texts.ReadSets.{paths-are-names, spaced-same, after-its-key}
+use Rattle.cert_check.proofs.text.lines.writes_in.Goals as goal
 
 pub returns-then-not-paths_rise : goal.returns-then-not-paths_rise
 returns-then-not-paths_rise c = record {

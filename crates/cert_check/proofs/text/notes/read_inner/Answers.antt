@@ -1,7 +1,7 @@
 use Rattle.std.specs.Prelude.{codes}
-use Rattle.cert_check.proofs.text.Pieces.{took-more, exits}
-use Rattle.cert_check.proofs.text.Noted.{inner-turn, inner-state, inner-step, inner-all, took-is, took-turn}
-use Rattle.cert_check.proofs.notes.read_inner.Goals as goal
+use Rattle.cert_check.proofs.texts.Pieces.{took-more, exits}
+use Rattle.cert_check.proofs.texts.Noted.{inner-turn, inner-state, inner-step, inner-all, took-is, took-turn}
+use Rattle.cert_check.proofs.text.notes.read_inner.Goals as goal
 
 pub returns-in_err-read_either : goal.returns-in_err-read_either
 returns-in_err-read_either c = record {

@@ -3,9 +3,9 @@ use Rattle.cert_check.specs.declared.certificate.Looped.{Looped}
 use Rattle.cert_check.specs.Certificates.{boxed_value, looped_value}
 use Rattle.cert_check.specs.text.Text.{state_lines}
 use Rattle.cert_check.specs.text.Pieces.{Took, texts, inner_lines, list_lines, ListIsFormed}
-use Rattle.cert_check.proofs.text.Pieces.{took-none, took-more, texts-append, exits}
-use Rattle.cert_check.proofs.text.Noted.{list-state, list-inner, took-is}
-use Rattle.cert_check.proofs.notes.read_list.Goals as goal
+use Rattle.cert_check.proofs.texts.Pieces.{took-none, took-more, texts-append, exits}
+use Rattle.cert_check.proofs.texts.Noted.{list-state, list-inner, took-is}
+use Rattle.cert_check.proofs.text.notes.read_list.Goals as goal
 
 pub returns-in_err-invariant : goal.returns-in_err-invariant
 returns-in_err-invariant c = record {

@@ -1,9 +1,9 @@
 use Rattle.std.proofs.Common.{true, false}
 use Rattle.cert_check.specs.Certificates.{boxed_value}
 use Rattle.cert_check.specs.text.Pieces.{noted_value}
-use Rattle.cert_check.proofs.text.Pieces.{took-none, took-more, exits}
-use Rattle.cert_check.proofs.text.Noted.{noted-state, noted-head, noted-list, noted-turn, noted-plain, noted-listed, took-is, took-head}
-use Rattle.cert_check.proofs.notes.read_note.Goals as goal
+use Rattle.cert_check.proofs.texts.Pieces.{took-none, took-more, exits}
+use Rattle.cert_check.proofs.texts.Noted.{noted-state, noted-head, noted-list, noted-turn, noted-plain, noted-listed, took-is, took-head}
+use Rattle.cert_check.proofs.text.notes.read_note.Goals as goal
 
 pub returns-in_err-state : goal.returns-in_err-state
 returns-in_err-state c = record {

@@ -2,9 +2,9 @@ use Rattle.std.proofs.Common.{◌∷◌, [], ◌∙◌, ap, map, true, List}
 use Rattle.std.proofs.lemmas.List.{map-append}
 use Rattle.cert_check.specs.declared.certificate.Note as public
 use Rattle.cert_check.specs.Certificates.{note_value}
-use Rattle.cert_check.proofs.text.Pieces.{took-none, exits}
-use Rattle.cert_check.proofs.text.Noted.{notes-turn, notes-note, notes-step, took-notes}
-use Rattle.cert_check.proofs.notes.read_notes.Goals as goal
+use Rattle.cert_check.proofs.texts.Pieces.{took-none, exits}
+use Rattle.cert_check.proofs.texts.Noted.{notes-turn, notes-note, notes-step, took-notes}
+use Rattle.cert_check.proofs.text.notes.read_notes.Goals as goal
 
 pub returns-in_err-another : goal.returns-in_err-another
 returns-in_err-another c = record {

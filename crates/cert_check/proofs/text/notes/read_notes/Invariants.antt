@@ -3,8 +3,8 @@ use Rattle.std.specs.List.{All}
 use Rattle.cert_check.specs.Certificates.{note_value}
 use Rattle.cert_check.specs.text.HasText.{NoteHasText}
 use Rattle.cert_check.specs.text.Pieces.{Took, texts, alone}
-use Rattle.cert_check.proofs.text.Noted.{note_texts, note_head}
-use Rattle.cert_check.proofs.notes.read_notes.Given as goal
+use Rattle.cert_check.proofs.texts.Noted.{note_texts, note_head}
+use Rattle.cert_check.proofs.text.notes.read_notes.Given as goal
 
 abbrev pub invariant-notes : goal.invariant-notes
 invariant-notes l =

@@ -2,7 +2,7 @@ use Rattle.std.proofs.Common.{◌≡◌, [], ◌++◌, ℕ, List, Bool, true, fa
 use Rattle.std.specs.Cmp.Lexicographic.{pointwise, bytes_decides}
 use Rattle.cert_check.specs.text.Text.{line_text}
 use Rattle.cert_check.specs.text.Pieces.{either_line}
-use Rattle.cert_check.proofs.readers.either_in.Goals as goal
+use Rattle.cert_check.proofs.text.readers.either_in.Goals as goal
 
 same-bytes : (a b : List ℕ) → pointwise nat_eq a b ≡ true → a ≡ b
 same-bytes a b e = (bytes_decides a b).0 e

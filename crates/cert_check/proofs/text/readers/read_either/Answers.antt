@@ -1,14 +1,22 @@
+use Rattle.std.proofs.Common.{ℕ, List, true, subst}
 use Rattle.cert_check.specs.text.Pieces.{either_line}
-use Rattle.std.proofs.Common.{true, None, refl}
-use Rattle.cert_check.proofs.text.Pieces.{line-short, line-strange}
-use Rattle.cert_check.proofs.readers.read_either.Goals as goal
+use Rattle.cert_check.specs.text.Reading.{ReadsAs}
+use Rattle.cert_check.specs.text.Wanted.{key}
+use Rattle.cert_check.specs.text.Pieces.{same}
+use Rattle.cert_check.proofs.texts.Pieces.{line-none, line-itself}
+use Rattle.cert_check.proofs.texts.Keyed.{either-keyed}
+use Rattle.cert_check.proofs.text.readers.read_either.Goals as goal
 
-pub returns-in_default : goal.returns-in_default
-returns-in_default c = record { exact = line-short (either_line c.args.one.now c.args.other.now) (λ _. Unit {0}) true c.args.cursor.now tt c.in_default.ensures.exact }
-
-pub returns-in-None : goal.returns-in-None
-returns-in-None c = record {
+pub returns-in_err-line : goal.returns-in_err-line
+returns-in_err-line c = record {
   exact =
-      line-strange (either_line c.args.one.now c.args.other.now) (λ _. Unit {0}) true c.args.cursor.now c.next.new.self c.in-Some.line.now c.above.result None tt c.in-Some.ensures.exact
-      c.above.ensures.value refl c.in-None.ensures.exact;
+      line-none same (either_line (key c.args.kind) c.args.other.now) (λ _. Unit {0}) true c.args.cursor.now c.line.new.self c.from_residual.result c.in_err-line.field-0.0 tt
+      c.from_residual.ensures.1 c.in_err-line.ensures.none;
+}
+
+pub returns : goal.returns
+returns c = record {
+  exact =
+      line-itself (either_line (key c.args.kind) c.args.other.now) (λ _. Unit {0}) true c.args.kind c.args.cursor.now c.line.new.self c.in_ok-line.line.now c.either_in.result c.read_as.result tt (either-keyed c.args.kind c.args.other.now c.requires.other)
+      c.in_ok-line.ensures.next (subst (λ (k : List ℕ). ReadsAs (either_line k c.args.other.now) (λ _. Unit {0}) c.in_ok-line.line.now c.either_in.result) c.key.ensures.value c.either_in.ensures.exact) c.read_as.ensures.exact;
 }

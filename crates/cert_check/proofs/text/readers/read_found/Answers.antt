@@ -1,16 +1,22 @@
-use Rattle.cert_check.specs.text.Pieces.{IsFound}
-use Rattle.cert_check.specs.text.Pieces.{found_line}
-use Rattle.cert_check.proofs.text.Plainest.{plain_found}
-use Rattle.std.proofs.Common.{None, refl}
-use Rattle.cert_check.proofs.text.Pieces.{line-short, line-strange}
-use Rattle.cert_check.proofs.readers.read_found.Goals as goal
+use Rattle.std.proofs.Common.{refl}
+use Rattle.cert_check.specs.declared.text.wanted.LineKind.TheVariants as kind
+use Rattle.cert_check.specs.text.Pieces.{found_line, IsFound}
+use Rattle.cert_check.proofs.texts.Plainest.{plain_found}
+use Rattle.cert_check.specs.text.Pieces.{same}
+use Rattle.cert_check.proofs.texts.Pieces.{line-none, line-itself}
+use Rattle.cert_check.proofs.texts.Keyed.{found-keyed}
+use Rattle.cert_check.proofs.text.readers.read_found.Goals as goal
 
-pub returns-in_default : goal.returns-in_default
-returns-in_default c = record { exact = line-short found_line IsFound plain_found c.args.cursor.now refl c.in_default.ensures.exact }
-
-pub returns-in-None : goal.returns-in-None
-returns-in-None c = record {
+pub returns-in_err-line : goal.returns-in_err-line
+returns-in_err-line c = record {
   exact =
-      line-strange found_line IsFound plain_found c.args.cursor.now c.next.new.self c.in-Some.line.now c.above.result None refl c.in-Some.ensures.exact
-      c.above.ensures.value refl c.in-None.ensures.exact;
+      line-none same found_line IsFound plain_found c.args.cursor.now c.line.new.self c.from_residual.result c.in_err-line.field-0.0 refl
+      c.from_residual.ensures.1 c.in_err-line.ensures.none;
+}
+
+pub returns : goal.returns
+returns c = record {
+  exact =
+      line-itself found_line IsFound plain_found kind.Undo c.args.cursor.now c.line.new.self c.in_ok-line.line.now c.undo_in.result c.read_as.result refl found-keyed
+      c.in_ok-line.ensures.next c.undo_in.ensures.exact c.read_as.ensures.exact;
 }

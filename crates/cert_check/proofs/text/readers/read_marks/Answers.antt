@@ -1,16 +1,23 @@
-use Rattle.cert_check.specs.text.Text.{marks_line}
+use Rattle.std.proofs.Common.{ℕ, List, subst}
 use Rattle.ed_rules.specs.Formed.{ZoneIsFormed}
-use Rattle.cert_check.specs.text.Reading.{all_marks}
-use Rattle.std.proofs.Common.{None, refl}
-use Rattle.cert_check.proofs.text.Pieces.{line-short, line-strange}
-use Rattle.cert_check.proofs.readers.read_marks.Goals as goal
+use Rattle.cert_check.specs.text.Text.{marks_line}
+use Rattle.cert_check.specs.text.Reading.{ReadsAs, all_marks}
+use Rattle.cert_check.specs.text.Wanted.{key}
+use Rattle.cert_check.specs.text.Pieces.{same}
+use Rattle.cert_check.proofs.texts.Pieces.{line-none, line-itself}
+use Rattle.cert_check.proofs.texts.Keyed.{marks-keyed}
+use Rattle.cert_check.proofs.text.readers.read_marks.Goals as goal
 
-pub returns-in_default : goal.returns-in_default
-returns-in_default c = record { exact = line-short (marks_line c.args.key.now) (λ marks. ZoneIsFormed marks c.args.zone.now) all_marks c.args.cursor.now c.requires.formed c.in_default.ensures.exact }
-
-pub returns-in-None : goal.returns-in-None
-returns-in-None c = record {
+pub returns-in_err-line : goal.returns-in_err-line
+returns-in_err-line c = record {
   exact =
-      line-strange (marks_line c.args.key.now) (λ marks. ZoneIsFormed marks c.args.zone.now) all_marks c.args.cursor.now c.next.new.self c.in-Some.line.now c.above.result None c.requires.formed c.in-Some.ensures.exact
-      c.above.ensures.value refl c.in-None.ensures.exact;
+      line-none same (marks_line (key c.args.kind)) (λ marks. ZoneIsFormed marks c.args.zone.now) all_marks c.args.cursor.now c.line.new.self c.from_residual.result c.in_err-line.field-0.0 c.requires.formed
+      c.from_residual.ensures.1 c.in_err-line.ensures.none;
+}
+
+pub returns : goal.returns
+returns c = record {
+  exact =
+      line-itself (marks_line (key c.args.kind)) (λ marks. ZoneIsFormed marks c.args.zone.now) all_marks c.args.kind c.args.cursor.now c.line.new.self c.in_ok-line.line.now c.marks_in.result c.read_as.result c.requires.formed (marks-keyed c.args.kind)
+      c.in_ok-line.ensures.next (subst (λ (k : List ℕ). ReadsAs (marks_line k) (λ marks. ZoneIsFormed marks c.args.zone.now) c.in_ok-line.line.now c.marks_in.result) c.key.ensures.value c.marks_in.ensures.exact) c.read_as.ensures.exact;
 }

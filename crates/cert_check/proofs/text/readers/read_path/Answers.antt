@@ -1,15 +1,22 @@
-use Rattle.cert_check.specs.text.Text.{path_line}
-use Rattle.ed_rules.specs.Formed.{ChoiceIsBytes}
 use Rattle.std.proofs.Common.{None}
-use Rattle.cert_check.proofs.text.Pieces.{line-short, line-strange}
-use Rattle.cert_check.proofs.readers.read_path.Goals as goal
+use Rattle.ed_rules.specs.Formed.{ChoiceIsBytes}
+use Rattle.cert_check.specs.declared.text.wanted.LineKind.TheVariants as kind
+use Rattle.cert_check.specs.text.Text.{path_line}
+use Rattle.cert_check.specs.text.Pieces.{same}
+use Rattle.cert_check.proofs.texts.Pieces.{line-none, line-itself}
+use Rattle.cert_check.proofs.texts.Keyed.{path-keyed}
+use Rattle.cert_check.proofs.text.readers.read_path.Goals as goal
 
-pub returns-in_default : goal.returns-in_default
-returns-in_default c = record { exact = line-short path_line ChoiceIsBytes None c.args.cursor.now tt c.in_default.ensures.exact }
-
-pub returns-in-None : goal.returns-in-None
-returns-in-None c = record {
+pub returns-in_err-line : goal.returns-in_err-line
+returns-in_err-line c = record {
   exact =
-      line-strange path_line ChoiceIsBytes None c.args.cursor.now c.next.new.self c.in-Some.line.now c.above.result c.in_ok-read.field-0 tt c.in-Some.ensures.exact
-      c.above.ensures.value c.in-None.is c.in_ok-read.ensures.exact;
+      line-none same path_line ChoiceIsBytes None c.args.cursor.now c.line.new.self c.from_residual.result c.in_err-line.field-0.0 tt
+      c.from_residual.ensures.1 c.in_err-line.ensures.none;
+}
+
+pub returns : goal.returns
+returns c = record {
+  exact =
+      line-itself path_line ChoiceIsBytes None kind.Path c.args.cursor.now c.line.new.self c.in_ok-line.line.now c.in_ok-path_in.field-0 c.read_as.result tt path-keyed
+      c.in_ok-line.ensures.next c.in_ok-path_in.ensures.exact c.read_as.ensures.exact;
 }

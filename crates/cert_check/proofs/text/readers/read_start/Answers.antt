@@ -1,15 +1,22 @@
-use Rattle.cert_check.specs.text.Pieces.{limits_line, AreStartLimits}
 use Rattle.std.proofs.Common.{None, refl}
 use Rattle.std.specs.Prelude.{codes}
-use Rattle.cert_check.proofs.text.Pieces.{line-short, line-strange}
-use Rattle.cert_check.proofs.readers.read_start.Goals as goal
+use Rattle.cert_check.specs.declared.text.wanted.LineKind.TheVariants as kind
+use Rattle.cert_check.specs.text.Pieces.{limits_line, AreStartLimits}
+use Rattle.cert_check.specs.text.Pieces.{same}
+use Rattle.cert_check.proofs.texts.Pieces.{line-none, line-itself}
+use Rattle.cert_check.proofs.texts.Keyed.{start-keyed}
+use Rattle.cert_check.proofs.text.readers.read_start.Goals as goal
 
-pub returns-in_default : goal.returns-in_default
-returns-in_default c = record { exact = line-short (limits_line (codes "start")) AreStartLimits (0, None) c.args.cursor.now refl c.in_default.ensures.exact }
-
-pub returns-in-None : goal.returns-in-None
-returns-in-None c = record {
+pub returns-in_err-line : goal.returns-in_err-line
+returns-in_err-line c = record {
   exact =
-      line-strange (limits_line (codes "start")) AreStartLimits (0, None) c.args.cursor.now c.next.new.self c.in-Some.line.now c.above.result None refl c.in-Some.ensures.exact
-      c.above.ensures.value refl c.in-None.ensures.exact;
+      line-none same (limits_line (codes "start")) AreStartLimits (0, None) c.args.cursor.now c.line.new.self c.from_residual.result c.in_err-line.field-0.0 refl
+      c.from_residual.ensures.1 c.in_err-line.ensures.none;
+}
+
+pub returns : goal.returns
+returns c = record {
+  exact =
+      line-itself (limits_line (codes "start")) AreStartLimits (0, None) kind.Start c.args.cursor.now c.line.new.self c.in_ok-line.line.now c.start_in.result c.read_as.result refl start-keyed
+      c.in_ok-line.ensures.next c.start_in.ensures.exact c.read_as.ensures.exact;
 }

@@ -1,19 +1,23 @@
-use Rattle.std.proofs.Common.{ap}
-use Rattle.std.specs.Prelude.{option_map}
-use Rattle.cert_check.specs.text.Text.{writes_line}
-use Rattle.ed_rules.specs.Formed.{ChoiceIsBytes}
-use Rattle.cert_check.specs.text.Pieces.{ArePaths}
 use Rattle.std.proofs.Common.{refl, []}
 use Rattle.std.proofs.lemmas.List.Elements.{All-nil}
-use Rattle.cert_check.proofs.text.Pieces.{line-short, line-strange}
-use Rattle.cert_check.proofs.readers.read_writes.Goals as goal
+use Rattle.ed_rules.specs.Formed.{ChoiceIsBytes}
+use Rattle.cert_check.specs.declared.text.wanted.LineKind.TheVariants as kind
+use Rattle.cert_check.specs.text.Text.{writes_line}
+use Rattle.cert_check.specs.text.Pieces.{ArePaths}
+use Rattle.cert_check.proofs.texts.Pieces.{line-none, line-exact}
+use Rattle.cert_check.proofs.texts.Keyed.{writes-keyed}
+use Rattle.cert_check.proofs.text.readers.read_writes.Goals as goal
 
-pub returns-in_default : goal.returns-in_default
-returns-in_default c = record { exact = line-short writes_line ArePaths [] c.args.cursor.now (All-nil ChoiceIsBytes, refl) c.in_default.ensures.exact }
-
-pub returns-in-None : goal.returns-in-None
-returns-in-None c = record {
+pub returns-in_err-line : goal.returns-in_err-line
+returns-in_err-line c = record {
   exact =
-      line-strange writes_line ArePaths [] c.args.cursor.now c.next.new.self c.in-Some.line.now c.above.result (option_map (λ w. w.items) c.in_ok-read.field-0) (All-nil ChoiceIsBytes, refl) c.in-Some.ensures.exact
-      c.above.ensures.value (ap (λ r. option_map (λ w. w.items) r) c.in-None.is) c.in_ok-read.ensures.exact;
+      line-none (λ v. v.items) writes_line ArePaths [] c.args.cursor.now c.line.new.self c.from_residual.result c.in_err-line.field-0.0 (All-nil ChoiceIsBytes, refl)
+      c.from_residual.ensures.1 c.in_err-line.ensures.none;
+}
+
+pub returns : goal.returns
+returns c = record {
+  exact =
+      line-exact (λ v. v.items) writes_line ArePaths [] kind.Writes c.args.cursor.now c.line.new.self c.in_ok-line.line.now c.in_ok-writes_in.field-0 c.read_as.result (All-nil ChoiceIsBytes, refl) writes-keyed
+      c.in_ok-line.ensures.next c.in_ok-writes_in.ensures.exact c.read_as.ensures.exact;
 }

@@ -1,18 +1,25 @@
-use Rattle.cert_check.specs.text.Text.{zone_line}
-use Rattle.ed_rules.specs.Formed.{ZoneIsFormed}
-use Rattle.cert_check.specs.text.Reading.{all_marks}
+use Rattle.std.proofs.Common.{ℕ, List, refl, subst}
 use Rattle.zones.specs.Steps.{any_zone}
-use Rattle.cert_check.proofs.text.Plainest.{any-formed}
-use Rattle.std.proofs.Common.{refl}
-use Rattle.cert_check.proofs.text.Pieces.{line-short, line-strange}
-use Rattle.cert_check.proofs.readers.read_zone.Goals as goal
+use Rattle.ed_rules.specs.Formed.{ZoneIsFormed}
+use Rattle.cert_check.specs.text.Text.{zone_line}
+use Rattle.cert_check.specs.text.Reading.{ReadsAs, all_marks}
+use Rattle.cert_check.specs.text.Wanted.{key}
+use Rattle.cert_check.proofs.texts.Plainest.{any-formed}
+use Rattle.cert_check.specs.text.Pieces.{same}
+use Rattle.cert_check.proofs.texts.Pieces.{line-none, line-itself}
+use Rattle.cert_check.proofs.texts.Keyed.{zone-keyed}
+use Rattle.cert_check.proofs.text.readers.read_zone.Goals as goal
 
-pub returns-in_default : goal.returns-in_default
-returns-in_default c = record { exact = line-short (zone_line c.args.key.now) (ZoneIsFormed all_marks) any_zone c.args.cursor.now (any-formed all_marks refl) c.in_default.ensures.exact }
-
-pub returns-in-None : goal.returns-in-None
-returns-in-None c = record {
+pub returns-in_err-line : goal.returns-in_err-line
+returns-in_err-line c = record {
   exact =
-      line-strange (zone_line c.args.key.now) (ZoneIsFormed all_marks) any_zone c.args.cursor.now c.next.new.self c.in-Some.line.now c.above.result c.in_ok-read.field-0 (any-formed all_marks refl) c.in-Some.ensures.exact
-      c.above.ensures.value c.in-None.is c.in_ok-read.ensures.exact;
+      line-none same (zone_line (key c.args.kind)) (ZoneIsFormed all_marks) any_zone c.args.cursor.now c.line.new.self c.from_residual.result c.in_err-line.field-0.0 (any-formed all_marks refl)
+      c.from_residual.ensures.1 c.in_err-line.ensures.none;
+}
+
+pub returns : goal.returns
+returns c = record {
+  exact =
+      line-itself (zone_line (key c.args.kind)) (ZoneIsFormed all_marks) any_zone c.args.kind c.args.cursor.now c.line.new.self c.in_ok-line.line.now c.in_ok-zone_in.field-0 c.read_as.result (any-formed all_marks refl) (zone-keyed c.args.kind)
+      c.in_ok-line.ensures.next (subst (λ (k : List ℕ). ReadsAs (zone_line k) (ZoneIsFormed all_marks) c.in_ok-line.line.now c.in_ok-zone_in.field-0) c.key.ensures.value c.in_ok-zone_in.ensures.exact) c.read_as.ensures.exact;
 }

@@ -2,9 +2,9 @@ use Rattle.std.proofs.Common.{◌≡◌, ◌∙◌, sym, ap, subst}
 use Rattle.ed_rules.specs.declared.state.Old.{Old}
 use Rattle.ed_rules.specs.declared.state.Undo.{Undo}
 use Rattle.cert_check.specs.text.Pieces.{same, Took, texts, marked_value, undo_lines, UndoIsFormed}
-use Rattle.cert_check.proofs.text.Pieces.{took-none, exits}
-use Rattle.cert_check.proofs.text.Stated.{was-true, undo-found, undo-old, undo_with, undo-read}
-use Rattle.cert_check.proofs.states.read_undo.Goals as goal
+use Rattle.cert_check.proofs.texts.Pieces.{took-none, exits}
+use Rattle.cert_check.proofs.texts.Stated.{was-true, undo-found, undo-old, undo_with, undo-read}
+use Rattle.cert_check.proofs.text.states.read_undo.Goals as goal
 
 pub returns-in_err-found : goal.returns-in_err-found
 returns-in_err-found c = record {

@@ -3,8 +3,8 @@ use Rattle.std.specs.List.{flat_map}
 use Rattle.std.proofs.lemmas.List.{take_all}
 use Rattle.zones.specs.KnownBounds.{PlacedBound}
 use Rattle.cert_check.specs.text.Text.{Word, spaced}
-use Rattle.cert_check.proofs.text.Known.{placed_words, words-placed, zone-words, one-bound-more}
-use Rattle.cert_check.proofs.words.push_zone.Goals as goal
+use Rattle.cert_check.proofs.texts.Known.{placed_words, words-placed, zone-words, one-bound-more}
+use Rattle.cert_check.proofs.text.words.push_zone.Goals as goal
 
 pub loop-entry-preserved : goal.loop-entry-preserved
 loop-entry-preserved c =

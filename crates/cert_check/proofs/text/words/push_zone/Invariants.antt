@@ -1,8 +1,8 @@
 use Rattle.std.proofs.Common.{◌≡◌, ◌++◌, take}
 use Rattle.std.specs.List.{flat_map}
 use Rattle.cert_check.specs.text.Text.{spaced}
-use Rattle.cert_check.proofs.text.Known.{placed_words}
-use Rattle.cert_check.proofs.words.push_zone.Given as goal
+use Rattle.cert_check.proofs.texts.Known.{placed_words}
+use Rattle.cert_check.proofs.text.words.push_zone.Given as goal
 
 -- what is written of the bounds before this one
 abbrev pub invariant-loop-entry : goal.invariant-loop-entry

@@ -3,8 +3,8 @@ use Rattle.std.specs.Prelude.{decimal}
 use Rattle.std.proofs.lemmas.Bool.Decides.{Decides-eqb}
 use Rattle.std.proofs.lemmas.Fmt.{parse-decimal}
 use Rattle.std.proofs.lemmas.Slice.Eq.{slice_eq-Decides}
-use Rattle.cert_check.proofs.text.ReadWords.{not-utf8}
-use Rattle.cert_check.proofs.words_in.number_in.Goals as goal
+use Rattle.cert_check.proofs.texts.ReadWords.{not-utf8}
+use Rattle.cert_check.proofs.text.words_in.number_in.Goals as goal
 
 pub returns-in_default : goal.returns-in_default
 returns-in_default c = record { exact = λ v h e. not-utf8 c.args.word.now v h c.in_default.ensures.cases.0 e }

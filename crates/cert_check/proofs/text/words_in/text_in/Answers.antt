@@ -1,5 +1,5 @@
-use Rattle.cert_check.proofs.text.ReadWords.{no-more-bytes, some-left}
-use Rattle.cert_check.proofs.words_in.text_in.Goals as goal
+use Rattle.cert_check.proofs.texts.ReadWords.{no-more-bytes, some-left}
+use Rattle.cert_check.proofs.text.words_in.text_in.Goals as goal
 
 pub returns-then-not-is_empty : goal.returns-then-not-is_empty
 returns-then-not-is_empty c = record {

@@ -2,7 +2,7 @@
 use Rattle.std.proofs.Common.{◌≡◌, ◌++◌, length}
 use Rattle.std.specs.List.{flat_map}
 use Rattle.cert_check.specs.text.Text.{byte_text}
-use Rattle.cert_check.proofs.words_in.text_in.Given as goal
+use Rattle.cert_check.proofs.text.words_in.text_in.Given as goal
 
 abbrev pub invariant-loop-byte : goal.invariant-loop-byte
 invariant-loop-byte l = flat_map byte_text l.text ++ l.left ≡ l.word

@@ -3,8 +3,8 @@ use Rattle.std.specs.List.{flat_map}
 use Rattle.cert_check.specs.declared.certificate.Note.{Note}
 use Rattle.cert_check.specs.Certificates.{note_value, certificate_value}
 use Rattle.cert_check.specs.text.Text.{lines_text, note_lines}
-use Rattle.cert_check.proofs.text.Written.{certificate-written}
-use Rattle.cert_check.proofs.writing.push_certificate.Goals as goal
+use Rattle.cert_check.proofs.texts.Written.{certificate-written}
+use Rattle.cert_check.proofs.text.writing.push_certificate.Goals as goal
 
 pub returns : goal.returns
 returns c = record {

@@ -1,6 +1,6 @@
 use Rattle.std.proofs.Common.{◌≡◌, ◌++◌, map, take}
 use Rattle.cert_check.specs.text.Text.{spaced, choice_word}
-use Rattle.cert_check.proofs.writing.push_choices_line.Given as goal
+use Rattle.cert_check.proofs.text.writing.push_choices_line.Given as goal
 
 abbrev pub invariant-loop-choice : goal.invariant-loop-choice
 invariant-loop-choice l = l.out ≡ l.initial.out ++ spaced (map choice_word (take l.choice-index l.choice-items))

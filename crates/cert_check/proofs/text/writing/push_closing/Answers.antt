@@ -1,8 +1,8 @@
 use Rattle.std.proofs.Common.{◌∙◌, ◌++◌, ◌∷◌, [], ℕ, List, ap}
 use Rattle.cert_check.specs.Certificates.{certificate_value}
 use Rattle.cert_check.specs.text.Text.{lines_text, writes_line}
-use Rattle.cert_check.proofs.text.Written.{closing-written}
-use Rattle.cert_check.proofs.writing.push_closing.Goals as goal
+use Rattle.cert_check.proofs.texts.Written.{closing-written}
+use Rattle.cert_check.proofs.text.writing.push_closing.Goals as goal
 
 pub returns : goal.returns
 returns c = record {

@@ -1,8 +1,8 @@
 use Rattle.std.specs.Prelude.{codes}
 use Rattle.std.proofs.Common.{arith}
 use Rattle.cert_check.specs.text.Text.{headed_lines}
-use Rattle.cert_check.proofs.text.Written.{one-more}
-use Rattle.cert_check.proofs.writing.push_inner.Goals as goal
+use Rattle.cert_check.proofs.texts.Written.{one-more}
+use Rattle.cert_check.proofs.text.writing.push_inner.Goals as goal
 
 pub loop-state-preserved : goal.loop-state-preserved
 loop-state-preserved c =

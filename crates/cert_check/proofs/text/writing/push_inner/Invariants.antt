@@ -2,7 +2,7 @@ use Rattle.std.proofs.Common.{◌≡◌, ◌++◌, take}
 use Rattle.std.specs.Prelude.{codes}
 use Rattle.std.specs.List.{flat_map}
 use Rattle.cert_check.specs.text.Text.{lines_text, headed_lines}
-use Rattle.cert_check.proofs.writing.push_inner.Given as goal
+use Rattle.cert_check.proofs.text.writing.push_inner.Given as goal
 
 abbrev pub invariant-loop-state : goal.invariant-loop-state
 invariant-loop-state l = l.out ≡ l.initial.out ++ lines_text (flat_map (headed_lines (codes "inner")) (take l.state-index l.states))

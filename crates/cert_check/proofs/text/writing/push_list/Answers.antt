@@ -4,8 +4,8 @@ use Rattle.std.specs.List.{flat_map}
 use Rattle.ed_rules.specs.declared.state.State.{State}
 use Rattle.cert_check.specs.Certificates.{looped_value}
 use Rattle.cert_check.specs.text.Text.{lines_text, headed_lines}
-use Rattle.cert_check.proofs.text.Written.{looped-written}
-use Rattle.cert_check.proofs.writing.push_list.Goals as goal
+use Rattle.cert_check.proofs.texts.Written.{looped-written}
+use Rattle.cert_check.proofs.text.writing.push_list.Goals as goal
 
 pub returns : goal.returns
 returns c = record {

@@ -1,6 +1,6 @@
 use Rattle.cert_check.specs.Certificates.{note_value}
-use Rattle.cert_check.proofs.text.Written.{note-written}
-use Rattle.cert_check.proofs.writing.push_note.Goals as goal
+use Rattle.cert_check.proofs.texts.Written.{note-written}
+use Rattle.cert_check.proofs.text.writing.push_note.Goals as goal
 
 pub returns : goal.returns
 returns c = record {

@@ -2,8 +2,8 @@ use Rattle.std.proofs.Common.{◌∙◌, ◌+◌, ◌++◌, List, ap, sym, arith
 use Rattle.std.proofs.lemmas.List.Folds.{flat_map-map}
 use Rattle.cert_check.specs.Certificates.{note_value}
 use Rattle.cert_check.specs.text.Text.{Line, lines_text, note_lines}
-use Rattle.cert_check.proofs.text.Written.{one-more}
-use Rattle.cert_check.proofs.writing.push_notes.Goals as goal
+use Rattle.cert_check.proofs.texts.Written.{one-more}
+use Rattle.cert_check.proofs.text.writing.push_notes.Goals as goal
 
 pub loop-note-preserved : goal.loop-note-preserved
 loop-note-preserved c =

@@ -1,8 +1,8 @@
 use Rattle.std.proofs.Common.{◌∷◌, []}
 use Rattle.std.specs.Prelude.{codes}
 use Rattle.cert_check.specs.text.Text.{zone_line, marks_line}
-use Rattle.cert_check.proofs.text.Written.{same-written, old-written}
-use Rattle.cert_check.proofs.writing.push_old.Goals as goal
+use Rattle.cert_check.proofs.texts.Written.{same-written, old-written}
+use Rattle.cert_check.proofs.text.writing.push_old.Goals as goal
 
 pub returns-in_ok-push_marks_line-in-Some : goal.returns-in_ok-push_marks_line-in-Some
 returns-in_ok-push_marks_line-in-Some c =

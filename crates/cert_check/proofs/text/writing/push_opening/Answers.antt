@@ -1,6 +1,6 @@
 use Rattle.cert_check.specs.Certificates.{certificate_value}
-use Rattle.cert_check.proofs.text.Written.{opening-written}
-use Rattle.cert_check.proofs.writing.push_opening.Goals as goal
+use Rattle.cert_check.proofs.texts.Written.{opening-written}
+use Rattle.cert_check.proofs.text.writing.push_opening.Goals as goal
 
 pub returns : goal.returns
 returns c = record {

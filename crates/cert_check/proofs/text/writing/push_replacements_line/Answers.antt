@@ -1,5 +1,5 @@
-use Rattle.cert_check.proofs.text.Written.{replacements-written}
-use Rattle.cert_check.proofs.writing.push_replacements_line.Goals as goal
+use Rattle.cert_check.proofs.texts.Written.{replacements-written}
+use Rattle.cert_check.proofs.text.writing.push_replacements_line.Goals as goal
 
 pub returns : goal.returns
 returns c = record {

@@ -2,8 +2,8 @@ use Rattle.std.proofs.Common.{◌∷◌, [], ◌∙◌, ap}
 use Rattle.std.specs.Prelude.{codes}
 use Rattle.ed_rules.specs.declared.state.Undo.{Undo}
 use Rattle.cert_check.specs.text.Text.{zone_line, marks_line, choices_line, replacements_line, changed_line, undo_line, old_lines}
-use Rattle.cert_check.proofs.text.Written.{same-written, state-written}
-use Rattle.cert_check.proofs.writing.push_state.Goals as goal
+use Rattle.cert_check.proofs.texts.Written.{same-written, state-written}
+use Rattle.cert_check.proofs.text.writing.push_state.Goals as goal
 
 pub returns : goal.returns
 returns c =

@@ -1,7 +1,7 @@
 use Rattle.std.proofs.Common.{ℕ, length, arith, sym, ap, subst}
 use Rattle.std.proofs.lemmas.Bool.{eqb-false}
-use Rattle.cert_check.proofs.text.SpokenBounds.{SaysRest, rest-first, rest-none, said-further, spoken-further}
-use Rattle.cert_check.proofs.zone_lines.bounds_said.Goals as goal
+use Rattle.cert_check.proofs.texts.SpokenBounds.{SaysRest, rest-first, rest-none, said-further, spoken-further}
+use Rattle.cert_check.proofs.text.zone_lines.bounds_said.Goals as goal
 
 pub words-preserved : goal.words-preserved
 words-preserved c =

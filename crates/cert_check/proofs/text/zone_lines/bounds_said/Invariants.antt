@@ -5,8 +5,8 @@ use Rattle.zones.specs.KnownBounds.{PlacedBound}
 use Rattle.zones.specs.Written.{Rise}
 use Rattle.cert_check.specs.text.Text.{spaced}
 use Rattle.cert_check.specs.text.Reading.{spoken_word, IsSpoken}
-use Rattle.cert_check.proofs.text.SpokenBounds.{SaysRest}
-use Rattle.cert_check.proofs.zone_lines.bounds_said.Given as goal
+use Rattle.cert_check.proofs.texts.SpokenBounds.{SaysRest}
+use Rattle.cert_check.proofs.text.zone_lines.bounds_said.Given as goal
 
 abbrev pub invariant-words : goal.invariant-words
 invariant-words l = record {

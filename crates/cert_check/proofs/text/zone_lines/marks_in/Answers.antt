@@ -1,10 +1,10 @@
 use Rattle.std.proofs.Common.{◌≡◌, ℕ, Bool, true, false, List, ◌∙◌, sym, ap, subst}
 use Rattle.ed_rules.specs.Formed.{ZoneIsFormed}
 use Rattle.cert_check.specs.text.Text.{sure_letters, letters_words}
-use Rattle.cert_check.proofs.text.Chosen.{marks-same}
-use Rattle.cert_check.proofs.text.ReadSets.{after-its-key}
-use Rattle.cert_check.proofs.text.ReadLetters.{letters-word-same}
-use Rattle.cert_check.proofs.zone_lines.marks_in.Goals as goal
+use Rattle.cert_check.proofs.texts.Chosen.{marks-same}
+use Rattle.cert_check.proofs.texts.ReadSets.{after-its-key}
+use Rattle.cert_check.proofs.texts.ReadLetters.{letters-word-same}
+use Rattle.cert_check.proofs.text.zone_lines.marks_in.Goals as goal
 
 pub returns-in_default-letters_word_in : goal.returns-in_default-letters_word_in
 returns-in_default-letters_word_in c = record {

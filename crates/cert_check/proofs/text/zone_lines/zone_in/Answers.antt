@@ -4,9 +4,9 @@ use Rattle.zones.specs.KnownBounds.{PlacedBound, known_bounds}
 use Rattle.zones.proofs.Rising.{AreKnownBounds-known}
 use Rattle.cert_check.specs.text.Text.{Word, spaced, bounds_words}
 use Rattle.cert_check.specs.text.Reading.{spoken_word, IsSpoken}
-use Rattle.cert_check.proofs.text.ReadSets.{after-its-key}
-use Rattle.cert_check.proofs.text.SpokenBounds.{bounds-same, spoken-zone, formed-spoken, spoken-formed}
-use Rattle.cert_check.proofs.zone_lines.zone_in.Goals as goal
+use Rattle.cert_check.proofs.texts.ReadSets.{after-its-key}
+use Rattle.cert_check.proofs.texts.SpokenBounds.{bounds-same, spoken-zone, formed-spoken, spoken-formed}
+use Rattle.cert_check.proofs.text.zone_lines.zone_in.Goals as goal
 
 pub returns-in_default-2 : goal.returns-in_default-2
 returns-in_default-2 c = record {

@@ -1,0 +1,63 @@
+-- Each line of a text begins with a word of its kind.
+use Rattle.std.proofs.Common.{◌≡◌, ◌++◌, ◌∷◌, [], ℕ, Bool, true, false, List, map, Option, Some, inl, inr, refl, sym, subst}
+use Rattle.std.specs.Prelude.{decimal, codes}
+use Rattle.zones.specs.Zone.{Bounds}
+use Rattle.ed_rules.specs.declared.state.Changed.{Changed}
+use Rattle.ed_rules.specs.declared.state.Replacements.{Replacements}
+use Rattle.ed_rules.specs.Choices.{Choice}
+use Rattle.cert_check.specs.declared.text.cursor.Head.{Head}
+use Rattle.cert_check.specs.declared.text.cursor.Head.TheVariants.{AnotherNote, Loop, End}
+use Rattle.cert_check.specs.declared.text.lines.Found.{Found}
+use Rattle.cert_check.specs.declared.text.wanted.LineKind.{LineKind}
+use Rattle.cert_check.specs.declared.text.wanted.LineKind.TheVariants as kind
+use Rattle.cert_check.specs.text.Text.{Word, line_text, bounds_words, letter_a, sure_letters, letters_words, choice_word, possible, limit_word, zone_line, marks_line, choices_line, replacements_line, changed_line, path_line, writes_line}
+use Rattle.cert_check.specs.text.Pieces.{limits_line, found_line, either_line, head_line}
+use Rattle.cert_check.specs.text.Wanted.{key, other_keys, HasKey, HasSomeKey, IsOfKind}
+
+keyed : (word : Word) (words : List Word) → HasKey word (line_text (word ∷ words))
+keyed word words = record { words = words; is = refl }
+
+-- the first word of a kind
+first : (kind : LineKind) (words : List Word) → IsOfKind kind (line_text (key kind ∷ words))
+first kind words = inl (keyed (key kind) words)
+
+pub path-keyed : (path : Choice) → IsOfKind kind.Path (line_text (path_line path))
+path-keyed path = first kind.Path (choice_word path ∷ [])
+
+pub start-keyed : (limits : ℕ × Option ℕ) → IsOfKind kind.Start (line_text (limits_line (codes "start") limits))
+start-keyed limits = first kind.Start (decimal limits.0 ∷ limit_word limits.1 ∷ [])
+
+pub final-keyed : (limits : ℕ × Option ℕ) → IsOfKind kind.Final (line_text (limits_line (codes "final") limits))
+final-keyed limits = first kind.Final (decimal limits.0 ∷ limit_word limits.1 ∷ [])
+
+pub writes-keyed : (writes : List (List ℕ)) → IsOfKind kind.Writes (line_text (writes_line writes))
+writes-keyed writes = first kind.Writes (map (λ (path : List ℕ). choice_word (Some path)) writes)
+
+pub zone-keyed : (kind : LineKind) (zone : Bounds) → IsOfKind kind (line_text (zone_line (key kind) zone))
+zone-keyed kind zone = first kind (bounds_words 0 zone)
+
+pub marks-keyed : (kind : LineKind) (marks : List Bool) → IsOfKind kind (line_text (marks_line (key kind) marks))
+marks-keyed kind marks = first kind (letters_words (sure_letters letter_a marks))
+
+pub choices-keyed : (kind : LineKind) (choices : List Choice) → IsOfKind kind (line_text (choices_line (key kind) choices))
+choices-keyed kind choices = first kind (map choice_word choices)
+
+pub replacements-keyed : (r : Replacements) → IsOfKind kind.Replacements (line_text (replacements_line r))
+replacements-keyed r = first kind.Replacements (possible r.none (codes "none") ++ possible r.plain (codes "plain") ++ possible r.split (codes "split"))
+
+pub changed-keyed : (c : Changed) → IsOfKind kind.Changed (line_text (changed_line c))
+changed-keyed c = first kind.Changed (possible c.no (codes "no") ++ possible c.yes (codes "yes"))
+
+pub found-keyed : (f : Found) → IsOfKind kind.Undo (line_text (found_line f))
+found-keyed f = first kind.Undo (possible f.nothing (codes "nothing") ++ possible f.same (codes "same") ++ possible f.was (codes "was"))
+
+-- the first word of a kind, or the only other one
+pub either-keyed : (kind : LineKind) (other : Word) → other_keys kind ≡ other ∷ [] → (b : Bool) → IsOfKind kind (line_text (either_line (key kind) other b))
+either-keyed kind other is true = first kind []
+either-keyed kind other is false =
+    inr (subst (λ (words : List Word). HasSomeKey words (line_text (other ∷ []))) (sym is) (inl (keyed other [])))
+
+pub head-keyed : (h : Head) → IsOfKind kind.NoteLoopOrEnd (line_text (head_line h))
+head-keyed AnotherNote = first kind.NoteLoopOrEnd []
+head-keyed Loop = inr (inl (keyed (codes "loop") []))
+head-keyed End = inr (inr (inl (keyed (codes "end") [])))

@@ -1,0 +1,52 @@
+-- The start stands for an editor that was just opened.
+use Rattle.std.proofs.Common.{◌≡◌, ◌≤◌, ℕ, pos, neg_ℤ, true, false, List, map, length, Option, None, Some, arith, ◌∙◌, refl, sym, subst}
+use Rattle.std.proofs.lemmas.Int.{ints}
+use Rattle.std.proofs.lemmas.List.{length-map}
+use Rattle.ed_base.specs.Buffer.{Line, plain_line}
+use Rattle.ed_base.specs.Lines.{lines_of}
+use Rattle.zones.specs.Zone.{Bounds, Numbers, Holds, updated}
+use Rattle.zones.specs.Steps.{any_zone, after_guard}
+use Rattle.zones.proofs.Known.{updated-other}
+use Rattle.zones.proofs.Soundness.{Holds-any_zone, Holds-after_guard, Holds-after_set}
+use Rattle.ed_syntax.specs.meaning.CommandLaws.{FilesAreWellMarked, FilesAreWhole}
+use Rattle.ed_rules.specs.States.{limited, start}
+use Rattle.ed_rules.specs.LineBounds.{IsAtMost}
+use Rattle.cert_check.specs.checker.Opening.{StartIsSound}
+use Rattle.ed_rules.proofs.Choosing.{has_choice-only}
+use Rattle.ed_rules.proofs.LettersInLines.{no_letter}
+use Rattle.ed_rules.proofs.Lettered.{lettered}
+
+limited-holds : (max : Option ℕ) (zone : Bounds) (count : ℕ) (v : Numbers) → IsAtMost count max → v 0 ≡ pos 0 → v 2 ≡ pos count → Holds zone v → Holds (limited max zone) v
+limited-holds None zone count v h zero_is last_is holds = holds
+limited-holds (Some max) zone count v h zero_is last_is holds = Holds-after_guard zone 2 0 (pos max) v (omega arith) (omega arith) holds (omega (arith, ints))
+
+pub start-sound : FilesAreWellMarked → FilesAreWhole → StartIsSound
+unfolding start
+start-sound marked whole path min max bytes within =
+    let texts : List (List ℕ) = lines_of bytes in
+    let lines : List Line = map plain_line texts in
+    let count : ℕ = length lines in
+    let size : count ≡ length texts = length-map texts plain_line in
+    let v : Numbers = updated (λ (_ : ℕ). pos 0) 2 (pos count) in
+    let w : Numbers = updated v 1 (pos count) in
+    let begun = after_guard any_zone 0 2 (neg_ℤ (pos min)) in
+    let least : min ≤ length texts = within.0 in
+    let atmost : IsAtMost count max = subst (λ (n : ℕ). IsAtMost n max) (sym size) within.1 in
+    let holds : Holds (limited max begun) v =
+    limited-holds max begun count v atmost refl refl
+    (Holds-after_guard any_zone 0 2 (neg_ℤ (pos min)) v (omega arith) (omega arith) (Holds-any_zone v) (omega (arith, ints))) in
+    record {
+      numbers = w;
+      stands = record {
+        buffer = record {
+          holds = Holds-after_set (limited max begun) 1 2 (pos 0) v w (omega arith) (omega arith) holds (updated-other v 1 (pos count)) (omega (arith, ints));
+          reads = record { zero_is = refl; current_is = refl; last_is = refl; marks_are = λ letter l q. let f : false ≡ true = sym (no_letter 26 letter) ∙ q in absurd cc };
+          inside = omega arith;
+        };
+        remembered = (refl, refl, has_choice-only path);
+        changed = refl;
+        past = refl;
+      };
+      lines = lettered lines (marked bytes) (whole bytes);
+      kept = tt;
+    }

@@ -1,0 +1,218 @@
+-- Accepted commands run to their end, from each state that what comes in stands for.
+use Rattle.std.proofs.Common.{◌≡◌, ◌<◌, ◌≤◌, inl, inr, ℕ, suc, ℤ, pos, neg_ℤ, ◌-ℤ◌, ◌≤ℤ◌, Bool, true, false, not, List, [], ◌∷◌, length, Option, None, Some, Result, Ok, Err, IfOk, IsTrue, ◌↔◌, arith, refl, sym, ap, subst}
+use Rattle.std.specs.Prelude.{nat_eq}
+use Rattle.std.specs.List.{All, Contains, list_any}
+use Rattle.std.specs.Cmp.Lexicographic.{pointwise, bytes_decides}
+use Rattle.std.proofs.lemmas.Int.{ints}
+use Rattle.std.proofs.lemmas.List.Elements.{All-nil, All-cons}
+use Rattle.ed_base.specs.declared.fault.Fault.{Fault}
+use Rattle.ed_base.specs.declared.fault.Fault.TheVariants as fault
+use Rattle.zones.specs.Zone.{Bounds, Numbers, Holds}
+use Rattle.zones.specs.Known.{known}
+use Rattle.ed_syntax.specs.declared.request.Answer.{Answer}
+use Rattle.ed_syntax.specs.declared.request.Request.{Request}
+use Rattle.ed_syntax.specs.declared.request.Request.TheVariants as request
+use Rattle.ed_syntax.specs.Commands as ed
+use Rattle.ed_syntax.specs.Commands.{Verb, Command, Step}
+use Rattle.ed_syntax.specs.meaning.States as editor
+use Rattle.ed_syntax.specs.meaning.Effects.{Outcome, Effect, Makes, Asks}
+use Rattle.ed_syntax.specs.meaning.Applied.{command}
+use Rattle.ed_syntax.specs.meaning.Progress.{Present, Progress, Writes, asked_of, stop_of, failing, ending, quitting, count}
+use Rattle.ed_syntax.specs.meaning.Runs.{Further, with_state, answered, asking, turned, one, step_by, prompted, at_end}
+use Rattle.ed_rules.specs.declared.state.State.{State}
+use Rattle.ed_rules.specs.Order.{Covers}
+use Rattle.cert_check.specs.checker.Covering.{covers}
+use Rattle.ed_rules.specs.Soundness.{MayAskFor, IsDone, CommandIsSound}
+use Rattle.ed_rules.specs.Files.{written_paths}
+use Rattle.ed_rules.specs.Globals.{body_entry, loop_end}
+use Rattle.ed_rules.specs.GlobalSoundness as global
+use Rattle.ed_syntax.specs.meaning.CommandLaws.{CommandsArePlaced, ListsNoteChanges}
+use Rattle.ed_syntax.specs.meaning.Verbs.{is_global, ends_run}
+use Rattle.ed_rules.specs.GlobalSoundness.{TurnIsSound, EndIsSound}
+use Rattle.ed_rules.proofs.Choosing.{or-cases, has_choice-all}
+use Rattle.ed_rules.specs.StandsFor.{StandsFor, allows_change}
+use Rattle.ed_rules.specs.LineBounds.{IsAtMost, IsWithin}
+use Rattle.cert_check.specs.checker.Opening.{StartIsSound}
+use Rattle.cert_check.specs.Certificates.{Certificate}
+use Rattle.cert_check.specs.checker.Valid.{counted, are_met, left_by, is_listed, are_listed, knows_least, knows_most}
+use Rattle.cert_check.specs.checker.Sound.{MayAsk, StopsWell}
+use Rattle.cert_check.proofs.verdicts.Checks.{EndsSo, met-gives}
+use Rattle.cert_check.proofs.verdicts.Quitting.{SameMade, SavedMade, quit-leaves, saved-leaves}
+
+-- the laws of the crates below
+pub record Laws : Type 0 where
+  pub command : CommandIsSound
+  pub begun : global.StartIsSound
+  pub turn : (invariant : State) → TurnIsSound invariant (body_entry invariant)
+  pub placed : CommandsArePlaced
+  pub changes : ListsNoteChanges
+  pub over : (x : Step) (before invariant : State) → EndIsSound x before invariant (loop_end x before invariant)
+  pub decided : (weak strong : State) → IsTrue (covers weak strong) ↔ Covers weak strong
+  pub started : StartIsSound
+  pub weaker : (weak strong : State) (e : editor.State) → Covers weak strong → StandsFor strong e → StandsFor weak e
+  pub known : (zone : Bounds) (number : Numbers) (x y : ℕ) (c : ℤ) → known zone x y c ≡ true → x < 32 → y < 32 → Holds zone number → (number x -ℤ number y) ≤ℤ c
+
+-- a run stops well, and asks for nothing else
+abbrev pub RunsWell : Certificate → Progress → Type 0
+RunsWell c p = All (MayAsk c) (asked_of p) × StopsWell c (stop_of p)
+
+-- what covers a state stands for all that it stands for
+pub covers-stands : Laws → (weak strong : State) (e : editor.State) → covers weak strong ≡ true → StandsFor strong e → StandsFor weak e
+covers-stands k weak strong e h st = k.weaker weak strong e ((k.decided weak strong).0 h) st
+
+least-holds : Laws → (s : State) (low : ℕ) (e : editor.State) → knows_least s.zone low ≡ true → StandsFor s e → low ≤ length e.lines
+unfolding knows_least
+least-holds k s low e h st =
+    let d = k.known s.zone st.numbers 0 2 (neg_ℤ (pos low)) h (omega arith) (omega arith) st.stands.buffer.holds in
+    let zero_is = st.stands.buffer.reads.zero_is in
+    let last_is = st.stands.buffer.reads.last_is in
+    omega (arith, ints)
+
+most-holds : Laws → (s : State) (high : Option ℕ) (e : editor.State) → knows_most s.zone high ≡ true → StandsFor s e → IsAtMost (length e.lines) high
+unfolding knows_most
+most-holds k s None e h st = tt
+most-holds k s (Some high) e h st =
+    let d = k.known s.zone st.numbers 2 0 (pos high) h (omega arith) (omega arith) st.stands.buffer.holds in
+    let zero_is = st.stands.buffer.reads.zero_is in
+    let last_is = st.stands.buffer.reads.last_is in
+    omega (arith, ints)
+
+-- the number of lines of each state that the end stands for
+within-end : Laws → (quit : Bool) (bad : Option ℕ) (c : Certificate) (s : State) (e : editor.State) → EndsSo quit bad c s → StandsFor s e → IsWithin c.low c.high (length e.lines)
+within-end k quit bad c s e h st =
+    let last : StandsFor c.last e = covers-stands k c.last s e h.covered st in
+    (least-holds k c.last c.low e h.least last, most-holds k c.last c.high e h.most last)
+
+pub prompted-well : (c : Certificate) (m : Present) (p : Progress) → RunsWell c p → RunsWell c (prompted m p)
+prompted-well c m p well =
+    elim m.prompting as (λ b. RunsWell c (elim b as (λ _. Progress) [ true ↦ Writes m.help m.prompt p | false ↦ p ])) [ true ↦ well | false ↦ well ]
+
+-- the run ends here
+ending-well : (c : Certificate) (m : Present) → IsWithin c.low c.high (length m.state.lines) → RunsWell c (ending m)
+ending-well c m h = (All-nil (MayAsk c), h)
+
+not-changed : (b : Bool) → not b ≡ true → b ≡ true → ⊥
+not-changed true h e = absurd cc
+not-changed false h e = absurd cc
+
+-- the end of a script without a quit is a `q`
+quitting-well : Laws → (bad : Option ℕ) (c : Certificate) (s : State) (m : Present) → EndsSo false bad c s → StandsFor s m.state → RunsWell c (quitting m)
+quitting-well k bad c s m h st =
+    (elim m.state.changed as (λ b. m.state.changed ≡ b → RunsWell c (elim b as (λ _. Progress) [ true ↦ failing m fault.Unsaved | false ↦ ending m ])) [
+      | true ↦ λ e.
+          let last : StandsFor c.last m.state = covers-stands k c.last s m.state h.covered st in
+          let may : allows_change c.last.changed true ≡ true = subst (λ (b : Bool). allows_change c.last.changed b ≡ true) e last.stands.changed in
+          absurd (not-changed c.last.changed.yes h.saved may)
+      | false ↦ λ e. ending-well c m (within-end k false bad c s m.state h st)
+    ]) refl
+
+pub at_end-well : Laws → (bad : Option ℕ) (c : Certificate) (s : State) (m : Present) → EndsSo false bad c s → StandsFor s m.state → RunsWell c (at_end bad m)
+at_end-well k None c s m h st = quitting-well k None c s m h st
+at_end-well k (Some line) c s m h st = let f : false ≡ true = h.readable in absurd cc
+
+-- a listed path may be asked for
+listed-contained : (writes : List (List ℕ)) (path : List ℕ) → list_any (λ listed. pointwise nat_eq listed path) writes ≡ true → Contains writes path
+listed-contained [] path h = absurd cc
+listed-contained (w ∷ writes) path h = elim (or-cases (pointwise nat_eq w path) (list_any (λ listed. pointwise nat_eq listed path) writes) h) [
+  | inl e ↦ let same : w ≡ path = (bytes_decides w path).0 e in (0, omega arith, same)
+  | inr e ↦ let q = listed-contained writes path e in let k = q.1 in (suc q.0, omega arith, q.2)
+]
+
+may-listed : (c : Certificate) (x : Command) (s : State) (r : Request) → are_listed c.writes x s ≡ true → MayAskFor x s None r → MayAsk c r
+may-listed c x s (request.Read path) l h = tt
+may-listed c x s (request.Write path bytes) l h = listed-contained c.writes path (has_choice-all (is_listed c.writes) (written_paths x.verb s) (Some path) l h)
+
+-- a command leads from one state of the editor to another
+abbrev pub Leads : Command → (before after : editor.State) → Type 0
+Leads x e f = (given : Option Answer) × (o : Outcome) × (command e x given ≡ Ok (Makes o)) × (o.state ≡ f)
+
+-- what is made of an answer, and the run after it
+answered-well : (c : Certificate) (x : Command) (s t : State) (m : Present) (a : Answer) (counted : List ℕ) (y : Result Effect Fault) (go : Further) (answers : List Answer) →
+    command m.state x (Some a) ≡ y → IsDone x s t m.state (Some a) y →
+    ((e : editor.State) (more : List Answer) → Leads x m.state e → StandsFor t e → RunsWell c (go (with_state e m) more)) → RunsWell c (answered m counted y go answers)
+answered-well c x s t m a counted (Err f) go answers is done h = (All-nil (MayAsk c), done.3)
+answered-well c x s t m a counted (Ok (Makes o)) go answers is done h = h o.state answers (Some a, o, is, refl) done
+answered-well c x s t m a counted (Ok (Asks r)) go answers is done h = absurd done
+
+-- a command that its rule vouches for, and the run after it
+asking-well : (c : Certificate) (x : Command) (s t : State) (m : Present) (y : Result Effect Fault) (go : Further) (answers : List Answer) → are_listed c.writes x s ≡ true →
+    command m.state x None ≡ y → IsDone x s t m.state None y → ((a : Answer) → IsDone x s t m.state (Some a) (command m.state x (Some a))) →
+    ((e : editor.State) (more : List Answer) → Leads x m.state e → StandsFor t e → RunsWell c (go (with_state e m) more)) →
+    RunsWell c (asking m y (λ a. command m.state x (Some a)) go answers)
+asking-well c x s t m (Err f) go answers l is done later h = absurd done
+asking-well c x s t m (Ok (Makes o)) go answers l is done later h = h o.state answers (None, o, is, refl) done
+asking-well c x s t m (Ok (Asks r)) go [] l is done later h = (All-nil (MayAsk c), may-listed c x s r l done)
+asking-well c x s t m (Ok (Asks r)) go (a ∷ answers) l is done later h =
+    let well = answered-well c x s t m a (count m.silent r a) (command m.state x (Some a)) go answers refl (later a) h in
+    (All-cons (MayAsk c) r _ (may-listed c x s r l done) well.0, well.1)
+
+turned-state : (v : Verb) (m : Present) → (turned v m).state ≡ m.state
+turned-state ed.HelpMode m = refl
+turned-state ed.PromptMode m = refl
+turned-state _ m = refl
+
+pub one-well : Laws → (c : Certificate) (x : Command) (s : State) (m : Present) (go : Further) (answers : List Answer) → are_met x s ≡ true → are_listed c.writes x s ≡ true → StandsFor s m.state →
+    ((q : Present) (more : List Answer) → Leads x m.state q.state → StandsFor (left_by x s) q.state → RunsWell c (go q more)) → RunsWell c (one x m go answers)
+one-well k c x s m go answers met l st h =
+    let t : State = left_by x s in
+    let step = met-gives x s met in
+    asking-well c x s t m (command m.state x None) (λ q. go (turned x.verb q)) answers l refl
+    (k.command x s t m.state None st step) (λ a. k.command x s t m.state (Some a) st step)
+    (λ e more leads stands.
+    let same = sym (turned-state x.verb (with_state e m)) in
+    h (turned x.verb (with_state e m)) more (subst (λ (u : editor.State). Leads x m.state u) same leads) (subst (λ (u : editor.State). StandsFor t u) same stands))
+
+-- a command that doesn't end the run
+pub going-on : (v : Verb) (x : Step) (m : Present) (go : Further) (answers : List Answer) → ends_run v ≡ false → not (is_global v) ≡ true → step_by v x m go answers ≡ one x.command m go answers
+going-on ed.Quit x m go answers e single = absurd cc
+going-on ed.QuitAnyway x m go answers e single = absurd cc
+going-on (ed.Global sense pattern) x m go answers e single = absurd cc
+going-on _ x m go answers e single = refl
+
+-- the lines of what its rule stands for are those of the run
+quit-within : (c : Certificate) (x : Command) (s t : State) (e : editor.State) (y : Result Effect Fault) → IsDone x s t e None y →
+    IfOk y (SameMade e) →
+    ((u : editor.State) → StandsFor t u → IsWithin c.low c.high (length u.lines)) → IsWithin c.low c.high (length e.lines)
+quit-within c x s t e (Err f) a same h = absurd a
+quit-within c x s t e (Ok (Asks r)) a same h = absurd same
+quit-within c x s t e (Ok (Makes o)) a same h =
+    let lines : o.state.lines ≡ e.lines = same in
+    subst (λ (n : ℕ). IsWithin c.low c.high n) (ap length lines) (h o.state a)
+
+-- a command without a fault that is refused where the buffer is changed
+saved-made : (x : Command) (s t : State) (e : editor.State) (y : Result Effect Fault) → IsDone x s t e None y → IfOk y (SavedMade e) →
+    IfOk y (SameMade e) × (e.changed ≡ false)
+saved-made x s t e (Err f) a made = absurd a
+saved-made x s t e (Ok f) a made = made
+
+quit-well : Laws → (quit : Bool) (bad : Option ℕ) (c : Certificate) (x : Command) (s : State) (m : Present) →
+    IfOk (command m.state x None) (SameMade m.state) → are_met x s ≡ true → StandsFor s m.state →
+    EndsSo quit bad c (left_by x s) → RunsWell c (ending m)
+quit-well k quit bad c x s m same met st h =
+    let t : State = left_by x s in
+    ending-well c m
+    (quit-within c x s t m.state (command m.state x None) (k.command x s t m.state None st (met-gives x s met)) same
+    (λ u stands. within-end k quit bad c t u h stands))
+
+quitting-saved : (m : Present) → m.state.changed ≡ false → quitting m ≡ ending m
+quitting-saved m e = ap (λ (b : Bool). elim b as (λ _. Progress) [ true ↦ failing m fault.Unsaved | false ↦ ending m ]) e
+
+-- a command that ends it
+pub ended-well : Laws → (quit : Bool) (bad : Option ℕ) (c : Certificate) (x : Step) (s : State) (m : Present) (go : Further) (answers : List Answer) (v : Verb) → x.command.verb ≡ v → ends_run v ≡ true →
+    are_met x.command s ≡ true → StandsFor s m.state → EndsSo quit bad c (left_by x.command s) → RunsWell c (step_by v x m go answers)
+ended-well k quit bad c x s m go answers ed.QuitAnyway is e met st h =
+    let d : Command = x.command in
+    quit-well k quit bad c d s m
+    (subst (λ (v : Verb).
+    IfOk (command m.state (record { addresses = d.addresses; verb = v; suffix = d.suffix; listed = d.listed }) None) (SameMade m.state))
+    (sym is)
+    (quit-leaves k.placed d.addresses d.suffix d.listed m.state None)) met st h
+ended-well k quit bad c x s m go answers ed.Quit is e met st h =
+    let d : Command = x.command in
+    let made = saved-made d s (left_by d s) m.state (command m.state d None) (k.command d s (left_by d s) m.state None st (met-gives d s met))
+    (subst (λ (v : Verb).
+    IfOk (command m.state (record { addresses = d.addresses; verb = v; suffix = d.suffix; listed = d.listed }) None) (SavedMade m.state))
+    (sym is)
+    (saved-leaves k.placed d.addresses d.suffix d.listed m.state None)) in
+    subst (λ (p : Progress). RunsWell c p) (sym (quitting-saved m made.1)) (quit-well k quit bad c d s m made.0 met st h)
+ended-well k quit bad c x s m go answers _ is e met st h = absurd cc

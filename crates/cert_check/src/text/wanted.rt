@@ -1,0 +1,86 @@
+//! Which line is wanted where one stands that may not stand there.
+
+ghost use Rattle.std.specs.Prelude.{◌≡◌};
+ghost use Rattle.cert_check.specs.text.Wanted.{key, keys, told_words};
+
+/// The kinds of lines, by where they stand in a certificate.
+#[derive(Debug, Drop, Clone, Copy, PartialEq, Eq)]
+pub enum LineKind {
+    Path,
+    Start,
+    /// A first note, or the end.
+    NoteOrEnd,
+    Zone,
+    Marks,
+    Patterns,
+    Replacements,
+    Names,
+    Changed,
+    Undo,
+    OldZone,
+    OldMarks,
+    /// After the state of a note another one, what is known of its list, or the end.
+    NoteLoopOrEnd,
+    /// The state before one more command of a list, or the end of the list.
+    InnerOrDone,
+    Final,
+    Writes,
+}
+
+impl LineKind {
+    /// The word with which a line of the kind begins, or the first of them.
+    pub fn key(self) -> &'static [u8]
+        ensures value { result.now ≡ key self }
+    {
+        match self {
+            LineKind::Path => b"path",
+            LineKind::Start => b"start",
+            LineKind::NoteOrEnd => b"note",
+            LineKind::Zone => b"zone",
+            LineKind::Marks => b"marks",
+            LineKind::Patterns => b"patterns",
+            LineKind::Replacements => b"replacements",
+            LineKind::Names => b"names",
+            LineKind::Changed => b"changed",
+            LineKind::Undo => b"undo",
+            LineKind::OldZone => b"old-zone",
+            LineKind::OldMarks => b"old-marks",
+            LineKind::NoteLoopOrEnd => b"note",
+            LineKind::InnerOrDone => b"inner",
+            LineKind::Final => b"final",
+            LineKind::Writes => b"writes",
+        }
+    }
+
+    /// The words with which its lines begin, for people.
+    pub fn name(self) -> &'static [u8]
+        ensures value { result.now ≡ told_words (keys self) }
+    {
+        match self {
+            LineKind::Path => b"path",
+            LineKind::Start => b"start",
+            LineKind::NoteOrEnd => b"note or end",
+            LineKind::Zone => b"zone",
+            LineKind::Marks => b"marks",
+            LineKind::Patterns => b"patterns",
+            LineKind::Replacements => b"replacements",
+            LineKind::Names => b"names",
+            LineKind::Changed => b"changed",
+            LineKind::Undo => b"undo",
+            LineKind::OldZone => b"old-zone",
+            LineKind::OldMarks => b"old-marks",
+            LineKind::NoteLoopOrEnd => b"note, loop or end",
+            LineKind::InnerOrDone => b"inner or done",
+            LineKind::Final => b"final",
+            LineKind::Writes => b"writes",
+        }
+    }
+}
+
+/// The first line that may not stand where it stands, and the kind of which a line could.
+#[derive(Debug, Drop, Clone, Copy, PartialEq, Eq)]
+pub struct Wanted {
+    /// Its number, which counts from 1.
+    pub line: usize,
+    pub kind: LineKind,
+}
