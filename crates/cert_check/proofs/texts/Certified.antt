@@ -12,7 +12,7 @@ use Rattle.cert_check.specs.text.Text.{Line, state_lines, path_line, writes_line
 use Rattle.cert_check.specs.text.Pieces.{Left, Took, texts, IsOf, alone, limits_line, AreLimits, AreStartLimits, ArePaths, notes_lines, rest_lines}
 use Rattle.cert_check.proofs.texts.OneText.{certificate_made}
 use Rattle.cert_check.proofs.texts.Pieces.{later-of, texts-append, took-more}
-use Rattle.cert_check.proofs.texts.Sequence.{followed, AreFormed, Cuts, SoFar, begun}
+use Rattle.cert_check.proofs.texts.Sequence.{followed, AreFormed, Cuts, cuts-line, SoFar, begun, on}
 use Rattle.cert_check.proofs.texts.Plainest.{plain_state, plain-state}
 use Rattle.cert_check.proofs.texts.Noted.{front-state, front-notes, took-is}
 
@@ -173,6 +173,22 @@ cuts-notes a b x y h k e = (front-notes a b x y h k e).1
 
 pub cuts-state : Cuts state_lines StateIsFormed
 cuts-state a b x y h k e = (front-state a b x y h k e).1
+
+-- what may stand after each of its pieces, once that was read
+pub path-read : {old mid : Left} (path : Choice) → ChoiceIsBytes path × Took (path_texts path) old mid → SoFar (IsOf rest_lines HasText) (IsOf from_start FromStart) old mid
+path-read {old} path read = on _ _ _ _ (rest-begun old) (cuts-line path_line ChoiceIsBytes) path read
+
+pub start-read : {old mid new : Left} → SoFar (IsOf rest_lines HasText) (IsOf from_start FromStart) old mid → (value : Limits) → AreStartLimits value × Took (start_texts value) mid new → SoFar (IsOf rest_lines HasText) (IsOf from_notes FromNotes) old new
+start-read so_far value read = on _ _ _ _ so_far (cuts-line (limits_line (codes "start")) AreStartLimits) value read
+
+pub notes-read : {old mid new : Left} → SoFar (IsOf rest_lines HasText) (IsOf from_notes FromNotes) old mid → (value : List Note) → All NoteHasText value × Took (texts (notes_lines value)) mid new → SoFar (IsOf rest_lines HasText) (IsOf from_last FromLast) old new
+notes-read so_far value read = on _ _ _ _ so_far cuts-notes value read
+
+pub last-read : {old mid new : Left} → SoFar (IsOf rest_lines HasText) (IsOf from_last FromLast) old mid → (value : State) → StateIsFormed value × Took (texts (state_lines value)) mid new → SoFar (IsOf rest_lines HasText) (IsOf from_final FromFinal) old new
+last-read so_far value read = on _ _ _ _ so_far cuts-state value read
+
+pub final-read : {old mid new : Left} → SoFar (IsOf rest_lines HasText) (IsOf from_final FromFinal) old mid → (value : Limits) → AreLimits value × Took (final_texts value) mid new → SoFar (IsOf rest_lines HasText) (IsOf (alone writes_line) ArePaths) old new
+final-read so_far value read = on _ _ _ _ so_far (cuts-line (limits_line (codes "final")) AreLimits) value read
 
 -- what stands below the last state
 below-state : (c : Certificate) (notes : List Note) (last : State) (back after : List (List ℕ)) → HasText c → All NoteHasText notes → StateIsFormed last →

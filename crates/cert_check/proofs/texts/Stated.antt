@@ -22,7 +22,7 @@ use Rattle.cert_check.proofs.texts.Chosen.{three-words, three-same}
 use Rattle.cert_check.proofs.texts.Unambiguous.{state-same, zone-same, later-words}
 use Rattle.cert_check.proofs.texts.OneText.{state-words}
 use Rattle.cert_check.proofs.texts.Pieces.{took-more, first-of, Continued, GoesOn, Expects, Determined}
-use Rattle.cert_check.proofs.texts.Sequence.{followed, AreFormed, Cuts, SoFar, begun}
+use Rattle.cert_check.proofs.texts.Sequence.{followed, AreFormed, Cuts, cuts-line, SoFar, begun, on}
 use Rattle.cert_check.proofs.texts.Plainest.{plain_old, plain_set, plain-set, plain_replacements, plain_change, plain_undo, plain-old, state_of, state-formed}
 
 pub state-determined : Determined state_lines StateIsFormed
@@ -127,6 +127,27 @@ state-begun old = begun (IsOf state_lines StateIsFormed) (IsOf from_marked FromM
 
 pub cuts-marked : (zone_key marks_key : Word) → Cuts (marked_lines zone_key marks_key) MarkedIsFormed
 cuts-marked zone_key marks_key a b x y h k e = below (below e)
+
+-- what may stand after each of its pieces, once that was read
+pub marked-read : {old mid : Left} (marked : Old) → MarkedIsFormed marked × Took (texts (marked_lines (codes "zone") (codes "marks") marked)) old mid →
+    SoFar (IsOf state_lines StateIsFormed) (IsOf from_patterns FromPatterns) old mid
+marked-read {old} marked read = on _ _ _ _ (state-begun old) (cuts-marked (codes "zone") (codes "marks")) marked read
+
+pub patterns-read : {old mid new : Left} → SoFar (IsOf state_lines StateIsFormed) (IsOf from_patterns FromPatterns) old mid → (value : List Choice) → SetIsFormed value × Took (texts (alone (choices_line (codes "patterns")) value)) mid new →
+    SoFar (IsOf state_lines StateIsFormed) (IsOf from_replacements FromReplacements) old new
+patterns-read so_far value read = on _ _ _ _ so_far (cuts-line (choices_line (codes "patterns")) SetIsFormed) value read
+
+pub replacements-read : {old mid new : Left} → SoFar (IsOf state_lines StateIsFormed) (IsOf from_replacements FromReplacements) old mid → (value : Replacements) → IsSomeReplacement value × Took (texts (alone replacements_line value)) mid new →
+    SoFar (IsOf state_lines StateIsFormed) (IsOf from_names FromNames) old new
+replacements-read so_far value read = on _ _ _ _ so_far (cuts-line replacements_line IsSomeReplacement) value read
+
+pub names-read : {old mid new : Left} → SoFar (IsOf state_lines StateIsFormed) (IsOf from_names FromNames) old mid → (value : List Choice) → SetIsFormed value × Took (texts (alone (choices_line (codes "names")) value)) mid new →
+    SoFar (IsOf state_lines StateIsFormed) (IsOf from_changed FromChanged) old new
+names-read so_far value read = on _ _ _ _ so_far (cuts-line (choices_line (codes "names")) SetIsFormed) value read
+
+pub changed-read : {old mid new : Left} → SoFar (IsOf state_lines StateIsFormed) (IsOf from_changed FromChanged) old mid → (value : Changed) → IsSomeChange value × Took (texts (alone changed_line value)) mid new →
+    SoFar (IsOf state_lines StateIsFormed) (IsOf undo_lines UndoIsFormed) old new
+changed-read so_far value read = on _ _ _ _ so_far (cuts-line changed_line IsSomeChange) value read
 
 -- what a zone says beside some letters it may say beside all of them
 sure-all : (x : ℕ) → x < 26 → is_sure all_marks x ≡ true

@@ -1,12 +1,8 @@
 use Rattle.cert_check.specs.text.Pieces.{same, marked_value}
-use Rattle.std.specs.Prelude.{codes}
-use Rattle.ed_rules.specs.Formed.{SetIsFormed}
-use Rattle.cert_check.specs.text.Text.{choices_line, replacements_line, changed_line}
-use Rattle.cert_check.specs.text.Pieces.{IsSomeReplacement, IsSomeChange}
 use Rattle.cert_check.proofs.texts.Pieces.{took-more}
 use Rattle.cert_check.proofs.texts.Plainest.{plain_undo, state-formed}
-use Rattle.cert_check.proofs.texts.Sequence.{on, stops, stops-last, cuts-line}
-use Rattle.cert_check.proofs.texts.Stated.{state-begun, cuts-marked, plain-undo, plain_from_changed, plain-from_changed, plain_from_names, plain-from_names, plain_from_replacements, plain-from_replacements, plain_from_patterns, plain-from_patterns}
+use Rattle.cert_check.proofs.texts.Sequence.{stops, stops-last}
+use Rattle.cert_check.proofs.texts.Stated.{state-begun, marked-read, patterns-read, replacements-read, names-read, changed-read, plain-undo, plain_from_changed, plain-from_changed, plain_from_names, plain-from_names, plain_from_replacements, plain-from_replacements, plain_from_patterns, plain-from_patterns}
 use Rattle.cert_check.proofs.text.states.read_state.Goals as goal
 
 pub returns-in_err-marked : goal.returns-in_err-marked
@@ -20,35 +16,35 @@ pub returns-in_err-patterns : goal.returns-in_err-patterns
 returns-in_err-patterns c = record {
   exact =
       stops _ _ _ _ same c.read_choices.new.cursor c.from_residual-in_err-patterns.result c.in_err-patterns.field-0.0 c.from_residual-in_err-patterns.ensures.1
-      (on _ _ _ _ (state-begun c.args.cursor.now) (cuts-marked (codes "zone") (codes "marks")) (marked_value c.in_ok-marked.marked) c.in_ok-marked.ensures.exact) plain_from_replacements plain-from_replacements c.in_err-patterns.ensures.exact;
+      (marked-read (marked_value c.in_ok-marked.marked) c.in_ok-marked.ensures.exact) plain_from_replacements plain-from_replacements c.in_err-patterns.ensures.exact;
 }
 
 pub returns-in_err-replacements : goal.returns-in_err-replacements
 returns-in_err-replacements c = record {
   exact =
       stops _ _ _ _ same c.read_replacements.new.cursor c.from_residual-in_err-replacements.result c.in_err-replacements.field-0.0 c.from_residual-in_err-replacements.ensures.1
-      (on _ _ _ _ (on _ _ _ _ (state-begun c.args.cursor.now) (cuts-marked (codes "zone") (codes "marks")) (marked_value c.in_ok-marked.marked) c.in_ok-marked.ensures.exact) (cuts-line (choices_line (codes "patterns")) SetIsFormed) c.in_ok-patterns.patterns c.in_ok-patterns.ensures.exact) plain_from_names plain-from_names c.in_err-replacements.ensures.exact;
+      (patterns-read (marked-read (marked_value c.in_ok-marked.marked) c.in_ok-marked.ensures.exact) c.in_ok-patterns.patterns c.in_ok-patterns.ensures.exact) plain_from_names plain-from_names c.in_err-replacements.ensures.exact;
 }
 
 pub returns-in_err-names : goal.returns-in_err-names
 returns-in_err-names c = record {
   exact =
       stops _ _ _ _ same c.read_choices-2.new.cursor c.from_residual-in_err-names.result c.in_err-names.field-0.0 c.from_residual-in_err-names.ensures.1
-      (on _ _ _ _ (on _ _ _ _ (on _ _ _ _ (state-begun c.args.cursor.now) (cuts-marked (codes "zone") (codes "marks")) (marked_value c.in_ok-marked.marked) c.in_ok-marked.ensures.exact) (cuts-line (choices_line (codes "patterns")) SetIsFormed) c.in_ok-patterns.patterns c.in_ok-patterns.ensures.exact) (cuts-line replacements_line IsSomeReplacement) c.in_ok-replacements.replacements c.in_ok-replacements.ensures.exact) plain_from_changed plain-from_changed c.in_err-names.ensures.exact;
+      (replacements-read (patterns-read (marked-read (marked_value c.in_ok-marked.marked) c.in_ok-marked.ensures.exact) c.in_ok-patterns.patterns c.in_ok-patterns.ensures.exact) c.in_ok-replacements.replacements c.in_ok-replacements.ensures.exact) plain_from_changed plain-from_changed c.in_err-names.ensures.exact;
 }
 
 pub returns-in_err-changed : goal.returns-in_err-changed
 returns-in_err-changed c = record {
   exact =
       stops _ _ _ _ same c.read_changed.new.cursor c.from_residual-in_err-changed.result c.in_err-changed.field-0.0 c.from_residual-in_err-changed.ensures.1
-      (on _ _ _ _ (on _ _ _ _ (on _ _ _ _ (on _ _ _ _ (state-begun c.args.cursor.now) (cuts-marked (codes "zone") (codes "marks")) (marked_value c.in_ok-marked.marked) c.in_ok-marked.ensures.exact) (cuts-line (choices_line (codes "patterns")) SetIsFormed) c.in_ok-patterns.patterns c.in_ok-patterns.ensures.exact) (cuts-line replacements_line IsSomeReplacement) c.in_ok-replacements.replacements c.in_ok-replacements.ensures.exact) (cuts-line (choices_line (codes "names")) SetIsFormed) c.in_ok-names.names c.in_ok-names.ensures.exact) plain_undo plain-undo c.in_err-changed.ensures.exact;
+      (names-read (replacements-read (patterns-read (marked-read (marked_value c.in_ok-marked.marked) c.in_ok-marked.ensures.exact) c.in_ok-patterns.patterns c.in_ok-patterns.ensures.exact) c.in_ok-replacements.replacements c.in_ok-replacements.ensures.exact) c.in_ok-names.names c.in_ok-names.ensures.exact) plain_undo plain-undo c.in_err-changed.ensures.exact;
 }
 
 pub returns-in_err-undo : goal.returns-in_err-undo
 returns-in_err-undo c = record {
   exact =
       stops-last same c.read_undo.new.cursor c.from_residual-in_err-undo.result c.in_err-undo.field-0.0 c.from_residual-in_err-undo.ensures.1
-      (on _ _ _ _ (on _ _ _ _ (on _ _ _ _ (on _ _ _ _ (on _ _ _ _ (state-begun c.args.cursor.now) (cuts-marked (codes "zone") (codes "marks")) (marked_value c.in_ok-marked.marked) c.in_ok-marked.ensures.exact) (cuts-line (choices_line (codes "patterns")) SetIsFormed) c.in_ok-patterns.patterns c.in_ok-patterns.ensures.exact) (cuts-line replacements_line IsSomeReplacement) c.in_ok-replacements.replacements c.in_ok-replacements.ensures.exact) (cuts-line (choices_line (codes "names")) SetIsFormed) c.in_ok-names.names c.in_ok-names.ensures.exact) (cuts-line changed_line IsSomeChange) c.in_ok-changed.changed c.in_ok-changed.ensures.exact) c.in_err-undo.ensures.exact;
+      (changed-read (names-read (replacements-read (patterns-read (marked-read (marked_value c.in_ok-marked.marked) c.in_ok-marked.ensures.exact) c.in_ok-patterns.patterns c.in_ok-patterns.ensures.exact) c.in_ok-replacements.replacements c.in_ok-replacements.ensures.exact) c.in_ok-names.names c.in_ok-names.ensures.exact) c.in_ok-changed.changed c.in_ok-changed.ensures.exact) c.in_err-undo.ensures.exact;
 }
 
 pub returns : goal.returns
