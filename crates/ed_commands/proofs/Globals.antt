@@ -1,10 +1,8 @@
 -- What a global command leaves before its list is run: the lines have their texts, and undo what it kept.
 use Rattle.std.proofs.Common.{◌≡◌, ℕ, ◌+◌, ◌-◌, ◌<◌, ◌≤◌, length, get_or, set, Bool, true, false, List, [], ◌∷◌, map, Option, Some, None, Result, Ok, Err, refl, sym, ap, ◌∙◌, subst, arith}
-use Rattle.std.specs.Prelude.{IsOkAnd, is_some, ok_or}
+use Rattle.std.specs.Prelude.{IsOkAnd, ok_or}
 use Rattle.std.proofs.lemmas.List.{length-map, map-append}
-use Rattle.bre_parse.specs.Tree.{Tree}
 use Rattle.bre_parse.specs.Grammar.{pattern}
-use Rattle.bre_parse.specs.Match.{match_from}
 use Rattle.ed_base.specs.Buffer.{Line, plain_line, texts, with_flag, flagged_at}
 use Rattle.ed_base.specs.Parts.{block, exchanged}
 use Rattle.ed_base.specs.declared.fault.Fault.{Fault}
@@ -30,7 +28,6 @@ use Rattle.ed_commands.proofs.Changes.{same-texts}
 use Rattle.ed_commands.proofs.Commanding.{unasked}
 use Rattle.ed_commands.proofs.Kept.{kept-own, kept-same}
 use Rattle.ed_commands.proofs.Rewritten.{counted, gone, next-line}
-use Rattle.ed_commands.proofs.Searching.{matched-by}
 use Rattle.ed_commands.proofs.Texts.{texts-block, texts-exchanged}
 
 -- flags change no text
@@ -61,11 +58,6 @@ flagged-more which pattern a i old now flag h inside put is =
     ∙ set-one i (f (get_or old i d)) now long
     ∙ gone a i i made (f (get_or old i d) ∷ []) old now d h inside put at
     ∙ ap (λ t. exchanged a (i + 1) t old) (sym (ap (map f) (block-more a i old d h inside) ∙ map-append f (block a i old) (get_or old i d ∷ [])))
-
--- what the matcher tells of a line's text
-pub told-of : (text : List ℕ) (tree : Tree) (lines : List Line) (i : ℕ) (line : List ℕ) (answer : Bool) → pattern text ≡ Ok tree →
-    line ≡ (get_or lines i (plain_line [])).bytes → answer ≡ is_some (match_from tree line 0) → matches text (get_or lines i (plain_line [])).bytes ≡ answer
-told-of text tree lines i line answer h e k = ap (matches text) (sym e) ∙ matched-by text line tree h ∙ sym k
 
 -- lines of a span with the flag or not
 abbrev pub flagged_span : Sense → (pattern : List ℕ) → Span → List Line → List Line

@@ -1,9 +1,9 @@
 -- Searches through lines one after another.
 use Rattle.std.proofs.Common.{◌≡◌, ℕ, zero, suc, ◌+◌, ◌-◌, ◌<◌, ◌≤◌, max, Bool, true, false, cond, List, [], ◌∷◌, ◌++◌, reverse, get_or, Option, Some, None, Result, Ok, refl, sym, ap, ◌∙◌, arith}
-use Rattle.std.specs.Prelude.{find, is_some, ok_or}
-use Rattle.std.specs.Option.{option_or}
-use Rattle.std.proofs.lemmas.List.{reverse-append}
-use Rattle.std.proofs.lemmas.List.Folds.{find-append}
+use Rattle.std.specs.Prelude.{find, is_some, nat_le, ok_or}
+use Rattle.std.proofs.Math.Nat.{suc-add, zero-add}
+use Rattle.std.proofs.lemmas.Bool.Decides.{leb_tells}
+use Rattle.std.proofs.lemmas.List.{append-nil, reverse-append}
 use Rattle.bre_parse.specs.Tree.{Tree}
 use Rattle.bre_parse.specs.Grammar.{pattern}
 use Rattle.bre_parse.specs.Match.{match_from}
@@ -11,90 +11,137 @@ use Rattle.ed_base.specs.Buffer.{Line, plain_line}
 use Rattle.ed_base.specs.declared.fault.Fault.{Fault}
 use Rattle.ed_base.specs.declared.fault.Fault.TheVariants as fault
 use Rattle.ed_syntax.specs.meaning.States.{State, last}
-use Rattle.ed_syntax.specs.meaning.Values.{count_from, upwards, lines_forward, lines_backward, matches, matches_line, searched, sought}
+use Rattle.ed_syntax.specs.meaning.Values.{count_from, upwards, matches, searched, sought}
 use Rattle.ed_commands.specs.Editors.{TellsLine, with_pattern}
+use Rattle.ed_commands.specs.Searches.{around, line_after, lines_in}
+use Rattle.ed_commands.specs.declared.editor.searching.Direction.{Direction}
+use Rattle.ed_commands.specs.declared.editor.searching.Direction.TheVariants as to
 
 pub matched-by : (text line : List ℕ) (tree : Tree) → pattern text ≡ Ok tree → matches text line ≡ is_some (match_from tree line 0)
 matched-by text line tree h = rw (h, matches) refl
 
--- what the matcher tells of a line's text is whether the pattern matches the line
+-- what the matcher tells of a line's text
 pub told : (text : List ℕ) (tree : Tree) (lines : List Line) (i : ℕ) (line : List ℕ) (answer : Bool) → pattern text ≡ Ok tree →
-    line ≡ (get_or lines i (plain_line [])).bytes → answer ≡ is_some (match_from tree line 0) → matches_line text lines (i + 1) ≡ answer
-told text tree lines i line answer h e k =
-    ap (λ n. matches text (get_or lines n (plain_line [])).bytes) (let f : i + 1 - 1 ≡ i = omega arith in f)
-    ∙ ap (matches text) (sym e)
-    ∙ matched-by text line tree h
-    ∙ sym k
+    line ≡ (get_or lines i (plain_line [])).bytes → answer ≡ is_some (match_from tree line 0) → matches text (get_or lines i (plain_line [])).bytes ≡ answer
+told text tree lines i line answer h e k = ap (matches text) (sym e) ∙ matched-by text line tree h ∙ sym k
 
--- the numbers after i up to b, one by one
-first-of : (i b : ℕ) → i < b → count_from (i + 1) (b - i) ≡ (i + 1) ∷ count_from (i + 1 + 1) (b - (i + 1))
-first-of i b h = let e : b - i ≡ suc (b - (i + 1)) = omega arith in ap (count_from (i + 1)) e
-
--- a search upwards that has come to a line that doesn't match
-pub passed-up : (p : ℕ → Bool) (i b : ℕ) → i < b → p (i + 1) ≡ false → find p (count_from (i + 1) (b - i)) ≡ find p (count_from (i + 1 + 1) (b - (i + 1)))
-passed-up p i b h fails = ap (find p) (first-of i b h) ∙ ap (λ t. cond t (Some (i + 1)) (find p (count_from (i + 1 + 1) (b - (i + 1))))) fails
+-- a search that has come to a line that doesn't match
+pub passed : (p : ℕ → Bool) (next : ℕ → ℕ) (line now k last : ℕ) → k < last → now ≡ next line → p now ≡ false →
+    find p (around next line (last - k)) ≡ find p (around next now (last - (k + 1)))
+passed p next line now k last h is fails =
+    ap (λ n. find p (around next line n)) (let e : last - k ≡ suc (last - (k + 1)) = omega arith in e)
+    ∙ ap (λ l. find p (l ∷ around next l (last - (k + 1)))) (sym is)
+    ∙ ap (λ t. cond t (Some now) (find p (around next now (last - (k + 1))))) fails
 
 -- to one that does
-pub found-up : (p : ℕ → Bool) (i b : ℕ) → i < b → p (i + 1) ≡ true → find p (count_from (i + 1) (b - i)) ≡ Some (i + 1)
-found-up p i b h passes = ap (find p) (first-of i b h) ∙ ap (λ t. cond t (Some (i + 1)) (find p (count_from (i + 1 + 1) (b - (i + 1))))) passes
+pub found : (p : ℕ → Bool) (next : ℕ → ℕ) (line now k last : ℕ) → k < last → now ≡ next line → p now ≡ true → find p (around next line (last - k)) ≡ Some now
+found p next line now k last h is passes =
+    ap (λ n. find p (around next line n)) (let e : last - k ≡ suc (last - (k + 1)) = omega arith in e)
+    ∙ ap (λ l. find p (l ∷ around next l (last - (k + 1)))) (sym is)
+    ∙ ap (λ t. cond t (Some now) (find p (around next now (last - (k + 1))))) passes
+
+-- the line after one that isn't the last, and after the last; before one that isn't the first
+next-up : (last line : ℕ) → line < last → line_after to.Forward last line ≡ line + 1
+next-up last line h = let before : nat_le last line ≡ false = grind (arith, leb_tells) in ap (λ b. elim b [ true ↦ 1 | false ↦ line + 1 ]) before
+
+next-round : (last line : ℕ) → last ≤ line → line_after to.Forward last line ≡ 1
+next-round last line h = let past : nat_le last line ≡ true = grind (arith, leb_tells) in ap (λ b. elim b [ true ↦ 1 | false ↦ line + 1 ]) past
+
+next-down : (last line : ℕ) → 1 < line → line_after to.Backward last line ≡ line - 1
+next-down last line h = let after : nat_le line 1 ≡ false = grind (arith, leb_tells) in ap (λ b. elim b [ true ↦ last | false ↦ line - 1 ]) after
+
+next-last : (last line : ℕ) → line ≤ 1 → line_after to.Backward last line ≡ last
+next-last last line h = let first : nat_le line 1 ≡ true = grind (arith, leb_tells) in ap (λ b. elim b [ true ↦ last | false ↦ line - 1 ]) first
+
+-- so many lines upwards, and the others
+up : (last line n m : ℕ) → line + n ≤ last →
+    around (line_after to.Forward last) line (n + m) ≡ count_from (line + 1) n ++ around (line_after to.Forward last) (line + n) m
+up last line zero m h = rw zero-add (ap (λ l. around (line_after to.Forward last) l m) (let e : line ≡ line + 0 = omega arith in e))
+up last line (suc n) m h =
+    rw suc-add (ap (λ l. l ∷ around (line_after to.Forward last) l (n + m)) (next-up last line (omega arith))
+    ∙ ap (λ t. (line + 1) ∷ t) (up last (line + 1) n m (omega (arith, h)))
+    ∙ ap (λ l. (line + 1) ∷ (count_from (line + 1 + 1) n ++ around (line_after to.Forward last) l m)) (let e : line + 1 + n ≡ line + suc n = omega arith in e))
+
+-- from the last line on so many are those from the first one on
+round-up : (last n : ℕ) → n ≤ last → around (line_after to.Forward last) last n ≡ count_from 1 n
+round-up last zero h = refl
+round-up last (suc n) h =
+    ap (λ l. l ∷ around (line_after to.Forward last) l n) (next-round last last (omega arith))
+    ∙ ap (λ t. 1 ∷ t) (ap (around (line_after to.Forward last) 1) (let e : n ≡ n + 0 = omega arith in e) ∙ up last 1 n 0 (omega (arith, h)) ∙ append-nil (count_from 2 n))
 
 -- the last of some numbers
 last-of : (a n : ℕ) → count_from a (suc n) ≡ count_from a n ++ (a + n) ∷ []
 last-of a zero = ap (λ t. t ∷ []) (let e : a ≡ a + 0 = omega arith in e)
 last-of a (suc n) = ap (λ t. a ∷ t) (last-of (a + 1) n ∙ ap (λ t. count_from (a + 1) n ++ t ∷ []) (let e : a + 1 + n ≡ a + suc n = omega arith in e))
 
--- the numbers after a up to j, downwards
-last-first : (a i j : ℕ) → a ≤ i → j ≡ i + 1 → reverse (count_from (a + 1) (j - a)) ≡ j ∷ reverse (count_from (a + 1) (i - a))
-last-first a i j h e =
-    ap (λ t. reverse (count_from (a + 1) t)) (let f : j - a ≡ suc (i - a) = omega arith in f)
-    ∙ ap reverse (last-of (a + 1) (i - a))
-    ∙ reverse-append (count_from (a + 1) (i - a)) ((a + 1 + (i - a)) ∷ [])
-    ∙ ap (λ t. t ∷ reverse (count_from (a + 1) (i - a))) (let f : a + 1 + (i - a) ≡ j = omega arith in f)
+last-first : (a n : ℕ) → reverse (count_from a (suc n)) ≡ (a + n) ∷ reverse (count_from a n)
+last-first a n = ap reverse (last-of a n) ∙ reverse-append (count_from a n) ((a + n) ∷ [])
 
-pub passed-down : (p : ℕ → Bool) (a i j : ℕ) → a ≤ i → j ≡ i + 1 → p (i + 1) ≡ false → find p (reverse (count_from (a + 1) (j - a))) ≡ find p (reverse (count_from (a + 1) (i - a)))
-passed-down p a i j h e fails = ap (find p) (last-first a i j h e) ∙ ap (λ t. cond t (Some j) (find p (reverse (count_from (a + 1) (i - a))))) (ap p e ∙ fails)
+-- so many lines downwards, and the others
+down : (last line a n m : ℕ) → n ≤ line - 1 → line ≡ a + n →
+    around (line_after to.Backward last) line (n + m) ≡ reverse (count_from a n) ++ around (line_after to.Backward last) a m
+down last line a zero m h e = rw zero-add (ap (λ l. around (line_after to.Backward last) l m) (let f : line ≡ a = omega (arith, e) in f))
+down last line a (suc n) m h e =
+    let next : line_after to.Backward last line ≡ a + n = next-down last line (omega (arith, h)) ∙ (let f : line - 1 ≡ a + n = omega (arith, e) in f) in
+    rw suc-add (ap (λ l. l ∷ around (line_after to.Backward last) l (n + m)) next
+    ∙ ap (λ t. (a + n) ∷ t) (down last (a + n) a n m (omega (arith, h, e)) refl)
+    ∙ ap (λ t. t ++ around (line_after to.Backward last) a m) (sym (last-first a n)))
 
-pub found-down : (p : ℕ → Bool) (a i j : ℕ) → a ≤ i → j ≡ i + 1 → p (i + 1) ≡ true → find p (reverse (count_from (a + 1) (j - a))) ≡ Some (i + 1)
-found-down p a i j h e passes = ap (find p) (last-first a i j h e) ∙ ap (λ t. cond t (Some j) (find p (reverse (count_from (a + 1) (i - a))))) (ap p e ∙ passes) ∙ ap (λ n. Some n) e
+-- from a line that has none before it so many are those from the last one down
+round-down : (last line n : ℕ) → line ≤ 1 → n ≤ last → around (line_after to.Backward last) line n ≡ reverse (count_from (last + 1 - n) n)
+round-down last line zero h k = refl
+round-down last line (suc n) h k =
+    let at : last + 1 - suc n ≡ last - n = omega arith in
+    ap (λ l. l ∷ around (line_after to.Backward last) l n) (next-last last line h)
+    ∙ ap (λ t. last ∷ t) (ap (around (line_after to.Backward last) last) (let e : n ≡ n + 0 = omega arith in e) ∙ down last last (last - n) n 0 (omega (arith, k)) (omega (arith, k)) ∙ append-nil (reverse (count_from (last - n) n)))
+    ∙ ap (λ l. l ∷ reverse (count_from (last - n) n)) (let e : last ≡ last - n + n = omega (arith, k) in e)
+    ∙ sym (last-first (last - n) n)
+    ∙ ap (λ a. reverse (count_from a (suc n))) (sym at)
 
--- the lines after the current one, and those up to it
-pub forward : (s : State) → s.current ≤ last s → lines_forward s ≡ count_from (s.current + 1) (last s - s.current) ++ count_from (0 + 1) (s.current - 0)
-forward s h =
-    ap (λ n. count_from (s.current + 1) n ++ upwards 1 s.current) (let e : last s + 1 - (s.current + 1) ≡ last s - s.current = omega arith in e)
-    ∙ ap (λ n. count_from (s.current + 1) (last s - s.current) ++ count_from 1 n) (let e : s.current + 1 - 1 ≡ s.current - 0 = omega arith in e)
+-- the lines before the current one
+below-first : (line : ℕ) → count_from (line - (line - 1)) (line - 1) ≡ upwards 1 (line - 1)
+below-first zero = refl
+below-first (suc line) =
+    ap (λ a. count_from a (suc line - 1)) (let e : suc line - (suc line - 1) ≡ 1 = omega arith in e)
+    ∙ ap (count_from 1) (let e : suc line - 1 ≡ suc line - 1 + 1 - 1 = omega arith in e)
 
--- the lines before the current one, and those from it on
-pub backward : (s : State) → s.current ≤ last s → lines_backward s ≡ reverse (count_from (0 + 1) (s.current - 1 - 0)) ++ reverse (count_from (s.current - 1 + 1) (last s - (s.current - 1)))
-backward s h =
-    let from : max 1 s.current ≡ s.current - 1 + 1 = omega arith in
-    ap (λ n. reverse (count_from 1 n) ++ reverse (upwards (max 1 s.current) (last s))) (let e : s.current - 1 + 1 - 1 ≡ s.current - 1 - 0 = omega arith in e)
-    ∙ ap (λ n. reverse (count_from 1 (s.current - 1 - 0)) ++ reverse (count_from (max 1 s.current) n)) (let e : last s + 1 - max 1 s.current ≡ last s - (s.current - 1) = omega arith in e)
-    ∙ ap (λ n. reverse (count_from 1 (s.current - 1 - 0)) ++ reverse (count_from n (last s - (s.current - 1)))) from
-
--- found in the first part of an order, or in the second, or not at all
-pub found-first : (text : List ℕ) (s : State) (xs ys : List ℕ) (line : ℕ) → find (matches_line text s.lines) xs ≡ Some line → searched (Some text) (xs ++ ys) s ≡ Ok line
-found-first text s xs ys line h =
-    let p = matches_line text s.lines in
-    ap (λ o. ok_or o fault.NoMatch) (find-append p xs ys ∙ ap (λ o. option_or o (find p ys)) h)
-
-pub found-second : (text : List ℕ) (s : State) (xs ys : List ℕ) (found : Option ℕ) → find (matches_line text s.lines) xs ≡ None → find (matches_line text s.lines) ys ≡ found →
-    searched (Some text) (xs ++ ys) s ≡ ok_or found fault.NoMatch
-found-second text s xs ys found h k =
-    let p = matches_line text s.lines in
-    ap (λ o. ok_or o fault.NoMatch) (find-append p xs ys ∙ ap (λ o. option_or o (find p ys)) h ∙ k)
+-- a search looks at each line once, from the current one on
+pub once-around : (d : Direction) (s : State) → s.current ≤ last s → around (line_after d (last s)) s.current (last s) ≡ lines_in d s
+once-around to.Forward s h =
+    let next = line_after to.Forward (last s) in
+    let n = last s - s.current in
+    ap (around next s.current) (let e : last s ≡ n + s.current = omega arith in e)
+    ∙ up (last s) s.current n s.current (omega arith)
+    ∙ ap (λ l. count_from (s.current + 1) n ++ around next l s.current) (let e : s.current + n ≡ last s = omega arith in e)
+    ∙ ap (λ t. count_from (s.current + 1) n ++ t) (round-up (last s) s.current h)
+    ∙ ap (λ k. count_from (s.current + 1) k ++ count_from 1 s.current) (let e : n ≡ last s + 1 - (s.current + 1) = omega arith in e)
+    ∙ ap (λ k. upwards (s.current + 1) (last s) ++ count_from 1 k) (let e : s.current ≡ s.current + 1 - 1 = omega arith in e)
+once-around to.Backward s h =
+    let next = line_after to.Backward (last s) in
+    let b = s.current - 1 in
+    ap (around next s.current) (let e : last s ≡ b + (last s - b) = omega arith in e)
+    ∙ down (last s) s.current (s.current - b) b (last s - b) (omega arith) (omega arith)
+    ∙ ap (λ t. reverse (count_from (s.current - b) b) ++ t) (round-down (last s) (s.current - b) (last s - b) (omega arith) (omega arith))
+    ∙ ap (λ t. reverse t ++ reverse (count_from (last s + 1 - (last s - b)) (last s - b))) (below-first s.current)
+    ∙ ap (λ a. reverse (upwards 1 b) ++ reverse (count_from a (last s - b))) (let e : last s + 1 - (last s - b) ≡ max 1 s.current = omega arith in e)
+    ∙ ap (λ k. reverse (upwards 1 b) ++ reverse (count_from (max 1 s.current) k)) (let e : last s - b ≡ last s + 1 - max 1 s.current = omega arith in e)
 
 -- the state that remembers what is looked for, and is else as before
 pub leaves : (s new : State) (own : Option (List ℕ)) → new ≡ with_pattern new.pattern s → new.pattern ≡ sought own s → new ≡ with_pattern (sought own s) s
 leaves s new own h e = h ∙ ap (λ p. with_pattern p s) e
 
+-- whatever is remembered, a search looks at the same lines
+same-lines : (d : Direction) (pattern : Option (List ℕ)) (s : State) → lines_in d s ≡ lines_in d (with_pattern pattern s)
+same-lines to.Forward pattern s = refl
+same-lines to.Backward pattern s = refl
+
 -- a search in the state that remembers what is looked for tells what it tells in the state before
-pub as-sought : (order : State → List ℕ) (s now : State) (own : Option (List ℕ)) (text : List ℕ) (result : Result ℕ Fault) →
-    order (with_pattern (sought own s) s) ≡ order s → now ≡ with_pattern (sought own s) s → now.pattern ≡ Some text →
-    searched (Some text) (order now) now ≡ result → searched (sought own s) (order s) s ≡ result
-as-sought order s now own text result stays is some r =
-    ap (λ o. searched o (order s) s) (sym (ap (λ t. t.pattern) is) ∙ some)
-    ∙ ap (λ o. searched (Some text) o s) (sym stays)
-    ∙ sym (ap (λ t. searched (Some text) (order t) t) is)
+pub as-sought : (d : Direction) (s now : State) (own : Option (List ℕ)) (text : List ℕ) (result : Result ℕ Fault) →
+    now ≡ with_pattern (sought own s) s → now.pattern ≡ Some text → searched (Some text) (lines_in d now) now ≡ result → searched (sought own s) (lines_in d s) s ≡ result
+as-sought d s now own text result is some r =
+    ap (λ o. searched o (lines_in d s) s) (sym (ap (λ t. t.pattern) is) ∙ some)
+    ∙ ap (λ o. searched (Some text) o s) (same-lines d (sought own s) s)
+    ∙ sym (ap (λ t. searched (Some text) (lines_in d t) t) is)
     ∙ r
 
 -- what came of a search that has looked at all lines

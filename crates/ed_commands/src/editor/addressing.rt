@@ -10,6 +10,7 @@ ghost use Rattle.ed_syntax.specs.meaning.Ranges.{last_of_two, spanned};
 ghost use Rattle.ed_commands.specs.Editors.{Fits, SameButPattern, Steps, Tells, TellsLine, list_of_values, placed_value, span_value, with_pattern};
 
 use crate::editor::Editor;
+use crate::editor::searching::Direction;
 use ed_base::Fault;
 use ed_syntax::{Address, Addresses, Base, Command, DefaultAddresses, Taking, Verb};
 use line_store::LineStore;
@@ -89,8 +90,8 @@ impl<S: LineStore> Editor<S> {
                 Some(place) => Ok(place + 1),
                 None => Err(Fault::Mark),
             },
-            Base::Forward(pattern) => self.search_forward(pattern),
-            Base::Backward(pattern) => self.search_backward(pattern),
+            Base::Forward(pattern) => self.search(Direction::Forward, pattern),
+            Base::Backward(pattern) => self.search(Direction::Backward, pattern),
         }
     }
 

@@ -1,8 +1,9 @@
 //! Searches for a line that a pattern matches (XCU ed, "Addresses in ed").
-ghost use Rattle.std.specs.Prelude.{◌≡◌, ◌+◌, ◌-◌, ◌≤◌, Some, length, reverse, find, IsTrue, IfOk, OnErr, OnOk};
+ghost use Rattle.std.specs.Prelude.{◌≡◌, ◌≤◌, Some, length, find, IsTrue, IfOk, OnErr, OnOk};
 ghost use Rattle.ed_base.specs.Buffer.{Line};
-ghost use Rattle.ed_syntax.specs.meaning.Values.{count_from, lines_backward, lines_forward, matches_line, searched, sought};
+ghost use Rattle.ed_syntax.specs.meaning.Values.{matches_line, searched, sought};
 ghost use Rattle.ed_commands.specs.Editors.{TellsLine, SameButPattern, with_pattern};
+ghost use Rattle.ed_commands.specs.Searches.{around, line_after, lines_in};
 
 use crate::editor::Editor;
 use bre_match::Searcher;
@@ -11,47 +12,51 @@ use ed_syntax::Pattern;
 use line_store::LineStore;
 use std::alloc::{AllocError, Global};
 
-// The first line that a pattern matches, of those after line `from` up to line `to`.
+/// Which way a search goes. It goes round from the end of the buffer to its beginning, or from there to the end.
+#[derive(Clone, Copy, Debug, PartialEq, Eq)]
+pub enum Direction {
+    Forward,
+    Backward,
+}
+
+impl Direction {
+    // The line that a search looks at after this one, in a buffer of so many lines.
+    fn line_after(self, line: usize, last: usize) -> usize
+        requires some { 1 ≤ last }
+        requires within { line ≤ last }
+        ensures value { result ≡ line_after self last line }
+        ensures first { 1 ≤ result }
+        ensures within { result ≤ last }
+    {
+        match self {
+            Direction::Forward if last <= line => 1,
+            Direction::Forward => line + 1,
+            Direction::Backward if line <= 1 => last,
+            Direction::Backward => line - 1,
+        }
+    }
+}
+
+// The first line that a pattern matches, where a search goes once round from line `from`, which it looks at last.
 fn first_match<S: LineStore>(
     alloc: Global,
     pattern: &Pattern,
+    direction: Direction,
     from: usize,
-    to: usize,
     store: &S,
 ) -> Result<Option<usize>, AllocError>
-    requires order { from ≤ to }
-    requires last { to ≤ length (S.lines store.now) }
-    ensures value { IfOk result (λ found.
-        found ≡ find (matches_line pattern.now (S.lines store.now)) (count_from (from + 1) (to - from))) }
+    requires from { from ≤ length (S.lines store.now) }
+    ensures value { let last = length (S.lines store.now) in IfOk result (λ found.
+        found ≡ find (matches_line pattern.now (S.lines store.now)) (around (line_after direction last) from last)) }
 {
     let mut searcher = Searcher::new(alloc, pattern.bre());
-    for i in from..to {
-        let matched = searcher.matches(store.text(i))?;
+    let last = store.len();
+    let mut line = from;
+    for _ in 0..last {
+        line = direction.line_after(line, last);
+        let matched = searcher.matches(store.text(line - 1))?;
         if matched {
-            return Ok(Some(i + 1));
-        }
-    }
-    Ok(None)
-}
-
-// The last line that a pattern matches, of those after line `from` up to line `to`.
-fn last_match<S: LineStore>(
-    alloc: Global,
-    pattern: &Pattern,
-    from: usize,
-    to: usize,
-    store: &S,
-) -> Result<Option<usize>, AllocError>
-    requires order { from ≤ to }
-    requires last { to ≤ length (S.lines store.now) }
-    ensures value { IfOk result (λ found.
-        found ≡ find (matches_line pattern.now (S.lines store.now)) (reverse (count_from (from + 1) (to - from)))) }
-{
-    let mut searcher = Searcher::new(alloc, pattern.bre());
-    for i in (from..to).rev() {
-        let matched = searcher.matches(store.text(i))?;
-        if matched {
-            return Ok(Some(i + 1));
+            return Ok(Some(line));
         }
     }
     Ok(None)
@@ -83,10 +88,14 @@ impl<S: LineStore> Editor<S> {
         Ok(())
     }
 
-    /// `/RE/`: the next line that matches, from the one after the current line on, and at the end of the buffer round to
-    /// the current line.
-    pub(crate) fn search_forward(&mut self, own: &Option<Pattern>) -> Result<usize, Fault>
-        ensures exact { TellsLine (searched (sought own.now self.old.state) (lines_forward self.old.state) self.old.state)
+    /// `/RE/` or `?RE?`: the first line that matches, of those after the current line or before it, and round to the current
+    /// line.
+    pub(crate) fn search(
+        &mut self,
+        direction: Direction,
+        own: &Option<Pattern>,
+    ) -> Result<usize, Fault>
+        ensures exact { TellsLine (searched (sought own.now self.old.state) (lines_in direction self.old.state) self.old.state)
             (with_pattern (sought own.now self.old.state) self.old.state) result self.new.state }
         ensures unchanged { SameButPattern self.old self.new }
     {
@@ -94,30 +103,7 @@ impl<S: LineStore> Editor<S> {
         let Some(pattern) = &self.pattern else {
             return Err(Fault::Pattern);
         };
-        let last = self.store.len();
-        if let Some(line) = first_match(self.alloc, pattern, self.current, last, &self.store)? {
-            return Ok(line);
-        }
-        let found = first_match(self.alloc, pattern, 0, self.current, &self.store)?;
-        found.ok_or(Fault::NoMatch)
-    }
-
-    /// `?RE?`: the line before that matches, from the one in front of the current line on, and at the beginning of the
-    /// buffer round to the current line.
-    pub(crate) fn search_backward(&mut self, own: &Option<Pattern>) -> Result<usize, Fault>
-        ensures exact { TellsLine (searched (sought own.now self.old.state) (lines_backward self.old.state) self.old.state)
-            (with_pattern (sought own.now self.old.state) self.old.state) result self.new.state }
-        ensures unchanged { SameButPattern self.old self.new }
-    {
-        self.remember(own)?;
-        let Some(pattern) = &self.pattern else {
-            return Err(Fault::Pattern);
-        };
-        let before = self.current.saturating_sub(1);
-        if let Some(line) = last_match(self.alloc, pattern, 0, before, &self.store)? {
-            return Ok(line);
-        }
-        let found = last_match(self.alloc, pattern, before, self.store.len(), &self.store)?;
+        let found = first_match(self.alloc, pattern, direction, self.current, &self.store)?;
         found.ok_or(Fault::NoMatch)
     }
 }

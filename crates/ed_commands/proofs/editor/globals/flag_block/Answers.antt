@@ -5,7 +5,8 @@ use Rattle.ed_base.specs.Buffer.{flagged_at, plain_line, with_flag}
 use Rattle.std.specs.Prelude.{Ok}
 use Rattle.bre_match.specs.Searchers.{searched}
 use Rattle.ed_syntax.specs.meaning.Globals.{wanted}
-use Rattle.ed_commands.proofs.Globals.{flagged-more, told-of}
+use Rattle.ed_commands.proofs.Globals.{flagged-more}
+use Rattle.ed_commands.proofs.Searching.{told}
 use Rattle.ed_commands.proofs.editor.globals.flag_block.Goals as goal
 use Rattle.ed_commands.proofs.editor.globals.flag_block.Goals.{then-is_wanted, else-is_wanted}
 
@@ -23,13 +24,13 @@ loop-i-preserved g c =
       | then-is_wanted w ↦ ap lines w.store-is ∙ w.flag.ensures.flagged ∙ ap (λ b. flagged_at i b now) (sym w.if-is_wanted.true)
       | else-is_wanted w ↦ ap lines w.store-is ∙ w.unflag.ensures.unflagged ∙ ap (λ b. flagged_at i b now) (sym w.if-is_wanted.false)
     ] in
-    let told =
-    told-of pattern (searched c.loop-i.searcher) now i c.text.result.now c.in_ok-matched.matched c.loop-i.invariant.searches
+    let matches =
+    told pattern (searched c.loop-i.searcher) now i c.text.result.now c.in_ok-matched.matched c.loop-i.invariant.searches
     c.text.ensures.value c.in_ok-matched.ensures.value in
     let same : length (flagged_at i flag now) ≡ length now = length-set now i (with_flag flag (get_or now i (plain_line []))) in
     record {
       flagged = after ∙ flagged-more c.args.sense pattern c.args.from i old now flag (omega arith) below c.loop-i.invariant.flagged
-          (ap (wanted c.args.sense) told ∙ sym c.is_wanted.ensures.value);
+          (ap (wanted c.args.sense) matches ∙ sym c.is_wanted.ensures.value);
       count = ap length after ∙ same ∙ c.loop-i.invariant.count;
       searches = c.loop-i.invariant.searches ∙ ap Ok (sym c.in_ok-matched.ensures.pattern);
     }

@@ -1,32 +1,39 @@
 -- Each line that is passed doesn't match.
-use Rattle.std.proofs.Common.{sym, ap, ◌∙◌, arith}
-use Rattle.ed_syntax.specs.meaning.Values.{matches_line}
-use Rattle.std.specs.Prelude.{Ok}
+use Rattle.std.proofs.Common.{◌-◌, sym, ap, ◌∙◌, arith}
+use Rattle.std.specs.Prelude.{find, Ok}
 use Rattle.bre_match.specs.Searchers.{searched}
-use Rattle.ed_commands.proofs.Searching.{told, passed-up, found-up}
+use Rattle.ed_syntax.specs.meaning.Values.{matches_line}
+use Rattle.ed_commands.specs.Searches.{around, line_after}
+use Rattle.ed_commands.proofs.Searching.{told, passed, found}
 use Rattle.ed_commands.proofs.editor.searching.first_match.Goals as goal
 
 pub returns-then-matched : goal.returns-then-matched
 returns-then-matched g c =
     let lines = g.S.LineStore.lines c.args.store.now in
     let text = c.args.pattern.now in
+    let line = c.line_after-line.result in
     record {
       value =
-          sym (found-up (matches_line text lines) c.loop-i.i c.args.to (omega arith)
-          (told text (searched c.loop-i.searcher) lines c.loop-i.i c.text.result.now c.in_ok-matched.matched c.loop-i.invariant.searches
+          sym (found (matches_line text lines) (line_after c.args.direction c.len-last.result) c.loop.line line c.loop.counter c.len-last.result (omega arith)
+          c.line_after-line.ensures.value
+          (told text (searched c.loop.searcher) lines (line - 1) c.text.result.now c.in_ok-matched.matched c.loop.invariant.searches
           c.text.ensures.value c.in_ok-matched.ensures.value ∙ c.if-matched.true))
-          ∙ c.loop-i.invariant.left;
+          ∙ c.loop.invariant.left
+          ∙ ap (λ last. find (matches_line text lines) (around (line_after c.args.direction last) c.args.from last)) c.len-last.ensures.value;
     }
 
-pub loop-i-preserved : goal.loop-i-preserved
-loop-i-preserved g c =
+pub loop-preserved : goal.loop-preserved
+loop-preserved g c =
     let lines = g.S.LineStore.lines c.args.store.now in
     let text = c.args.pattern.now in
+    let line = c.line_after-line.result in
     record {
       left =
-          sym (passed-up (matches_line text lines) c.loop-i.i c.args.to (omega arith)
-          (told text (searched c.loop-i.searcher) lines c.loop-i.i c.text.result.now c.in_ok-matched.matched c.loop-i.invariant.searches
+          sym (passed (matches_line text lines) (line_after c.args.direction c.len-last.result) c.loop.line line c.loop.counter c.len-last.result (omega arith)
+          c.line_after-line.ensures.value
+          (told text (searched c.loop.searcher) lines (line - 1) c.text.result.now c.in_ok-matched.matched c.loop.invariant.searches
           c.text.ensures.value c.in_ok-matched.ensures.value ∙ c.if-matched.false))
-          ∙ c.loop-i.invariant.left;
-      searches = c.loop-i.invariant.searches ∙ ap Ok (sym c.in_ok-matched.ensures.pattern);
+          ∙ c.loop.invariant.left;
+      within = c.line_after-line.ensures.within;
+      searches = c.loop.invariant.searches ∙ ap Ok (sym c.in_ok-matched.ensures.pattern);
     }
