@@ -14,6 +14,7 @@ use Rattle.zones.specs.Known.{least, greatest}
 use Rattle.zones.specs.Steps.{join_of, widening_of}
 use Rattle.zones.proofs.Order.{Covers-through, Covers-join_of, Covers-widening_of}
 use Rattle.ed_syntax.specs.Commands.{Command, Step, Script}
+use Rattle.ed_syntax.specs.meaning.Verbs.{is_global}
 use Rattle.ed_rules.specs.declared.state.Old.{Old}
 use Rattle.ed_rules.specs.declared.state.State.{State}
 use Rattle.ed_rules.specs.Choices.{Choice, order_of, has_choice, union, are_choices}
@@ -22,7 +23,7 @@ use Rattle.ed_rules.specs.Order.{old_of_both, united, join, widen, CoversOld, Co
 use Rattle.ed_rules.specs.States as states
 use Rattle.ed_rules.specs.Formed.{IsCounted}
 use Rattle.ed_rules.specs.Files.{written_paths}
-use Rattle.ed_rules.specs.Globals.{is_global, body_entry}
+use Rattle.ed_rules.specs.Globals.{body_entry}
 use Rattle.ed_rules.proofs.Choosing.{has-union}
 use Rattle.cert_check.specs.checker.Covering.{covers}
 use Rattle.cert_check.specs.declared.checker.verdict.Place.{Place}

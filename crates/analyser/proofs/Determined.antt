@@ -3,8 +3,9 @@ use Rattle.std.proofs.Common.{◌≡◌, ◌<◌, ◌+◌, ℕ, Bool, true, fals
 use Rattle.std.proofs.lemmas.Bool.{cases_lt}
 use Rattle.ed_base.specs.declared.fault.Fault.{Fault}
 use Rattle.ed_syntax.specs.Commands.{Command, Step, Script}
+use Rattle.ed_syntax.specs.meaning.Verbs.{is_global}
 use Rattle.ed_rules.specs.declared.state.State.{State}
-use Rattle.ed_rules.specs.Globals.{is_global, body_entry}
+use Rattle.ed_rules.specs.Globals.{body_entry}
 use Rattle.cert_check.specs.declared.checker.verdict.Place.{Place}
 use Rattle.cert_check.specs.Certificates.{Looped, Note, Certificate}
 use Rattle.cert_check.specs.checker.Valid.{counted, has_quit, are_met, left_by, left_after}

@@ -17,7 +17,7 @@ use Rattle.ed_syntax.specs.meaning.Laws.{UnaskedAnswersDoNothing, NothingIsAsked
 use Rattle.ed_syntax.specs.meaning.Progress.{Present, Progress, Stop, Ends, Writes, stop_of, failing, ending, count}
 use Rattle.ed_syntax.specs.meaning.Runs.{Further, reached, answered, asking, turned, one, step_by, prompted, at_end, steps}
 use Rattle.ed_syntax.specs.meaning.Values.{◌>>◌}
-use Rattle.ed_syntax.specs.meaning.Verbs.{takes, takes_any, may_have}
+use Rattle.ed_syntax.specs.meaning.Verbs.{takes, takes_any, may_have, ends_run}
 use Rattle.ed_rules.specs.declared.state.Changed.{Changed}
 use Rattle.ed_rules.specs.declared.state.State.{State}
 use Rattle.ed_syntax.specs.spelling.Readable.{enters_lines, is_readable}
@@ -26,7 +26,6 @@ use Rattle.ed_rules.specs.Exact.{are_by_number, is_exact_verb, is_exact, are_exa
 use Rattle.ed_rules.specs.LineBounds.{most_lines}
 use Rattle.ed_rules.specs.ExactRules.{flag_of, Tells, EndAlike, LeavesTold, LeavesFew, CommandIsExact}
 use Rattle.ed_rules.proofs.Basics.{and-both}
-use Rattle.cert_check.specs.checker.Valid.{quits}
 use Rattle.analyser.specs.Exactness.{quit_anyway}
 use Rattle.analyser.proofs.ExactWalks.{ended, walked, goes_on, exact-verb, exact-both}
 
@@ -138,7 +137,7 @@ front_of k xs = take k xs ++ quit_anyway ∷ []
 abbrev pub StaysFew : List Step → Present → List Answer → Type 0
 StaysFew xs m answers = (k : ℕ) (e : Ending) → stop_of (steps (front_of k xs) None m answers) ≡ Ends (Ok e) → e.lines ≤ most_lines
 
-step-is : (x : Step) (m : Present) (go : Further) (answers : List Answer) (verb : Verb) → is_exact_verb verb ≡ true → quits verb ≡ false →
+step-is : (x : Step) (m : Present) (go : Further) (answers : List Answer) (verb : Verb) → is_exact_verb verb ≡ true → ends_run verb ≡ false →
     step_by verb x m go answers ≡ one x.command m go answers
 step-is x m go answers ed.Quit e q = absurd cc
 step-is x m go answers ed.QuitAnyway e q = absurd cc
@@ -147,7 +146,7 @@ step-is x m go answers _ e q = refl
 
 -- a step that goes on
 steps-is : (x : Step) (xs : List Step) (bad : Option ℕ) (m : Present) (answers : List Answer) → is_exact_verb x.command.verb ≡ true →
-    quits x.command.verb ≡ false →
+    ends_run x.command.verb ≡ false →
     stop_of (steps (x ∷ xs) bad m answers) ≡ stop_of (one x.command m (λ t more. steps xs bad t more) answers)
 steps-is x xs bad m answers e q =
     prompted-stop m (step_by x.command.verb x m (λ t more. steps xs bad t more) answers) ∙ ap (λ (p : Progress). stop_of p)
@@ -231,18 +230,18 @@ end-decided-by : (m : Present) (r : Result State Fault) →
 end-decided-by m (Ok t) h = (m.state, h, refl)
 end-decided-by m (Err f) h = absurd h
 
-walked-quits : (x : Step) (xs : List Step) (bad : Option ℕ) (s : State) → quits x.command.verb ≡ true →
+walked-quits : (x : Step) (xs : List Step) (bad : Option ℕ) (s : State) → ends_run x.command.verb ≡ true →
     walked (x ∷ xs) bad s ≡ step x.command s >> λ t. Ok t
 walked-quits x xs bad s q =
     ap (λ (b : Bool). step x.command s >> λ t. goes_on b xs bad t) q
 
-walked-goes : (x : Step) (xs : List Step) (bad : Option ℕ) (s t : State) → quits x.command.verb ≡ false → step x.command s ≡ Ok t →
+walked-goes : (x : Step) (xs : List Step) (bad : Option ℕ) (s t : State) → ends_run x.command.verb ≡ false → step x.command s ≡ Ok t →
     walked (x ∷ xs) bad s ≡ walked xs bad t
 walked-goes x xs bad s t q is =
     ap (λ (b : Bool). step x.command s >> λ u. goes_on b xs bad u) q
     ∙ ap (λ (r : Result State Fault). r >> λ u. walked xs bad u) is
 
-quits-cases : (verb : Verb) → quits verb ≡ true → (verb ≡ ed.Quit) ⊎ (verb ≡ ed.QuitAnyway)
+quits-cases : (verb : Verb) → ends_run verb ≡ true → (verb ≡ ed.Quit) ⊎ (verb ≡ ed.QuitAnyway)
 quits-cases ed.Quit q = inl refl
 quits-cases ed.QuitAnyway q = inr refl
 quits-cases _ q = absurd cc
@@ -277,7 +276,7 @@ module _ (k : Laws) where
       subst (λ (y : Result Effect Fault). EndAlike LeavesTold (step c s) y) does (k.command c s m.state e h few) in
       subst (λ (z : Stop). Decided (walked (x ∷ xs) bad s) z) (sym (steps-quit x xs bad m answers ed.Quit is))
       (subst (λ (r : Result State Fault). Decided r (stop_of (quits_by m.state.changed m)))
-      (sym (walked-quits x xs bad s (ap (λ (v : Verb). quits v) is)))
+      (sym (walked-quits x xs bad s (ap (λ (v : Verb). ends_run v) is)))
       (quit-decided-by m.state.changed m (step c s) told))
 
   ending-decided : (x : Step) (xs : List Step) (bad : Option ℕ) (s : State) (m : Present) (answers : List Answer) →
@@ -292,7 +291,7 @@ module _ (k : Laws) where
       let told : EndAlike LeavesTold (step c s) y =
       subst (λ (z : Result Effect Fault). EndAlike LeavesTold (step c s) z) does (k.command c s m.state e h few) in
       subst (λ (z : Stop). Decided (walked (x ∷ xs) bad s) z) (sym (steps-quit x xs bad m answers ed.QuitAnyway is))
-      (subst (λ (r : Result State Fault). Decided r (stop_of (ending m))) (sym (walked-quits x xs bad s (ap (λ (v : Verb). quits v) is)))
+      (subst (λ (r : Result State Fault). Decided r (stop_of (ending m))) (sym (walked-quits x xs bad s (ap (λ (v : Verb). ends_run v) is)))
       (end-decided-by m (step c s) told))
 
   pub decided : (xs : List Step) (bad : Option ℕ) (s : State) (m : Present) (answers : List Answer) → are_exact xs ≡ true →
@@ -302,7 +301,7 @@ module _ (k : Laws) where
       subst (λ (z : Stop). Decided (ended bad s) z) (sym (prompted-stop m (at_end bad m))) (end-decided bad s m h)
   decided (x ∷ xs) bad s m answers e h done enough few =
       let both = exact-both x xs e in
-      (elim (quits x.command.verb) as (λ q. quits x.command.verb ≡ q → Decided (walked (x ∷ xs) bad s)
+      (elim (ends_run x.command.verb) as (λ q. ends_run x.command.verb ≡ q → Decided (walked (x ∷ xs) bad s)
       (stop_of (steps (x ∷ xs) bad m answers))) [
         | true ↦ λ q. elim (quits-cases x.command.verb q) [
           | inl is ↦ quitting-decided x xs bad s m answers both.0 h is
@@ -316,7 +315,7 @@ module _ (k : Laws) where
               subst (λ (z : Stop). Decided (walked (x ∷ xs) bad s) z)
               (sym (steps-is x xs bad m answers (exact-verb x.command both.0) q ∙ f.stops (λ t more. steps xs bad t more)))
               (fail-decided (step x.command s) f.fault
-              (λ t. goes_on (quits x.command.verb) xs bad t) told)
+              (λ t. goes_on (ends_run x.command.verb) xs bad t) told)
           | inr g ↦
               let n : Present = turned x.command.verb (reached g.outcome m) in
               let same : n.state ≡ g.outcome.state = turned-state x.command.verb (reached g.outcome m) in

@@ -6,15 +6,15 @@ use Rattle.ed_syntax.specs.Commands as ed
 use Rattle.ed_syntax.specs.Commands.{Verb, Command, Step, Script}
 use Rattle.ed_syntax.specs.meaning.Values.{◌>>◌}
 use Rattle.ed_rules.specs.declared.state.State.{State}
-use Rattle.ed_rules.specs.Globals.{is_global}
 use Rattle.ed_rules.specs.Rules.{step, fault_of}
 use Rattle.ed_rules.specs.Exact.{are_by_number, is_exact_verb, is_exact, are_exact}
 use Rattle.ed_syntax.specs.spelling.Readable.{is_readable}
+use Rattle.ed_syntax.specs.meaning.Verbs.{is_global, ends_run}
 use Rattle.ed_rules.proofs.Basics.{and-both}
 use Rattle.cert_check.specs.declared.checker.verdict.Place.{Place}
 use Rattle.cert_check.specs.Certificates.{Looped, Note, Certificate}
-use Rattle.cert_check.specs.checker.Valid.{quits, counted, has_quit, are_met, left_by, left_after}
-use Rattle.cert_check.proofs.checker.Checks.{met-gives}
+use Rattle.cert_check.specs.checker.Valid.{counted, has_quit, are_met, left_by, left_after}
+use Rattle.cert_check.proofs.verdicts.Checks.{met-gives}
 use Rattle.analyser.specs.declared.analysis.Start.{Start}
 use Rattle.analyser.specs.Following.{IsKnownOfList, IsNote, NeedFails, AreNotes, NotesFail, result_from, end_fault, begun}
 use Rattle.analyser.specs.Analysis.{IsCertificate, IsFailure}
@@ -31,7 +31,7 @@ closes quit bad s = elim quit [ true ↦ Ok s | false ↦ ended bad s ]
 -- the rules of commands without lists, up to the end
 abbrev pub walked : List Step → (bad : Option ℕ) → State → Result State Fault
 walked [] bad s = ended bad s
-walked (x ∷ xs) bad s = step x.command s >> λ t. elim (quits x.command.verb) [ true ↦ Ok t | false ↦ walked xs bad t ]
+walked (x ∷ xs) bad s = step x.command s >> λ t. elim (ends_run x.command.verb) [ true ↦ Ok t | false ↦ walked xs bad t ]
 
 -- what comes after a step: the end where it quits, else the steps that are left
 abbrev pub goes_on : (quit : Bool) → List Step → (bad : Option ℕ) → State → Result State Fault
@@ -82,14 +82,14 @@ ended-some None s why h =
 
 -- one step of the walk
 walked-step : (x : Step) (xs : List Step) (bad : Option ℕ) (s t : State) → step x.command s ≡ Ok t →
-    walked (x ∷ xs) bad s ≡ goes_on (quits x.command.verb) xs bad t
+    walked (x ∷ xs) bad s ≡ goes_on (ends_run x.command.verb) xs bad t
 walked-step x xs bad s t is =
-    ap (λ (r : Result State Fault). r >> λ u. goes_on (quits x.command.verb) xs bad u) is
+    ap (λ (r : Result State Fault). r >> λ u. goes_on (ends_run x.command.verb) xs bad u) is
 
 walked-fails : (x : Step) (xs : List Step) (bad : Option ℕ) (s : State) (f : Fault) → step x.command s ≡ Err f →
     walked (x ∷ xs) bad s ≡ Err f
 walked-fails x xs bad s f is =
-    ap (λ (r : Result State Fault). r >> λ u. goes_on (quits x.command.verb) xs bad u) is
+    ap (λ (r : Result State Fault). r >> λ u. goes_on (ends_run x.command.verb) xs bad u) is
 
 pub exact-both : (x : Step) (xs : List Step) → are_exact (x ∷ xs) ≡ true → (is_exact x.command ≡ true) × (are_exact xs ≡ true)
 exact-both x xs h = and-both (is_exact x.command) (are_exact xs) h
@@ -109,7 +109,7 @@ noted-comes (x ∷ xs) bad s (n ∷ ns) e h =
     let both = exact-both x xs e in
     let t : State = left_after n.looped x s in
     walked-step x xs bad s t (note-leaves x s n both.0 h.0)
-    ∙ (elim (quits x.command.verb) as (λ q. AreNotes (counted_by q xs) t ns →
+    ∙ (elim (ends_run x.command.verb) as (λ q. AreNotes (counted_by q xs) t ns →
     goes_on q xs bad t ≡ closes (q || has_quit xs) bad (result_from (counted_by q xs) t ns)) [
       | true ↦ λ k. refl
       | false ↦ λ k. noted-comes xs bad t ns both.1 k
@@ -156,7 +156,7 @@ fails-walk inner why (x ∷ xs) bad s (n ∷ []) e h =
 fails-walk inner why (x ∷ xs) bad s (n ∷ m ∷ ns) e h =
     let both = exact-both x xs e in
     let t : State = left_after n.looped x s in
-    let r = (elim (quits x.command.verb) as (λ q. NotesFail inner why (counted_by q xs) t (m ∷ ns) →
+    let r = (elim (ends_run x.command.verb) as (λ q. NotesFail inner why (counted_by q xs) t (m ∷ ns) →
     goes_on q xs bad t ≡ Err why) [
       | true ↦ λ k. absurd k
       | false ↦ λ k. fails-walk inner why xs bad t (m ∷ ns) both.1 k

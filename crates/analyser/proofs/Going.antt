@@ -5,13 +5,14 @@ use Rattle.ed_base.specs.declared.fault.Fault.{Fault}
 use Rattle.ed_syntax.specs.declared.command.Command.{Command}
 use Rattle.ed_syntax.specs.Commands.{Step}
 use Rattle.ed_syntax.specs.PublicTypes.{verb_value, command_value, step_value, steps_value}
+use Rattle.ed_syntax.specs.meaning.Verbs.{ends_run}
 use Rattle.ed_rules.specs.declared.state.State.{State}
 use Rattle.ed_rules.specs.Choices.{Choice}
 use Rattle.ed_rules.specs.Files.{written_paths}
 use Rattle.cert_check.specs.declared.certificate.Looped as looped
 use Rattle.cert_check.specs.declared.certificate.Note as public
 use Rattle.cert_check.specs.Certificates.{Looped, Note, looped_value, note_value}
-use Rattle.cert_check.specs.checker.Valid.{quits, has_quit, counted, left_after}
+use Rattle.cert_check.specs.checker.Valid.{has_quit, counted, left_after}
 use Rattle.cert_check.specs.declared.checker.verdict.Place.{Place}
 use Rattle.analyser.specs.Following.{IsNote, NeedFails, AreNotes, NotesFail, result_from, list_paths, looped_paths, paths_from}
 use Rattle.analyser.specs.declared.walk.Walk.{Walk}
@@ -101,27 +102,27 @@ abbrev pub counted_from : List Command → (i : ℕ) → List Step
 counted_from commands i = counted (steps_value (drop i commands))
 
 abbrev pub later : List Command → (i : ℕ) → Command → List Step
-later commands i d = more_counted (quits (verb_value d.verb)) (steps_value (drop (i + 1) commands))
+later commands i d = more_counted (ends_run (verb_value d.verb)) (steps_value (drop (i + 1) commands))
 
 pub counted-here : (commands : List Command) (i : ℕ) (d : Command) → i < length commands → d ≡ get_or commands i d →
     counted_from commands i ≡ step_value d ∷ later commands i d
 counted-here commands i d h is = ap (λ (l : List Command). counted (steps_value l)) (at-place commands i d h is)
 
-pub later-on : (commands : List Command) (i : ℕ) (d : Command) → quits (verb_value d.verb) ≡ false → later commands i d ≡ counted_from commands (i + 1)
+pub later-on : (commands : List Command) (i : ℕ) (d : Command) → ends_run (verb_value d.verb) ≡ false → later commands i d ≡ counted_from commands (i + 1)
 later-on commands i d e = ap (λ (b : Bool). more_counted b (steps_value (drop (i + 1) commands))) e
 
-pub later-off : (commands : List Command) (i : ℕ) (d : Command) → quits (verb_value d.verb) ≡ true → later commands i d ≡ []
+pub later-off : (commands : List Command) (i : ℕ) (d : Command) → ends_run (verb_value d.verb) ≡ true → later commands i d ≡ []
 later-off commands i d e = ap (λ (b : Bool). more_counted b (steps_value (drop (i + 1) commands))) e
 
 quit-here : (commands : List Command) (i : ℕ) (d : Command) → i < length commands → d ≡ get_or commands i d →
-    has_quit (steps_value (drop i commands)) ≡ quits (verb_value d.verb) || has_quit (steps_value (drop (i + 1) commands))
+    has_quit (steps_value (drop i commands)) ≡ ends_run (verb_value d.verb) || has_quit (steps_value (drop (i + 1) commands))
 quit-here commands i d h is = ap (λ (l : List Command). has_quit (steps_value l)) (at-place commands i d h is)
 
-pub quit-on : (commands : List Command) (i : ℕ) (d : Command) → i < length commands → d ≡ get_or commands i d → quits (verb_value d.verb) ≡ false →
+pub quit-on : (commands : List Command) (i : ℕ) (d : Command) → i < length commands → d ≡ get_or commands i d → ends_run (verb_value d.verb) ≡ false →
     has_quit (steps_value commands) ≡ has_quit (steps_value (drop i commands)) → has_quit (steps_value commands) ≡ has_quit (steps_value (drop (i + 1) commands))
 quit-on commands i d h is e q = q ∙ quit-here commands i d h is ∙ ap (λ (b : Bool). b || has_quit (steps_value (drop (i + 1) commands))) e
 
-pub quit-off : (commands : List Command) (i : ℕ) (d : Command) → i < length commands → d ≡ get_or commands i d → quits (verb_value d.verb) ≡ true →
+pub quit-off : (commands : List Command) (i : ℕ) (d : Command) → i < length commands → d ≡ get_or commands i d → ends_run (verb_value d.verb) ≡ true →
     has_quit (steps_value commands) ≡ has_quit (steps_value (drop i commands)) → has_quit (steps_value commands) ≡ true
 quit-off commands i d h is e q = q ∙ quit-here commands i d h is ∙ ap (λ (b : Bool). b || has_quit (steps_value (drop (i + 1) commands))) e
 

@@ -13,7 +13,7 @@ use Rattle.ed_syntax.specs.meaning.Verbs.{takes, given_or}
 use Rattle.ed_rules.specs.declared.state.Old.{Old}
 use Rattle.ed_rules.specs.declared.state.State.{State}
 use Rattle.ed_rules.specs.Choices.{Choice, has_choice, are_choices}
-use Rattle.ed_rules.specs.Marks.{mark_name}
+use Rattle.zones.specs.Name.{mark as mark_name}
 use Rattle.ed_rules.specs.Order.{join, widen}
 use Rattle.ed_rules.specs.Pieces.{with_zone, modified, mark_moved, mark_lost, mark_replaced, replaced}
 use Rattle.ed_rules.specs.Addresses.{possible_patterns, in_buffer, copied, set_from, searched, evaluated_base, evaluated, addressed, last_given, targeted, ranged, standing}

@@ -26,7 +26,7 @@ use Rattle.ed_rules.specs.Order.{old_of_both, united, join, widen}
 use Rattle.ed_rules.proofs.Basics.{and-both}
 use Rattle.ed_rules.proofs.Choosing.{or-cases, or-left, or-right, choice-itself, has-union, has-union_other}
 use Rattle.cert_check.specs.checker.Covering.{zone_covers, allows, are_among, old_covers, covers}
-use Rattle.cert_check.proofs.checker.Covering.{below-each}
+use Rattle.cert_check.proofs.verdicts.Covering.{below-each}
 use Rattle.analyser.specs.Rounds.{next_invariant}
 use Rattle.analyser.specs.Walking.{OldIsZone, HasZones}
 use Rattle.analyser.proofs.Results.{either}

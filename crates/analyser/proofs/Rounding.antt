@@ -6,10 +6,11 @@ use Rattle.ed_base.specs.declared.fault.Fault.{Fault}
 use Rattle.ed_syntax.specs.declared.command.Command as memory
 use Rattle.ed_syntax.specs.Commands.{Command, Step}
 use Rattle.ed_syntax.specs.PublicTypes.{command_value}
+use Rattle.ed_syntax.specs.meaning.Verbs.{is_global}
 use Rattle.ed_rules.specs.declared.state.State.{State}
 use Rattle.ed_rules.specs.Choices.{Choice, has_choice, are_choices}
 use Rattle.ed_rules.specs.Rules.{step, fault_of}
-use Rattle.ed_rules.specs.Globals.{is_global, body_entry, loop_end}
+use Rattle.ed_rules.specs.Globals.{body_entry, loop_end}
 use Rattle.ed_rules.proofs.Choosing.{or-right}
 use Rattle.cert_check.specs.checker.Covering.{covers}
 use Rattle.cert_check.specs.declared.certificate.Looped as looped

@@ -11,17 +11,18 @@ use Rattle.std.proofs.lemmas.List.Elements.{All-nil, All-cons, All-head, All-tai
 use Rattle.ed_base.specs.declared.fault.Fault.{Fault}
 use Rattle.zones.specs.Known.{least, greatest}
 use Rattle.ed_syntax.specs.Commands.{Command, Step, Script}
+use Rattle.ed_syntax.specs.meaning.Verbs.{is_global, ends_run}
 use Rattle.ed_rules.specs.declared.state.State.{State}
 use Rattle.ed_rules.specs.Choices.{Choice, order_of}
 use Rattle.ed_rules.specs.States as states
 use Rattle.ed_rules.specs.Order.{join, widen}
 use Rattle.ed_rules.specs.Rules.{step}
-use Rattle.ed_rules.specs.Globals.{is_global, body_entry, loop_end}
+use Rattle.ed_rules.specs.Globals.{body_entry, loop_end}
 use Rattle.ed_rules.specs.Formed.{ChoiceIsBytes, StateIsFormed, IsFormed, IsEnded, TextsAreBytes, is_rising}
-use Rattle.cert_check.specs.checker.Opening.{IsAtMost}
+use Rattle.ed_rules.specs.LineBounds.{IsAtMost, is_few, is_limit, is_within}
 use Rattle.cert_check.specs.Certificates.{Looped, Note, Certificate}
-use Rattle.cert_check.specs.text.HasText.{LoopedHasText, NoteHasText, is_few, is_limit, is_within, HasText}
-use Rattle.cert_check.specs.checker.Valid.{quits, counted, left_by, left_after}
+use Rattle.cert_check.specs.text.HasText.{LoopedHasText, NoteHasText, HasText}
+use Rattle.cert_check.specs.checker.Valid.{counted, left_by, left_after}
 use Rattle.analyser.specs.declared.analysis.Start.{Start}
 use Rattle.analyser.specs.Rounds.{left_by_list, AreInner, turned, round_invariant}
 use Rattle.analyser.specs.Following.{IsKnownOfList, AreNotes, result_from, begun}
@@ -108,7 +109,7 @@ counted-if false x xs h b = All-cons StepIsBytes x (counted xs) h b
 
 counted-bytes : (xs : List Step) → All StepIsBytes xs → All StepIsBytes (counted xs)
 counted-bytes [] b = b
-counted-bytes (x ∷ xs) b = counted-if (quits x.command.verb) x xs (All-head StepIsBytes x xs b) (counted-bytes xs (All-tail StepIsBytes x xs b))
+counted-bytes (x ∷ xs) b = counted-if (ends_run x.command.verb) x xs (All-head StepIsBytes x xs b) (counted-bytes xs (All-tail StepIsBytes x xs b))
 
 -- BOUNDS AND PATHS
 

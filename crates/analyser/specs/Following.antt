@@ -3,12 +3,13 @@ use Rattle.std.specs.Prelude.{◌≡◌, ℕ, Bool, true, false, List, [], ◌�
 use Rattle.ed_base.specs.declared.fault.Fault.{Fault}
 use Rattle.ed_base.specs.declared.fault.Fault.TheVariants as fault
 use Rattle.ed_syntax.specs.Commands.{Command, Step}
+use Rattle.ed_syntax.specs.meaning.Verbs.{is_global}
 use Rattle.ed_rules.specs.declared.state.State.{State}
 use Rattle.ed_rules.specs.Choices.{Choice}
 use Rattle.ed_rules.specs.States as states
 use Rattle.ed_rules.specs.Files.{written_paths}
 use Rattle.ed_rules.specs.Rules.{step, fault_of}
-use Rattle.ed_rules.specs.Globals.{is_global, body_entry}
+use Rattle.ed_rules.specs.Globals.{body_entry}
 use Rattle.cert_check.specs.Certificates.{Looped, Note}
 use Rattle.cert_check.specs.checker.Valid.{are_met, left_by, left_after}
 use Rattle.analyser.specs.declared.analysis.Start.{Start}

@@ -3,7 +3,7 @@
 ghost use Rattle.std.specs.Prelude.{◌≡◌, ◌≤◌, All, IfOk, IfSome};
 ghost use Rattle.ed_syntax.specs.PublicTypes.{steps_value};
 ghost use Rattle.ed_syntax.specs.PublicScript.{script_value};
-ghost use Rattle.cert_check.specs.checker.Opening.{IsAtMost};
+ghost use Rattle.ed_rules.specs.LineBounds.{IsAtMost};
 ghost use Rattle.analyser.specs.Following.{begun, end_fault};
 ghost use Rattle.analyser.specs.Analysis.{most_lines, IsAnswer, IsValid, HasTextIfVouched};
 ghost use Rattle.analyser.specs.Exactness.{IsExactAnswer};

@@ -6,10 +6,8 @@ ghost use Rattle.zones.specs.Name.{last_line};
 ghost use Rattle.zones.specs.Known.{least, greatest};
 ghost use Rattle.analyser.specs.Analysis.{low_of, high_of};
 
+use ed_rules::LineBounds;
 use zones::{Name, Zone};
-
-/// The most lines that a certificate tells.
-const MOST_LINES: u64 = 1_000_000_000_000;
 
 /// The fewest lines that are known.
 pub(crate) fn low_of(zone: &Zone) -> u64
@@ -17,7 +15,7 @@ pub(crate) fn low_of(zone: &Zone) -> u64
 {
     match zone.least(Name::LAST_LINE, Name::ZERO) {
         Some(least) => match u64::try_from(least) {
-            Ok(least) => least.min(MOST_LINES),
+            Ok(least) => least.min(LineBounds::MOST),
             Err(_) => 0,
         },
         None => 0,
@@ -30,7 +28,7 @@ pub(crate) fn high_of(zone: &Zone) -> Option<u64>
 {
     match zone.bound(Name::LAST_LINE, Name::ZERO) {
         Some(most) => match u64::try_from(most) {
-            Ok(most) if most > MOST_LINES => None,
+            Ok(most) if most > LineBounds::MOST => None,
             Ok(most) => Some(most),
             Err(_) => Some(0),
         },

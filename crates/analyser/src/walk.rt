@@ -1,11 +1,11 @@
 //! The walk over the counted commands, from one state to the next.
 
 ghost use Rattle.std.specs.Prelude.{◌≡◌, true, None, Some, Ok, IfOk, option_map};
-ghost use Rattle.ed_syntax.specs.PublicTypes.{verb_value, command_value, step_value, steps_value};
+ghost use Rattle.ed_syntax.specs.PublicTypes.{command_value, step_value, steps_value};
+ghost use Rattle.ed_syntax.specs.meaning.Verbs.{is_global};
 ghost use Rattle.cert_check.specs.Certificates.{looped_value, note_value};
-ghost use Rattle.cert_check.specs.checker.Valid.{quits, left_by};
+ghost use Rattle.cert_check.specs.checker.Valid.{left_by};
 ghost use Rattle.ed_rules.specs.Rules.{step, fault_of};
-ghost use Rattle.ed_rules.specs.Globals.{is_global};
 ghost use Rattle.analyser.specs.Walking.{IsLastRound, looped_of, IsTaken, IsWalk};
 
 use crate::paths::list_taken;
@@ -13,7 +13,7 @@ use crate::rounds::{Round, settle};
 use cert_check::{Looped, Note, Place};
 use ed_base::{Bytes, Fault};
 use ed_rules::{KeptState, State, loop_end, outcome_into};
-use ed_syntax::{Command, Verb};
+use ed_syntax::Command;
 use std::alloc::{AllocError, Global};
 
 /// What a command comes to: it leaves its result, or its first need that fails.
@@ -72,24 +72,6 @@ pub(crate) fn place_of(command: usize, inner: Option<usize>) -> Place
     ensures value { result ≡ record { command = command; inner = inner } }
 {
     Place { command, inner }
-}
-
-fn quits(verb: &Verb) -> bool
-    ensures value { result ≡ quits (verb_value verb.now) }
-{
-    match verb {
-        Verb::Quit | Verb::QuitAnyway => true,
-        _ => false,
-    }
-}
-
-fn is_global(verb: &Verb) -> bool
-    ensures value { result ≡ is_global (verb_value verb.now) }
-{
-    match verb {
-        Verb::Global { .. } => true,
-        _ => false,
-    }
 }
 
 /// What a global command comes to whose own needs hold, by the last round of its list. From the invariant of that round, `left`
@@ -152,7 +134,7 @@ fn take(
 {
     match outcome_into(command, state, left)? {
         None => {
-            if is_global(&command.verb) {
+            if command.verb.takes().global {
                 return take_global(alloc, command, state, left);
             }
             Ok(Taken {
@@ -214,7 +196,7 @@ pub(crate) fn go_through(
                 coming.try_copy_from(&left)?;
             }
         }
-        if quits(&command.verb) {
+        if command.verb.takes().ends.is_some() {
             let outcome = Outcome::Left(coming.try_keep()?);
             return Ok(Walk::of(notes, writes, true, outcome));
         }

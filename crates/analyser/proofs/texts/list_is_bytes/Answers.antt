@@ -2,7 +2,7 @@ use Rattle.std.proofs.Common.{arith}
 use Rattle.std.proofs.lemmas.List.Elements.{All-map}
 use Rattle.ed_syntax.specs.PublicTypes.{command_value}
 use Rattle.ed_rules.specs.Formed.{TextsAreBytes}
-use Rattle.cert_check.proofs.text.Limited.{all-more, all-end}
+use Rattle.cert_check.proofs.texts.Limited.{all-more, all-end}
 use Rattle.analyser.proofs.texts.list_is_bytes.Goals as goal
 
 pub loop-command-preserved : goal.loop-command-preserved

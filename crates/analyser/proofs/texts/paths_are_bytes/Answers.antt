@@ -1,7 +1,7 @@
 use Rattle.std.proofs.Common.{arith, Some, subst, List, ℕ}
 use Rattle.std.proofs.lemmas.List.Elements.{All-map}
 use Rattle.ed_rules.specs.Formed.{ChoiceIsBytes}
-use Rattle.cert_check.proofs.text.Limited.{all-more, all-end}
+use Rattle.cert_check.proofs.texts.Limited.{all-more, all-end}
 use Rattle.analyser.proofs.texts.paths_are_bytes.Goals as goal
 
 pub loop-path-preserved : goal.loop-path-preserved

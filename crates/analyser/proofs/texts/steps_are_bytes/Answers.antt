@@ -1,7 +1,7 @@
 use Rattle.std.proofs.Common.{arith}
 use Rattle.std.proofs.lemmas.List.Elements.{All-map}
 use Rattle.ed_syntax.specs.PublicTypes.{step_value}
-use Rattle.cert_check.proofs.text.Limited.{all-more, all-end}
+use Rattle.cert_check.proofs.texts.Limited.{all-more, all-end}
 use Rattle.analyser.specs.Walking.{StepIsBytes}
 use Rattle.analyser.proofs.texts.steps_are_bytes.Goals as goal
 

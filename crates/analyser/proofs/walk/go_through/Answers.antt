@@ -1,6 +1,7 @@
-use Rattle.std.proofs.Common.{List, arith, refl, sym, ap, ◌∙◌, subst, ◌+◌, map}
+use Rattle.std.proofs.Common.{List, arith, refl, sym, ap, ◌∙◌, subst, ◌+◌, map, is_some}
 use Rattle.ed_syntax.specs.PublicTypes.{step_value, steps_value}
 use Rattle.ed_syntax.specs.Commands.{Step}
+use Rattle.ed_syntax.specs.meaning.Verbs.{Takes}
 use Rattle.cert_check.specs.Certificates.{note_value}
 use Rattle.cert_check.specs.checker.Valid.{has_quit, counted}
 use Rattle.ed_rules.specs.declared.state.State.{State}
@@ -31,19 +32,19 @@ list_taken-requires c = record {
   shape = taken-shape (step_value c.index-commands-index.result) c.loop-index.coming c.take.new.left c.in_ok-looped.field-0.looped c.in_ok-looped.field-0.end c.in_ok-looped.ensures.value c.in-Leaves.is;
 }
 
-pub returns-then-quits : goal.returns-then-quits
-returns-then-quits c =
+pub returns-then-is_some : goal.returns-then-is_some
+returns-then-is_some c =
     let on = walk-on c.args.commands.now c.args.start c.loop-index.index c.index-commands-index.result c.loop-index.notes.items c.push-in-Leaves.new.self.items c.in_ok-note-in-Leaves.note c.in_ok-looped.field-0.looped c.loop-index.writes.items c.list_taken.new.paths.items
     c.loop-index.coming c.take.new.left c.try_copy_from.new.self c.in_ok-looped.field-0.end
     (omega arith) c.index-commands-index.is (rw c.in_ok-known.ensures.value at c.in_ok-note-in-Leaves.ensures.value) c.in_ok-push-in-Leaves.ensures.items (rw c.in_ok-known.ensures.value at c.in_ok-list_taken-in-Leaves.ensures.value) c.in_ok-looped.ensures.value c.in-Leaves.is c.in_ok-try_copy_from-in-Leaves.ensures.value c.loop-index.invariant.going in
-    let ends = sym c.quits.ensures.value ∙ c.if-quits.true in
+    let ends = sym (ap (λ (t : Takes). is_some t.ends) c.takes.ensures.value) ∙ sym c.is_some.ensures ∙ c.if-is_some.true in
     let quit = quit-off c.args.commands.now c.loop-index.index c.index-commands-index.result (omega arith) c.index-commands-index.is ends c.loop-index.invariant.quit in
     record {
       value =
-          walk-end c.args.commands.now c.args.start (c.loop-index.index + 1) c.push-in-Leaves.new.self.items c.list_taken.new.paths.items c.try_copy_from.new.self _ c.of-then-quits.result
+          walk-end c.args.commands.now c.args.start (c.loop-index.index + 1) c.push-in-Leaves.new.self.items c.list_taken.new.paths.items c.try_copy_from.new.self _ c.of-then-is_some.result
           on (later-off c.args.commands.now c.loop-index.index c.index-commands-index.result ends)
-          (ap (λ (w : Walk). w.outcome) c.of-then-quits.ensures.value ∙ ap (λ (s : State). Left s) c.in_ok-try_keep.ensures.value) (ap (λ (w : Walk). w.notes.items) c.of-then-quits.ensures.value) (ap (λ (w : Walk). w.writes.items) c.of-then-quits.ensures.value)
-          (ap (λ (w : Walk). w.quit) c.of-then-quits.ensures.value ∙ sym quit);
+          (ap (λ (w : Walk). w.outcome) c.of-then-is_some.ensures.value ∙ ap (λ (s : State). Left s) c.in_ok-try_keep.ensures.value) (ap (λ (w : Walk). w.notes.items) c.of-then-is_some.ensures.value) (ap (λ (w : Walk). w.writes.items) c.of-then-is_some.ensures.value)
+          (ap (λ (w : Walk). w.quit) c.of-then-is_some.ensures.value ∙ sym quit);
     }
 
 pub loop-index-preserved : goal.loop-index-preserved
@@ -51,7 +52,7 @@ loop-index-preserved c =
     let on = walk-on c.args.commands.now c.args.start c.loop-index.index c.index-commands-index.result c.loop-index.notes.items c.push-in-Leaves.new.self.items c.in_ok-note-in-Leaves.note c.in_ok-looped.field-0.looped c.loop-index.writes.items c.list_taken.new.paths.items
     c.loop-index.coming c.take.new.left c.try_copy_from.new.self c.in_ok-looped.field-0.end
     (omega arith) c.index-commands-index.is (rw c.in_ok-known.ensures.value at c.in_ok-note-in-Leaves.ensures.value) c.in_ok-push-in-Leaves.ensures.items (rw c.in_ok-known.ensures.value at c.in_ok-list_taken-in-Leaves.ensures.value) c.in_ok-looped.ensures.value c.in-Leaves.is c.in_ok-try_copy_from-in-Leaves.ensures.value c.loop-index.invariant.going in
-    let stays = sym c.quits.ensures.value ∙ c.if-quits.false in
+    let stays = sym (ap (λ (t : Takes). is_some t.ends) c.takes.ensures.value) ∙ sym c.is_some.ensures ∙ c.if-is_some.false in
     record {
       going = subst (λ (xs : List Step). Going (counted_from c.args.commands.now 0) c.args.start (c.loop-index.index + 1) (map note_value c.push-in-Leaves.new.self.items) c.list_taken.new.paths.items c.try_copy_from.new.self xs)
           (later-on c.args.commands.now c.loop-index.index c.index-commands-index.result stays) on;
