@@ -5,13 +5,21 @@ use Rattle.std.proofs.lemmas.List.FromFn.{get_or-map-range_with_len}
 use Rattle.zones.specs.Zone as zones
 use Rattle.zones.specs.Zone.{Bounds}
 use Rattle.zones.specs.Steps.{join_of, widening_of}
-use Rattle.zones.proofs.Order.{Covers-same, Covers-through, Covers-join_of, Covers-join_of_other, Covers-widening_of, Covers-widening_of_other}
 use Rattle.ed_rules.specs.declared.state.Old.{Old}
 use Rattle.ed_rules.specs.declared.state.State.{State}
 use Rattle.ed_rules.specs.Choices.{Choice, order_of, has_choice, union, are_choices}
 use Rattle.ed_rules.specs.Marks.{is_sure, both_sure}
 use Rattle.ed_rules.specs.Order.{old_of_both, united, join, widen, CoversOld, Covers}
 use Rattle.ed_rules.proofs.Choosing.{choice-itself, or-left, or-right, has_choice-all, has-union, has-union_other}
+
+-- the laws on zones that this rests on
+pub record Laws : Type 0 where
+  pub same : (zone : Bounds) → zones.Covers zone zone
+  pub through : (a b c : Bounds) → zones.Covers a b → zones.Covers b c → zones.Covers a c
+  pub join : (one other : Bounds) → zones.Covers (join_of one other) one
+  pub join_other : (one other : Bounds) → zones.Covers (join_of one other) other
+  pub widen : (old new : Bounds) → zones.Covers (widening_of old new) old
+  pub widen_other : (old new : Bounds) → zones.Covers (widening_of old new) new
 
 -- SETS OF CHOICES
 
@@ -51,31 +59,31 @@ sure-both one other letter l e =
 
 -- WHAT UNDO KEEPS
 
-old-same : (old : Option Old) → CoversOld old old
-old-same None = tt
-old-same (Some old) = (Covers-same old.zone, λ letter l e. e)
+old-same : Laws → (old : Option Old) → CoversOld old old
+old-same k None = tt
+old-same k (Some old) = (k.same old.zone, λ letter l e. e)
 
-old-through : (a b c : Option Old) → CoversOld a b → CoversOld b c → CoversOld a c
-old-through a b None h k = tt
-old-through a None (Some c) h k = absurd k
-old-through None (Some b) (Some c) h k = absurd h
-old-through (Some a) (Some b) (Some c) h k = (Covers-through a.zone b.zone c.zone h.0 k.0, λ letter l e. k.1 letter l (h.1 letter l e))
+old-through : Laws → (a b c : Option Old) → CoversOld a b → CoversOld b c → CoversOld a c
+old-through laws a b None h k = tt
+old-through laws a None (Some c) h k = absurd k
+old-through laws None (Some b) (Some c) h k = absurd h
+old-through laws (Some a) (Some b) (Some c) h k = (laws.through a.zone b.zone c.zone h.0 k.0, λ letter l e. k.1 letter l (h.1 letter l e))
 
-old-both : (one other : Option Old) → CoversOld (old_of_both one other) one
-old-both None other = tt
-old-both (Some one) None = old-same (Some one)
-old-both (Some one) (Some other) = (Covers-join_of one.zone other.zone, λ letter l e. (sure-both one.marks other.marks letter l e).0)
+old-both : Laws → (one other : Option Old) → CoversOld (old_of_both one other) one
+old-both k None other = tt
+old-both k (Some one) None = old-same k (Some one)
+old-both k (Some one) (Some other) = (k.join one.zone other.zone, λ letter l e. (sure-both one.marks other.marks letter l e).0)
 
-old-both_other : (one other : Option Old) → CoversOld (old_of_both one other) other
-old-both_other one None = tt
-old-both_other None (Some other) = old-same (Some other)
-old-both_other (Some one) (Some other) = (Covers-join_of_other one.zone other.zone, λ letter l e. (sure-both one.marks other.marks letter l e).1)
+old-both_other : Laws → (one other : Option Old) → CoversOld (old_of_both one other) other
+old-both_other k one None = tt
+old-both_other k None (Some other) = old-same k (Some other)
+old-both_other k (Some one) (Some other) = (k.join_other one.zone other.zone, λ letter l e. (sure-both one.marks other.marks letter l e).1)
 
 -- STATES
 
-pub Covers-itself : (s : State) → Covers s s
-Covers-itself s = record {
-  zone = Covers-same s.zone;
+pub Covers-itself : Laws → (s : State) → Covers s s
+Covers-itself k s = record {
+  zone = k.same s.zone;
   marks = λ letter l e. e;
   patterns = choices-same s.patterns;
   no_replacement = λ e. e;
@@ -86,12 +94,12 @@ Covers-itself s = record {
   changed = λ e. e;
   nothing = λ e. e;
   same = λ e. e;
-  was = old-same s.undo.was;
+  was = old-same k s.undo.was;
 }
 
-pub Covers-on : (a b c : State) → Covers a b → Covers b c → Covers a c
-Covers-on a b c h k = record {
-  zone = Covers-through a.zone b.zone c.zone h.zone k.zone;
+pub Covers-on : Laws → (a b c : State) → Covers a b → Covers b c → Covers a c
+Covers-on laws a b c h k = record {
+  zone = laws.through a.zone b.zone c.zone h.zone k.zone;
   marks = λ letter l e. k.marks letter l (h.marks letter l e);
   patterns = choices-through c.patterns b.patterns a.patterns k.patterns h.patterns;
   no_replacement = λ e. h.no_replacement (k.no_replacement e);
@@ -102,11 +110,11 @@ Covers-on a b c h k = record {
   changed = λ e. h.changed (k.changed e);
   nothing = λ e. h.nothing (k.nothing e);
   same = λ e. h.same (k.same e);
-  was = old-through a.undo.was b.undo.was c.undo.was h.was k.was;
+  was = old-through laws a.undo.was b.undo.was c.undo.was h.was k.was;
 }
 
-united-covers : (one other : State) (zone : Bounds) → zones.Covers zone one.zone → Covers (united one other zone) one
-united-covers one other zone z = record {
+united-covers : Laws → (one other : State) (zone : Bounds) → zones.Covers zone one.zone → Covers (united one other zone) one
+united-covers k one other zone z = record {
   zone = z;
   marks = λ letter l e. (sure-both one.marks other.marks letter l e).0;
   patterns = choices-union one.patterns other.patterns;
@@ -118,11 +126,11 @@ united-covers one other zone z = record {
   changed = λ e. or-left one.changed.yes other.changed.yes e;
   nothing = λ e. or-left one.undo.nothing other.undo.nothing e;
   same = λ e. or-left one.undo.same other.undo.same e;
-  was = old-both one.undo.was other.undo.was;
+  was = old-both k one.undo.was other.undo.was;
 }
 
-united-covers_other : (one other : State) (zone : Bounds) → zones.Covers zone other.zone → Covers (united one other zone) other
-united-covers_other one other zone z = record {
+united-covers_other : Laws → (one other : State) (zone : Bounds) → zones.Covers zone other.zone → Covers (united one other zone) other
+united-covers_other k one other zone z = record {
   zone = z;
   marks = λ letter l e. (sure-both one.marks other.marks letter l e).1;
   patterns = choices-union_other one.patterns other.patterns;
@@ -134,21 +142,21 @@ united-covers_other one other zone z = record {
   changed = λ e. or-right one.changed.yes other.changed.yes e;
   nothing = λ e. or-right one.undo.nothing other.undo.nothing e;
   same = λ e. or-right one.undo.same other.undo.same e;
-  was = old-both_other one.undo.was other.undo.was;
+  was = old-both_other k one.undo.was other.undo.was;
 }
 
-pub Covers-join : (one other : State) → Covers (join one other) one
+pub Covers-join : Laws → (one other : State) → Covers (join one other) one
 unfolding join
-Covers-join one other = united-covers one other (join_of one.zone other.zone) (Covers-join_of one.zone other.zone)
+Covers-join k one other = united-covers k one other (join_of one.zone other.zone) (k.join one.zone other.zone)
 
-pub Covers-join_other : (one other : State) → Covers (join one other) other
+pub Covers-join_other : Laws → (one other : State) → Covers (join one other) other
 unfolding join
-Covers-join_other one other = united-covers_other one other (join_of one.zone other.zone) (Covers-join_of_other one.zone other.zone)
+Covers-join_other k one other = united-covers_other k one other (join_of one.zone other.zone) (k.join_other one.zone other.zone)
 
-pub Covers-widen : (old new : State) → Covers (widen old new) old
+pub Covers-widen : Laws → (old new : State) → Covers (widen old new) old
 unfolding widen
-Covers-widen old new = united-covers old new (widening_of old.zone new.zone) (Covers-widening_of old.zone new.zone)
+Covers-widen k old new = united-covers k old new (widening_of old.zone new.zone) (k.widen old.zone new.zone)
 
-pub Covers-widen_other : (old new : State) → Covers (widen old new) new
+pub Covers-widen_other : Laws → (old new : State) → Covers (widen old new) new
 unfolding widen
-Covers-widen_other old new = united-covers_other old new (widening_of old.zone new.zone) (Covers-widening_of_other old.zone new.zone)
+Covers-widen_other k old new = united-covers_other k old new (widening_of old.zone new.zone) (k.widen_other old.zone new.zone)

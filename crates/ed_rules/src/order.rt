@@ -5,6 +5,7 @@ ghost use Rattle.ed_syntax.specs.meaning.States as editor;
 ghost use Rattle.ed_rules.specs.StandsFor.{StandsFor};
 ghost use Rattle.ed_rules.specs.Order.{old_of_both, changed_of_both, replacements_of_both, undo_of_both, united, join, widen, Allows, CoversOld, Covers};
 
+use crate::laws::covering_states_is_an_order;
 use crate::state::{Changed, Old, Replacements, State, Undo};
 use std::alloc::AllocError;
 use zones::Zone;
@@ -25,6 +26,7 @@ impl State {
         ensures covers { IfOk result (λ joined. Covers joined self.now) }
         ensures covers_other { IfOk result (λ joined. Covers joined other.now) }
     {
+        covering_states_is_an_order();
         let mut zone = self.zone;
         zone.join(&other.zone);
         self.united(other, zone)
@@ -45,6 +47,7 @@ impl State {
         ensures covers { IfOk result (λ widened. Covers widened self.now) }
         ensures covers_other { IfOk result (λ widened. Covers widened new.now) }
     {
+        covering_states_is_an_order();
         let mut zone = self.zone;
         zone.widen(&new.zone);
         self.united(new, zone)
