@@ -9,11 +9,11 @@ use Rattle.ed_syntax.specs.declared.request.Answer.TheVariants as answer
 use Rattle.ed_syntax.specs.declared.request.Request.{Request}
 use Rattle.ed_syntax.specs.declared.request.Request.TheVariants as request
 use Rattle.ed_syntax.specs.meaning.Progress.{Stops, Ends, Wrote, report, failing, count}
-use Rattle.ed_syntax.specs.meaning.Runs.{turns}
+use Rattle.ed_session.specs.declared.phase.Phase.{Phase}
 use Rattle.ed_session.specs.declared.phase.Phase.TheVariants as phases
 use Rattle.ed_session.specs.Sessions.{SessionValue, rest, is_over, is_waiting, is_started}
 use Rattle.ed_session.specs.Calls.{GoesOn, BreaksOff, Leads, HandsOut, Awaits, Answers}
-use Rattle.ed_session.specs.Insides.{bytes_of_write, counted, length_counted, Reported, ask_of_output, AdvancesOrGives}
+use Rattle.ed_session.specs.Insides.{bytes_of_write, counted, length_counted, EndsBy, ask_of_output, AdvancesOrGives}
 use Rattle.ed_session.proofs.Stepping.{steps_prompted, rest_opens, runs_out}
 
 -- a session that isn't over stays nowhere
@@ -31,25 +31,36 @@ advances_by old new [] goes idle begun handed untold = record { same = goes; idl
 advances_by old new (b ∷ bytes) goes idle begun handed untold = record { some = omega arith; leads = inl goes; idle = idle; untold = untold }
 
 -- the prompt isn't written
-pub prompt_skipped : (old new : SessionValue) → old.turns ≡ None → new.turns ≡ old.turns → old.phase ≡ phases.Between → old.pending ≡ [] → old.present.prompting ≡ false → new.phase ≡ phases.Prompted
+pub prompt_skipped : (old new : SessionValue) → old.running_list ≡ None → new.running_list ≡ old.running_list → old.phase ≡ phases.Between → old.pending ≡ [] → old.present.prompting ≡ false → new.phase ≡ phases.Prompted
     → new.pending ≡ [] → new.present ≡ old.present → new.steps ≡ old.steps → new.fault ≡ old.fault → GoesOn old [] [] [] new
-prompt_skipped old new outside turns between handed off now pending present left fault = record {
+prompt_skipped old new outside list_same between handed off now pending present left fault = record {
   events = [];
-  same = λ answers. rw (between, now, present, left, fault, turns, outside, steps_prompted old.steps old.fault old.present answers, off) refl;
+  same = λ answers. rw (between, now, present, left, fault, list_same, outside, steps_prompted old.steps old.fault old.present answers, off) refl;
   handed_out = rw (handed, pending) refl;
   answered = refl;
   stays = no_end old new (rw between refl);
 }
 
 -- the prompt is written
-pub prompt_written : (old new : SessionValue) (prompt : List ℕ) → old.turns ≡ None → new.turns ≡ old.turns → old.phase ≡ phases.Between → old.pending ≡ [] → old.present.prompting ≡ true → prompt ≡ old.present.prompt
+pub prompt_written : (old new : SessionValue) (prompt : List ℕ) → old.running_list ≡ None → new.running_list ≡ old.running_list → old.phase ≡ phases.Between → old.pending ≡ [] → old.present.prompting ≡ true → prompt ≡ old.present.prompt
     → new.phase ≡ phases.Prompted → new.pending ≡ [] → new.present ≡ old.present → new.steps ≡ old.steps → new.fault ≡ old.fault → GoesOn old [] prompt [] new
-prompt_written old new prompt outside turns between handed on is now pending present left fault = record {
+prompt_written old new prompt outside list_same between handed on is now pending present left fault = record {
   events = Wrote old.present.help old.present.prompt ∷ [];
-  same = λ answers. rw (between, now, present, left, fault, turns, outside, steps_prompted old.steps old.fault old.present answers, on) refl;
+  same = λ answers. rw (between, now, present, left, fault, list_same, outside, steps_prompted old.steps old.fault old.present answers, on) refl;
   handed_out = rw (handed, pending, is) refl;
   answered = refl;
   stays = no_end old new (rw between refl);
+}
+
+-- the request that is awaited comes again
+pub asks_again : (old new : SessionValue) → old.phase ≡ phases.Waiting → new.phase ≡ phases.Prompted → new.running_list ≡ old.running_list → new.steps ≡ old.steps → new.fault ≡ old.fault
+    → new.present ≡ old.present → new.pending ≡ old.pending → GoesOn old [] [] [] new
+asks_again old new waiting now list_same left fault present pending = record {
+  events = [];
+  same = λ answers. rw (waiting, now, list_same, left, fault, present) refl;
+  handed_out = rw pending (append-nil old.pending);
+  answered = refl;
+  stays = no_end old new (rw waiting refl);
 }
 
 -- memory ran out before the next step was done
@@ -74,23 +85,29 @@ fails old new f output running handed is over help whole = record {
   stays = no_end old new running;
 }
 
-pub fails_or_breaks : (old new : SessionValue) (f reported : Fault) (written output : List ℕ) → is_over old.phase ≡ false → old.pending ≡ [] → Reported old.present.help f reported written
+pub fails_or_breaks : (old new : SessionValue) (f : Fault) (written output : List ℕ) → is_over old.phase ≡ false → old.pending ≡ [] → EndsBy old.present.help f new.phase written
     → (f ≢ fault.Memory → (answers : List Answer) → rest old answers ≡ failing old.present f)
-    → new.phase ≡ phases.Over (Err reported) → new.present.help ≡ old.present.help → output ++ new.pending ≡ written → Leads old [] output [] new
-fails_or_breaks old new f reported written output running handed r is over help whole =
-    elim r.which [
-      | inl e ↦ inl (fails old new f output running handed (is e.0) (rw (sym e.1) over) help (whole ∙ r.wrote ∙ ap (report old.present.help) e.1))
-      | inr e ↦ inr (breaks_here old new output running handed (rw (sym e) over) (whole ∙ r.wrote ∙ ap (report old.present.help) e))
+    → new.present.help ≡ old.present.help → output ++ new.pending ≡ written → Leads old [] output [] new
+fails_or_breaks old new f written output running handed ends is help whole =
+    elim ends.as_reported.which [
+      | inl e ↦ inl (fails old new f output running handed (is e.0) (rw (sym e.1) ends.over) help (whole ∙ ends.as_reported.wrote ∙ ap (report old.present.help) e.1))
+      | inr e ↦ inr (breaks_here old new output running handed (rw (sym e) ends.over) (whole ∙ ends.as_reported.wrote ∙ ap (report old.present.help) e))
     ]
 
+-- want of memory has its own report
+pub ends_by_memory : (help : Bool) (at : Phase) (written : List ℕ) → EndsBy help fault.Memory at written → (at ≡ phases.Over (Err fault.Memory)) × (written ≡ report help fault.Memory)
+ends_by_memory help at written ends =
+    let is : ends.reported ≡ fault.Memory = elim ends.as_reported.which [ inl e ↦ absurd (e.0 refl) | inr e ↦ e ] in
+    (ends.over ∙ ap (λ f. phases.Over (Err f)) is, ends.as_reported.wrote ∙ ap (report help) is)
+
 -- the report is handed out
-pub hands_out_report : (old new : SessionValue) (f reported : Fault) (written : List ℕ) → is_over old.phase ≡ false → old.pending ≡ [] → Reported old.present.help f reported written
+pub hands_out_report : (old new : SessionValue) (f : Fault) (written : List ℕ) → is_over old.phase ≡ false → old.pending ≡ [] → EndsBy old.present.help f new.phase written
     → (f ≢ fault.Memory → (answers : List Answer) → rest old answers ≡ failing old.present f)
-    → new.phase ≡ phases.Over (Err reported) → new.present.help ≡ old.present.help → new.pending ≡ [] → new.told ≡ false → HandsOut old written new
-hands_out_report old new f reported written running handed r is over help pending untold = record {
-  some = rw r.wrote (report_some old.present.help reported);
-  leads = fails_or_breaks old new f reported written written running handed r is over help (rw pending (append-nil written));
-  idle = ap is_waiting over;
+    → new.present.help ≡ old.present.help → new.pending ≡ [] → new.told ≡ false → HandsOut old written new
+hands_out_report old new f written running handed ends is help pending untold = record {
+  some = rw ends.as_reported.wrote (report_some old.present.help ends.reported);
+  leads = fails_or_breaks old new f written written running handed ends is help (rw pending (append-nil written));
+  idle = ap is_waiting ends.over;
   untold = untold;
 }
 

@@ -7,18 +7,18 @@ use Rattle.std.proofs.lemmas.Bool.Decides.{nat_tests}
 use Rattle.ed_syntax.specs.declared.command.Command as rust
 use Rattle.ed_syntax.specs.Commands.{Command, Step}
 use Rattle.ed_syntax.specs.PublicTypes.{command_value, step_value, steps_value}
-use Rattle.ed_session.specs.Sessions.{Turns}
-use Rattle.ed_session.specs.declared.agenda.Turns as counted
-use Rattle.ed_session.specs.Agendas.{AgendaValue, IsWithin, turns_of, next_command, first_listed, first_command, list_at, last_of, passed, opened_for}
+use Rattle.ed_session.specs.Sessions.{RunningList}
+use Rattle.ed_session.specs.declared.agenda.Countdown as counted
+use Rattle.ed_session.specs.Agendas.{AgendaValue, IsWithin, running_of, next_command, first_listed, first_command, list_at, last_of, passed, opened_for}
 
 -- what is left of a global command and of a script
-abbrev pub agenda_of : Option Turns → List Step → AgendaValue
-agenda_of t xs = record { turns = t; steps = xs }
+abbrev pub agenda_of : Option RunningList → List Step → AgendaValue
+agenda_of t xs = record { running_list = t; steps = xs }
 
 -- what is left where a global command is open
-pub in_list : (commands : List rust.Command) (o : Option counted.Turns) (t : counted.Turns) (xs : List Step) (a : AgendaValue) → o ≡ Some t → IsWithin commands o → agenda_of (turns_of commands o) xs ≡ a →
-    IsWithin commands (Some t) × (agenda_of (turns_of commands (Some t)) xs ≡ a)
-in_list commands o t xs a is within same = (subst (IsWithin commands) is within, subst (λ o. agenda_of (turns_of commands o) xs ≡ a) is same)
+pub in_list : (commands : List rust.Command) (o : Option counted.Countdown) (t : counted.Countdown) (xs : List Step) (a : AgendaValue) → o ≡ Some t → IsWithin commands o → agenda_of (running_of commands o) xs ≡ a →
+    IsWithin commands (Some t) × (agenda_of (running_of commands (Some t)) xs ≡ a)
+in_list commands o t xs a is within same = (subst (IsWithin commands) is within, subst (λ o. agenda_of (running_of commands o) xs ≡ a) is same)
 
 -- there is a first one where some are left
 listed_there : (left : List Command) → is_some (first_listed left) ≡ nat_lt 0 (length left)
@@ -70,7 +70,7 @@ pub list_done : (list : List Command) → last_of 0 list ≡ []
 list_done list = drop_all (length list - 0) list (omega arith)
 
 -- a global command was opened
-pub is_opened : (xs : List rust.Command) (n lines : ℕ) (t : Option Turns) → agenda_of (Some (record { left = last_of 0 (list_at xs n); list = list_at xs n; lines = lines })) (steps_value (drop (n + 1) xs))
+pub is_opened : (xs : List rust.Command) (n lines : ℕ) (t : Option RunningList) → agenda_of (Some (record { left = last_of 0 (list_at xs n); list = list_at xs n; lines = lines })) (steps_value (drop (n + 1) xs))
     ≡ opened_for lines (agenda_of t (steps_value (drop n xs)))
 is_opened xs n lines t =
     ap (λ l. agenda_of (Some (record { left = l; list = list_at xs n; lines = lines })) (steps_value (drop (n + 1) xs))) (list_done (list_at xs n))
@@ -89,6 +89,6 @@ some_left : (list : List Command) (n : ℕ) → n ≤ length list → IsSome (fi
 some_left list zero h there = let none : IsSome (first_listed []) = subst IsSome (ap first_listed (list_done list)) there in cc
 some_left list (suc n) h there = omega arith
 
-pub some_in_list : (commands : List rust.Command) (t : counted.Turns) (xs : List Step) (a : AgendaValue) →
-    IsWithin commands (Some t) × (agenda_of (turns_of commands (Some t)) xs ≡ a) → IsSome (next_command a.turns a.steps) → 0 < t.left
-some_in_list commands t xs a inside there = some_left (list_at commands t.global) t.left inside.0.1 (subst (λ u. IsSome (next_command u.turns u.steps)) (sym inside.1) there)
+pub some_in_list : (commands : List rust.Command) (t : counted.Countdown) (xs : List Step) (a : AgendaValue) →
+    IsWithin commands (Some t) × (agenda_of (running_of commands (Some t)) xs ≡ a) → IsSome (next_command a.running_list a.steps) → 0 < t.left
+some_in_list commands t xs a inside there = some_left (list_at commands t.global) t.left inside.0.1 (subst (λ u. IsSome (next_command u.running_list u.steps)) (sym inside.1) there)

@@ -18,7 +18,7 @@ use Rattle.ed_syntax.specs.meaning.Runs.{Further, turns, steps, started, unpromp
 use Rattle.ed_syntax.proofs.meaning.RunLemmas.{Caused, own, refused, EndsWell, GoesWell, listed-well, turns-well, steps-well}
 use Rattle.ed_session.specs.declared.phase.Phase.{Phase}
 use Rattle.ed_session.specs.declared.phase.Phase.TheVariants as phases
-use Rattle.ed_session.specs.Sessions.{SessionValue, Turns, rest, rest_at, go_on, go_on_prompted, go_on_unprompted}
+use Rattle.ed_session.specs.Sessions.{SessionValue, RunningList, rest, rest_at, go_on, go_on_prompted, go_on_unprompted}
 use Rattle.ed_session.specs.Drives.{Log, requests, answers, fits, AllFit, EndsMissing, here, later, of_commands}
 use Rattle.ed_session.proofs.Stepping.{steps_prompted}
 
@@ -65,15 +65,15 @@ unprompted_well xs bad m given =
     (subst (λ q. EndsWell q given) (steps_prompted xs bad m given) (steps-well xs bad m given))
 
 -- what is left of a global command, and then of the script
-go_on_well : (t : Option Turns) (outside script : Further) → GoesWell outside → GoesWell script → GoesWell (go_on t outside script)
+go_on_well : (t : Option RunningList) (outside script : Further) → GoesWell outside → GoesWell script → GoesWell (go_on t outside script)
 go_on_well None outside script h k m given = h m given
 go_on_well (Some t) outside script h k m given =
     listed-well t.left m (λ n. turns t.lines t.list n script) (λ n later. turns-well t.lines t.list n script k later) given
 
-prompted_left_well : (t : Option Turns) (xs : List Step) (bad : Option ℕ) → GoesWell (go_on_prompted t xs bad)
+prompted_left_well : (t : Option RunningList) (xs : List Step) (bad : Option ℕ) → GoesWell (go_on_prompted t xs bad)
 prompted_left_well t xs bad = go_on_well t (steps xs bad) (steps xs bad) (steps-well xs bad) (steps-well xs bad)
 
-unprompted_left_well : (t : Option Turns) (xs : List Step) (bad : Option ℕ) → GoesWell (go_on_unprompted t xs bad)
+unprompted_left_well : (t : Option RunningList) (xs : List Step) (bad : Option ℕ) → GoesWell (go_on_unprompted t xs bad)
 unprompted_left_well t xs bad = go_on_well t (unprompted xs bad) (steps xs bad) (unprompted_well xs bad) (steps-well xs bad)
 
 -- a run whose answers fit, and that ends by the fault of a file, read one that isn't there
@@ -96,16 +96,16 @@ ends_same e = cc
 -- where it had ended so before
 at_by_file : (p : Phase) (v : SessionValue) (log : Log) → asked_of (rest_at p v (answers log)) ≡ requests log → AllFit log
     → stop_of (rest_at p v (answers log)) ≡ Ends (Err fault.File) → EndsMissing (of_commands p log) ⊎ (p ≡ phases.Over (Err fault.File))
-at_by_file (phases.Fresh None) v log asked fit e = inl (by_file (go_on_prompted v.turns v.steps v.fault v.present (answers log)) log (prompted_left_well v.turns v.steps v.fault v.present (answers log)) asked fit e)
+at_by_file (phases.Fresh None) v log asked fit e = inl (by_file (go_on_prompted v.running_list v.steps v.fault v.present (answers log)) log (prompted_left_well v.running_list v.steps v.fault v.present (answers log)) asked fit e)
 at_by_file (phases.Fresh (Some path)) v [] asked fit e = cc
 at_by_file (phases.Fresh (Some path)) v (entry ∷ log) asked fit e =
-    let go : Further = go_on_prompted v.turns v.steps v.fault in
+    let go : Further = go_on_prompted v.running_list v.steps v.fault in
     let same : request.Read path ≡ entry.0 = cc in
     let later_asked : asked_of (started path entry.1 v.present go (answers log)) ≡ requests log = cc in
-    inl (started_by_file path entry.1 v.present go log (prompted_left_well v.turns v.steps v.fault) (rw same (fit 0 entry (omega arith))) later_asked (All-tail Fits entry log fit) e)
-at_by_file phases.Between v log asked fit e = inl (by_file (go_on_prompted v.turns v.steps v.fault v.present (answers log)) log (prompted_left_well v.turns v.steps v.fault v.present (answers log)) asked fit e)
-at_by_file phases.Prompted v log asked fit e = inl (by_file (go_on_unprompted v.turns v.steps v.fault v.present (answers log)) log (unprompted_left_well v.turns v.steps v.fault v.present (answers log)) asked fit e)
-at_by_file phases.Waiting v log asked fit e = inl (by_file (go_on_unprompted v.turns v.steps v.fault v.present (answers log)) log (unprompted_left_well v.turns v.steps v.fault v.present (answers log)) asked fit e)
+    inl (started_by_file path entry.1 v.present go log (prompted_left_well v.running_list v.steps v.fault) (rw same (fit 0 entry (omega arith))) later_asked (All-tail Fits entry log fit) e)
+at_by_file phases.Between v log asked fit e = inl (by_file (go_on_prompted v.running_list v.steps v.fault v.present (answers log)) log (prompted_left_well v.running_list v.steps v.fault v.present (answers log)) asked fit e)
+at_by_file phases.Prompted v log asked fit e = inl (by_file (go_on_unprompted v.running_list v.steps v.fault v.present (answers log)) log (unprompted_left_well v.running_list v.steps v.fault v.present (answers log)) asked fit e)
+at_by_file phases.Waiting v log asked fit e = inl (by_file (go_on_unprompted v.running_list v.steps v.fault v.present (answers log)) log (unprompted_left_well v.running_list v.steps v.fault v.present (answers log)) asked fit e)
 at_by_file (phases.Over result) v log asked fit e = inr (ap (λ r. phases.Over r) (ends_same e))
 
 pub rest_by_file : (v : SessionValue) (log : Log) → asked_of (rest v (answers log)) ≡ requests log → AllFit log
@@ -123,13 +123,13 @@ started_no_output path answer.Refused m go given well = λ e. cc
 started_no_output path answer.Done m go given well = λ e. cc
 
 at_no_output : (p : Phase) (v : SessionValue) (given : List Answer) → stop_of (rest_at p v given) ≡ Ends (Err fault.Output) → p ≡ phases.Over (Err fault.Output)
-at_no_output (phases.Fresh None) v given e = absurd (no_output (go_on_prompted v.turns v.steps v.fault v.present given) given (prompted_left_well v.turns v.steps v.fault v.present given) e)
+at_no_output (phases.Fresh None) v given e = absurd (no_output (go_on_prompted v.running_list v.steps v.fault v.present given) given (prompted_left_well v.running_list v.steps v.fault v.present given) e)
 at_no_output (phases.Fresh (Some path)) v [] e = cc
 at_no_output (phases.Fresh (Some path)) v (a ∷ given) e =
-    absurd (started_no_output path a v.present (go_on_prompted v.turns v.steps v.fault) given (prompted_left_well v.turns v.steps v.fault) e)
-at_no_output phases.Between v given e = absurd (no_output (go_on_prompted v.turns v.steps v.fault v.present given) given (prompted_left_well v.turns v.steps v.fault v.present given) e)
-at_no_output phases.Prompted v given e = absurd (no_output (go_on_unprompted v.turns v.steps v.fault v.present given) given (unprompted_left_well v.turns v.steps v.fault v.present given) e)
-at_no_output phases.Waiting v given e = absurd (no_output (go_on_unprompted v.turns v.steps v.fault v.present given) given (unprompted_left_well v.turns v.steps v.fault v.present given) e)
+    absurd (started_no_output path a v.present (go_on_prompted v.running_list v.steps v.fault) given (prompted_left_well v.running_list v.steps v.fault) e)
+at_no_output phases.Between v given e = absurd (no_output (go_on_prompted v.running_list v.steps v.fault v.present given) given (prompted_left_well v.running_list v.steps v.fault v.present given) e)
+at_no_output phases.Prompted v given e = absurd (no_output (go_on_unprompted v.running_list v.steps v.fault v.present given) given (unprompted_left_well v.running_list v.steps v.fault v.present given) e)
+at_no_output phases.Waiting v given e = absurd (no_output (go_on_unprompted v.running_list v.steps v.fault v.present given) given (unprompted_left_well v.running_list v.steps v.fault v.present given) e)
 at_no_output (phases.Over result) v given e = ap (λ r. phases.Over r) (ends_same e)
 
 pub rest_no_output : (v : SessionValue) (given : List Answer) → stop_of (rest v given) ≡ Ends (Err fault.Output) → v.phase ≡ phases.Over (Err fault.Output)

@@ -18,10 +18,10 @@ use Rattle.ed_commands.specs.Editors.{Replies}
 use Rattle.ed_session.specs.declared.modes.Modes.{Modes}
 use Rattle.ed_session.specs.declared.phase.Phase.{Phase}
 use Rattle.ed_session.specs.declared.phase.Phase.TheVariants as phases
-use Rattle.ed_session.specs.Sessions.{SessionValue, Turns, rest, rest_at, go_on_prompted, go_on_unprompted, awaited, request_of, is_over}
-use Rattle.ed_session.specs.Agendas.{first_listed, first_command, next_command, turns_after, steps_after}
+use Rattle.ed_session.specs.Sessions.{SessionValue, RunningList, rest, rest_at, go_on_prompted, go_on_unprompted, awaited, request_of, is_over}
+use Rattle.ed_session.specs.Agendas.{first_listed, first_command, next_command, running_after, steps_after}
 use Rattle.ed_session.specs.Calls.{GoesOn, Awaits, Gives, Answers}
-use Rattle.ed_session.specs.Insides.{holding, bytes_of_write, counted, length_counted, is_alone, help_after, prompting_after, Reported, ask_of_request, IsNext, AsksFor, KeepsPhase, goes_unprompted}
+use Rattle.ed_session.specs.Insides.{holding, bytes_of_write, counted, length_counted, is_alone, help_after, prompting_after, EndsBy, ask_of_request, IsNext, AsksFor, KeepsPhase, goes_unprompted}
 use Rattle.ed_session.proofs.Stepping.{step_one, answered_opens, hears_and_runs_out}
 use Rattle.ed_session.proofs.Advancing.{no_end, over_next, count_is}
 
@@ -36,6 +36,11 @@ wants_is (Ok (Makes o)) s t r h = absurd h
 wants_is (Ok (Asks q)) s t r h = (ap (λ a. Ok (Asks a)) (sym h.0), h.1)
 wants_is (Err f) s t r h = absurd h
 
+-- one that asks again does so because the answer doesn't fit its request
+pub asks_more : (x : Result Effect Fault) (s t : State) (r : Request) (f : Fault) → IsOkAnd x (Replies s t (reply.Wants r)) → f ≡ fault.File
+    → (x ≡ Err f) ⊎ ((f ≡ fault.File) × ((q : Request) × (x ≡ Ok (Asks q))))
+asks_more x s t r f h is = inr (is, (r, (wants_is x s t r h).0))
+
 pub turned_is : (verb : Verb) (m : Present) → turned verb m ≡ record m { prompting = prompting_after verb m.prompting; help = help_after verb m.help }
 turned_is ed.HelpMode m = refl
 turned_is ed.PromptMode m = refl
@@ -47,8 +52,8 @@ pub turned_present : (verb : Verb) (silent : Bool) (old s t : State) (m n : Mode
 turned_present verb silent old s t m n prompt e f h = rw (turned_is verb (with_state s (holding silent old m prompt)), e, f, h) refl
 
 -- what is left after the next command
-abbrev later : Option Turns → List Step → Option ℕ → Further
-later t xs bad = go_on_prompted (turns_after t) (steps_after t xs) bad
+abbrev later : Option RunningList → List Step → Option ℕ → Further
+later t xs bad = go_on_prompted (running_after t) (steps_after t xs) bad
 
 -- the next command of a list
 listed_next : (left : List Command) (c : Command) (m : Present) (go : Further) (answers : List Answer) → first_listed left ≡ Some c
@@ -63,14 +68,14 @@ step_next [] c bad m answers e alone = cc
 step_next (x ∷ xs) c bad m answers e alone =
     let same : x.command ≡ c = cc in step_one x m (steps xs bad) answers (rw same alone) ∙ ap (λ d. one d m (steps xs bad) answers) same
 
-command_next : (t : Option Turns) (xs : List Step) (bad : Option ℕ) (c : Command) (m : Present) (answers : List Answer) → IsNext t xs c
+command_next : (t : Option RunningList) (xs : List Step) (bad : Option ℕ) (c : Command) (m : Present) (answers : List Answer) → IsNext t xs c
     → go_on_unprompted t xs bad m answers ≡ one c m (later t xs bad) answers
 command_next None xs bad c m answers next = step_next xs c bad m answers next.comes (next.alone refl)
 command_next (Some t) xs bad c m answers next = listed_next t.left c m (λ n. turns t.lines t.list n (steps xs bad)) answers next.comes
 
 -- the next command comes before any prompt
-unprompted_next : (v : SessionValue) (p : Phase) (t : Option Turns) (answers : List Answer) → goes_unprompted p t ≡ true → v.turns ≡ t
-    → rest_at p v answers ≡ go_on_unprompted v.turns v.steps v.fault v.present answers
+unprompted_next : (v : SessionValue) (p : Phase) (t : Option RunningList) (answers : List Answer) → goes_unprompted p t ≡ true → v.running_list ≡ t
+    → rest_at p v answers ≡ go_on_unprompted v.running_list v.steps v.fault v.present answers
 unprompted_next v (phases.Fresh path) t answers goes e = cc
 unprompted_next v phases.Between None answers goes e = cc
 unprompted_next v phases.Between (Some t) answers goes e = rw e refl
@@ -79,12 +84,12 @@ unprompted_next v phases.Waiting t answers goes e = refl
 unprompted_next v (phases.Over result) t answers goes e = cc
 
 -- what comes next is this command, and what is left after it
-comes_next : (v : SessionValue) (c : Command) → goes_unprompted v.phase v.turns ≡ true → IsNext v.turns v.steps c
-    → (answers : List Answer) → rest v answers ≡ one c v.present (later v.turns v.steps v.fault) answers
-comes_next v c goes next answers = unprompted_next v v.phase v.turns answers goes refl ∙ command_next v.turns v.steps v.fault c v.present answers next
+comes_next : (v : SessionValue) (c : Command) → goes_unprompted v.phase v.running_list ≡ true → IsNext v.running_list v.steps c
+    → (answers : List Answer) → rest v answers ≡ one c v.present (later v.running_list v.steps v.fault) answers
+comes_next v c goes next answers = unprompted_next v v.phase v.running_list answers goes refl ∙ command_next v.running_list v.steps v.fault c v.present answers next
 
 -- so goes a run that isn't over
-pub goes_running : (p : Phase) (t : Option Turns) → goes_unprompted p t ≡ true → is_over p ≡ false
+pub goes_running : (p : Phase) (t : Option RunningList) → goes_unprompted p t ≡ true → is_over p ≡ false
 goes_running (phases.Fresh path) t goes = refl
 goes_running phases.Between t goes = refl
 goes_running phases.Prompted t goes = refl
@@ -92,18 +97,18 @@ goes_running phases.Waiting t goes = refl
 goes_running (phases.Over result) t goes = cc
 
 -- there is one next command
-is_next : (t : Option Turns) (xs : List Step) (c d : Command) → IsNext t xs c → next_command t xs ≡ Some d → IsNext t xs d
+is_next : (t : Option RunningList) (xs : List Step) (c d : Command) → IsNext t xs c → next_command t xs ≡ Some d → IsNext t xs d
 is_next t xs c d next e = let is = next.comes in let same : c ≡ d = cc in subst (IsNext t xs) same next
 
 -- the next command was done
-comes_later : (v new : SessionValue) (m : Present) → new.phase ≡ phases.Between → new.turns ≡ turns_after v.turns → new.steps ≡ steps_after v.turns v.steps → new.fault ≡ v.fault
-    → new.present ≡ m → (answers : List Answer) → rest new answers ≡ later v.turns v.steps v.fault m answers
-comes_later v new m now turns left fault present answers = rw (now, turns, left, fault, present) refl
+comes_later : (v new : SessionValue) (m : Present) → new.phase ≡ phases.Between → new.running_list ≡ running_after v.running_list → new.steps ≡ steps_after v.running_list v.steps → new.fault ≡ v.fault
+    → new.present ≡ m → (answers : List Answer) → rest new answers ≡ later v.running_list v.steps v.fault m answers
+comes_later v new m now list_same left fault present answers = rw (now, list_same, left, fault, present) refl
 
 -- it is awaited
-comes_still : (v new : SessionValue) → goes_unprompted v.phase v.turns ≡ true → new.phase ≡ phases.Waiting → new.turns ≡ v.turns → new.steps ≡ v.steps → new.fault ≡ v.fault
+comes_still : (v new : SessionValue) → goes_unprompted v.phase v.running_list ≡ true → new.phase ≡ phases.Waiting → new.running_list ≡ v.running_list → new.steps ≡ v.steps → new.fault ≡ v.fault
     → new.present ≡ v.present → (answers : List Answer) → rest new answers ≡ rest v answers
-comes_still v new goes now turns left fault present answers = rw (now, turns, left, fault, present) (sym (unprompted_next v v.phase v.turns answers goes refl))
+comes_still v new goes now list_same left fault present answers = rw (now, list_same, left, fault, present) (sym (unprompted_next v v.phase v.running_list answers goes refl))
 
 asking_makes : (m : Present) (e : Result Effect Fault) (o : Outcome) (again : Answer → Result Effect Fault) (go : Further) (answers : List Answer) → e ≡ Ok (Makes o)
     → asking m e again go answers ≡ Writes m.help o.output (go (reached o m) answers)
@@ -190,11 +195,13 @@ module _ (v : SessionValue) (c : Command) (go : Further) (at : (answers : List A
         })
 
     -- or it ended the run
-    answers_fail : (a : Answer) (new : SessionValue) (f reported : Fault) (w : List ℕ) → Reported v.present.help f reported w
+    answers_fail : (a : Answer) (new : SessionValue) (f : Fault) (w : List ℕ) → EndsBy v.present.help f new.phase w
         → (f ≢ fault.Memory → (command v.present.state c (Some a) ≡ Err f) ⊎ ((f ≡ fault.File) × ((q : Request) × (command v.present.state c (Some a) ≡ Ok (Asks q)))))
-        → new.phase ≡ phases.Over (Err reported) → new.present.help ≡ v.present.help → new.pending ≡ w → Answers v r a new
-    answers_fail a new f reported w rep is over help none =
-        let end : (answers : List Answer) → rest new answers ≡ Stops v.present.help (Ends (Err reported)) = λ answers. over_next new answers reported over ∙ ap (λ h. Stops h (Ends (Err reported))) help in
+        → new.present.help ≡ v.present.help → new.pending ≡ w → Answers v r a new
+    answers_fail a new f w ends is help none =
+        let rep = ends.as_reported in
+        let over = ends.over in
+        let end : (answers : List Answer) → rest new answers ≡ Stops v.present.help (Ends (Err ends.reported)) = λ answers. over_next new answers ends.reported over ∙ ap (λ h. Stops h (Ends (Err ends.reported))) help in
         elim rep.which [
           | inl e ↦
               let failed : (answers : List Answer) → answered v.present (count v.present.silent r a) (command v.present.state c (Some a)) (λ t. go (turned c.verb t)) answers ≡ failing v.present f
@@ -221,57 +228,57 @@ module _ (v : SessionValue) (c : Command) (go : Further) (at : (answers : List A
         ]
 
 -- the next command, which comes before any prompt
-module _ (v : SessionValue) (c : Command) (goes : goes_unprompted v.phase v.turns ≡ true) (next : IsNext v.turns v.steps c) (pending : v.pending ≡ []) where
+module _ (v : SessionValue) (c : Command) (goes : goes_unprompted v.phase v.running_list ≡ true) (next : IsNext v.running_list v.steps c) (pending : v.pending ≡ []) where
   abbrev go : Further
-  go = later v.turns v.steps v.fault
+  go = later v.running_list v.steps v.fault
 
   at : (answers : List Answer) → rest v answers ≡ one c v.present go answers
   at answers = comes_next v c goes next answers
 
   running : is_over v.phase ≡ false
-  running = goes_running v.phase v.turns goes
+  running = goes_running v.phase v.running_list goes
 
   pub passes_done : (new : SessionValue) (o : Outcome) (output : List ℕ) → command v.present.state c None ≡ Ok (Makes o) → output ≡ o.output → new.phase ≡ phases.Between
-      → new.turns ≡ turns_after v.turns → new.steps ≡ steps_after v.turns v.steps → new.fault ≡ v.fault → new.present ≡ turned c.verb (with_state o.state v.present) → new.pending ≡ []
+      → new.running_list ≡ running_after v.running_list → new.steps ≡ steps_after v.running_list v.steps → new.fault ≡ v.fault → new.present ≡ turned c.verb (with_state o.state v.present) → new.pending ≡ []
       → GoesOn v [] output [] new
-  passes_done new o output done is now turns left fault present none =
-      goes_done v c go at pending running new o output done is (comes_later v new (turned c.verb (with_state o.state v.present)) now turns left fault present) none
+  passes_done new o output done is now list_same left fault present none =
+      goes_done v c go at pending running new o output done is (comes_later v new (turned c.verb (with_state o.state v.present)) now list_same left fault present) none
 
   pub passes_failing : (f : Fault) → command v.present.state c None ≡ Err f → (answers : List Answer) → rest v answers ≡ failing v.present f
   passes_failing f is = next_fails v c go at pending running f is
 
   pub passes_asking : (new : SessionValue) (r : Request) → command v.present.state c None ≡ Ok (Asks r) → new.phase ≡ phases.Waiting
-      → new.turns ≡ v.turns → new.steps ≡ v.steps → new.fault ≡ v.fault → new.present ≡ v.present → new.pending ≡ [] → Awaits v r new
-  passes_asking new r asks now turns left fault present none = goes_asking v c go at pending running new r asks now (comes_still v new goes now turns left fault present) none present
+      → new.running_list ≡ v.running_list → new.steps ≡ v.steps → new.fault ≡ v.fault → new.present ≡ v.present → new.pending ≡ [] → Awaits v r new
+  passes_asking new r asks now list_same left fault present none = goes_asking v c go at pending running new r asks now (comes_still v new goes now list_same left fault present) none present
 
   module _ (r : Request) (asks : command v.present.state c None ≡ Ok (Asks r)) where
     passes_awaited : awaited v ≡ Some r
     passes_awaited = awaits_it v c go at pending running r asks
 
     passes_answered : (a : Answer) (new : SessionValue) (o : Outcome) (output : List ℕ) (writes : Option ℕ) → writes ≡ bytes_of_write r → command v.present.state c (Some a) ≡ Ok (Makes o) → output ≡ o.output
-        → new.phase ≡ phases.Between → new.turns ≡ turns_after v.turns → new.steps ≡ steps_after v.turns v.steps → new.fault ≡ v.fault → new.present ≡ turned c.verb (with_state o.state v.present)
+        → new.phase ≡ phases.Between → new.running_list ≡ running_after v.running_list → new.steps ≡ steps_after v.running_list v.steps → new.fault ≡ v.fault → new.present ≡ turned c.verb (with_state o.state v.present)
         → new.pending ≡ output ++ counted v.present.silent (length_counted writes a) → Answers v r a new
-    passes_answered a new o output writes counts done is now turns left fault present none =
-        answers_done v c go at pending running r asks a new o output writes counts done is (comes_later v new (turned c.verb (with_state o.state v.present)) now turns left fault present) none
+    passes_answered a new o output writes counts done is now list_same left fault present none =
+        answers_done v c go at pending running r asks a new o output writes counts done is (comes_later v new (turned c.verb (with_state o.state v.present)) now list_same left fault present) none
 
-    passes_refused : (a : Answer) (new : SessionValue) (f reported : Fault) (w : List ℕ) → Reported v.present.help f reported w
+    passes_refused : (a : Answer) (new : SessionValue) (f : Fault) (w : List ℕ) → EndsBy v.present.help f new.phase w
         → (f ≢ fault.Memory → (command v.present.state c (Some a) ≡ Err f) ⊎ ((f ≡ fault.File) × ((q : Request) × (command v.present.state c (Some a) ≡ Ok (Asks q)))))
-        → new.phase ≡ phases.Over (Err reported) → new.present.help ≡ v.present.help → new.pending ≡ w → Answers v r a new
-    passes_refused a new f reported w rep is over help none = answers_fail v c go at pending running r asks a new f reported w rep is over help none
+        → new.present.help ≡ v.present.help → new.pending ≡ w → Answers v r a new
+    passes_refused a new f w ends is help none = answers_fail v c go at pending running r asks a new f w ends is help none
 
 -- a session whose next command comes before any prompt, by what it holds
 pub record Coming (old v : SessionValue) (x : Command) : Type 0 where
   pub same : v ≡ old
-  pub goes : goes_unprompted v.phase v.turns ≡ true
-  pub next : IsNext v.turns v.steps x
+  pub goes : goes_unprompted v.phase v.running_list ≡ true
+  pub next : IsNext v.running_list v.steps x
   pub none : v.pending ≡ []
 
-pub coming : (old v : SessionValue) (x : Command) → v ≡ old → goes_unprompted old.phase old.turns ≡ true → old.pending ≡ [] → ((d : Command) × IsNext old.turns old.steps d) →
-    next_command v.turns v.steps ≡ Some x → Coming old v x
+pub coming : (old v : SessionValue) (x : Command) → v ≡ old → goes_unprompted old.phase old.running_list ≡ true → old.pending ≡ [] → ((d : Command) × IsNext old.running_list old.steps d) →
+    next_command v.running_list v.steps ≡ Some x → Coming old v x
 coming old v x same goes none next is = record {
   same = same;
-  goes = ap (λ u. goes_unprompted u.phase u.turns) same ∙ goes;
-  next = is_next v.turns v.steps next.0 x (subst (λ u. IsNext u.turns u.steps next.0) (sym same) next.1) is;
+  goes = ap (λ u. goes_unprompted u.phase u.running_list) same ∙ goes;
+  next = is_next v.running_list v.steps next.0 x (subst (λ u. IsNext u.running_list u.steps next.0) (sym same) next.1) is;
   none = ap (λ u. u.pending) same ∙ none;
 }
 
@@ -281,11 +288,11 @@ gives_request old new (request.Read path) w = w
 gives_request old new (request.Write path bytes) w = w
 
 -- what the next command asks for
-asks_it : (writes : Option ℕ) (s : State) (t : Option Turns) (xs : List Step) (d : Command) → ((c : Command) × AsksFor writes s t xs c) → next_command t xs ≡ Some d → AsksFor writes s t xs d
+asks_it : (writes : Option ℕ) (s : State) (t : Option RunningList) (xs : List Step) (d : Command) → ((c : Command) × AsksFor writes s t xs c) → next_command t xs ≡ Some d → AsksFor writes s t xs d
 asks_it writes s t xs d asks next = let is = asks.1.next.comes in let same : asks.0 ≡ d = cc in subst (AsksFor writes s t xs) same asks.1
 
 -- a session that waits has a command that asks
-pub waiting_keeps : (p : Phase) (writes : Option ℕ) (s : State) (t : Option Turns) (xs : List Step) (pending : List ℕ) → p ≡ phases.Waiting → KeepsPhase p writes s t xs pending →
+pub waiting_keeps : (p : Phase) (writes : Option ℕ) (s : State) (t : Option RunningList) (xs : List Step) (pending : List ℕ) → p ≡ phases.Waiting → KeepsPhase p writes s t xs pending →
     ((c : Command) × AsksFor writes s t xs c) × (pending ≡ [])
 waiting_keeps p writes s t xs pending e keeps = subst (λ q. KeepsPhase q writes s t xs pending) e keeps
 
@@ -293,19 +300,19 @@ waiting_keeps p writes s t xs pending e keeps = subst (λ q. KeepsPhase q writes
 pub record Awaiting (old v : SessionValue) (writes : Option ℕ) (x : Command) : Type 0 where
   pub same : v ≡ old
   pub at : v.phase ≡ phases.Waiting
-  pub asks : AsksFor writes v.present.state v.turns v.steps x
+  pub asks : AsksFor writes v.present.state v.running_list v.steps x
   pub none : v.pending ≡ []
 
 pub awaiting : (old v : SessionValue) (writes : Option ℕ) (x : Command) → v ≡ old → old.phase ≡ phases.Waiting →
-    KeepsPhase v.phase writes v.present.state v.turns v.steps v.pending → next_command v.turns v.steps ≡ Some x → Awaiting old v writes x
+    KeepsPhase v.phase writes v.present.state v.running_list v.steps v.pending → next_command v.running_list v.steps ≡ Some x → Awaiting old v writes x
 awaiting old v writes x same waiting held next =
     let at : v.phase ≡ phases.Waiting = ap (λ u. u.phase) same ∙ waiting in
-    let keeps = waiting_keeps v.phase writes v.present.state v.turns v.steps v.pending at held in
-    record { same = same; at = at; asks = asks_it writes v.present.state v.turns v.steps x keeps.0 next; none = keeps.1 }
+    let keeps = waiting_keeps v.phase writes v.present.state v.running_list v.steps v.pending at held in
+    record { same = same; at = at; asks = asks_it writes v.present.state v.running_list v.steps x keeps.0 next; none = keeps.1 }
 
 module _ {old v : SessionValue} {writes : Option ℕ} {x : Command} (w : Awaiting old v writes x) where
-  goes_then : goes_unprompted v.phase v.turns ≡ true
-  goes_then = ap (λ p. goes_unprompted p v.turns) w.at
+  goes_then : goes_unprompted v.phase v.running_list ≡ true
+  goes_then = ap (λ p. goes_unprompted p v.running_list) w.at
 
   pub awaits_asked : (r : Request) → command v.present.state x None ≡ Ok (Asks r) → awaited old ≡ Some r
   awaits_asked r asks = subst (λ u. awaited u ≡ Some r) w.same (passes_awaited v x goes_then w.asks.next w.none r asks)
@@ -319,13 +326,13 @@ module _ {old v : SessionValue} {writes : Option ℕ} {x : Command} (w : Awaitin
       subst (λ u. IfSome (awaited u) (λ q. Answers u q a new)) w.same (rw (passes_awaited v x goes_then w.asks.next w.none w.asks.request w.asks.asks) answers)
 
   pub takes_answer : (a : Answer) (new : SessionValue) (o : Outcome) (output : List ℕ) → command v.present.state x (Some a) ≡ Ok (Makes o) → output ≡ o.output
-      → new.phase ≡ phases.Between → new.turns ≡ turns_after v.turns → new.steps ≡ steps_after v.turns v.steps → new.fault ≡ v.fault → new.present ≡ turned x.verb (with_state o.state v.present)
+      → new.phase ≡ phases.Between → new.running_list ≡ running_after v.running_list → new.steps ≡ steps_after v.running_list v.steps → new.fault ≡ v.fault → new.present ≡ turned x.verb (with_state o.state v.present)
       → new.pending ≡ output ++ counted v.present.silent (length_counted writes a) → IfSome (awaited old) (λ q. Answers old q a new)
-  takes_answer a new o output done is now turns left fault present pending =
-      if_awaited a new (passes_answered v x goes_then w.asks.next w.none w.asks.request w.asks.asks a new o output writes w.asks.writes_it done is now turns left fault present pending)
+  takes_answer a new o output done is now list_same left fault present pending =
+      if_awaited a new (passes_answered v x goes_then w.asks.next w.none w.asks.request w.asks.asks a new o output writes w.asks.writes_it done is now list_same left fault present pending)
 
-  pub fails_answer : (a : Answer) (new : SessionValue) (f reported : Fault) (told : List ℕ) → Reported v.present.help f reported told
+  pub fails_answer : (a : Answer) (new : SessionValue) (f : Fault) (told : List ℕ) → EndsBy v.present.help f new.phase told
       → (f ≢ fault.Memory → (command v.present.state x (Some a) ≡ Err f) ⊎ ((f ≡ fault.File) × ((q : Request) × (command v.present.state x (Some a) ≡ Ok (Asks q)))))
-      → new.phase ≡ phases.Over (Err reported) → new.present.help ≡ v.present.help → new.pending ≡ told → IfSome (awaited old) (λ q. Answers old q a new)
-  fails_answer a new f reported told rep is over help pending =
-      if_awaited a new (passes_refused v x goes_then w.asks.next w.none w.asks.request w.asks.asks a new f reported told rep is over help pending)
+      → new.present.help ≡ v.present.help → new.pending ≡ told → IfSome (awaited old) (λ q. Answers old q a new)
+  fails_answer a new f told ends is help pending =
+      if_awaited a new (passes_refused v x goes_then w.asks.next w.none w.asks.request w.asks.asks a new f told ends is help pending)

@@ -9,6 +9,6 @@ mod Commanding
 mod Starting
 mod Working
 mod AgendaLemmas
-mod Turned
+mod RunningLists
 mod Causes
-mod Turning
+mod Rounds

@@ -9,7 +9,7 @@ use Rattle.ed_syntax.specs.declared.request.Answer.TheVariants as answer
 use Rattle.ed_syntax.specs.declared.request.Request.{Request}
 use Rattle.ed_syntax.specs.declared.request.Request.TheVariants as request
 use Rattle.ed_session.specs.Drives.{Log, AllFit, added, fits}
-use Rattle.ed_session.specs.Turns.{Raises}
+use Rattle.ed_session.specs.Rounds.{Raises}
 
 -- what a longer log has more
 pub added_is : (old new : Log) (x : Log) → new ≡ old ++ x → added old new ≡ x

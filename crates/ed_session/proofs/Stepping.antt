@@ -1,5 +1,5 @@
 -- What a step of the script, its prompt and its end do to a run, whatever they are.
-use Rattle.std.proofs.Common.{◌≡◌, ℕ, zero, suc, List, [], ◌∷◌, Bool, true, false, Option, Some, None, Result, Ok, Err, refl, sym, append-nil}
+use Rattle.std.proofs.Common.{◌≡◌, ℕ, zero, suc, List, [], ◌∷◌, Bool, true, false, Option, Some, None, Result, Ok, Err, refl, sym, subst, append-nil}
 use Rattle.ed_base.specs.declared.fault.Fault.{Fault}
 use Rattle.ed_base.specs.declared.fault.Fault.TheVariants as fault
 use Rattle.ed_syntax.specs.declared.request.Answer.{Answer}
@@ -15,9 +15,11 @@ use Rattle.ed_syntax.specs.meaning.Globals.{flags, opened, closed, next_taken}
 use Rattle.ed_syntax.specs.meaning.Runs.{Further, answered, asking, turned, one, with_state, listed, turn, turns, global, step_by, step, steps, unprompted, prompted, at_end, start, started}
 use Rattle.ed_session.specs.declared.phase.Phase.{Phase}
 use Rattle.ed_session.specs.declared.phase.Phase.TheVariants as phases
-use Rattle.ed_commands.specs.Editors.{is_global}
-use Rattle.ed_session.specs.Insides.{is_alone, quits, quits_anyway}
-use Rattle.ed_session.specs.Sessions.{SessionValue, Turns, rest, rest_at, go_on, go_on_prompted, go_on_unprompted, is_over}
+use Rattle.ed_syntax.specs.declared.verbs.Ends.TheVariants as ends
+use Rattle.ed_syntax.specs.meaning.Verbs.{takes, is_global}
+use Rattle.ed_session.specs.Agendas.{first_command, next_command}
+use Rattle.ed_session.specs.Insides.{is_alone}
+use Rattle.ed_session.specs.Sessions.{SessionValue, RunningList, rest, rest_at, go_on, go_on_prompted, go_on_unprompted, is_over}
 
 -- a step ends the run, or its command is asked and answered, and in a global command its list is run
 pub data StepIs (x : Step) (m : Present) (go : Further) (answers : List Answer) : Progress → Type 0 where
@@ -42,19 +44,40 @@ verb_one (ed.Global sense pattern) x m go answers h = cc
 verb_one verb x m go answers h = refl
 
 -- `Q` ends the run, and `q` as the end of the script does
-verb_ends : (verb : Verb) (x : Step) (m : Present) (go : Further) (answers : List Answer) → quits_anyway verb ≡ true → step_by verb x m go answers ≡ ending m
+verb_ends : (verb : Verb) (x : Step) (m : Present) (go : Further) (answers : List Answer) → (takes verb).ends ≡ Some ends.Anyway → step_by verb x m go answers ≡ ending m
 verb_ends ed.QuitAnyway x m go answers h = refl
 verb_ends verb x m go answers h = cc
 
-pub step_ends : (x : Step) (m : Present) (go : Further) (answers : List Answer) → quits_anyway x.command.verb ≡ true → step x m go answers ≡ ending m
+step_ends : (x : Step) (m : Present) (go : Further) (answers : List Answer) → (takes x.command.verb).ends ≡ Some ends.Anyway → step x m go answers ≡ ending m
 step_ends x m go answers h = verb_ends x.command.verb x m go answers h
 
-verb_quits : (verb : Verb) (x : Step) (m : Present) (go : Further) (answers : List Answer) → quits verb ≡ true → step_by verb x m go answers ≡ quitting m
+verb_quits : (verb : Verb) (x : Step) (m : Present) (go : Further) (answers : List Answer) → (takes verb).ends ≡ Some ends.AsScript → step_by verb x m go answers ≡ quitting m
 verb_quits ed.Quit x m go answers h = refl
 verb_quits verb x m go answers h = cc
 
-pub step_quits : (x : Step) (m : Present) (go : Further) (answers : List Answer) → quits x.command.verb ≡ true → step x m go answers ≡ quitting m
+step_quits : (x : Step) (m : Present) (go : Further) (answers : List Answer) → (takes x.command.verb).ends ≡ Some ends.AsScript → step x m go answers ≡ quitting m
 step_quits x m go answers h = verb_quits x.command.verb x m go answers h
+
+-- what comes next ends the run so
+first_quits : (xs : List Step) (c : Command) (bad : Option ℕ) (m : Present) (answers : List Answer) → first_command xs ≡ Some c → (takes c.verb).ends ≡ Some ends.AsScript
+    → unprompted xs bad m answers ≡ quitting m
+first_quits [] c bad m answers e is = cc
+first_quits (x ∷ xs) c bad m answers e is = let same : x.command ≡ c = cc in step_quits x m (steps xs bad) answers (rw same is)
+
+first_ends : (xs : List Step) (c : Command) (bad : Option ℕ) (m : Present) (answers : List Answer) → first_command xs ≡ Some c → (takes c.verb).ends ≡ Some ends.Anyway
+    → unprompted xs bad m answers ≡ ending m
+first_ends [] c bad m answers e is = cc
+first_ends (x ∷ xs) c bad m answers e is = let same : x.command ≡ c = cc in step_ends x m (steps xs bad) answers (rw same is)
+
+module _ (old v : SessionValue) (c : Command) (same : v ≡ old) (at : old.phase ≡ phases.Prompted) (outside : old.running_list ≡ None) (next : next_command v.running_list v.steps ≡ Some c) where
+  first : first_command old.steps ≡ Some c
+  first = subst (λ t. next_command t old.steps ≡ Some c) outside (subst (λ u. next_command u.running_list u.steps ≡ Some c) same next)
+
+  pub next_quits : (takes c.verb).ends ≡ Some ends.AsScript → (answers : List Answer) → rest old answers ≡ quitting old.present
+  next_quits is answers = rw (at, outside) (first_quits old.steps c old.fault old.present answers first is)
+
+  pub next_ends : (takes c.verb).ends ≡ Some ends.Anyway → (answers : List Answer) → rest old answers ≡ ending old.present
+  next_ends is answers = rw (at, outside) (first_ends old.steps c old.fault old.present answers first is)
 
 verb_lists : (verb : Verb) (x : Step) (m : Present) (go : Further) (answers : List Answer) → is_global verb ≡ true
     → step_by verb x m go answers ≡ one x.command m (λ t. global (kept m.state) x.list t go) answers
@@ -126,7 +149,7 @@ turns_open (suc lines) list m go answers h =
     turn_opens m.help (next_taken m.state) (λ s. listed list (with_state s m) (λ t. turns lines list t go)) (go (with_state (closed m.state) m)) answers
     (λ s. listed_opens list (with_state s m) (λ t. turns lines list t go) answers (λ t. turns_open lines list t go answers h)) (h (with_state (closed m.state) m))
 
-go_on_opens : (t : Option Turns) (outside script : Further) (m : Present) (answers : List Answer) → ((n : Present) → Opens n.help (outside n answers)) → ((n : Present) → Opens n.help (script n answers))
+go_on_opens : (t : Option RunningList) (outside script : Further) (m : Present) (answers : List Answer) → ((n : Present) → Opens n.help (outside n answers)) → ((n : Present) → Opens n.help (script n answers))
     → Opens m.help (go_on t outside script m answers)
 go_on_opens None outside script m answers h k = h m
 go_on_opens (Some t) outside script m answers h k =
@@ -143,18 +166,18 @@ start_opens None m go answers h = h m
 start_opens (Some path) m go [] h = refl
 start_opens (Some path) m go (a ∷ answers) h = refl
 
-pub prompted_left_opens : (t : Option Turns) (xs : List Step) (bad : Option ℕ) (m : Present) (answers : List Answer) → Opens m.help (go_on_prompted t xs bad m answers)
+pub prompted_left_opens : (t : Option RunningList) (xs : List Step) (bad : Option ℕ) (m : Present) (answers : List Answer) → Opens m.help (go_on_prompted t xs bad m answers)
 prompted_left_opens t xs bad m answers = go_on_opens t (steps xs bad) (steps xs bad) m answers (λ n. steps_open xs bad n answers) (λ n. steps_open xs bad n answers)
 
-unprompted_left_opens : (t : Option Turns) (xs : List Step) (bad : Option ℕ) (m : Present) (answers : List Answer) → Opens m.help (go_on_unprompted t xs bad m answers)
+unprompted_left_opens : (t : Option RunningList) (xs : List Step) (bad : Option ℕ) (m : Present) (answers : List Answer) → Opens m.help (go_on_unprompted t xs bad m answers)
 unprompted_left_opens t xs bad m answers = go_on_opens t (unprompted xs bad) (steps xs bad) m answers (λ n. unprompted_opens xs bad n answers) (λ n. steps_open xs bad n answers)
 
 at_opens : (p : Phase) (v : SessionValue) (answers : List Answer) → is_over p ≡ false → Opens v.present.help (rest_at p v answers)
 at_opens (phases.Fresh path) v answers h =
-    start_opens path v.present (go_on_prompted v.turns v.steps v.fault) answers (λ t. prompted_left_opens v.turns v.steps v.fault t answers)
-at_opens phases.Between v answers h = prompted_left_opens v.turns v.steps v.fault v.present answers
-at_opens phases.Prompted v answers h = unprompted_left_opens v.turns v.steps v.fault v.present answers
-at_opens phases.Waiting v answers h = unprompted_left_opens v.turns v.steps v.fault v.present answers
+    start_opens path v.present (go_on_prompted v.running_list v.steps v.fault) answers (λ t. prompted_left_opens v.running_list v.steps v.fault t answers)
+at_opens phases.Between v answers h = prompted_left_opens v.running_list v.steps v.fault v.present answers
+at_opens phases.Prompted v answers h = unprompted_left_opens v.running_list v.steps v.fault v.present answers
+at_opens phases.Waiting v answers h = unprompted_left_opens v.running_list v.steps v.fault v.present answers
 at_opens (phases.Over result) v answers h = cc
 
 -- memory may run out in a session that isn't over
@@ -208,7 +231,7 @@ turns_quiet (suc lines) list go h m =
     turn_quiet (next_taken m.state) (λ s. listed list (with_state s m) (λ t. turns lines list t go)) (go (with_state (closed m.state) m))
     (λ s. listed_quiet list (λ t. turns lines list t go) (turns_quiet lines list go h) (with_state s m)) (h (with_state (closed m.state) m))
 
-go_on_quiet : (t : Option Turns) (outside script : Further) → Quiet outside → Quiet script → Quiet (go_on t outside script)
+go_on_quiet : (t : Option RunningList) (outside script : Further) → Quiet outside → Quiet script → Quiet (go_on t outside script)
 go_on_quiet None outside script h k m = h m
 go_on_quiet (Some t) outside script h k m = listed_quiet t.left (λ n. turns t.lines t.list n script) (turns_quiet t.lines t.list script k) m
 
@@ -235,17 +258,17 @@ start_quiet : (path : Option (List ℕ)) (m : Present) (go : Further) → Quiet 
 start_quiet None m go h = h m
 start_quiet (Some path) m go h = refl
 
-prompted_left_quiet : (t : Option Turns) (xs : List Step) (bad : Option ℕ) → Quiet (go_on_prompted t xs bad)
+prompted_left_quiet : (t : Option RunningList) (xs : List Step) (bad : Option ℕ) → Quiet (go_on_prompted t xs bad)
 prompted_left_quiet t xs bad = go_on_quiet t (steps xs bad) (steps xs bad) (steps_quiet xs bad) (steps_quiet xs bad)
 
-unprompted_left_quiet : (t : Option Turns) (xs : List Step) (bad : Option ℕ) → Quiet (go_on_unprompted t xs bad)
+unprompted_left_quiet : (t : Option RunningList) (xs : List Step) (bad : Option ℕ) → Quiet (go_on_unprompted t xs bad)
 unprompted_left_quiet t xs bad = go_on_quiet t (unprompted xs bad) (steps xs bad) (unprompted_quiet xs bad) (steps_quiet xs bad)
 
 at_quiet : (p : Phase) (v : SessionValue) → asked_of (rest_at p v []) ≡ []
-at_quiet (phases.Fresh path) v = start_quiet path v.present _ (prompted_left_quiet v.turns v.steps v.fault)
-at_quiet phases.Between v = prompted_left_quiet v.turns v.steps v.fault v.present
-at_quiet phases.Prompted v = unprompted_left_quiet v.turns v.steps v.fault v.present
-at_quiet phases.Waiting v = unprompted_left_quiet v.turns v.steps v.fault v.present
+at_quiet (phases.Fresh path) v = start_quiet path v.present _ (prompted_left_quiet v.running_list v.steps v.fault)
+at_quiet phases.Between v = prompted_left_quiet v.running_list v.steps v.fault v.present
+at_quiet phases.Prompted v = unprompted_left_quiet v.running_list v.steps v.fault v.present
+at_quiet phases.Waiting v = unprompted_left_quiet v.running_list v.steps v.fault v.present
 at_quiet (phases.Over result) v = refl
 
 pub rest_quiet : (v : SessionValue) → asked_of (rest v []) ≡ []

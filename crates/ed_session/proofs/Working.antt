@@ -5,13 +5,13 @@ use Rattle.std.proofs.lemmas.List.{length-drop}
 use Rattle.ed_syntax.specs.Commands.{Command, Step}
 use Rattle.ed_session.specs.declared.phase.Phase.{Phase}
 use Rattle.ed_session.specs.declared.phase.Phase.TheVariants as phases
-use Rattle.ed_session.specs.Sessions.{SessionValue, Turns, is_over}
-use Rattle.ed_session.specs.Agendas.{first_listed, first_list, next_command, turns_after, steps_after, turn_taken}
-use Rattle.ed_session.specs.Work.{phase_work, pending_work, work, lines_work, turns_work, step_work, steps_work}
+use Rattle.ed_session.specs.Sessions.{SessionValue, RunningList, is_over}
+use Rattle.ed_session.specs.Agendas.{first_listed, first_list, next_command, running_after, steps_after, list_again}
+use Rattle.ed_session.specs.Work.{phase_work, pending_work, work, lines_work, running_work, step_work, steps_work}
 
 -- what is left of a global command, and of the script after it
-abbrev pub both_work : Option Turns → List Step → ℕ
-both_work t xs = turns_work t + steps_work xs
+abbrev pub both_work : Option RunningList → List Step → ℕ
+both_work t xs = running_work t + steps_work xs
 
 step_some : (x : Step) → 2 ≤ step_work x
 unfolding step_work
@@ -26,7 +26,7 @@ stepped_less [] c e = cc
 stepped_less (x ∷ xs) c e = omega (arith, step_some x)
 
 -- the next command was done
-pub passed_less : (t : Option Turns) (xs : List Step) (c : Command) → next_command t xs ≡ Some c → both_work (turns_after t) (steps_after t xs) + 1 ≤ both_work t xs
+pub passed_less : (t : Option RunningList) (xs : List Step) (c : Command) → next_command t xs ≡ Some c → both_work (running_after t) (steps_after t xs) + 1 ≤ both_work t xs
 passed_less None xs c e = omega (arith, stepped_less xs c e)
 passed_less (Some t) xs c e = omega (arith, listed_some t.left c e)
 
@@ -46,7 +46,7 @@ opened_less [] c lines e h = cc
 opened_less (x ∷ xs) c lines e h = omega (arith, more_lines lines (2 ^ 64) (length x.list) (omega arith))
 
 -- a line was taken
-pub repeated_less : (t : Turns) (xs : List Step) → 0 < t.lines → both_work (Some (turn_taken t)) xs + 1 ≤ both_work (Some t) xs
+pub repeated_less : (t : RunningList) (xs : List Step) → 0 < t.lines → both_work (Some (list_again t)) xs + 1 ≤ both_work (Some t) xs
 repeated_less t xs h = omega (arith, one_line t.lines (length t.list) h)
 
 phase_some : (p : Phase) → is_over p ≡ false → 1 ≤ phase_work p
@@ -61,21 +61,21 @@ pending_few [] = omega arith
 pending_few (b ∷ bytes) = omega arith
 
 -- what is left to do in a phase
-abbrev pub left_at : Phase → Option Turns → List Step → List ℕ → ℕ
+abbrev pub left_at : Phase → Option RunningList → List Step → List ℕ → ℕ
 left_at p t xs pending = phase_work p + 4 * both_work t xs + pending_work pending
 
 -- where less is left of the script and of an open global command, less is left to do, whatever was written
-pub works_or_writes : (v : SessionValue) (t : Option Turns) (xs : List Step) (pending : List ℕ) → is_over v.phase ≡ false → both_work t xs + 1 ≤ both_work v.turns v.steps
+pub works_or_writes : (v : SessionValue) (t : Option RunningList) (xs : List Step) (pending : List ℕ) → is_over v.phase ≡ false → both_work t xs + 1 ≤ both_work v.running_list v.steps
     → left_at phases.Between t xs pending ≤ work v
 works_or_writes v t xs pending running less = omega (arith, phase_some v.phase running, pending_few pending)
 
-pub works_less : (v : SessionValue) (t : Option Turns) (xs : List Step) (pending : List ℕ) → is_over v.phase ≡ false → pending ≡ [] → both_work t xs + 1 ≤ both_work v.turns v.steps
+pub works_less : (v : SessionValue) (t : Option RunningList) (xs : List Step) (pending : List ℕ) → is_over v.phase ≡ false → pending ≡ [] → both_work t xs + 1 ≤ both_work v.running_list v.steps
     → left_at phases.Between t xs pending < work v
 works_less v t xs pending running none less =
     let nothing : pending_work pending ≡ 0 = ap pending_work none in
     omega (arith, phase_some v.phase running)
 
-pub works_same : (v : SessionValue) (p : Phase) (t : Option Turns) (xs : List Step) (pending : List ℕ) → p ≡ v.phase → pending ≡ v.pending → both_work t xs + 1 ≤ both_work v.turns v.steps
+pub works_same : (v : SessionValue) (p : Phase) (t : Option RunningList) (xs : List Step) (pending : List ℕ) → p ≡ v.phase → pending ≡ v.pending → both_work t xs + 1 ≤ both_work v.running_list v.steps
     → left_at p t xs pending < work v
 works_same v p t xs pending same none less =
     let phase : phase_work p ≡ phase_work v.phase = ap phase_work same in

@@ -3,12 +3,12 @@ use Rattle.std.specs.Prelude.{ℕ, ◌<◌, ◌≤◌, ◌-◌, List, [], ◌∷
 use Rattle.ed_syntax.specs.Commands.{Command, Step}
 use Rattle.ed_syntax.specs.PublicTypes.{steps_value}
 use Rattle.ed_syntax.specs.declared.command.Command as rust
-use Rattle.ed_session.specs.declared.agenda.Turns as counted
-use Rattle.ed_session.specs.Sessions.{Turns}
+use Rattle.ed_session.specs.declared.agenda.Countdown as counted
+use Rattle.ed_session.specs.Sessions.{RunningList}
 
 -- what is left of a global command that is open, and then of the script
 pub record AgendaValue : Type 0 where
-  pub turns : Option Turns
+  pub running_list : Option RunningList
   pub steps : List Step
 
 -- the list of the first step
@@ -25,15 +25,15 @@ abbrev pub last_of : ℕ → List Command → List Command
 last_of n list = drop (length list - n) list
 
 -- what is left of the global command that is open
-abbrev pub turns_at : List rust.Command → counted.Turns → Turns
-turns_at commands t = let list = list_at commands t.global in record { left = last_of t.left list; list = list; lines = t.lines }
+abbrev pub running_at : List rust.Command → counted.Countdown → RunningList
+running_at commands t = let list = list_at commands t.global in record { left = last_of t.left list; list = list; lines = t.lines }
 
 -- the same, if one is
-abbrev pub turns_of : List rust.Command → Option counted.Turns → Option Turns
-turns_of commands turns = option_map (turns_at commands) turns
+abbrev pub running_of : List rust.Command → Option counted.Countdown → Option RunningList
+running_of commands running = option_map (running_at commands) running
 
 -- the global command is one of these, and no more of its list is left than there is
-abbrev pub IsWithin : List rust.Command → Option counted.Turns → Type 0
+abbrev pub IsWithin : List rust.Command → Option counted.Countdown → Type 0
 IsWithin commands None = Unit {0}
 IsWithin commands (Some t) = (t.global < length commands) × (t.left ≤ length (list_at commands t.global))
 
@@ -48,37 +48,37 @@ first_command [] = None
 first_command (x ∷ steps) = Some x.command
 
 -- the next command: in a global command that of its list
-abbrev pub next_command : Option Turns → List Step → Option Command
+abbrev pub next_command : Option RunningList → List Step → Option Command
 next_command None steps = first_command steps
 next_command (Some t) steps = first_listed t.left
 
 -- what is left of an open global command after the next command
-abbrev pub turns_after : Option Turns → Option Turns
-turns_after None = None
-turns_after (Some t) = Some (record t { left = drop 1 t.left })
+abbrev pub running_after : Option RunningList → Option RunningList
+running_after None = None
+running_after (Some t) = Some (record t { left = drop 1 t.left })
 
 -- what is left of the script after it
-abbrev pub steps_after : Option Turns → List Step → List Step
+abbrev pub steps_after : Option RunningList → List Step → List Step
 steps_after None steps = drop 1 steps
 steps_after (Some t) steps = steps
 
 -- the next command is done
 abbrev pub passed : AgendaValue → AgendaValue
-passed a = record { turns = turns_after a.turns; steps = steps_after a.turns a.steps }
+passed a = record { running_list = running_after a.running_list; steps = steps_after a.running_list a.steps }
 
 -- the first step is a global command, which is open for at most so many lines; none was taken yet
 abbrev pub opened_for : (lines : ℕ) → AgendaValue → AgendaValue
-opened_for lines a = record { turns = Some (record { left = []; list = first_list a.steps; lines = lines }); steps = drop 1 a.steps }
+opened_for lines a = record { running_list = Some (record { left = []; list = first_list a.steps; lines = lines }); steps = drop 1 a.steps }
 
 -- for how many lines more the list is run at most
-abbrev pub lines_of : Option Turns → ℕ
+abbrev pub lines_of : Option RunningList → ℕ
 lines_of None = 0
 lines_of (Some t) = t.lines
 
 -- the list from its beginning, for a line that was taken
-abbrev pub turn_taken : Turns → Turns
-turn_taken t = record { left = t.list; list = t.list; lines = t.lines - 1 }
+abbrev pub list_again : RunningList → RunningList
+list_again t = record { left = t.list; list = t.list; lines = t.lines - 1 }
 
 -- the list is run for one line more
 abbrev pub repeated : AgendaValue → AgendaValue
-repeated a = record a { turns = option_map turn_taken a.turns }
+repeated a = record a { running_list = option_map list_again a.running_list }

@@ -1,6 +1,5 @@
 -- What driving a session to its end has done: the files that were asked for, the output that was written, and the end.
-use Rattle.std.specs.Prelude.{ℕ, ◌≡◌, ◌<◌, ◌++◌, ◌⊎◌, List, [], ◌∷◌, length, map, drop, All, Bool, true, false, Option, Some, Result, Err}
-use Rattle.std.specs.Io.KnownBytes.{Appends}
+use Rattle.std.specs.Prelude.{ℕ, ◌≡◌, ◌<◌, ◌++◌, ◌⊎◌, List, [], ◌∷◌, length, map, drop, All, Bool, true, false, Some, Result, Err}
 use Rattle.ed_base.specs.declared.fault.Fault.{Fault}
 use Rattle.ed_base.specs.declared.fault.Fault.TheVariants.{Memory, Output, File}
 use Rattle.ed_syntax.specs.declared.request.Answer.{Answer}
@@ -13,7 +12,7 @@ use Rattle.ed_session.specs.declared.phase.Phase.{Phase}
 use Rattle.ed_session.specs.declared.phase.Phase.TheVariants as phases
 use Rattle.ed_session.specs.Sessions.{SessionValue, rest, is_over}
 use Rattle.ed_session.specs.Calls.{written}
-use Rattle.ed_session.specs.Sinks.{GoesOnAfter}
+use Rattle.ed_session.specs.Sinks.{SinkChange, Took, NeverFailed, Failed, GoesOnAfter}
 
 -- the requests to an outside with their answers, the oldest first
 abbrev pub Log : Type 0
@@ -43,17 +42,17 @@ abbrev pub AllFit : Log → Type 0
 AllFit log = All (λ entry. fits entry.0 entry.1 ≡ true) log
 
 -- the run with these answers has asked just these requests and has ended, and its output was written
-pub record Finished (from : SessionValue) (log : Log) (old new : Option (List ℕ)) (result : Result Ending Fault) : Type 0 where
+pub record Finished (from : SessionValue) (log : Log) (sink : SinkChange) (result : Result Ending Fault) : Type 0 where
   pub asked : asked_of (rest from (answers log)) ≡ requests log
   pub ended : stop_of (rest from (answers log)) ≡ Ends result
-  pub wrote : Appends old new (from.pending ++ output_of (rest from (answers log)))
+  pub wrote : Took sink (from.pending ++ output_of (rest from (answers log)))
 
 -- memory ran out at one of its steps, and the output of the run cut there was written
-pub record RanOut (from : SessionValue) (log : Log) (old new : Option (List ℕ)) : Type 0 where
+pub record RanOut (from : SessionValue) (log : Log) (sink : SinkChange) : Type 0 where
   pub running : is_over from.phase ≡ false
   pub output : List ℕ
   pub cut : RunsOut (rest from (answers log)) output (requests log)
-  pub wrote : Appends old new (from.pending ++ output)
+  pub wrote : Took sink (from.pending ++ output)
 
 -- what a run writes in its first steps, where in all its steps it asks just these requests
 pub record Begun (run : Progress) (asked : List Request) (output : List ℕ) : Type 0 where
@@ -64,20 +63,19 @@ pub record Begun (run : Progress) (asked : List Request) (output : List ℕ) : T
   pub wrote : written events ≡ output
 
 -- the sink failed: it took a front of what the run or the run cut has written by then, and not all of it
-pub record CutOff (from : SessionValue) (log : Log) (old new : Option (List ℕ)) : Type 0 where
+pub record CutOff (from : SessionValue) (log : Log) (sink : SinkChange) : Type 0 where
   pub output : List ℕ
   pub run : Begun (rest from (answers log)) (requests log) output ⊎ RunsOut (rest from (answers log)) output (requests log)
   pub part : List ℕ
   pub front : GoesOnAfter (from.pending ++ output) part
-  pub took : Appends old new part
+  pub took : Took sink part
 
--- How a session was driven: to the end of its run, or till memory ran out, or till the sink failed. The sink's count of failures
--- rose just where it failed.
-abbrev pub Drove : SessionValue → Log → Option (List ℕ) → Option (List ℕ) → ℕ → ℕ → Result Ending Fault → Type 0
-Drove from log old new failed_before failed result =
-    (failed ≡ failed_before) × Finished from log old new result
-    ⊎ ((result ≡ Err Memory) × (failed ≡ failed_before) × RanOut from log old new
-    ⊎ (result ≡ Err Output) × (failed_before < failed) × CutOff from log old new)
+-- How a session was driven: to the end of its run, or till memory ran out, or till the sink failed, which it did just then.
+abbrev pub Drove : SessionValue → Log → SinkChange → Result Ending Fault → Type 0
+Drove from log sink result =
+    NeverFailed sink × Finished from log sink result
+    ⊎ ((result ≡ Err Memory) × NeverFailed sink × RanOut from log sink
+    ⊎ (result ≡ Err Output) × Failed sink × CutOff from log sink)
 
 -- How a session is left: over, with nothing pending. So, driven again, it asks and writes nothing and ends so again.
 pub record Closed (now : SessionValue) (result : Result Ending Fault) : Type 0 where

@@ -1,5 +1,5 @@
 -- What a session keeps inside, and what is true of it in each phase.
-use Rattle.std.specs.Prelude.{ℕ, ◌≡◌, ◌≢◌, ◌⊎◌, Bool, true, false, not, ◌||◌, List, [], ◌∷◌, ◌++◌, length, decimal, Option, Some, None, Ok}
+use Rattle.std.specs.Prelude.{ℕ, ◌≡◌, ◌≢◌, ◌⊎◌, Bool, true, false, not, ◌||◌, List, [], ◌∷◌, ◌++◌, length, decimal, Option, Some, None, Ok, Err}
 use Rattle.ed_base.specs.Lines.{newline}
 use Rattle.ed_base.specs.declared.fault.Fault.{Fault}
 use Rattle.ed_base.specs.declared.fault.Fault.TheVariants.{Memory}
@@ -14,13 +14,13 @@ use Rattle.ed_syntax.specs.meaning.Effects.{Asks}
 use Rattle.ed_syntax.specs.meaning.Files.{loaded}
 use Rattle.ed_syntax.specs.meaning.Progress.{Present, report}
 use Rattle.ed_syntax.specs.meaning.States.{State, opening}
-use Rattle.ed_commands.specs.Editors.{is_global}
+use Rattle.ed_syntax.specs.meaning.Verbs.{ends_run, is_global}
 use Rattle.ed_session.specs.declared.modes.Modes.{Modes}
 use Rattle.ed_session.specs.declared.session.Ask.{Ask}
 use Rattle.ed_session.specs.declared.session.Ask.TheVariants as ask
 use Rattle.ed_session.specs.declared.phase.Phase.{Phase}
 use Rattle.ed_session.specs.declared.phase.Phase.TheVariants as phases
-use Rattle.ed_session.specs.Sessions.{SessionValue, Turns, is_over, is_started, is_waiting}
+use Rattle.ed_session.specs.Sessions.{SessionValue, RunningList, is_over, is_started, is_waiting}
 use Rattle.ed_session.specs.Agendas.{next_command}
 use Rattle.ed_session.specs.Calls.{GoesOn, Gives}
 
@@ -44,19 +44,9 @@ abbrev pub counted : (silent : Bool) → Option ℕ → List ℕ
 counted false (Some n) = decimal n ++ newline ∷ []
 counted silent n = []
 
--- the command that ends the run whether or not changes were written
-abbrev pub quits_anyway : Verb → Bool
-quits_anyway ed.QuitAnyway = true
-quits_anyway verb = false
-
--- the command that ends the run as the end of the script does
-abbrev pub quits : Verb → Bool
-quits ed.Quit = true
-quits verb = false
-
 -- a step of these is the command alone: it neither ends the run nor runs a list
 abbrev pub is_alone : Verb → Bool
-is_alone verb = not (quits_anyway verb || quits verb || is_global verb)
+is_alone verb = not (ends_run verb || is_global verb)
 
 -- help mode after a command: `H` turns it on or off
 abbrev pub help_after : Verb → Bool → Bool
@@ -72,6 +62,12 @@ prompting_after verb prompting = prompting
 pub record Reported (help : Bool) (fault reported : Fault) (written : List ℕ) : Type 0 where
   pub which : (fault ≢ Memory) × (reported ≡ fault) ⊎ (reported ≡ Memory)
   pub wrote : written ≡ report help reported
+
+-- a run was ended by a fault or by want of memory for its report, and this is the report
+pub record EndsBy (help : Bool) (fault : Fault) (at : Phase) (written : List ℕ) : Type 0 where
+  pub reported : Fault
+  pub over : at ≡ phases.Over (Err reported)
+  pub as_reported : Reported help fault reported written
 
 -- what a step gives of some output, if there is any
 abbrev pub ask_of_output : List ℕ → Option Ask
@@ -89,29 +85,29 @@ pub record AreReady (brief full : List ℕ) : Type 0 where
   pub with_text : full ≡ report true Memory
 
 -- a command comes next, and its step is the command alone: in a list each is
-pub record IsNext (turns : Option Turns) (steps : List Step) (c : Command) : Type 0 where
-  pub comes : next_command turns steps ≡ Some c
-  pub alone : turns ≡ None → is_alone c.verb ≡ true
+pub record IsNext (running : Option RunningList) (steps : List Step) (c : Command) : Type 0 where
+  pub comes : next_command running steps ≡ Some c
+  pub alone : running ≡ None → is_alone c.verb ≡ true
 
 -- a command that comes next asks for a file, with a request that writes so many bytes or reads
-pub record AsksFor (writes : Option ℕ) (s : State) (turns : Option Turns) (steps : List Step) (c : Command) : Type 0 where
-  pub next : IsNext turns steps c
+pub record AsksFor (writes : Option ℕ) (s : State) (running : Option RunningList) (steps : List Step) (c : Command) : Type 0 where
+  pub next : IsNext running steps c
   pub request : Request
   pub asks : command s c None ≡ Ok (Asks request)
   pub writes_it : writes ≡ bytes_of_write request
 
 -- what each phase keeps
-abbrev pub KeepsPhase : Phase → (writes : Option ℕ) → State → Option Turns → List Step → List ℕ → Type 0
-KeepsPhase (phases.Fresh path) writes s turns steps pending = (s ≡ opening) × (pending ≡ [])
-KeepsPhase phases.Waiting writes s turns steps pending = ((c : Command) × AsksFor writes s turns steps c) × (pending ≡ [])
-KeepsPhase other writes s turns steps pending = Unit {0}
+abbrev pub KeepsPhase : Phase → (writes : Option ℕ) → State → Option RunningList → List Step → List ℕ → Type 0
+KeepsPhase (phases.Fresh path) writes s running steps pending = (s ≡ opening) × (pending ≡ [])
+KeepsPhase phases.Waiting writes s running steps pending = ((c : Command) × AsksFor writes s running steps c) × (pending ≡ [])
+KeepsPhase other writes s running steps pending = Unit {0}
 
 -- the next command comes before any prompt: in a list there is none
-abbrev pub goes_unprompted : Phase → Option Turns → Bool
-goes_unprompted phases.Prompted turns = true
-goes_unprompted phases.Waiting turns = true
+abbrev pub goes_unprompted : Phase → Option RunningList → Bool
+goes_unprompted phases.Prompted running = true
+goes_unprompted phases.Waiting running = true
 goes_unprompted phases.Between (Some t) = true
-goes_unprompted at turns = false
+goes_unprompted at running = false
 
 -- what an editor holds after the answer to the read of the start file
 abbrev pub state_loaded : (path : List ℕ) → Answer → Option State
@@ -120,10 +116,10 @@ state_loaded path answer.Missing = Some (loaded [] path opening)
 state_loaded path other = None
 
 -- what every session keeps: till it is over its editor hasn't failed, and its reports aren't handed out
-pub record IsSound (at : Phase) (writes : Option ℕ) (state : State) (failed : Option Fault) (turns : Option Turns) (steps : List Step) (pending brief full : List ℕ) (told : Bool) : Type 0 where
+pub record IsSound (at : Phase) (writes : Option ℕ) (state : State) (failed : Option Fault) (running : Option RunningList) (steps : List Step) (pending brief full : List ℕ) (told : Bool) : Type 0 where
   pub works : is_over at ≡ false → failed ≡ None
   pub can_report : is_over at ≡ false → AreReady brief full
-  pub keeps : KeepsPhase at writes state turns steps pending
+  pub keeps : KeepsPhase at writes state running steps pending
   pub ended : told ≡ true → (is_over at ≡ true) × (pending ≡ [])
 
 -- the run has gone on without output

@@ -12,5 +12,5 @@ pub mod Seen
 pub mod Chunks
 pub mod Agendas
 pub mod Insides
-pub mod Turns
+pub mod Rounds
 pub mod Work

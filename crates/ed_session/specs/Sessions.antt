@@ -10,7 +10,7 @@ use Rattle.ed_session.specs.declared.phase.Phase.TheVariants as phases
 
 -- What is left of a global command whose list is run: the commands of the list for the line that was taken, the whole list, and for
 -- how many lines more it is run at most.
-pub record Turns : Type 0 where
+pub record RunningList : Type 0 where
   pub left : List Command
   pub list : List Command
   pub lines : ℕ
@@ -20,7 +20,7 @@ pub record Turns : Type 0 where
 pub record SessionValue : Type 0 where
   pub phase : Phase
   pub present : Present
-  pub turns : Option Turns
+  pub running_list : Option RunningList
   pub steps : List Step
   pub fault : Option ℕ
   pub pending : List ℕ
@@ -31,7 +31,7 @@ abbrev pub made : Script → Options → SessionValue
 made script o = record {
   phase = phases.Fresh o.path;
   present = present o;
-  turns = None;
+  running_list = None;
   steps = script.steps;
   fault = script.fault;
   pending = [];
@@ -59,24 +59,24 @@ path_of (phases.Fresh path) = path
 path_of other = None
 
 -- what is left of a global command, where one is open, and then of the script; else what is left outside of one
-abbrev pub go_on : Option Turns → (outside script : Further) → Further
+abbrev pub go_on : Option RunningList → (outside script : Further) → Further
 go_on None outside script m = outside m
 go_on (Some t) outside script m = inside t.left t.lines t.list m script
 
 -- the same from before a prompt on; there are prompts only outside of a global command
-abbrev pub go_on_prompted : Option Turns → List Step → (fault : Option ℕ) → Further
-go_on_prompted turns left fault = go_on turns (steps left fault) (steps left fault)
+abbrev pub go_on_prompted : Option RunningList → List Step → (fault : Option ℕ) → Further
+go_on_prompted running left fault = go_on running (steps left fault) (steps left fault)
 
 -- the same from after a prompt on
-abbrev pub go_on_unprompted : Option Turns → List Step → (fault : Option ℕ) → Further
-go_on_unprompted turns left fault = go_on turns (unprompted left fault) (steps left fault)
+abbrev pub go_on_unprompted : Option RunningList → List Step → (fault : Option ℕ) → Further
+go_on_unprompted running left fault = go_on running (unprompted left fault) (steps left fault)
 
 -- what is left of the run from a phase on; waiting only remembers that a request was handed out
 abbrev pub rest_at : Phase → SessionValue → Rest
-rest_at (phases.Fresh path) v answers = start path v.present (go_on_prompted v.turns v.steps v.fault) answers
-rest_at phases.Between v answers = go_on_prompted v.turns v.steps v.fault v.present answers
-rest_at phases.Prompted v answers = go_on_unprompted v.turns v.steps v.fault v.present answers
-rest_at phases.Waiting v answers = go_on_unprompted v.turns v.steps v.fault v.present answers
+rest_at (phases.Fresh path) v answers = start path v.present (go_on_prompted v.running_list v.steps v.fault) answers
+rest_at phases.Between v answers = go_on_prompted v.running_list v.steps v.fault v.present answers
+rest_at phases.Prompted v answers = go_on_unprompted v.running_list v.steps v.fault v.present answers
+rest_at phases.Waiting v answers = go_on_unprompted v.running_list v.steps v.fault v.present answers
 rest_at (phases.Over result) v answers = Stops v.present.help (Ends result)
 
 -- what is left of the run after the output that is pending, for the answers to come

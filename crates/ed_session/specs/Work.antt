@@ -5,7 +5,7 @@ use Rattle.ed_session.specs.declared.session.Ask.{Ask}
 use Rattle.ed_session.specs.declared.session.Ask.TheVariants as ask
 use Rattle.ed_session.specs.declared.phase.Phase.{Phase}
 use Rattle.ed_session.specs.declared.phase.Phase.TheVariants as phases
-use Rattle.ed_session.specs.Sessions.{SessionValue, Turns}
+use Rattle.ed_session.specs.Sessions.{SessionValue, RunningList}
 
 -- what a phase still has to do
 abbrev pub phase_work : Phase → ℕ
@@ -25,9 +25,9 @@ unfoldable pub lines_work : (lines commands : ℕ) → ℕ
 lines_work lines commands = lines * (1 + commands)
 
 -- in a global command that is open: the commands for this line, the lines that are left, and the end
-abbrev pub turns_work : Option Turns → ℕ
-turns_work None = 0
-turns_work (Some t) = length t.left + lines_work t.lines (length t.list) + 1
+abbrev pub running_work : Option RunningList → ℕ
+running_work None = 0
+running_work (Some t) = length t.left + lines_work t.lines (length t.list) + 1
 
 -- a step of the script: its command and its list, for as many lines as a machine can count, and the end of that
 unfoldable pub step_work : Step → ℕ
@@ -41,7 +41,7 @@ steps_work (x ∷ steps) = step_work x + steps_work steps
 -- At most so many calls of `step` still come. One does silent commands by itself, so commands are counted and not what they
 -- do. Between two commands a prompt may come, and after it a command's output.
 abbrev pub work : SessionValue → ℕ
-work v = phase_work v.phase + 4 * (turns_work v.turns + steps_work v.steps) + pending_work v.pending
+work v = phase_work v.phase + 4 * (running_work v.running_list + steps_work v.steps) + pending_work v.pending
 
 -- a step that isn't the last leaves less to do
 abbrev pub Works : SessionValue → Ask → SessionValue → Type 0

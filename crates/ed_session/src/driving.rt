@@ -1,57 +1,43 @@
 //! The loop that runs a session to its end.
-ghost use Rattle.std.specs.Prelude.{◌≡◌, ◌≢◌, ◌<◌, ◌≤◌, ◌-◌, ◌^◌, ◌++◌, [], ◌∷◌, false, Some, Err, IfOk, OnErr};
+ghost use Rattle.std.specs.Prelude.{◌≡◌, ◌≢◌, ◌<◌, ◌≤◌, ◌-◌, ◌^◌, ◌++◌, [], true, false, Err, IfOk, IfSome, OnErr};
 ghost use Rattle.ed_session.specs.declared.phase.Phase.TheVariants as phases;
-ghost use Rattle.ed_session.specs.Sessions.{awaited};
-ghost use Rattle.ed_session.specs.Drives.{added, fits, Drove, Closed, FileRefused};
-ghost use Rattle.ed_session.specs.Turns.{Performs};
+ghost use Rattle.ed_session.specs.Sessions.{awaited, is_started, is_waiting};
+ghost use Rattle.ed_session.specs.Calls.{Answers, BreaksOff};
+ghost use Rattle.ed_session.specs.Drives.{added, Drove, Closed, FileRefused};
+ghost use Rattle.ed_session.specs.Sinks.{change, Failed};
+ghost use Rattle.ed_session.specs.Rounds.{Performs};
 ghost use Rattle.ed_session.specs.Work.{work};
 
 use crate::sink::give_pieces;
 use crate::{Ask, Outside, Session, Sink};
 use ed_base::Fault;
-use ed_syntax::{Answer, Ending, Request};
+use ed_syntax::{Answer, Ending};
 use line_store::LineStore;
 use std::alloc::AllocError;
 
-// Makes a request of the outside.
-fn ask<O: Outside>(outside: &mut O, request: &Request) -> Result<Answer, AllocError>
-    ensures logged { IfOk result (λ a. O.log outside.new ≡ O.log outside.old ++ (request.now, a) ∷ []) }
-    ensures unchanged { OnErr result
-        ((O.log outside.new ≡ O.log outside.old) × (O.failures outside.new ≡ O.failures outside.old)) }
-    ensures rises { O.failures outside.old ≤ O.failures outside.new }
-    ensures refused { IfOk result (λ a. fits request.now a ≡ false → O.failures outside.old < O.failures outside.new) }
-{
-    match request {
-        Request::Read(path) => outside.read(path.as_slice()),
-        Request::Write(path, bytes) => outside.write(path.as_slice(), bytes),
-    }
-}
-
-// Has the outside do what the session waits for, and gives it the answer.
-fn perform<S: LineStore, O: Outside>(session: &mut Session<S>, outside: &mut O, request: Request)
+// Gives a session that waits what its outside has answered; without memory for an answer its run is over.
+fn hear<S: LineStore>(session: &mut Session<S>, heard: Result<Answer, AllocError>)
     requires waiting { session.old.phase ≡ phases.Waiting }
-    requires asked { awaited session.old ≡ Some request }
     requires handed_out { session.old.pending ≡ [] }
-    ensures done { Performs session.old session.new
-        (O.log outside.old) (O.log outside.new) (O.failures outside.old) (O.failures outside.new) }
+    ensures answered { IfOk heard (λ answer. IfSome (awaited session.old) (λ request. Answers session.old request answer session.new)) }
+    ensures broke { OnErr heard (BreaksOff session.old [] [] [] session.new) }
+    ensures idle { is_waiting session.new.phase ≡ false }
+    ensures started { is_started session.new.phase ≡ true }
     ensures work { work session.new ≤ work session.old }
 {
-    match ask(outside, &request) {
+    match heard {
         Ok(answer) => session.answer(answer),
         Err(_) => session.fail_memory(),
     }
 }
 
-// Brings a session to where it can be stepped: one that is fresh gets its start file, one that waits its answer.
+// Brings a session to where it can be stepped: one that is fresh gets its start file, one that waits asks again.
 fn begin<S: LineStore, O: Outside>(session: &mut Session<S>, outside: &mut O)
     ensures begun { Performs session.old session.new
         (O.log outside.old) (O.log outside.new) (O.failures outside.old) (O.failures outside.new) }
 {
     if session.waits() {
-        match session.requested() {
-            Some(request) => perform(session, outside, request),
-            None => {}
-        }
+        session.ask_again();
         return;
     }
     if session.started() {
@@ -75,7 +61,7 @@ pub fn drive<S: LineStore, O: Outside, W: Sink>(
     outside: &mut O,
     sink: &mut W,
 ) -> Result<Ending, Fault>
-    requires count { W.failures sink.old < 2 ^ 64 - 1 }
+    requires count { (W.state sink.old).failures < 2 ^ 64 - 1 }
 
     // What was asked is added to the log, after what it had.
     ensures log { O.log outside.new ≡ O.log outside.old ++ added (O.log outside.old) (O.log outside.new) }
@@ -85,7 +71,7 @@ pub fn drive<S: LineStore, O: Outside, W: Sink>(
 
     // The run with these answers has ended so and its output was written; or memory ran out; or the sink failed.
     ensures run { Drove session.old (added (O.log outside.old) (O.log outside.new))
-        (W.taken sink.old) (W.taken sink.new) (W.failures sink.old) (W.failures sink.new) result }
+        (change (W.state sink.old) (W.state sink.new)) result }
 
     // Driven again it asks and writes nothing, and ends so again.
     ensures closed { Closed session.new result }
@@ -94,10 +80,10 @@ pub fn drive<S: LineStore, O: Outside, W: Sink>(
     ensures file_refused { result ≡ Err Fault.File →
         FileRefused session.old (added (O.log outside.old) (O.log outside.new)) (O.failures outside.old) (O.failures outside.new) }
     ensures output_refused { session.old.phase ≢ phases.Over (Err Fault.Output) → result ≡ Err Fault.Output →
-        W.failures sink.old < W.failures sink.new }
+        Failed (change (W.state sink.old) (W.state sink.new)) }
 {
     begin(session, outside);
-    'turns: loop {
+    'rounds: loop {
         match session.step() {
             Ask::Output(bytes) => {
                 if !give_pieces(sink, session.allocator(), &bytes) {
@@ -105,8 +91,8 @@ pub fn drive<S: LineStore, O: Outside, W: Sink>(
                     return Err(Fault::Output);
                 }
             }
-            Ask::Read(path) => perform(session, outside, Request::Read(path)),
-            Ask::Write(path, bytes) => perform(session, outside, Request::Write(path, bytes)),
+            Ask::Read(path) => hear(session, outside.read(path.as_slice())),
+            Ask::Write(path, bytes) => hear(session, outside.write(path.as_slice(), &bytes)),
             Ask::Ended(result) => return result,
         }
     }

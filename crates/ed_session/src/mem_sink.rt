@@ -70,9 +70,7 @@ impl MemSink {
 impl Sink for MemSink {
     ghost use Rattle.std.specs.Prelude.{Some};
 
-    ghost taken = { λ s. Some s.taken };
-
-    ghost failures = { λ s. s.failures };
+    ghost state = { λ s. record { taken = Some s.taken; failures = s.failures } };
 
     fn write(&mut self, piece: &[u8]) -> Result<usize, SinkFault>
         requires piece { 0 < length piece.now }

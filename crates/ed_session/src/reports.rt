@@ -2,8 +2,9 @@
 ghost use Rattle.std.specs.Prelude.{◌≡◌, IfOk};
 ghost use Rattle.ed_syntax.specs.meaning.Progress.{report};
 ghost use Rattle.ed_base.specs.declared.fault.Fault.TheVariants.{Memory};
-ghost use Rattle.ed_session.specs.Insides.{AreReady, Reported};
+ghost use Rattle.ed_session.specs.Insides.{AreReady, EndsBy, Reported};
 
+use crate::phase::Phase;
 use ed_base::{Bytes, Fault, Pieces};
 use std::alloc::{AllocError, Global};
 use std::mem;
@@ -41,8 +42,8 @@ impl Reports {
         })
     }
 
-    /// The report that memory ran out. It takes none.
-    pub(crate) fn of_memory(&mut self, help: bool) -> Pieces
+    // The report that memory ran out. It takes none.
+    fn of_memory(&mut self, help: bool) -> Pieces
         requires ready { AreReady self.old.brief self.old.full }
         ensures value { result ≡ report help Memory }
     {
@@ -55,8 +56,8 @@ impl Reports {
         Pieces::from_bytes(self.alloc, written)
     }
 
-    /// The report of a fault that ends a run, and that fault; where there is no memory for it, those of `Fault::Memory`.
-    pub(crate) fn ending(&mut self, help: bool, fault: Fault) -> (Fault, Pieces)
+    // A fault and its report; where there is no memory for it, those of `Fault::Memory`.
+    fn reported(&mut self, help: bool, fault: Fault) -> (Fault, Pieces)
         requires ready { AreReady self.old.brief self.old.full }
         ensures value { Reported help fault result.0 result.1 }
     {
@@ -68,5 +69,15 @@ impl Reports {
                 Err(_) => (Fault::Memory, self.of_memory(true)),
             },
         }
+    }
+
+    /// Ends a run by a fault, and gives its report; where there is no memory for that, both are those of `Fault::Memory`.
+    pub(crate) fn end(&mut self, phase: &mut Phase, help: bool, fault: Fault) -> Pieces
+        requires ready { AreReady self.old.brief self.old.full }
+        ensures ended { EndsBy help fault phase.new result }
+    {
+        let (fault, report) = self.reported(help, fault);
+        *phase = Phase::Over(Err(fault));
+        report
     }
 }

@@ -14,7 +14,7 @@ use crate::phase::Phase;
 use crate::reports::Reports;
 use ed_base::{Bytes, Fault, Pieces};
 use ed_commands::{Editor, Reply};
-use ed_syntax::{Answer, Ending, Options, Request, Script};
+use ed_syntax::{Answer, Ending, Options, Script};
 use line_store::LineStore;
 use std::alloc::{AllocError, Global};
 use std::marker::Model;
@@ -66,14 +66,14 @@ impl<S: LineStore> Model for Session<S> {
     ghost view = { λ s. record {
       phase = s.phase;
       present = holding s.silent s.editor.state s.modes s.prompt;
-      turns = s.agenda.turns;
+      running_list = s.agenda.running_list;
       steps = s.agenda.steps;
       fault = s.fault;
       pending = s.pending;
       told = s.told;
     } };
 
-    ghost invariant = { λ s. IsSound s.phase s.writes s.editor.state s.editor.failed s.agenda.turns s.agenda.steps
+    ghost invariant = { λ s. IsSound s.phase s.writes s.editor.state s.editor.failed s.agenda.running_list s.agenda.steps
         s.pending s.reports.brief s.reports.full s.told };
 }
 
@@ -111,7 +111,7 @@ impl<S: LineStore> Session<S> {
     ghost use Rattle.ed_syntax.specs.declared.request.Answer.{Answer};
     ghost use Rattle.ed_session.specs.declared.phase.Phase.TheVariants as phases;
     ghost use Rattle.ed_session.specs.Sessions.{made, is_waiting, is_started, is_over, rest, awaited, path_of};
-    ghost use Rattle.ed_session.specs.Calls.{Answers, Starts, BreaksOff, Gives, IsEnded, LosesOutput};
+    ghost use Rattle.ed_session.specs.Calls.{Answers, Starts, GoesOn, BreaksOff, Gives, IsEnded, LosesOutput};
     ghost use Rattle.ed_session.specs.Work.{work, Works};
 
     /// A session of this script that hasn't started.
@@ -199,11 +199,7 @@ impl<S: LineStore> Session<S> {
         };
         match load(self.alloc, &mut self.editor, self.silent, answer, path) {
             Ok(count) => self.pending = count,
-            Err(fault) => {
-                let (fault, report) = self.reports.ending(self.modes.help, fault);
-                self.phase = Phase::Over(Err(fault));
-                self.pending = report;
-            }
+            Err(fault) => self.pending = self.reports.end(&mut self.phase, self.modes.help, fault),
         }
     }
 
@@ -231,24 +227,14 @@ impl<S: LineStore> Session<S> {
         }
     }
 
-    // The request that is awaited. Where there is no memory to tell it, the run is over.
-    pub(crate) fn requested(&mut self) -> Option<Request>
+    // The next step gives the request again that the session waits for.
+    pub(crate) fn ask_again(&mut self)
         requires waiting { self.old.phase ≡ phases.Waiting }
-        ensures value { IfSome result (λ request.
-            (awaited self.old ≡ Some request) × (self.new ≡ self.old)) }
-        ensures broke { IfNone result (BreaksOff self.old [] [] [] self.new) }
-        ensures handed_out { self.old.pending ≡ [] }
-        ensures work { work self.new ≤ work self.old }
+        ensures same { GoesOn self.old [] [] [] self.new }
+        ensures idle { is_waiting self.new.phase ≡ false }
+        ensures started { is_started self.new.phase ≡ true }
     {
-        match self.editor.apply(self.agenda.next(), None) {
-            Ok(Reply::Wants(request)) => Some(request),
-            Ok(Reply::Done(_)) => unreachable!(),
-            Err(_) => {
-                self.phase = Phase::Over(Err(Fault::Memory));
-                self.pending = self.reports.of_memory(self.modes.help);
-                None
-            }
-        }
+        self.phase = Phase::Prompted;
     }
 
     /// Takes the answer to what the session waits for. One that doesn't fit its request counts as `Answer::Refused`.
@@ -263,30 +249,21 @@ impl<S: LineStore> Session<S> {
     {
         let length = length_counted(self.writes, &answer);
         let command = self.agenda.next();
-        match self.editor.apply(command, Some(answer)) {
+        let fault = match self.editor.apply(command, Some(answer)) {
             Ok(Reply::Done(output)) => match with_count(self.alloc, output, self.silent, length) {
                 Ok(written) => {
                     self.modes = self.modes.after(&command.verb);
                     self.agenda.pass();
                     self.pending = written;
                     self.phase = Phase::Between;
+                    return;
                 }
-                Err(_) => {
-                    self.phase = Phase::Over(Err(Fault::Memory));
-                    self.pending = self.reports.of_memory(self.modes.help);
-                }
+                Err(_) => Fault::Memory,
             },
-            Ok(Reply::Wants(_)) => {
-                let (fault, report) = self.reports.ending(self.modes.help, Fault::File);
-                self.phase = Phase::Over(Err(fault));
-                self.pending = report;
-            }
-            Err(fault) => {
-                let (fault, report) = self.reports.ending(self.modes.help, fault);
-                self.phase = Phase::Over(Err(fault));
-                self.pending = report;
-            }
-        }
+            Ok(Reply::Wants(_request)) => Fault::File,
+            Err(fault) => fault,
+        };
+        self.pending = self.reports.end(&mut self.phase, self.modes.help, fault);
     }
 
     // Ends the run because there was no memory outside.
@@ -297,8 +274,8 @@ impl<S: LineStore> Session<S> {
         ensures untold { self.new.told ≡ false }
         ensures work { work self.new ≤ work self.old }
     {
-        self.phase = Phase::Over(Err(Fault::Memory));
-        self.pending = self.reports.of_memory(self.modes.help);
+        let help = self.modes.help;
+        self.pending = self.reports.end(&mut self.phase, help, Fault::Memory);
     }
 
     /// Makes `Fault::Output` the end of a session that hasn't answered `Ended`; of one that has, nothing changes.

@@ -1,7 +1,7 @@
 //! Where a run's output goes.
-ghost use Rattle.std.specs.Prelude.{◌≡◌, ◌<◌, ◌≤◌, ◌+◌, ◌-◌, ◌^◌, ℕ, List, Option, true, false, IsTrue, take, length, IfOk};
-ghost use Rattle.std.specs.Io.KnownBytes.{Appends, WriteAppends};
-ghost use Rattle.ed_session.specs.Sinks.{failures_of_write, AppendsFront};
+ghost use Rattle.std.specs.Prelude.{◌≡◌, ◌<◌, ◌≤◌, ◌+◌, ◌-◌, ◌^◌, false, IsTrue, length, IfOk};
+ghost use Rattle.std.specs.Io.KnownBytes.{WriteAppends};
+ghost use Rattle.ed_session.specs.Sinks.{SinkState, change, failures_of_write, Took, TookFront, NeverFailed, Failed};
 
 use crate::chunks::{Chunks, ROOM};
 use ed_base::Pieces;
@@ -15,22 +15,19 @@ pub struct SinkFault;
 
 /// What takes bytes, and counts how often it failed to.
 pub trait Sink {
-    /// The bytes that it took, where it tells them.
-    ghost taken: { Self → Option (List ℕ) };
-
-    /// How often it has failed, which is below 2^64.
-    ghost failures: { Self → ℕ };
+    /// The bytes that it took, where it tells them, and how often it has failed, which is below 2^64.
+    ghost state: { Self → SinkState };
 
     /// Takes the first bytes of a piece, and says how many; at an `Err` it takes none.
     fn write(&mut self, piece: &[u8]) -> Result<usize, SinkFault>
         requires piece { 0 < length piece.now }
-        requires count { failures self.old < 2 ^ 64 - 1 }
+        requires count { (state self.old).failures < 2 ^ 64 - 1 }
 
         ensures within { IfOk result (λ n. n ≤ length piece.now) }
-        ensures appended { WriteAppends (taken self.old) (taken self.new) result piece.now }
+        ensures appended { WriteAppends (state self.old).taken (state self.new).taken result piece.now }
 
         // The count rises just where nothing is taken: at an `Err` and at 0.
-        ensures rises { failures self.new ≡ failures self.old + failures_of_write result };
+        ensures rises { (state self.new).failures ≡ (state self.old).failures + failures_of_write result };
 }
 
 /// A writer as a sink.
@@ -41,9 +38,9 @@ pub struct Out<W: io::Write + Drop> {
 }
 
 impl<W: io::Write + Drop> Model for Out<W> {
-    ghost use Rattle.ed_session.specs.Sinks.{OutValue};
+    ghost use Rattle.ed_session.specs.Sinks.{SinkState};
 
-    ghost Value = { OutValue };
+    ghost Value = { SinkState };
 
     ghost view = { λ o. record { taken = W.contents o.writer; failures = o.failures } };
 }
@@ -61,9 +58,7 @@ impl<W: io::Write + Drop> Out<W> {
 }
 
 impl<W: io::Write + Drop> Sink for Out<W> {
-    ghost taken = { λ o. o.taken };
-
-    ghost failures = { λ o. o.failures };
+    ghost state = { λ o. o };
 
     fn write(&mut self, piece: &[u8]) -> Result<usize, SinkFault> {
         match self.writer.write(piece) {
@@ -82,12 +77,12 @@ impl<W: io::Write + Drop> Sink for Out<W> {
 
 /// Gives all bytes to a sink, and says whether it took them all.
 pub fn give<W: Sink>(sink: &mut W, bytes: &[u8]) -> bool
-    requires count { W.failures sink.old < 2 ^ 64 - 1 }
+    requires count { (W.state sink.old).failures < 2 ^ 64 - 1 }
 
-    ensures all { IsTrue result → Appends (W.taken sink.old) (W.taken sink.new) bytes.now
-        × (W.failures sink.new ≡ W.failures sink.old) }
-    ensures part { result ≡ false → AppendsFront (W.taken sink.old) (W.taken sink.new) bytes.now
-        × (W.failures sink.old < W.failures sink.new) }
+    ensures all { IsTrue result → Took (change (W.state sink.old) (W.state sink.new)) bytes.now
+        × NeverFailed (change (W.state sink.old) (W.state sink.new)) }
+    ensures part { result ≡ false → TookFront (change (W.state sink.old) (W.state sink.new)) bytes.now
+        × Failed (change (W.state sink.old) (W.state sink.new)) }
 {
     let mut done = 0;
     'pieces: while done < bytes.len() {
@@ -106,12 +101,12 @@ pub fn give<W: Sink>(sink: &mut W, bytes: &[u8]) -> bool
 
 /// Gives all bytes in pieces to a sink, short ones gathered, and says whether it took them all.
 pub fn give_pieces<W: Sink>(sink: &mut W, alloc: Global, bytes: &Pieces) -> bool
-    requires count { W.failures sink.old < 2 ^ 64 - 1 }
+    requires count { (W.state sink.old).failures < 2 ^ 64 - 1 }
 
-    ensures all { IsTrue result → Appends (W.taken sink.old) (W.taken sink.new) bytes.now
-        × (W.failures sink.new ≡ W.failures sink.old) }
-    ensures part { result ≡ false → AppendsFront (W.taken sink.old) (W.taken sink.new) bytes.now
-        × (W.failures sink.old < W.failures sink.new) }
+    ensures all { IsTrue result → Took (change (W.state sink.old) (W.state sink.new)) bytes.now
+        × NeverFailed (change (W.state sink.old) (W.state sink.new)) }
+    ensures part { result ≡ false → TookFront (change (W.state sink.old) (W.state sink.new)) bytes.now
+        × Failed (change (W.state sink.old) (W.state sink.new)) }
 {
     // Without memory to gather them in, each piece goes by itself.
     let room = Vec::with_capacity(alloc, bytes.len().min(ROOM)).unwrap_or(Vec::new(alloc));

@@ -3,13 +3,11 @@ ghost use Rattle.std.specs.Prelude.{◌≡◌, ◌≢◌, ◌<◌, List, [], Non
 ghost use Rattle.ed_base.specs.declared.fault.Fault.TheVariants.{Memory};
 ghost use Rattle.ed_syntax.specs.Commands.{Command};
 ghost use Rattle.ed_syntax.specs.declared.request.Answer.{Answer};
-ghost use Rattle.ed_syntax.specs.meaning.Progress.{failing, quitting};
-ghost use Rattle.ed_syntax.specs.PublicTypes.{verb_value};
-ghost use Rattle.ed_commands.specs.Editors.{is_global};
+ghost use Rattle.ed_syntax.specs.meaning.Progress.{ending, failing, quitting};
 ghost use Rattle.ed_session.specs.declared.phase.Phase.TheVariants as phases;
 ghost use Rattle.ed_session.specs.Agendas.{next_command};
 ghost use Rattle.ed_session.specs.Calls.{Gives};
-ghost use Rattle.ed_session.specs.Insides.{AdvancesOrGives, IsNext, ask_of_output, ask_of_request, bytes_of_write, goes_unprompted, quits, quits_anyway};
+ghost use Rattle.ed_session.specs.Insides.{AdvancesOrGives, IsNext, ask_of_output, ask_of_request, bytes_of_write, goes_unprompted};
 ghost use Rattle.ed_session.specs.Sessions.{is_over, is_started, is_waiting, rest};
 ghost use Rattle.ed_session.specs.Work.{work};
 
@@ -17,29 +15,8 @@ use crate::phase::Phase;
 use crate::session::{Ask, Session};
 use ed_base::{Fault, Pieces};
 use ed_commands::Reply;
-use ed_syntax::{Ending, Request, Verb};
+use ed_syntax::{Ending, Ends, Request};
 use line_store::LineStore;
-
-// The command ends the run whether or not changes were written.
-fn quits_anyway(verb: &Verb) -> bool
-    ensures value { result ≡ quits_anyway (verb_value verb.now) }
-{
-    matches!(verb, Verb::QuitAnyway)
-}
-
-// The command ends the run as the end of the script does.
-fn quits(verb: &Verb) -> bool
-    ensures value { result ≡ quits (verb_value verb.now) }
-{
-    matches!(verb, Verb::Quit)
-}
-
-// The command has a list.
-fn is_global(verb: &Verb) -> bool
-    ensures value { result ≡ is_global (verb_value verb.now) }
-{
-    matches!(verb, Verb::Global { .. })
-}
 
 // Some output, if there is any.
 pub(crate) fn output(bytes: Pieces) -> Option<Ask>
@@ -98,7 +75,7 @@ impl<S: LineStore> Session<S> {
 
     // Where prompting is on, the prompt comes before the next command and before the end is found.
     fn write_prompt(&mut self) -> Option<Ask>
-        requires outside { self.old.turns ≡ None }
+        requires outside { self.old.running_list ≡ None }
         requires between { self.old.phase ≡ phases.Between }
         requires handed_out { self.old.pending ≡ [] }
         ensures given { AdvancesOrGives self.old result self.new }
@@ -127,17 +104,15 @@ impl<S: LineStore> Session<S> {
         ensures started { is_started self.new.phase ≡ true }
         ensures work { work self.new < work self.old }
     {
-        let (fault, report) = self.reports.ending(self.modes.help, fault);
-        self.phase = Phase::Over(Err(fault));
-        Ask::Output(report)
+        Ask::Output(self.reports.end(&mut self.phase, self.modes.help, fault))
     }
 
     // The end of the script, or of what could be read of it.
     fn end(&mut self) -> Option<Ask>
-        requires outside { self.old.turns ≡ None }
+        requires outside { self.old.running_list ≡ None }
         requires prompted { self.old.phase ≡ phases.Prompted }
         requires handed_out { self.old.pending ≡ [] }
-        requires none_left { next_command self.old.turns self.old.steps ≡ None }
+        requires none_left { next_command self.old.running_list self.old.steps ≡ None }
         ensures given { AdvancesOrGives self.old result self.new }
         ensures started { is_started self.new.phase ≡ true }
         ensures work { work self.new < work self.old }
@@ -160,6 +135,18 @@ impl<S: LineStore> Session<S> {
         if self.editor.changed() {
             return Some(self.report(Fault::Unsaved));
         }
+        self.leave()
+    }
+
+    // Ends the run.
+    fn leave(&mut self) -> Option<Ask>
+        requires prompted { self.old.phase ≡ phases.Prompted }
+        requires handed_out { self.old.pending ≡ [] }
+        ensures given { ((answers : List Answer) → rest self.old answers ≡ ending self.old.present) →
+            AdvancesOrGives self.old result self.new }
+        ensures started { is_started self.new.phase ≡ true }
+        ensures work { work self.new < work self.old }
+    {
         self.phase = Phase::Over(Ok(Ending {
             lines: self.editor.lines().len(),
         }));
@@ -168,36 +155,29 @@ impl<S: LineStore> Session<S> {
 
     // Does the next step of the script, or finds what it asks for.
     fn step_on(&mut self) -> Option<Ask>
-        requires outside { self.old.turns ≡ None }
+        requires outside { self.old.running_list ≡ None }
         requires prompted { self.old.phase ≡ phases.Prompted }
         requires handed_out { self.old.pending ≡ [] }
-        requires left { IsSome (next_command self.old.turns self.old.steps) }
+        requires left { IsSome (next_command self.old.running_list self.old.steps) }
         ensures given { AdvancesOrGives self.old result self.new }
         ensures started { is_started self.new.phase ≡ true }
         ensures work { work self.new < work self.old }
     {
-        let verb = &self.agenda.next().verb;
-        if quits(verb) {
-            return self.quit();
+        let takes = self.agenda.next().verb.takes();
+        match takes.ends {
+            Some(Ends::AsScript) => self.quit(),
+            Some(Ends::Anyway) => self.leave(),
+            None if takes.global => self.begin_global(),
+            None => self.command(),
         }
-        if quits_anyway(verb) {
-            self.phase = Phase::Over(Ok(Ending {
-                lines: self.editor.lines().len(),
-            }));
-            return None;
-        }
-        if is_global(verb) {
-            return self.begin_global();
-        }
-        self.command()
     }
 
     // Does the next command, of a list or of the script, or finds what it asks for.
     pub(crate) fn command(&mut self) -> Option<Ask>
         requires idle { is_waiting self.old.phase ≡ false }
-        requires comes { goes_unprompted self.old.phase self.old.turns ≡ true }
+        requires comes { goes_unprompted self.old.phase self.old.running_list ≡ true }
         requires handed_out { self.old.pending ≡ [] }
-        requires next { (c : Command) × IsNext self.old.turns self.old.steps c }
+        requires next { (c : Command) × IsNext self.old.running_list self.old.steps c }
         ensures given { AdvancesOrGives self.old result self.new }
         ensures started { is_started self.new.phase ≡ true }
         ensures work { work self.new < work self.old }
@@ -216,8 +196,7 @@ impl<S: LineStore> Session<S> {
                 Some(asking(request))
             }
             Err(fault) => {
-                let (fault, report) = self.reports.ending(self.modes.help, fault);
-                self.phase = Phase::Over(Err(fault));
+                let report = self.reports.end(&mut self.phase, self.modes.help, fault);
                 Some(Ask::Output(report))
             }
         }

@@ -3,7 +3,7 @@ ghost use Rattle.std.specs.Prelude.{◌≡◌, ◌<◌, List, [], None, true, fa
 ghost use Rattle.ed_syntax.specs.meaning.Globals.{closed};
 ghost use Rattle.ed_syntax.specs.meaning.Runs.{steps, with_state};
 ghost use Rattle.ed_syntax.specs.declared.request.Answer.{Answer};
-ghost use Rattle.ed_commands.specs.Editors.{is_global};
+ghost use Rattle.ed_syntax.specs.meaning.Verbs.{is_global};
 ghost use Rattle.ed_session.specs.declared.phase.Phase.TheVariants as phases;
 ghost use Rattle.ed_session.specs.Agendas.{lines_of, next_command};
 ghost use Rattle.ed_session.specs.Insides.{Advances, AdvancesOrGives};
@@ -18,11 +18,11 @@ use line_store::LineStore;
 impl<S: LineStore> Session<S> {
     // The next step is a global command: its lines have their flags from here on, and its list comes next.
     pub(crate) fn begin_global(&mut self) -> Option<Ask>
-        requires outside { self.old.turns ≡ None }
+        requires outside { self.old.running_list ≡ None }
         requires prompted { self.old.phase ≡ phases.Prompted }
         requires handed_out { self.old.pending ≡ [] }
-        requires there { IsSome (next_command self.old.turns self.old.steps) }
-        requires global { IfSome (next_command self.old.turns self.old.steps) (λ c. is_global c.verb ≡ true) }
+        requires there { IsSome (next_command self.old.running_list self.old.steps) }
+        requires global { IfSome (next_command self.old.running_list self.old.steps) (λ c. is_global c.verb ≡ true) }
         ensures given { AdvancesOrGives self.old result self.new }
         ensures started { is_started self.new.phase ≡ true }
         ensures work { work self.new < work self.old }
@@ -34,8 +34,7 @@ impl<S: LineStore> Session<S> {
                 output(begun.output)
             }
             Err(fault) => {
-                let (fault, report) = self.reports.ending(self.modes.help, fault);
-                self.phase = Phase::Over(Err(fault));
+                let report = self.reports.end(&mut self.phase, self.modes.help, fault);
                 Some(Ask::Output(report))
             }
         }
@@ -43,7 +42,7 @@ impl<S: LineStore> Session<S> {
 
     // In a global command the next command of its list comes next, or the next line that has the flag, or the end.
     pub(crate) fn go_on_in_list(&mut self) -> Option<Ask>
-        requires inside { IsSome self.old.turns }
+        requires inside { IsSome self.old.running_list }
         requires running { is_over self.old.phase ≡ false }
         requires started { is_started self.old.phase ≡ true }
         requires idle { is_waiting self.old.phase ≡ false }
@@ -65,8 +64,8 @@ impl<S: LineStore> Session<S> {
 
     // The list is run for the next line that has the flag; where there is none, the global command is over.
     fn next_line(&mut self)
-        requires more { 0 < lines_of self.old.turns }
-        requires none_left { next_command self.old.turns self.old.steps ≡ None }
+        requires more { 0 < lines_of self.old.running_list }
+        requires none_left { next_command self.old.running_list self.old.steps ≡ None }
         requires running { is_over self.old.phase ≡ false }
         requires started { is_started self.old.phase ≡ true }
         requires idle { is_waiting self.old.phase ≡ false }
@@ -83,7 +82,7 @@ impl<S: LineStore> Session<S> {
 
     // The global command is over.
     fn end_global(&mut self)
-        requires inside { IsSome self.old.turns }
+        requires inside { IsSome self.old.running_list }
         requires running { is_over self.old.phase ≡ false }
         requires handed_out { self.old.pending ≡ [] }
         requires over { (answers : List Answer) → rest self.old answers ≡

@@ -1,5 +1,5 @@
 use Rattle.std.proofs.Common.{◌+◌, ◌-◌, ◌≤◌, length, arith, ℕ, length-take, length-drop, take}
-use Rattle.std.specs.Io.KnownBytes.{Appends}
+use Rattle.ed_session.specs.Sinks.{change, Took}
 use Rattle.ed_session.proofs.Taken.{Appends-more, Appends-keeps, front-taken, take-next}
 use Rattle.ed_session.proofs.sink.give.Goals as goal
 
@@ -21,7 +21,7 @@ returns-then-n-eq0-clause-part g c =
     let i = c.pieces.done in
     let n = c.in-Ok.n in
     let fits : n ≤ length bs - i = omega (arith, c.in-Ok.ensures.within, length-take {A = ℕ}, length-drop {A = ℕ}) in
-    let taken : Appends (g.W.Sink.taken c.args.sink.now) (g.W.Sink.taken c.write.new.self) (take (i + n) bs) =
+    let taken : Took (change (g.W.Sink.state c.args.sink.now) (g.W.Sink.state c.write.new.self)) (take (i + n) bs) =
     rw (take-next bs i n (omega arith) fits) (Appends-more _ _ _ _ _ c.pieces.invariant.taken c.in-Ok.ensures.appended) in
     λ _. (front-taken _ _ bs (i + n) (omega (arith, c.if-n-eq0.true)) taken, grind (arith, c.in-Ok.ensures.rises))
 

@@ -5,7 +5,7 @@ use Rattle.ed_syntax.specs.PublicTypes.{command_value}
 use Rattle.ed_session.specs.Insides.{holding}
 use Rattle.ed_session.specs.Sessions.{is_over}
 use Rattle.ed_session.proofs.Advancing.{advances_by, hands_out_report, is_false, as_goes, as_hands_out}
-use Rattle.ed_session.proofs.Turned.{beginning, begun_is, begins_list, lists_failing}
+use Rattle.ed_session.proofs.RunningLists.{beginning, begun_is, begins_list, lists_failing}
 use Rattle.ed_session.proofs.Working.{both_work, opened_less, works_less}
 use Rattle.ed_session.proofs.session.Session.begin_global.Goals as goal
 
@@ -21,7 +21,7 @@ returns-in-Ok-clause-given g c =
     rw c.output.ensures.value (advances_by c.args.self.now _ c.in-Ok.begun.output
     (as_goes c.args.self.now _ c.in-Ok.begun.output _ b.same
     (begins_list _ _ x b.outside b.first b.is b.at b.none begun.0 c.in-Ok.begun.lines c.in-Ok.begun.output begun.1 begun.4 begun.3
-    refl (ap (λ a. a.turns) opens) (ap (λ a. a.steps) opens) refl (ap (λ s. holding i.silent s i.modes i.prompt) begun.2) b.none))
+    refl (ap (λ a. a.running_list) opens) (ap (λ a. a.steps) opens) refl (ap (λ s. holding i.silent s i.modes i.prompt) begun.2) b.none))
     refl refl b.none untold)
 
 pub returns-in-Err-clause-given : goal.returns-in-Err-clause-given
@@ -33,13 +33,13 @@ returns-in-Err-clause-given g c =
     let untold = is_false i.told (λ h. let n = (c.self.invariant.ended h).0 in cc) in
     let fails : c.in-Err.fault ≢ Memory → command i.editor.state x None ≡ Err c.in-Err.fault = c.in-Err.ensures.exact (c.self.invariant.works live) in
     as_hands_out c.args.self.now _ _ _ b.same
-    (hands_out_report _ _ c.in-Err.fault _ _ live b.none c.ending-fault.ensures.value
-    (λ h. lists_failing _ x b.outside b.first b.is b.at b.none c.in-Err.fault (fails h)) refl refl b.none untold)
+    (hands_out_report _ _ c.in-Err.fault _ live b.none c.end-report.ensures.ended
+    (λ h. lists_failing _ x b.outside b.first b.is b.at b.none c.in-Err.fault (fails h)) refl b.none untold)
 
 pub returns-in-Ok-clause-work : goal.returns-in-Ok-clause-work
 returns-in-Ok-clause-work g c =
     let b = beginning _ _ (command_value c.next.result.now) c.self.view_is c.requires.prompted c.requires.outside c.requires.handed_out c.requires.global c.next.ensures.value in
     let opens = c.open.ensures.value in
     works_less c.args.self.now _ _ _ (ap is_over c.requires.prompted) (ap (λ u. u.pending) b.same ∙ c.requires.handed_out)
-    (subst (λ u. both_work c.open.new.self.turns c.open.new.self.steps + 1 ≤ both_work u.turns u.steps) b.same
+    (subst (λ u. both_work c.open.new.self.running_list c.open.new.self.steps + 1 ≤ both_work u.running_list u.steps) b.same
     (rw (opens, b.outside) (opened_less c.self.inside.agenda.steps _ c.in-Ok.begun.lines b.first c.open.ensures.counted)))

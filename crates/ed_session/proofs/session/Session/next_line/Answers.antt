@@ -3,7 +3,7 @@ use Rattle.std.specs.Prelude.{is_some}
 use Rattle.ed_syntax.specs.meaning.Globals.{next_taken}
 use Rattle.ed_session.specs.Sessions.{is_waiting}
 use Rattle.ed_session.proofs.Advancing.{as_goes, is_false}
-use Rattle.ed_session.proofs.Turned.{listing, goes_silently, line_taken, lines_done, taken_is, none_is, taken_again}
+use Rattle.ed_session.proofs.RunningLists.{listing, goes_silently, line_taken, lines_done, taken_is, none_is, taken_again}
 use Rattle.ed_session.proofs.Working.{both_work, repeated_less, works_same}
 use Rattle.ed_session.proofs.session.Session.next_line.Goals as goal
 
@@ -13,7 +13,7 @@ end_global-requires-clause-over g c =
     let l = listing _ _ c.self.view_is c.requires.more c.requires.none_left c.requires.running c.requires.started in
     let value : c.next_global.result ≡ is_some (next_taken i.editor.state) = c.next_global.ensures.value in
     let taken = none_is (next_taken i.editor.state) i.editor.state c.next_global.new.self.state (sym value ∙ c.if-next_global.false) c.if-next_global.ensures.taken in
-    lines_done _ l.turns l.inside l.running l.started l.none (inr (ap next_taken taken.1 ∙ taken.0))
+    lines_done _ l.open_now l.inside l.running l.started l.none (inr (ap next_taken taken.1 ∙ taken.0))
 
 pub returns-then-next_global-clause-given : goal.returns-then-next_global-clause-given
 returns-then-next_global-clause-given g c =
@@ -25,7 +25,7 @@ returns-then-next_global-clause-given g c =
     let again = c.repeat.ensures.value in
     record {
       same = as_goes c.args.self.now _ _ _ l.same (goes_silently _ _ l.running
-          (line_taken _ l.turns l.inside l.running l.started l.none _ c.next_global.new.self.state l.more taken refl (ap (λ a. a.turns) again ∙ taken_again _ l.turns l.inside) (ap (λ a. a.steps) again) refl refl) refl);
+          (line_taken _ l.open_now l.inside l.running l.started l.none _ c.next_global.new.self.state l.more taken refl (ap (λ a. a.running_list) again ∙ taken_again _ l.open_now l.inside) (ap (λ a. a.steps) again) refl refl) refl);
       idle = ap (λ u. is_waiting u.phase) l.same ∙ c.requires.idle;
       started = l.started;
       handed_out = ap (λ u. u.pending) l.same ∙ c.requires.handed_out;
@@ -37,5 +37,5 @@ returns-then-next_global-clause-work g c =
     let l = listing _ _ c.self.view_is c.requires.more c.requires.none_left c.requires.running c.requires.started in
     let again = c.repeat.ensures.value in
     works_same c.args.self.now _ _ _ _ (ap (λ u. u.phase) l.same) (ap (λ u. u.pending) l.same)
-    (subst (λ u. both_work c.repeat.new.self.turns c.repeat.new.self.steps + 1 ≤ both_work u.turns u.steps) l.same
-    (rw (again, l.inside) (repeated_less l.turns c.self.inside.agenda.steps l.more)))
+    (subst (λ u. both_work c.repeat.new.self.running_list c.repeat.new.self.steps + 1 ≤ both_work u.running_list u.steps) l.same
+    (rw (again, l.inside) (repeated_less l.open_now c.self.inside.agenda.steps l.more)))

@@ -1,5 +1,5 @@
-use Rattle.std.proofs.Common.{◌≡◌, ◌∙◌, ap, refl, subst}
-use Rattle.ed_session.specs.Insides.{Reported}
+use Rattle.std.proofs.Common.{◌≡◌, ◌∙◌, ap, subst}
+use Rattle.ed_session.specs.Insides.{EndsBy}
 use Rattle.ed_session.specs.Sessions.{is_over}
 use Rattle.ed_session.proofs.Advancing.{hands_out_report, is_false}
 use Rattle.ed_session.proofs.session.Session.report.Goals as goal
@@ -10,6 +10,6 @@ returns-clause-given g c = λ is.
     let v = c.self.view_is in
     let help : i.modes.help ≡ c.args.self.now.present.help = ap (λ u. u.present.help) v in
     let untold = is_false i.told (λ h. let n = (c.self.invariant.ended h).0 in let r = ap (λ u. is_over u.phase) v ∙ c.requires.running in cc) in
-    hands_out_report c.args.self.now _ c.args.fault _ _ c.requires.running c.requires.handed_out
-    (subst (λ b. Reported b c.args.fault c.ending-fault.result.0 c.ending-fault.result.1) help c.ending-fault.ensures.value)
-    is refl help (ap (λ u. u.pending) v ∙ c.requires.handed_out) untold
+    hands_out_report c.args.self.now _ c.args.fault _ c.requires.running c.requires.handed_out
+    (subst (λ b. EndsBy b c.args.fault c.end.new.phase c.end.result) help c.end.ensures.ended)
+    is help (ap (λ u. u.pending) v ∙ c.requires.handed_out) untold

@@ -11,9 +11,9 @@ returns-in-Err-clause-given g c =
     let path = c.in-Fresh-Some.path in
     let fresh : i.phase ≡ phases.Fresh (Some path) = search rules in
     let keeps = fresh_keeps i.phase _ _ _ _ _ _ fresh c.self.invariant.keeps in
-    starts_with c.args.self.now path c.args.answer c.match-self-report.self (sym (ap (λ u. u.phase) v) ∙ fresh)
+    starts_with c.args.self.now path c.args.answer c.match-self-end.self (sym (ap (λ u. u.phase) v) ∙ fresh)
     (as_answers c.args.self.now _ _ c.args.answer _ v
-    (starts_fails _ _ path c.args.answer c.in-Err.fault _ _ fresh keeps.1 c.ending-fault.ensures.value c.in-Err.ensures.fault (search rules) (search rules) (search rules)))
+    (starts_fails _ _ path c.args.answer c.in-Err.fault _ _ fresh keeps.1 (search rules) c.end.ensures.ended c.in-Err.ensures.fault (search rules) (search rules)))
 
 pub returns-in-Ok-clause-given : goal.returns-in-Ok-clause-given
 returns-in-Ok-clause-given g c =

@@ -1,9 +1,9 @@
--- What one turn of driving leaves: how far the run has come, and what is written of it.
-use Rattle.std.specs.Prelude.{ℕ, ◌≡◌, ◌<◌, ◌≤◌, ◌++◌, ◌⊎◌, List, [], true, false, Option}
-use Rattle.std.specs.Io.KnownBytes.{Appends}
+-- What a round of driving leaves: how far the run has come, and what is written of it.
+use Rattle.std.specs.Prelude.{ℕ, ◌≡◌, ◌<◌, ◌≤◌, ◌++◌, ◌⊎◌, List, [], true, false}
 use Rattle.ed_session.specs.Sessions.{SessionValue, is_waiting, is_started}
 use Rattle.ed_session.specs.Calls.{Leads}
 use Rattle.ed_session.specs.Drives.{Log, added, requests, answers, AllFit}
+use Rattle.ed_session.specs.Sinks.{SinkChange, Took}
 
 -- an answer that doesn't fit has raised the outside's count
 abbrev pub Raises : Log → ℕ → ℕ → Type 0
@@ -19,7 +19,7 @@ pub record Performs (old new : SessionValue) (old_log new_log : Log) (before now
   pub started : is_started new.phase ≡ true
 
 -- a session that was driven so far, and whose output was written
-pub record Driven (from : SessionValue) (log : Log) (old new : Option (List ℕ)) (now : SessionValue) : Type 0 where
+pub record Driven (from : SessionValue) (log : Log) (sink : SinkChange) (now : SessionValue) : Type 0 where
   pub output : List ℕ
-  pub wrote : Appends old new output
+  pub wrote : Took sink output
   pub leads : Leads from (answers log) output (requests log) now
