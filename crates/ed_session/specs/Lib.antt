@@ -3,14 +3,14 @@ pub mod Sessions
 pub mod Calls
 pub mod Sinks
 pub mod Drives
+pub mod Seen
+pub mod Work
 -- the tools for runs in memory
 pub mod MemFiles
 pub mod MemSinks
 pub mod KeptAnswers
 -- what serves clauses inside the crate
-pub mod Seen
 pub mod Chunks
 pub mod Agendas
 pub mod Insides
 pub mod Rounds
-pub mod Work

@@ -5,6 +5,7 @@ pub mod meaning
 -- what the public types stand for
 pub mod PublicTypes
 pub mod PublicScript
-pub mod PartNumbers
 -- the reader's own words, tied to the spellings by a law
 pub mod reading
+-- what serves clauses inside the crate
+pub mod PartNumbers

@@ -11,9 +11,8 @@ pub mod Isolated
 pub mod Room
 -- the known bounds of a zone one by one
 pub mod KnownBounds
--- how a bound is kept as one number
+-- what serves clauses inside the crate
 pub mod Entry
--- how far the known names of a zone reach, how tables are written, and how a kept zone is read
 pub mod Reach
 pub mod RowWrites
 pub mod Merging
