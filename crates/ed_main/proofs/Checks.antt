@@ -1,6 +1,6 @@
 -- What holds of a run that was checked, by the checker's soundness.
 use Rattle.std.proofs.Common.{◌≡◌, ◌≢◌, ◌<◌, ◌⊎◌, ◌∙◌, ℕ, zero, suc, ◌≤◌, length, List, [], ◌++◌, Option, Some, None, Result, Ok, Err, inl, inr, refl, ap, sym, subst, arith, append-nil, append_assoc}
-use Rattle.std.specs.Prelude.{IsFalse, IfSome, IfOk, All}
+use Rattle.std.specs.Prelude.{IsFalse, IfSome, All}
 use Rattle.std.proofs.Math.Seq.{drop-length}
 use Rattle.std.proofs.lemmas.List.{drop-append-le}
 use Rattle.std.proofs.lemmas.List.Elements.{All-nil, All-cons, All-head, All-tail}
@@ -17,21 +17,22 @@ use Rattle.ed_syntax.specs.meaning.Laws.{starts}
 use Rattle.ed_syntax.specs.meaning.Progress.{Progress, Stops, Writes, Hears, Waits, Ends, asked_of, stop_of, cut}
 use Rattle.ed_syntax.specs.meaning.Runs.{run}
 use Rattle.ed_session.specs.Drives.{Log, answers, requests, added, EndsMissing}
+use Rattle.ed_session.specs.Sinks.{SinkChange, SinkState, Failed, change}
 use Rattle.cert_check.specs.Certificates.{Certificate}
-use Rattle.cert_check.specs.checker.Opening.{IsWithin}
+use Rattle.ed_rules.specs.LineBounds.{IsWithin}
 use Rattle.cert_check.specs.declared.checker.verdict.Verdict.TheVariants.{Accepted}
 use Rattle.cert_check.specs.checker.Valid.{judged}
 use Rattle.cert_check.specs.checker.Sound.{CannotFail, MayAsk, StopsWell, start_lines}
-use Rattle.ed_main.specs.declared.checked.Ran.{Ran}
-use Rattle.ed_main.specs.declared.checked.Ran.TheVariants as ran
-use Rattle.ed_main.specs.Correct as correct
-use Rattle.ed_main.specs.Correct.{ComesTo}
-use Rattle.ed_main.specs.CheckedRuns as checked
-use Rattle.ed_main.specs.CheckedRuns.{CheckedRun, LiesOutside, StartsInside, reading, told_of}
+use Rattle.ed_main.specs.declared.run.Ran.{Ran}
+use Rattle.ed_main.specs.declared.run.Ran.TheVariants as ran
+use Rattle.ed_main.specs.Edit as edit
+use Rattle.ed_main.specs.Edit.{ComesTo}
+use Rattle.ed_main.specs.Run as checked
+use Rattle.ed_main.specs.Run.{CheckedRun, LiesOutside, StartsInside, reading, told_of}
 use Rattle.ed_main.specs.Headline as headline
 use Rattle.ed_main.specs.Headline.{EndsWell, Headline, MayFail}
-use Rattle.ed_main.specs.Starts as parts
-use Rattle.ed_main.specs.Starts.{KeepsCount, RunsOver, lines_told}
+use Rattle.ed_main.specs.RunOver as parts
+use Rattle.ed_main.specs.RunOver.{RunsOver, lines_told}
 
 -- what a longer log has more
 pub added_is : (old new more : Log) → new ≡ old ++ more → added old new ≡ more
@@ -40,14 +41,6 @@ added_is old new more e = rw e (drop-append-le (length old) old more (omega arit
 -- what was asked in two parts
 pub added_twice : (old mid new first later : Log) → mid ≡ old ++ first → new ≡ mid ++ later → added old new ≡ first ++ later
 added_twice old mid new first later e f = added_is old new (first ++ later) (f ∙ ap (λ l. l ++ later) e ∙ append_assoc old first later)
-
--- a run that was driven may have written
-kept_told : (ended : Result Ending Fault) (old new : ℕ) → IfOk (told_of ended) (λ r. KeepsCount r old new)
-kept_told (Ok ending) old new = tt
-kept_told (Err f) old new = tt
-
-pub kept_by : (ended : Result Ending Fault) (result : Result Ran Fault) (old new : ℕ) → result ≡ told_of ended → IfOk result (λ r. KeepsCount r old new)
-kept_by ended result old new is = subst (λ r. IfOk r (λ a. KeepsCount a old new)) (sym is) (kept_told ended old new)
 
 -- the lines of the start by the answer to its read
 pub start_is : (path : Option (List ℕ)) (a : Answer) (later : Log) → (path ≡ None → a ≡ answer.Missing) → start_lines path (answers (reading path a ++ later)) ≡ lines_told a
@@ -58,9 +51,9 @@ start_is (Some path) answer.Refused later missing = refl
 start_is (Some path) answer.Done later missing = refl
 
 -- nothing was read but the start, which lies outside
-pub came_outside : (script : Script) (c : Certificate) (o : Options) (start : Answer) (log : Log) (old : Option (List ℕ)) (before failed : ℕ) → judged script c ≡ Accepted → o.path ≡ c.path
-    → (o.path ≡ None → start ≡ answer.Missing) → LiesOutside c (lines_told start) → log ≡ reading o.path start → CheckedRun script c o log old old before failed (Ok ran.StartOutside)
-came_outside script c o start log old before failed accepted named missing outside is =
+pub came_outside : (script : Script) (c : Certificate) (o : Options) (start : Answer) (log : Log) (state : SinkState) → judged script c ≡ Accepted → o.path ≡ c.path
+    → (o.path ≡ None → start ≡ answer.Missing) → LiesOutside c (lines_told start) → log ≡ reading o.path start → CheckedRun script c o log (change state state) (Ok ran.StartOutside)
+came_outside script c o start log state accepted named missing outside is =
     let lines : start_lines o.path (answers (reading o.path start)) ≡ lines_told start =
     subst (λ l. start_lines o.path (answers l) ≡ lines_told start) (append-nil (reading o.path start)) (start_is o.path start [] missing) in
     checked.outside accepted
@@ -89,11 +82,11 @@ module _ (P : Request → Type 0) where
   asked_of_cut (suc steps) bytes (Hears help r p) all = All-cons P r (asked_of (cut steps bytes p)) (All-head P r (asked_of p) all) (asked_of_cut steps bytes p (All-tail P r (asked_of p) all))
 
   -- so it is in all that a run comes to
-  pub asks_no_more : (whole : Progress) (asked : List Request) (old new : Option (List ℕ)) (before failed : ℕ) (result : Result Ending Fault) → ComesTo whole asked old new before failed result → All P (asked_of whole) → All P asked
-  asks_no_more whole asked old new before failed result (correct.ended stops is wrote) all = subst (All P) is all
-  asks_no_more whole asked old new before failed result (correct.cut output r wrote is) all = subst (All P) (sym r.answered) (asked_of_cut r.steps r.bytes whole all)
-  asks_no_more whole asked old new before failed result (correct.refused front more (inl x) some wrote risen is) all = subst (All P) x.0 all
-  asks_no_more whole asked old new before failed result (correct.refused front more (inr r) some wrote risen is) all = subst (All P) (sym r.answered) (asked_of_cut r.steps r.bytes whole all)
+  pub asks_no_more : (whole : Progress) (asked : List Request) (sink : SinkChange) (result : Result Ending Fault) → ComesTo whole asked sink result → All P (asked_of whole) → All P asked
+  asks_no_more whole asked sink result (edit.ended stops is wrote) all = subst (All P) is all
+  asks_no_more whole asked sink result (edit.cut output r wrote is) all = subst (All P) (sym r.answered) (asked_of_cut r.steps r.bytes whole all)
+  asks_no_more whole asked sink result (edit.refused front more (inl x) some wrote risen is) all = subst (All P) x.0 all
+  asks_no_more whole asked sink result (edit.refused front more (inr r) some wrote risen is) all = subst (All P) (sym r.answered) (asked_of_cut r.steps r.bytes whole all)
 
 -- the ends that a sound run comes to
 abbrev Ended : Certificate → Result Ending Fault → Type 0
@@ -104,10 +97,10 @@ stopped : (c : Certificate) (result : Result Ending Fault) → StopsWell c (Ends
 stopped c (Ok ending) well = well
 stopped c (Err f) well = inr (inl well)
 
-ends_well : (c : Certificate) (whole : Progress) (asked : List Request) (old new : Option (List ℕ)) (before failed : ℕ) (result : Result Ending Fault) → ComesTo whole asked old new before failed result → StopsWell c (stop_of whole) → Ended c result
-ends_well c whole asked old new before failed result (correct.ended stops is wrote) well = stopped c result (subst (StopsWell c) stops well)
-ends_well c whole asked old new before failed result (correct.cut output r wrote is) well = subst (Ended c) (sym is) (inl refl)
-ends_well c whole asked old new before failed result (correct.refused front more begun some wrote risen is) well = subst (Ended c) (sym is) (inr (inr refl))
+ends_well : (c : Certificate) (whole : Progress) (asked : List Request) (sink : SinkChange) (result : Result Ending Fault) → ComesTo whole asked sink result → StopsWell c (stop_of whole) → Ended c result
+ends_well c whole asked sink result (edit.ended stops is wrote) well = stopped c result (subst (StopsWell c) stops well)
+ends_well c whole asked sink result (edit.cut output r wrote is) well = subst (Ended c) (sym is) (inl refl)
+ends_well c whole asked sink result (edit.refused front more begun some wrote risen is) well = subst (Ended c) (sym is) (inr (inr refl))
 
 -- and what is told of them
 told_well : (c : Certificate) (may_fail : Fault → Type 0) (result : Result Ending Fault) → Ended c result → may_fail Memory → (result ≡ Err File → may_fail File) → (result ≡ Err Output → may_fail Output)
@@ -126,56 +119,56 @@ only_read : (c : Certificate) (path : Option (List ℕ)) (a : Answer) → All (M
 only_read c None a = All-nil (MayAsk c)
 only_read c (Some path) a = All-cons (MayAsk c) (request.Read path) [] tt (All-nil (MayAsk c))
 
-module _ (script : Script) (c : Certificate) (o : Options) (start : Answer) (later : Log) (old new : Option (List ℕ)) (before failed : ℕ) (ended : Result Ending Fault)
+module _ (script : Script) (c : Certificate) (o : Options) (start : Answer) (later : Log) (sink : SinkChange) (ended : Result Ending Fault)
     (accepted : judged script c ≡ Accepted) (named : o.path ≡ c.path) (missing : o.path ≡ None → start ≡ answer.Missing) (within : IfSome (lines_told start) (IsWithin c.min c.max)) where
   inside : (more : Log) → StartsInside c o.path (reading o.path start ++ more)
   inside more = record { named = named; given = start; later = more; read = refl; within = subst (λ n. IfSome n (IsWithin c.min c.max)) (sym (start_is o.path start more missing)) within }
 
-  came_over : RunsOver script o start later old new before failed ended → CheckedRun script c o (reading o.path start ++ later) old new before failed (told_of ended)
+  came_over : RunsOver script o start later sink ended → CheckedRun script c o (reading o.path start ++ later) sink (told_of ended)
   unfolding inside
   came_over (parts.driven comes) = checked.driven ended accepted (inside later) comes refl
   came_over (parts.no_memory none unwritten is) = checked.no_memory (inr (accepted, (inside later, none))) unwritten (ap told_of is)
 
-  pub came_of : (log : Log) (result : Result Ran Fault) → log ≡ reading o.path start ++ later → result ≡ told_of ended → RunsOver script o start later old new before failed ended → CheckedRun script c o log old new before failed result
+  pub came_of : (log : Log) (result : Result Ran Fault) → log ≡ reading o.path start ++ later → result ≡ told_of ended → RunsOver script o start later sink ended → CheckedRun script c o log sink result
   came_of log result logged told ran =
-      subst (λ l. CheckedRun script c o l old new before failed result) (sym logged) (subst (λ r. CheckedRun script c o (reading o.path start ++ later) old new before failed r) (sym told) (came_over ran))
+      subst (λ l. CheckedRun script c o l sink result) (sym logged) (subst (λ r. CheckedRun script c o (reading o.path start ++ later) sink r) (sym told) (came_over ran))
 
   sound : CannotFail script c → All (MayAsk c) (asked_of (run script o (answers (reading o.path start ++ later)))) × StopsWell c (stop_of (run script o (answers (reading o.path start ++ later))))
   sound cannot =
       cannot o (answers (reading o.path start ++ later)) named
       (subst (λ p. IfSome (start_lines p (answers (reading o.path start ++ later))) (IsWithin c.min c.max)) named (inside later).within)
 
-  asks_well : CannotFail script c → RunsOver script o start later old new before failed ended → All (MayAsk c) (requests (reading o.path start ++ later))
+  asks_well : CannotFail script c → RunsOver script o start later sink ended → All (MayAsk c) (requests (reading o.path start ++ later))
   asks_well cannot (parts.driven comes) =
-      asks_no_more (MayAsk c) (run script o (answers (reading o.path start ++ later))) (requests (reading o.path start ++ later)) old new before failed ended comes (sound cannot).0
+      asks_no_more (MayAsk c) (run script o (answers (reading o.path start ++ later))) (requests (reading o.path start ++ later)) sink ended comes (sound cannot).0
   asks_well cannot (parts.no_memory none unwritten is) =
       let read : reading o.path start ++ later ≡ reading o.path start = ap (λ l. reading o.path start ++ l) none ∙ append-nil (reading o.path start) in
       subst (λ l. All (MayAsk c) (requests l)) (sym read) (only_read c o.path start)
 
-  ended_well : CannotFail script c → RunsOver script o start later old new before failed ended → Ended c ended
+  ended_well : CannotFail script c → RunsOver script o start later sink ended → Ended c ended
   ended_well cannot (parts.driven comes) =
-      ends_well c (run script o (answers (reading o.path start ++ later))) (requests (reading o.path start ++ later)) old new before failed ended comes (sound cannot).1
+      ends_well c (run script o (answers (reading o.path start ++ later))) (requests (reading o.path start ++ later)) sink ended comes (sound cannot).1
   ended_well cannot (parts.no_memory none unwritten is) = subst (Ended c) (sym is) (inl refl)
 
-  module _ (files_before files_read files outputs_before outputs : ℕ) (rises : files_before ≤ files_read) (counted : start ≡ answer.Refused → files_before < files_read)
+  module _ (files_before files_read files : ℕ) (rises : files_before ≤ files_read) (counted : start ≡ answer.Refused → files_before < files_read)
       (other : start ≢ answer.Done) (rises_on : files_read ≤ files) where
-    file_cause : IsFalse (starts start) ⊎ ((files_read < files) ⊎ EndsMissing later) → MayFail o.path (reading o.path start ++ later) files_before files outputs_before outputs File
+    file_cause : IsFalse (starts start) ⊎ ((files_read < files) ⊎ EndsMissing later) → MayFail o.path (reading o.path start ++ later) files_before files sink File
     file_cause (inl refused) = inl (let read = counted_refusal start files_before files_read counted other refused in omega arith)
     file_cause (inr (inl more)) = inl (omega arith)
     file_cause (inr (inr gone)) = inr (subst EndsMissing (sym (later_is o.path start later)) gone)
 
-    headline_over : CannotFail script c → RunsOver script o start later old new before failed ended
-        → (ended ≡ Err File → IsFalse (starts start) ⊎ ((files_read < files) ⊎ EndsMissing later)) → (ended ≡ Err Output → outputs_before < outputs)
-        → Headline script c o (reading o.path start ++ later) (MayFail o.path (reading o.path start ++ later) files_before files outputs_before outputs) (told_of ended)
+    headline_over : CannotFail script c → RunsOver script o start later sink ended
+        → (ended ≡ Err File → IsFalse (starts start) ⊎ ((files_read < files) ⊎ EndsMissing later)) → (ended ≡ Err Output → Failed sink)
+        → Headline script c o (reading o.path start ++ later) (MayFail o.path (reading o.path start ++ later) files_before files sink) (told_of ended)
     headline_over cannot ran file output = λ accepted named within. (
-      told_well c (MayFail o.path (reading o.path start ++ later) files_before files outputs_before outputs) ended (ended_well cannot ran) tt (λ e. file_cause (file e)) output,
+      told_well c (MayFail o.path (reading o.path start ++ later) files_before files sink) ended (ended_well cannot ran) tt (λ e. file_cause (file e)) output,
       asks_well cannot ran,
     )
 
-    pub headline_of : (log : Log) (result : Result Ran Fault) → log ≡ reading o.path start ++ later → result ≡ told_of ended → CannotFail script c → RunsOver script o start later old new before failed ended
-        → (ended ≡ Err File → IsFalse (starts start) ⊎ ((files_read < files) ⊎ EndsMissing later)) → (ended ≡ Err Output → outputs_before < outputs)
-        → Headline script c o log (MayFail o.path log files_before files outputs_before outputs) result
+    pub headline_of : (log : Log) (result : Result Ran Fault) → log ≡ reading o.path start ++ later → result ≡ told_of ended → CannotFail script c → RunsOver script o start later sink ended
+        → (ended ≡ Err File → IsFalse (starts start) ⊎ ((files_read < files) ⊎ EndsMissing later)) → (ended ≡ Err Output → Failed sink)
+        → Headline script c o log (MayFail o.path log files_before files sink) result
     headline_of log result logged told cannot ran file output =
-        subst (λ l. Headline script c o l (MayFail o.path l files_before files outputs_before outputs) result) (sym logged)
-        (subst (λ r. Headline script c o (reading o.path start ++ later) (MayFail o.path (reading o.path start ++ later) files_before files outputs_before outputs) r) (sym told)
+        subst (λ l. Headline script c o l (MayFail o.path l files_before files sink) result) (sym logged)
+        (subst (λ r. Headline script c o (reading o.path start ++ later) (MayFail o.path (reading o.path start ++ later) files_before files sink) r) (sym told)
         (headline_over cannot ran file output))

@@ -1,6 +1,5 @@
 -- A session that was driven has done what the run of its script says.
-use Rattle.std.proofs.Common.{◌≡◌, ◌<◌, ◌∙◌, ℕ, List, [], ◌++◌, Option, Result, Err, inl, inr, refl, ap, sym, subst, append_assoc}
-use Rattle.std.specs.Io.KnownBytes.{Appends}
+use Rattle.std.proofs.Common.{◌≡◌, ◌∙◌, ℕ, List, [], ◌++◌, Result, Err, inl, inr, refl, ap, sym, subst, append_assoc}
 use Rattle.ed_base.specs.declared.fault.Fault.{Fault}
 use Rattle.ed_base.specs.declared.fault.Fault.TheVariants.{Memory, Output}
 use Rattle.ed_syntax.specs.declared.options.Ending.{Ending}
@@ -13,16 +12,17 @@ use Rattle.ed_syntax.specs.spelling.Spellings.{SpellsWhatIsRead}
 use Rattle.ed_session.specs.Calls.{written, heard}
 use Rattle.ed_session.specs.Drives.{Log, answers, requests, Drove, Finished, CutOff}
 use Rattle.ed_session.specs.Sessions.{SessionValue, rest}
-use Rattle.ed_main.specs.Correct as correct
-use Rattle.ed_main.specs.Correct.{ComesTo, Correct, status_at}
+use Rattle.ed_session.specs.Sinks.{SinkChange, SinkState, Took, Failed, change}
+use Rattle.ed_main.specs.Edit as edit
+use Rattle.ed_main.specs.Edit.{ComesTo, Correct, status_at}
 use Rattle.ed_main.proofs.Steps.{output_after, asked_after, stop_after, runs_out_after, some_more}
 
 -- A session was driven after some steps of the run, whose output was pending.
-module _ (cuts : CutsAfter) (from : SessionValue) (events : List Event) (whole : Progress) (log : Log) (old new : Option (List ℕ)) (before failed : ℕ) (result : Result Ending Fault)
+module _ (cuts : CutsAfter) (from : SessionValue) (events : List Event) (whole : Progress) (log : Log) (sink : SinkChange) (result : Result Ending Fault)
     (is : whole ≡ after events (rest from (answers log))) (pending : from.pending ≡ written events) where
   -- what was written of the steps and after them
-  on : (output : List ℕ) → Appends old new (from.pending ++ output) → Appends old new (written events ++ output)
-  on output wrote = subst (λ p. Appends old new (p ++ output)) pending wrote
+  on : (output : List ℕ) → Took sink (from.pending ++ output) → Took sink (written events ++ output)
+  on output wrote = subst (λ p. Took sink (p ++ output)) pending wrote
 
   cut_after : (output : List ℕ) → RunsOut (rest from (answers log)) output (requests log) → RunsOut whole (written events ++ output) (heard events ++ requests log)
   cut_after output r =
@@ -31,19 +31,19 @@ module _ (cuts : CutsAfter) (from : SessionValue) (events : List Event) (whole :
   asked : asked_of (rest from (answers log)) ≡ requests log → asked_of whole ≡ heard events ++ requests log
   asked e = ap asked_of is ∙ asked_after events (rest from (answers log)) ∙ ap (λ r. heard events ++ r) e
 
-  finished : Finished from log old new result → ComesTo whole (heard events ++ requests log) old new before failed result
+  finished : Finished from log sink result → ComesTo whole (heard events ++ requests log) sink result
   finished x =
-      correct.ended (ap stop_of is ∙ stop_after events (rest from (answers log)) ∙ x.ended) (asked x.asked)
-      (subst (λ o. Appends old new o) (sym (ap output_of is ∙ output_after events (rest from (answers log)))) (on (output_of (rest from (answers log))) x.wrote))
+      edit.ended (ap stop_of is ∙ stop_after events (rest from (answers log)) ∙ x.ended) (asked x.asked)
+      (subst (λ o. Took sink o) (sym (ap output_of is ∙ output_after events (rest from (answers log)))) (on (output_of (rest from (answers log))) x.wrote))
 
-  cut_off : before < failed → CutOff from log old new → result ≡ Err Output → ComesTo whole (heard events ++ requests log) old new before failed result
+  cut_off : Failed sink → CutOff from log sink → result ≡ Err Output → ComesTo whole (heard events ++ requests log) sink result
   cut_off risen c lost =
       let front : written events ++ c.output ≡ c.part ++ c.front.0 = ap (λ p. p ++ c.output) (sym pending) ∙ c.front.1 in
       elim c.run [
         | inl b ↦
             let at : output_of whole ≡ written events ++ (written b.events ++ output_of b.left) =
             ap output_of is ∙ output_after events (rest from (answers log)) ∙ ap (λ o. written events ++ o) (ap output_of b.whole ∙ output_after b.events b.left) in
-            correct.refused c.part (c.front.0 ++ output_of b.left)
+            edit.refused c.part (c.front.0 ++ output_of b.left)
             (inl (
               asked b.answered,
               at ∙ ap (λ w. written events ++ (w ++ output_of b.left)) b.wrote ∙ sym (append_assoc (written events) c.output (output_of b.left))
@@ -51,29 +51,29 @@ module _ (cuts : CutsAfter) (from : SessionValue) (events : List Event) (whole :
             ))
             (some_more c.front.0 (output_of b.left) c.front.2) c.took risen lost
         | inr r ↦
-            correct.refused c.part c.front.0 (inr (subst (λ o. RunsOut whole o (heard events ++ requests log)) front (cut_after c.output r))) c.front.2 c.took risen lost
+            edit.refused c.part c.front.0 (inr (subst (λ o. RunsOut whole o (heard events ++ requests log)) front (cut_after c.output r))) c.front.2 c.took risen lost
       ]
 
-  pub comes_after : Drove from log old new before failed result → ComesTo whole (heard events ++ requests log) old new before failed result
+  pub comes_after : Drove from log sink result → ComesTo whole (heard events ++ requests log) sink result
   comes_after (inl x) = finished x.1
-  comes_after (inr (inl x)) = let r = x.2 in correct.cut (written events ++ r.output) (cut_after r.output r.cut) (on r.output r.wrote) x.0
+  comes_after (inr (inl x)) = let r = x.2 in edit.cut (written events ++ r.output) (cut_after r.output r.cut) (on r.output r.wrote) x.0
   comes_after (inr (inr x)) = cut_off x.1 x.2 x.0
 
 -- so it is correct
-pub driven_correct : SpellsWhatIsRead script_of → CutsAfter → (from : SessionValue) (bytes : List ℕ) (options : Options) (log : Log) (old new : Option (List ℕ)) (before failed : ℕ) (result : Result Ending Fault)
-    → ((given : List Answer) → rest from given ≡ run (script_of bytes) options given) → from.pending ≡ [] → Drove from log old new before failed result
-    → Correct bytes options log old new before failed (status_at result)
-driven_correct spells cuts from bytes options log old new before failed result is none d = record {
+pub driven_correct : SpellsWhatIsRead script_of → CutsAfter → (from : SessionValue) (bytes : List ℕ) (options : Options) (log : Log) (sink : SinkChange) (result : Result Ending Fault)
+    → ((given : List Answer) → rest from given ≡ run (script_of bytes) options given) → from.pending ≡ [] → Drove from log sink result
+    → Correct bytes options log sink (status_at result)
+driven_correct spells cuts from bytes options log sink result is none d = record {
   script = script_of bytes;
   spelled = spells bytes;
   result = result;
-  comes = inl (comes_after cuts from [] (run (script_of bytes) options (answers log)) log old new before failed result (sym (is (answers log))) none d);
+  comes = inl (comes_after cuts from [] (run (script_of bytes) options (answers log)) log sink result (sym (is (answers log))) none d);
   status_is = refl;
 }
 
 -- there was no memory to begin
-pub unbegun_correct : SpellsWhatIsRead script_of → (bytes : List ℕ) (options : Options) (log : Log) (old : Option (List ℕ)) (before failed : ℕ) (status : ℕ) → log ≡ [] → status ≡ status_at (Err Memory) → Correct bytes options log old old before failed status
-unbegun_correct spells bytes options log old before failed status none is = record {
+pub unbegun_correct : SpellsWhatIsRead script_of → (bytes : List ℕ) (options : Options) (log : Log) (state : SinkState) (status : ℕ) → log ≡ [] → status ≡ status_at (Err Memory) → Correct bytes options log (change state state) status
+unbegun_correct spells bytes options log state status none is = record {
   script = script_of bytes;
   spelled = spells bytes;
   result = Err Memory;

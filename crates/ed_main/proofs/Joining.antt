@@ -1,7 +1,6 @@
 -- A session that was started with an answer and then driven has done what the run of its script says.
 use Rattle.std.proofs.Common.{◌≡◌, ◌≢◌, ◌<◌, ◌⊎◌, ◌∙◌, ℕ, List, [], ◌++◌, Bool, true, Option, Some, None, Result, Err, inl, inr, refl, ap, sym, subst, append-nil}
 use Rattle.std.specs.Prelude.{IsFalse}
-use Rattle.std.specs.Io.KnownBytes.{Appends}
 use Rattle.std.proofs.lemmas.List.{map-append}
 use Rattle.ed_base.specs.declared.fault.Fault.{Fault}
 use Rattle.ed_base.specs.declared.fault.Fault.TheVariants.{Memory, File, Output}
@@ -18,11 +17,12 @@ use Rattle.ed_session.specs.declared.phase.Phase.TheVariants as phases
 use Rattle.ed_session.specs.Calls.{written, GoesOn, BreaksOff, Leads, Starts}
 use Rattle.ed_session.specs.Drives.{Log, answers, requests, Drove, Begun, CutOff, Finished, EndsMissing, FileRefused, of_commands}
 use Rattle.ed_session.specs.Sessions.{SessionValue, made, path_of, rest, is_over, is_started}
-use Rattle.ed_main.specs.Correct as correct
-use Rattle.ed_main.specs.Correct.{ComesTo}
-use Rattle.ed_main.specs.CheckedRuns.{reading}
-use Rattle.ed_main.specs.Starts as parts
-use Rattle.ed_main.specs.Starts.{RunsOver}
+use Rattle.ed_session.specs.Sinks.{SinkChange, Took, Failed}
+use Rattle.ed_main.specs.Edit as edit
+use Rattle.ed_main.specs.Edit.{ComesTo}
+use Rattle.ed_main.specs.Run.{reading}
+use Rattle.ed_main.specs.RunOver as parts
+use Rattle.ed_main.specs.RunOver.{RunsOver}
 use Rattle.ed_main.proofs.Correctness.{comes_after}
 use Rattle.ed_main.proofs.Steps.{stop_after, no_steps}
 
@@ -44,13 +44,13 @@ silent : (help : Bool) (asked : List Request) (output : List ℕ) → Begun (Sto
 silent help asked output (inl b) = (sym b.wrote ∙ ap written (no_steps help _ b.events b.left b.whole), sym b.answered)
 silent help asked output (inr r) = (r.written, r.answered)
 
-module _ (cuts : CutsAfter) (from now : SessionValue) (given : List Answer) (asked : List Request) (log : Log) (old new : Option (List ℕ)) (before failed : ℕ) (result : Result Ending Fault) (none : from.pending ≡ []) where
-  went_on : Drove now log old new before failed result → GoesOn from given [] asked now
-      → ComesTo (rest from (given ++ answers log)) (asked ++ requests log) old new before failed result
+module _ (cuts : CutsAfter) (from now : SessionValue) (given : List Answer) (asked : List Request) (log : Log) (sink : SinkChange) (result : Result Ending Fault) (none : from.pending ≡ []) where
+  went_on : Drove now log sink result → GoesOn from given [] asked now
+      → ComesTo (rest from (given ++ answers log)) (asked ++ requests log) sink result
   went_on drove x =
       let pending : now.pending ≡ written x.events = sym x.handed_out ∙ ap (λ p. p ++ written x.events) none in
-      subst (λ r. ComesTo (rest from (given ++ answers log)) (r ++ requests log) old new before failed result) x.answered
-      (comes_after cuts now x.events (rest from (given ++ answers log)) log old new before failed result (x.same (answers log)) pending drove)
+      subst (λ r. ComesTo (rest from (given ++ answers log)) (r ++ requests log) sink result) x.answered
+      (comes_after cuts now x.events (rest from (given ++ answers log)) log sink result (x.same (answers log)) pending drove)
 
   -- what was pending when memory ran out is all that is written
   cut_there : (b : BreaksOff from given [] asked now) (output : List ℕ) → b.written ≡ output → requests log ≡ [] →
@@ -62,32 +62,32 @@ module _ (cuts : CutsAfter) (from now : SessionValue) (given : List Answer) (ask
   pending_is : (b : BreaksOff from given [] asked now) → now.pending ≡ b.written
   pending_is b = sym b.handed_out ∙ ap (λ p. p ++ b.written) none
 
-  lost_finished : (b : BreaksOff from given [] asked now) → Finished now log old new result → ComesTo (rest from (given ++ answers log)) (asked ++ requests log) old new before failed result
+  lost_finished : (b : BreaksOff from given [] asked now) → Finished now log sink result → ComesTo (rest from (given ++ answers log)) (asked ++ requests log) sink result
   lost_finished b x =
       let over = rest_over now (Err Memory) (answers log) b.over in
       let all : now.pending ++ output_of (rest now (answers log)) ≡ b.written = ap (λ p. now.pending ++ output_of p) over ∙ append-nil now.pending ∙ pending_is b in
       let ends : Ends (Err Memory) ≡ Ends result = sym (ap stop_of over) ∙ x.ended in
       let silence : requests log ≡ [] = sym x.asked ∙ ap asked_of over in
-      correct.cut b.written (cut_there b b.written refl silence) (subst (λ o. Appends old new o) all x.wrote) cc
+      edit.cut b.written (cut_there b b.written refl silence) (subst (λ o. Took sink o) all x.wrote) cc
 
-  lost_refused : (b : BreaksOff from given [] asked now) → before < failed → CutOff now log old new → result ≡ Err Output
-      → ComesTo (rest from (given ++ answers log)) (asked ++ requests log) old new before failed result
+  lost_refused : (b : BreaksOff from given [] asked now) → Failed sink → CutOff now log sink → result ≡ Err Output
+      → ComesTo (rest from (given ++ answers log)) (asked ++ requests log) sink result
   lost_refused b risen c lost =
       let over = rest_over now (Err Memory) (answers log) b.over in
       let none_after = silent now.present.help (requests log) c.output
       (subst (λ p. Begun p (requests log) c.output ⊎ RunsOut p c.output (requests log)) over c.run) in
       let front : b.written ≡ c.part ++ c.front.0 =
       sym (ap (λ p. now.pending ++ p) none_after.0 ∙ append-nil now.pending ∙ pending_is b) ∙ c.front.1 in
-      correct.refused c.part c.front.0 (inr (cut_there b (c.part ++ c.front.0) front none_after.1)) c.front.2 c.took risen lost
+      edit.refused c.part c.front.0 (inr (cut_there b (c.part ++ c.front.0) front none_after.1)) c.front.2 c.took risen lost
 
-  broke_off : Drove now log old new before failed result → BreaksOff from given [] asked now
-      → ComesTo (rest from (given ++ answers log)) (asked ++ requests log) old new before failed result
+  broke_off : Drove now log sink result → BreaksOff from given [] asked now
+      → ComesTo (rest from (given ++ answers log)) (asked ++ requests log) sink result
   broke_off (inl x) b = lost_finished b x.1
   broke_off (inr (inl x)) b = absurd (let e = over_is now.phase (Err Memory) b.over in let f = (x.2).running in cc)
   broke_off (inr (inr x)) b = lost_refused b x.1 x.2 x.0
 
-  joined : Drove now log old new before failed result → Leads from given [] asked now
-      → ComesTo (rest from (given ++ answers log)) (asked ++ requests log) old new before failed result
+  joined : Drove now log sink result → Leads from given [] asked now
+      → ComesTo (rest from (given ++ answers log)) (asked ++ requests log) sink result
   joined drove (inl x) = went_on drove x
   joined drove (inr b) = broke_off drove b
 
@@ -96,18 +96,18 @@ pub starts_at : (script : Script) (o : Options) (from now : SessionValue) (a : A
 starts_at script o from now a e started = subst (λ p. Starts p from a now) (ap (λ v. path_of v.phase) e) started
 
 -- so a script was run over its start
-pub runs_over : CutsAfter → (script : Script) (o : Options) (start : Answer) (from now : SessionValue) (later : Log) (old new : Option (List ℕ)) (before failed : ℕ) (result : Result Ending Fault)
-    → ((given : List Answer) → rest from given ≡ run script o given) → from ≡ made script o → Starts o.path from start now → Drove now later old new before failed result
-    → RunsOver script o start later old new before failed result
-runs_over cuts script o start from now later old new before failed result is new_one started drove =
+pub runs_over : CutsAfter → (script : Script) (o : Options) (start : Answer) (from now : SessionValue) (later : Log) (sink : SinkChange) (result : Result Ending Fault)
+    → ((given : List Answer) → rest from given ≡ run script o given) → from ≡ made script o → Starts o.path from start now → Drove now later sink result
+    → RunsOver script o start later sink result
+runs_over cuts script o start from now later sink result is new_one started drove =
     let none : from.pending ≡ [] = ap (λ v. v.pending) new_one in
     let begun : Log = reading o.path start in
     let told : answers (begun ++ later) ≡ answers begun ++ answers later = map-append (λ (entry : Request × Answer). entry.1) begun later in
     let asked : requests (begun ++ later) ≡ requests begun ++ requests later = map-append (λ (entry : Request × Answer). entry.0) begun later in
     parts.driven
-    (subst (λ p. ComesTo p (requests (begun ++ later)) old new before failed result) (is (answers begun ++ answers later) ∙ ap (run script o) (sym told))
-    (subst (λ r. ComesTo (rest from (answers begun ++ answers later)) r old new before failed result) (sym asked)
-    (joined cuts from now (answers begun) (requests begun) later old new before failed result none drove (starts_lead o.path from start now started))))
+    (subst (λ p. ComesTo p (requests (begun ++ later)) sink result) (is (answers begun ++ answers later) ∙ ap (run script o) (sym told))
+    (subst (λ r. ComesTo (rest from (answers begun ++ answers later)) r sink result) (sym asked)
+    (joined cuts from now (answers begun) (requests begun) later sink result none drove (starts_lead o.path from start now started))))
 
 -- a session that is over by a fault other than memory has come to the end of its run
 ended_by : (f : Fault) (from now : SessionValue) (given : List Answer) (asked : List Request) → f ≢ Memory → Leads from given [] asked now → now.phase ≡ phases.Over (Err f)

@@ -3,6 +3,7 @@ mod Correctness
 mod Joining
 mod Sayings
 mod Steps
+mod SubcommandLemmas
 mod Taking
 mod WordsLemmas
 mod WordsRows

@@ -11,6 +11,7 @@ use Rattle.ed_syntax.specs.Commands.{Script}
 use Rattle.ed_syntax.specs.reading.Reading.{script_of}
 use Rattle.ed_syntax.specs.spelling.Spellings.{SpellsWhatIsRead}
 use Rattle.ed_session.specs.Drives.{Log}
+use Rattle.ed_session.specs.Sinks.{SinkChange, SinkState, Took, change}
 use Rattle.cert_check.specs.Certificates.{Certificate}
 use Rattle.cert_check.specs.text.HasText.{IsText}
 use Rattle.cert_check.specs.declared.checker.verdict.Verdict.{Verdict}
@@ -18,32 +19,33 @@ use Rattle.cert_check.specs.declared.checker.verdict.Verdict.TheVariants.{Accept
 use Rattle.analyser.specs.declared.analysis.Start.{Start}
 use Rattle.analyser.specs.declared.analysis.Analysis.{Analysis}
 use Rattle.analyser.specs.declared.analysis.Analysis.TheVariants.{Vouched, Cannot}
-use Rattle.ed_main.specs.declared.checked.Ran.{Ran}
-use Rattle.ed_main.specs.declared.checked.Ran.TheVariants as ran
-use Rattle.ed_main.specs.declared.telling.Told.{Told}
-use Rattle.ed_main.specs.Answers as answers
-use Rattle.ed_main.specs.Answers.{Checks, IsToldOf, Runs, Says, Tells, Vouches}
-use Rattle.ed_main.specs.Telling as telling
-use Rattle.ed_main.specs.Telling.{IsUnread, ran_told, verdict_told}
-use Rattle.ed_main.specs.CheckedRuns.{CheckedRun}
+use Rattle.ed_main.specs.declared.run.Ran.{Ran}
+use Rattle.ed_main.specs.declared.run.Ran.TheVariants as ran
+use Rattle.ed_main.specs.declared.told.Told.{Told}
+use Rattle.ed_main.specs.Check as check
+use Rattle.ed_main.specs.Check.{Checks}
 use Rattle.ed_main.specs.Headline.{Headline}
-use Rattle.ed_main.specs.Vouching.{Answers}
+use Rattle.ed_main.specs.Run as run
+use Rattle.ed_main.specs.Run.{CheckedRun, Runs, ran_told}
+use Rattle.ed_main.specs.Told as telling
+use Rattle.ed_main.specs.Told.{IsUnread, Says, Tells, verdict_told}
+use Rattle.ed_main.specs.Vouch.{IsAnswerFor, IsToldOf, Vouches}
 
 -- what is said of some telling is said of each that it implies
-pub says_more : (P Q : Told → Type 0) (old new : Option (List ℕ)) (before failed status : ℕ) → ((t : Told) → P t → Q t) → Says P old new before failed status → Says Q old new before failed status
-says_more P Q old new before failed status f (answers.tells t p told) = answers.tells t (f t p) told
-says_more P Q old new before failed status f (answers.nothing same is) = answers.nothing same is
+pub says_more : (P Q : Told → Type 0) (sink : SinkChange) (status : ℕ) → ((t : Told) → P t → Q t) → Says P sink status → Says Q sink status
+says_more P Q sink status f (telling.tells t p told) = telling.tells t (f t p) told
+says_more P Q sink status f (telling.nothing same is) = telling.nothing same is
 
 -- what one call made was told
-pub says_of : (P : Told → Type 0) (made : Result Told AllocError) (old new : Option (List ℕ)) (before failed status : ℕ) → IfOk made P → Says (λ one. made ≡ Ok one) old new before failed status
-    → Says P old new before failed status
-says_of P made old new before failed status is says = says_more (λ one. made ≡ Ok one) P old new before failed status (λ t e. subst (λ r. IfOk r P) e is) says
+pub says_of : (P : Told → Type 0) (made : Result Told AllocError) (sink : SinkChange) (status : ℕ) → IfOk made P → Says (λ one. made ≡ Ok one) sink status
+    → Says P sink status
+says_of P made sink status is says = says_more (λ one. made ≡ Ok one) P sink status (λ t e. subst (λ r. IfOk r P) e is) says
 
 -- where only one thing may have been made, that was told, or there was no memory for it
-tells_only : (told : Told) (made : Result Told AllocError) (old new : Option (List ℕ)) (before failed status : ℕ) → told.output ≢ [] → IfOk made (λ t. t ≡ told)
-    → Says (λ one. made ≡ Ok one) old new before failed status → Tells told old new before failed status
-tells_only told made old new before failed status some is (answers.tells t p x) = subst (λ o. Tells o old new before failed status) (subst (λ r. IfOk r (λ o. o ≡ told)) p is) x
-tells_only told made old new before failed status some is (answers.nothing same ends) = answers.untold some same ends
+tells_only : (told : Told) (made : Result Told AllocError) (sink : SinkChange) (status : ℕ) → told.output ≢ [] → IfOk made (λ t. t ≡ told)
+    → Says (λ one. made ≡ Ok one) sink status → Tells told sink status
+tells_only told made sink status some is (telling.tells t p x) = subst (λ o. Tells o sink status) (subst (λ r. IfOk r (λ o. o ≡ told)) p is) x
+tells_only told made sink status some is (telling.nothing same ends) = telling.untold some same ends
 
 -- nothing more was taken
 pub none_taken : (a : Option (List ℕ)) → Appends a a []
@@ -52,14 +54,14 @@ none_taken (Some a) = sym (append-nil a)
 
 -- STATUSES
 
-tells_few : (told : Told) (old new : Option (List ℕ)) (before failed status : ℕ) → told.status ≤ 4 → Tells told old new before failed status → status ≤ 4
-tells_few told old new before failed status few (answers.all took is) = subst (λ n. n ≤ 4) (sym is) few
-tells_few told old new before failed status few (answers.front took risen is) = rw is (omega arith)
-tells_few told old new before failed status few (answers.untold some same is) = rw is (omega arith)
+tells_few : (told : Told) (sink : SinkChange) (status : ℕ) → told.status ≤ 4 → Tells told sink status → status ≤ 4
+tells_few told sink status few (telling.all took is) = subst (λ n. n ≤ 4) (sym is) few
+tells_few told sink status few (telling.front took risen is) = rw is (omega arith)
+tells_few told sink status few (telling.untold some same is) = rw is (omega arith)
 
-says_few : (P : Told → Type 0) (old new : Option (List ℕ)) (before failed status : ℕ) → ((t : Told) → P t → t.status ≤ 4) → Says P old new before failed status → status ≤ 4
-says_few P old new before failed status few (answers.tells t p told) = tells_few t old new before failed status (few t p) told
-says_few P old new before failed status few (answers.nothing same is) = rw is (omega arith)
+says_few : (P : Told → Type 0) (sink : SinkChange) (status : ℕ) → ((t : Told) → P t → t.status ≤ 4) → Says P sink status → status ≤ 4
+says_few P sink status few (telling.tells t p told) = tells_few t sink status (few t p) told
+says_few P sink status few (telling.nothing same is) = rw is (omega arith)
 
 verdict_few : (verdict : Verdict) → (verdict_told verdict).status ≤ 4
 verdict_few Accepted = omega arith
@@ -74,22 +76,22 @@ unread_few bytes told (telling.line number h is) = told_few told _ is (omega ari
 unread_few bytes told (telling.size h is) = told_few told _ is (omega arith)
 
 checks_few : (script certificate : List ℕ) (told : Told) → Checks script certificate told → told.status ≤ 4
-checks_few script certificate told (answers.verdict s c spelled text is) = told_few told _ is (verdict_few _)
-checks_few script certificate told (answers.no_certificate h) = unread_few certificate told h
+checks_few script certificate told (check.verdict s c spelled text is) = told_few told _ is (verdict_few _)
+checks_few script certificate told (check.no_certificate h) = unread_few certificate told h
 
 answer_few : (answer : Analysis) (told : Told) → IsToldOf answer told → told.status ≤ 4
 answer_few (Vouched c) told is = rw is.1 (omega arith)
 answer_few (Cannot place why notes) told is = told_few told _ is (omega arith)
 
 -- the statuses of what is told
-pub check_status : (script certificate : List ℕ) (old new : Option (List ℕ)) (before failed status : ℕ) → Says (Checks script certificate) old new before failed status → status ≤ 4
-check_status script certificate old new before failed status says = says_few (Checks script certificate) old new before failed status (checks_few script certificate) says
+pub check_status : (script certificate : List ℕ) (sink : SinkChange) (status : ℕ) → Says (Checks script certificate) sink status → status ≤ 4
+check_status script certificate sink status says = says_few (Checks script certificate) sink status (checks_few script certificate) says
 
-pub vouch_status : (script : List ℕ) (start : Start) (old new : Option (List ℕ)) (before failed status : ℕ) → Says (Vouches script start) old new before failed status → status ≤ 4
-vouch_status script start old new before failed status says = says_few (Vouches script start) old new before failed status (λ told v. answer_few v.answer told v.told_so) says
+pub vouch_status : (script : List ℕ) (start : Start) (sink : SinkChange) (status : ℕ) → Says (Vouches script start) sink status → status ≤ 4
+vouch_status script start sink status says = says_few (Vouches script start) sink status (λ told v. answer_few v.answer told v.told_so) says
 
-pub unread_status : (bytes : List ℕ) (old new : Option (List ℕ)) (before failed status : ℕ) → Says (IsUnread bytes) old new before failed status → status ≤ 4
-unread_status bytes old new before failed status says = says_few (IsUnread bytes) old new before failed status (unread_few bytes) says
+pub unread_status : (bytes : List ℕ) (sink : SinkChange) (status : ℕ) → Says (IsUnread bytes) sink status → status ≤ 4
+unread_status bytes sink status says = says_few (IsUnread bytes) sink status (unread_few bytes) says
 
 fault_few : (f : Fault) → status_of f ≤ 4
 fault_few fault.Memory = omega arith
@@ -103,8 +105,8 @@ ran_few (Ok ran.StartOutside) = omega arith
 ran_few (Ok (ran.Done ending)) = omega arith
 ran_few (Err f) = fault_few f
 
-pub ran_status : (result : Result Ran Fault) (old new : Option (List ℕ)) (before failed status : ℕ) → Tells (ran_told result) old new before failed status → status ≤ 4
-ran_status result old new before failed status told = tells_few (ran_told result) old new before failed status (ran_few result) told
+pub ran_status : (result : Result Ran Fault) (sink : SinkChange) (status : ℕ) → Tells (ran_told result) sink status → status ≤ 4
+ran_status result sink status told = tells_few (ran_told result) sink status (ran_few result) told
 
 -- A RUN THAT IS CHECKED FIRST
 
@@ -114,34 +116,34 @@ headline_ok s c o log one other (ran.Refused place) h = h
 headline_ok s c o log one other ran.StartOutside h = h
 headline_ok s c o log one other (ran.Done ending) h = h
 
-module _ (spells : SpellsWhatIsRead script_of) (bytes certificate : List ℕ) (s : Script) (c : Certificate) (o : Options) (log : Log) (old written : Option (List ℕ)) (before between : ℕ) (result : Result Ran Fault)
-    (read : s ≡ script_of bytes) (text : IsText certificate c) (came : CheckedRun s c o log old written before between result) where
-  runs_of : (may_fail : Fault → Type 0) (new : Option (List ℕ)) (failed status : ℕ) → Headline s c o log may_fail result → Tells (ran_told result) written new between failed status
-      → Runs bytes certificate o log may_fail old new before failed status
-  runs_of may_fail new failed status headline told =
-      answers.checked (script_of bytes) c result written between (spells bytes) text (subst (λ s. CheckedRun s c o log old written before between result) read came)
+module _ (spells : SpellsWhatIsRead script_of) (bytes certificate : List ℕ) (s : Script) (c : Certificate) (o : Options) (log : Log) (before between : SinkState) (result : Result Ran Fault)
+    (read : s ≡ script_of bytes) (text : IsText certificate c) (came : CheckedRun s c o log (change before between) result) where
+  runs_of : (may_fail : Fault → Type 0) (after : SinkState) (status : ℕ) → Headline s c o log may_fail result → Tells (ran_told result) (change between after) status
+      → Runs bytes certificate o log may_fail (change before after) status
+  runs_of may_fail after status headline told =
+      run.checked (script_of bytes) c result between (spells bytes) text (subst (λ s. CheckedRun s c o log (change before between) result) read came)
       (subst (λ s. Headline s c o log may_fail result) read headline) told
 
   -- what came of it was told
-  pub runs_told : (one other : Fault → Type 0) (r : Ran) (made : Result Told AllocError) (new : Option (List ℕ)) (failed status : ℕ) → result ≡ Ok r → Headline s c o log one result
-      → (ran_told (Ok r)).output ≢ [] → IfOk made (λ told. told ≡ ran_told (Ok r)) → Says (λ t. made ≡ Ok t) written new between failed status
-      → Runs bytes certificate o log other old new before failed status
-  runs_told one other r made new failed status is headline some told says =
-      runs_of other new failed status
+  pub runs_told : (one other : Fault → Type 0) (r : Ran) (made : Result Told AllocError) (after : SinkState) (status : ℕ) → result ≡ Ok r → Headline s c o log one result
+      → (ran_told (Ok r)).output ≢ [] → IfOk made (λ told. told ≡ ran_told (Ok r)) → Says (λ t. made ≡ Ok t) (change between after) status
+      → Runs bytes certificate o log other (change before after) status
+  runs_told one other r made after status is headline some told says =
+      runs_of other after status
       (subst (λ x. Headline s c o log other x) (sym is) (headline_ok s c o log one other r (subst (λ x. Headline s c o log one x) is headline)))
-      (subst (λ x. Tells (ran_told x) written new between failed status) (sym is) (tells_only (ran_told (Ok r)) made written new between failed status some told says))
+      (subst (λ x. Tells (ran_told x) (change between after) status) (sym is) (tells_only (ran_told (Ok r)) made (change between after) status some told says))
 
   -- it was run to its end, of which no more is told
   pub runs_ended : (may_fail : Fault → Type 0) (status : ℕ) (end : Result Ran Fault) → result ≡ end → Headline s c o log may_fail result → (ran_told end).output ≡ [] → status ≡ (ran_told end).status
-      → Runs bytes certificate o log may_fail old written before between status
+      → Runs bytes certificate o log may_fail (change before between) status
   runs_ended may_fail status end is headline none ends =
-      runs_of may_fail written between status headline
-      (subst (λ x. Tells (ran_told x) written written between between status) (sym is) (answers.all (subst (λ l. Appends written written l) (sym none) (none_taken written)) ends))
+      runs_of may_fail between status headline
+      (subst (λ x. Tells (ran_told x) (change between between) status) (sym is) (telling.all (subst (Took (change between between)) (sym none) (none_taken between.taken)) ends))
 
 -- the analyser's answer was told
-pub vouches_of : (script : List ℕ) (start : Start) (answer : Analysis) (made : Result Told AllocError) (old new : Option (List ℕ)) (before failed status : ℕ) → Answers script start answer
-    → IfOk made (IsToldOf answer) → Says (λ one. made ≡ Ok one) old new before failed status → Says (Vouches script start) old new before failed status
-vouches_of script start answer made old new before failed status is told says =
-    says_more (IsToldOf answer) (Vouches script start) old new before failed status
-    (λ t told_so. record { read = is.read; spelled = is.spelled; answer = answer; is_answer = is.exact; is_valid = is.valid; told_so = told_so })
-    (says_of (IsToldOf answer) made old new before failed status told says)
+pub vouches_of : (script : List ℕ) (start : Start) (answer : Analysis) (made : Result Told AllocError) (sink : SinkChange) (status : ℕ) → IsAnswerFor script start answer
+    → IfOk made (IsToldOf answer) → Says (λ one. made ≡ Ok one) sink status → Says (Vouches script start) sink status
+vouches_of script start answer made sink status is told says =
+    says_more (IsToldOf answer) (Vouches script start) sink status
+    (λ t told_so. record { answer = answer; is_answer = is; told_so = told_so })
+    (says_of (IsToldOf answer) made sink status told says)

@@ -1,7 +1,7 @@
 -- What several reads have consumed.
 use Rattle.std.proofs.Common.{◌≤◌, ◌+◌, ℕ, List, ◌++◌, length, take, Option, Some, None, ap, ◌∙◌, sym, append_assoc, arith, length-append, length-take}
 use Rattle.std.specs.Io.KnownBytes.{Consumes}
-use Rattle.ed_main.specs.Sources.{TakesAtMost}
+use Rattle.ed_main.specs.Source.{TakesAtMost}
 
 consumes_more : (old mid new : Option (List ℕ)) (bytes more : List ℕ) → Consumes old mid bytes → Consumes mid new more → Consumes old new (bytes ++ more)
 consumes_more None mid new bytes more p q = tt

@@ -16,8 +16,9 @@ use Rattle.clap.specs.declared.error.kind.ErrorKind.TheVariants as kind
 use Rattle.ed_main.specs.declared.job.Job.{Job}
 use Rattle.ed_main.specs.declared.words.WordsFault.{WordsFault}
 use Rattle.ed_main.specs.declared.words.WordsFault.TheVariants as fault
-use Rattle.cert_check.specs.text.HasText.{is_few}
-use Rattle.ed_main.specs.Words.{program, are_digits, lines_in, job_by_name, job_of, job_named, unless_refused}
+use Rattle.ed_rules.specs.LineBounds.{is_few}
+use Rattle.ed_main.specs.Subcommands.{program}
+use Rattle.ed_main.specs.Words.{are_digits, lines_in, job_by_name, job_of, job_named, unless_refused}
 
 -- `clap` says of the program all that it says of simple commands
 simple : is_simple program ≡ true

@@ -1,7 +1,8 @@
 -- Words and the jobs that they give.
 use Rattle.std.proofs.Common.{◌≡◌, ℕ, Bool, true, false, List, [], ◌∷◌, Option, Some, None, refl, codes}
 use Rattle.clap.proofs.OnLiterals.{clap_on_literals}
-use Rattle.ed_main.specs.Words.{program, job_of}
+use Rattle.ed_main.specs.Subcommands.{program}
+use Rattle.ed_main.specs.Words.{job_of}
 use Rattle.ed_main.specs.declared.job.Job.{Job}
 use Rattle.ed_main.specs.declared.job.Job.TheVariants as job
 

@@ -7,27 +7,27 @@ use Rattle.ed_base.specs.declared.fault.Fault.TheVariants.{Memory, File, Output}
 use Rattle.ed_syntax.specs.declared.options.Options.{Options}
 use Rattle.ed_syntax.specs.Commands.{Script}
 use Rattle.ed_session.specs.Drives.{Log, answers, requests, EndsMissing}
+use Rattle.ed_session.specs.Sinks.{SinkChange, Failed}
 use Rattle.cert_check.specs.declared.checker.verdict.Verdict.TheVariants.{Accepted}
 use Rattle.cert_check.specs.Certificates.{Certificate}
-use Rattle.cert_check.specs.checker.Opening.{IsWithin}
+use Rattle.ed_rules.specs.LineBounds.{IsWithin}
 use Rattle.cert_check.specs.checker.Sound.{MayAsk, start_lines}
 use Rattle.cert_check.specs.checker.Valid.{judged}
-use Rattle.ed_main.specs.declared.checked.Ran.{Ran}
-use Rattle.ed_main.specs.declared.checked.Ran.TheVariants.{Done}
+use Rattle.ed_main.specs.declared.run.Ran.{Ran}
+use Rattle.ed_main.specs.declared.run.Ran.TheVariants.{Done}
 
 -- what was asked after the start
 abbrev pub after_start : Option (List ℕ) → Log → Log
 after_start None log = log
 after_start (Some path) log = drop 1 log
 
--- The faults that no certificate excludes, by the counts of refused files and output before and after: there was no memory; a file was
--- refused, as the start may be, or a command read one that isn't there; the sink refused the output.
-abbrev pub MayFail : Option (List ℕ) → Log → (files_before files outputs_before outputs : ℕ) → Fault → Type 0
-MayFail path log files_before files outputs_before outputs Memory = Unit {0}
-MayFail path log files_before files outputs_before outputs File =
-    (files_before < files) ⊎ EndsMissing (after_start path log)
-MayFail path log files_before files outputs_before outputs Output = outputs_before < outputs
-MayFail path log files_before files outputs_before outputs other = ⊥
+-- The faults that no certificate excludes, by the counts of refused files before and after, and by the sink: there was no memory; a file
+-- was refused, as the start may be, or a command read one that isn't there; the sink refused the output.
+abbrev pub MayFail : Option (List ℕ) → Log → (files_before files : ℕ) → SinkChange → Fault → Type 0
+MayFail path log files_before files sink Memory = Unit {0}
+MayFail path log files_before files sink File = (files_before < files) ⊎ EndsMissing (after_start path log)
+MayFail path log files_before files sink Output = Failed sink
+MayFail path log files_before files sink other = ⊥
 
 -- the run came to its end with as many lines as are certified, or to such a fault
 abbrev pub EndsWell : Certificate → (may_fail : Fault → Type 0) → Result Ran Fault → Type 0

@@ -1,14 +1,14 @@
 -- what a reader has to believe
-pub mod Correct
-pub mod Sources
-pub mod Words
-pub mod CheckedRuns
+pub mod Edit
 pub mod Headline
-pub mod Telling
-pub mod Answers
-pub mod Given
-pub mod Outcomes
-pub mod Endings
+pub mod Told
+pub mod Check
+pub mod Vouch
+pub mod Run
+pub mod Source
+pub mod Subcommands
+pub mod Words
+pub mod Job
+pub mod Program
 -- what serves clauses inside the crate
-pub mod Starts
-pub mod Vouching
+pub mod RunOver

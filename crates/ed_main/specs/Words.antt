@@ -1,65 +1,17 @@
--- The words that the program is given, as `clap` reads them, and the job that they give (XCU ed, "Synopsis"; our choice: a subcommand,
--- and no prompt or file that reads as an option).
+-- The words that the program is given, as `clap` reads them, and the job that they give (XCU ed, "Synopsis"; our choice: no prompt or file
+-- that reads as an option).
 use Rattle.std.specs.Prelude.{ℕ, Bool, true, false, not, ◌&&◌, List, [], ◌∷◌, codes, length, nat_eq, nat_lt, Option, Some, None, option_and_then, option_map, if◌then◌else◌}
 use Rattle.std.specs.List.{list_all}
 use Rattle.std.specs.Option.{option_map_or}
 use Rattle.std.specs.Char.{digit_value}
 use Rattle.std.specs.Str.{bytes_eq}
 use Rattle.std.specs.Str.Parse.{digits_value, without_leading_plus}
-use Rattle.clap.specs.Words.{App, Kinds, Row, Rule, fault_of, first_of, new_app, new_rule, subcommand_of, with_rule, with_subcommand}
-use Rattle.clap.specs.Simple.{on_top}
-use Rattle.clap.specs.declared.builder.action.ArgAction.TheVariants.{Set, SetTrue}
+use Rattle.clap.specs.Words.{Kinds, Row, fault_of, first_of, subcommand_of}
 use Rattle.ed_syntax.specs.declared.options.Options.{Options}
-use Rattle.cert_check.specs.text.HasText.{is_few, is_within}
+use Rattle.ed_rules.specs.LineBounds.{is_few, is_within}
 use Rattle.ed_main.specs.declared.job.Job.{Job}
 use Rattle.ed_main.specs.declared.job.Job.TheVariants as job
-
--- `-s`
-abbrev pub silent : Rule
-silent = record (new_rule (codes "silent")) { short = Some 115; action = Some SetTrue }
-
--- `-p STRING`
-abbrev pub prompt : Rule
-prompt = record (new_rule (codes "prompt")) { short = Some 112; action = Some Set; value_names = 1 }
-
--- `FILE`
-abbrev pub file : Rule
-file = record (new_rule (codes "file")) { action = Some Set; value_names = 1 }
-
--- `--min N`
-abbrev pub min : Rule
-min = record (new_rule (codes "min")) { long = Some (codes "min"); action = Some Set; value_names = 1; required = true }
-
--- `--max M`
-abbrev pub max : Rule
-max = record (new_rule (codes "max")) { long = Some (codes "max"); action = Some Set; value_names = 1; required = true }
-
--- `CERT`
-abbrev pub certificate : Rule
-certificate = record (new_rule (codes "certificate")) { action = Some Set; value_names = 1; required = true }
-
--- `edit [-s] [-p STRING] [FILE]`
-abbrev pub edit : App
-edit = with_rule (with_rule (with_rule (new_app (codes "edit")) silent) prompt) file
-
--- `vouch --min N --max M [FILE]`
-abbrev pub vouch : App
-vouch = with_rule (with_rule (with_rule (new_app (codes "vouch")) min) max) file
-
--- `check CERT`
-abbrev pub check : App
-check = with_rule (new_app (codes "check")) certificate
-
--- `run CERT [-s] [FILE]`
-abbrev pub run : App
-run = with_rule (with_rule (with_rule (new_app (codes "run")) certificate) silent) file
-
--- the program without its subcommands, of which it wants one
-abbrev pub bare : App
-bare = on_top (λ s. record s { has_version = true; subcommand_required = true }) (new_app (codes "ed_main"))
-
-unfoldable pub program : App
-program = with_subcommand (with_subcommand (with_subcommand (with_subcommand bare edit.top) vouch.top) check.top) run.top
+use Rattle.ed_main.specs.Subcommands.{program}
 
 -- a string that may be a prompt: it doesn't begin with a hyphen
 abbrev pub is_prompt : Option (List ℕ) → Bool

@@ -1,22 +1,20 @@
 //! `ed` for scripts: runs the script on standard input over a file.
 #![tactic(auto)]
 
-mod checked;
-mod checking;
-mod command_line;
-mod editing;
+mod check;
+mod edit;
 mod job;
-mod known;
-mod reading;
-mod refusals;
-mod running;
-mod telling;
-mod usage;
-mod vouching;
+mod program;
+mod run;
+mod source;
+mod stderr;
+mod subcommands;
+mod told;
+mod vouch;
 mod words;
 
 use std::process::ExitCode;
 
 fn main(rt: HostRuntime) -> ExitCode {
-    ExitCode::from(editing::status_of_run(&rt))
+    ExitCode::from(program::status_of_run(&rt))
 }

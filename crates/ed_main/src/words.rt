@@ -1,20 +1,21 @@
-//! The words that the program is given, as `clap` reads them.
-ghost use Rattle.std.specs.Prelude.{◌≡◌, ◌≢◌, List, Some, None, false, if◌then◌else◌, map, IfOk, IfErr, option_and_then, option_map};
-ghost use Rattle.clap.specs.Words.{app_of, found_of, first_of, rows_of, rule_of, subcommand_rows_of};
-ghost use Rattle.clap.specs.declared.builder.command.Command.TheViews.{out-Command as fields_of};
-ghost use Rattle.cert_check.specs.text.HasText as text;
+//! The words that the program is given, and the job that they give.
+ghost use Rattle.std.specs.Prelude.{◌≡◌, ◌≢◌, List, Some, None, if◌then◌else◌, map, IfOk, IfErr, option_and_then, option_map};
+ghost use Rattle.clap.specs.Words.{found_of, first_of, rows_of, subcommand_rows_of};
+ghost use Rattle.ed_rules.specs.LineBounds.{is_few};
 ghost use Rattle.ed_main.specs.Words as meaning;
 ghost use Rattle.ed_main.specs.Words.{job_of, job_named, options_in};
-ghost use Rattle.ed_main.specs.Given.{IsGiven};
+ghost use Rattle.ed_main.specs.Job.{IsGiven};
 
 use crate::job::Job;
-use crate::usage::{
+use crate::stderr::usage::{
     CHECK_USAGE, EDIT_USAGE, NO_CERTIFICATE, NO_FILE, NO_MAX, NO_MIN, RUN_USAGE, USAGE,
     VOUCH_USAGE, refused,
 };
+use crate::subcommands::program;
 use analyser::Start;
-use clap::{Arg, ArgAction, ArgMatches, Command};
+use clap::ArgMatches;
 use ed_base::Bytes;
+use ed_rules::LineBounds;
 use ed_syntax::Options;
 use std::alloc::{AllocError, Global};
 use thiserror::Error;
@@ -49,9 +50,6 @@ impl WordsFault {
         }
     }
 }
-
-/// The most lines that a start may have.
-const MOST_LINES: u64 = 1_000_000_000_000;
 
 /// The job that these words give, of which the first is the program's own name.
 pub fn read_words(alloc: Global, words: &[&str]) -> Result<Job, WordsFault>
@@ -93,133 +91,6 @@ fn job_by_name(alloc: Global, name: &str, given: &ArgMatches<'_>) -> Result<Job,
     }
 }
 
-// The program as `clap` sees it.
-fn program<'a>(alloc: Global) -> Result<Command<'a>, AllocError>
-    ensures value { IfOk result (λ command. app_of command ≡ meaning.program) }
-{
-    let command = Command::new(alloc, "ed_main")
-        .about("The line editor ed, for scripts that are checked before they are run")
-        .version("0.1")
-        .subcommand_required(true)
-        .subcommand(edit(alloc)?)?
-        .subcommand(vouch(alloc)?)?
-        .subcommand(check(alloc)?)?
-        .subcommand(run(alloc)?)?;
-    Ok(command)
-}
-
-fn edit<'a>(alloc: Global) -> Result<Command<'a>, AllocError>
-    ensures value { IfOk result (λ command. app_of command ≡ meaning.edit) }
-    ensures local { IfOk result (λ command. (fields_of command).has_globals ≡ false) }
-{
-    let command = Command::new(alloc, "edit")
-        .about("Runs the script on standard input on a file")
-        .arg(silent(alloc))?
-        .arg(prompt(alloc))?
-        .arg(file(alloc))?;
-    Ok(command)
-}
-
-fn vouch<'a>(alloc: Global) -> Result<Command<'a>, AllocError>
-    ensures value { IfOk result (λ command. app_of command ≡ meaning.vouch) }
-    ensures local { IfOk result (λ command. (fields_of command).has_globals ≡ false) }
-{
-    let command = Command::new(alloc, "vouch")
-        .about("Writes a certificate that the script on standard input can't fail, or where it can")
-        .arg(min(alloc))?
-        .arg(max(alloc))?
-        .arg(file(alloc))?;
-    Ok(command)
-}
-
-fn check<'a>(alloc: Global) -> Result<Command<'a>, AllocError>
-    ensures value { IfOk result (λ command. app_of command ≡ meaning.check) }
-    ensures local { IfOk result (λ command. (fields_of command).has_globals ≡ false) }
-{
-    let command = Command::new(alloc, "check")
-        .about("Checks a certificate for the script on standard input")
-        .arg(certificate(alloc))?;
-    Ok(command)
-}
-
-fn run<'a>(alloc: Global) -> Result<Command<'a>, AllocError>
-    ensures value { IfOk result (λ command. app_of command ≡ meaning.run) }
-    ensures local { IfOk result (λ command. (fields_of command).has_globals ≡ false) }
-{
-    let command = Command::new(alloc, "run")
-        .about("Runs the script on standard input on a file if a certificate for both is accepted")
-        .arg(certificate(alloc))?
-        .arg(silent(alloc))?
-        .arg(file(alloc))?;
-    Ok(command)
-}
-
-fn silent<'a>(alloc: Global) -> Arg<'a>
-    ensures value { rule_of result ≡ meaning.silent }
-    ensures local { result.global ≡ false }
-{
-    Arg::new(alloc, "silent")
-        .short('s')
-        .action(ArgAction::SetTrue)
-        .help("Doesn't write the counts of bytes that are read and written")
-}
-
-fn prompt<'a>(alloc: Global) -> Arg<'a>
-    ensures value { rule_of result ≡ meaning.prompt }
-    ensures local { result.global ≡ false }
-{
-    Arg::new(alloc, "prompt")
-        .short('p')
-        .action(ArgAction::Set)
-        .value_name("STRING")
-        .help("Writes STRING before each command")
-}
-
-fn file<'a>(alloc: Global) -> Arg<'a>
-    ensures value { rule_of result ≡ meaning.file }
-    ensures local { result.global ≡ false }
-{
-    Arg::new(alloc, "file")
-        .action(ArgAction::Set)
-        .value_name("FILE")
-        .help("The file that is edited")
-}
-
-fn min<'a>(alloc: Global) -> Arg<'a>
-    ensures value { rule_of result ≡ meaning.min }
-    ensures local { result.global ≡ false }
-{
-    Arg::new(alloc, "min")
-        .long("min")
-        .action(ArgAction::Set)
-        .value_name("N")
-        .required(true)
-        .help("The fewest lines that the file may have, at most 10^12")
-}
-
-fn max<'a>(alloc: Global) -> Arg<'a>
-    ensures value { rule_of result ≡ meaning.max }
-    ensures local { result.global ≡ false }
-{
-    Arg::new(alloc, "max")
-        .long("max")
-        .action(ArgAction::Set)
-        .value_name("M")
-        .required(true)
-        .help("The most lines that the file may have, at most 10^12, or any")
-}
-
-fn certificate<'a>(alloc: Global) -> Arg<'a>
-    ensures value { rule_of result ≡ meaning.certificate }
-    ensures local { result.global ≡ false }
-{
-    Arg::new(alloc, "certificate")
-        .action(ArgAction::Set)
-        .value_name("CERT")
-        .required(true)
-        .help("The file with the certificate")
-}
-
 fn edit_job(alloc: Global, given: &ArgMatches<'_>) -> Result<Job, WordsFault>
     ensures value { IfOk result (λ job. meaning.edit_job (rows_of (found_of given.now)) ≡ Some job) }
     ensures only_if_refused { IfErr result (λ fault. fault ≢ WordsFault.Memory →
@@ -255,7 +126,7 @@ fn vouch_job(alloc: Global, given: &ArgMatches<'_>) -> Result<Job, WordsFault>
     let Some(max) = limit_in(text_of(given, "max")) else {
         return Err(WordsFault::of(alloc, NO_MAX, VOUCH_USAGE));
     };
-    if !is_within(min, max) {
+    if !(LineBounds { min, max }).in_order() {
         return Err(WordsFault::of(alloc, "error: --min is above --max", VOUCH_USAGE));
     }
     if !is_path(path) {
@@ -360,9 +231,9 @@ fn lines_in(text: Option<&str>) -> Option<u64>
 }
 
 fn few(lines: u64) -> Option<u64>
-    ensures value { result ≡ (if text.is_few lines then Some lines else None) }
+    ensures value { result ≡ (if is_few lines then Some lines else None) }
 {
-    if lines <= MOST_LINES {
+    if lines <= LineBounds::MOST {
         Some(lines)
     } else {
         None
@@ -378,14 +249,5 @@ fn limit_in(text: Option<&str>) -> Option<Option<u64>>
     match lines_in(text) {
         Some(lines) => Some(Some(lines)),
         None => None,
-    }
-}
-
-fn is_within(min: u64, max: Option<u64>) -> bool
-    ensures value { result ≡ text.is_within min max }
-{
-    match max {
-        Some(max) => min <= max,
-        None => true,
     }
 }

@@ -1,0 +1,4 @@
+use Rattle.ed_main.proofs.program.run_file.Goals as goal
+
+pub returns-clause-came : goal.returns-clause-came
+returns-clause-came g c = (record { log = _; refusals_before = _; refusals = _; sink = _ }, c.run-status.ensures.came)

@@ -1,0 +1,65 @@
+-- The status that the program ends with, whatever its words, its script and its certificate are, and whatever the files answer (our
+-- choice; where memory ran out or an input isn't read, it is that of the editor's fault).
+use Rattle.std.specs.Prelude.{◌≡◌, ℕ, List}
+use Rattle.ed_base.specs.Fault.{status_of}
+use Rattle.ed_base.specs.declared.fault.Fault.TheVariants as fault
+use Rattle.ed_syntax.specs.declared.options.Options.{Options}
+use Rattle.ed_session.specs.Drives.{Log}
+use Rattle.ed_session.specs.Sinks.{SinkChange}
+use Rattle.ed_main.specs.declared.job.Job.{Job}
+use Rattle.ed_main.specs.declared.job.Job.TheVariants as job
+use Rattle.ed_main.specs.declared.source.ReadFault.{ReadFault}
+use Rattle.ed_main.specs.declared.source.ReadFault.TheVariants as reading
+use Rattle.ed_main.specs.declared.words.WordsFault.{WordsFault}
+use Rattle.ed_main.specs.declared.words.WordsFault.TheVariants as words
+use Rattle.ed_main.specs.Check.{Checks}
+use Rattle.ed_main.specs.Edit.{Correct}
+use Rattle.ed_main.specs.Headline.{MayFail}
+use Rattle.ed_main.specs.Job.{IsGiven}
+use Rattle.ed_main.specs.Run.{Runs}
+use Rattle.ed_main.specs.Told.{Says}
+use Rattle.ed_main.specs.Vouch.{Vouches}
+
+-- words that aren't understood have a status of their own
+abbrev pub status_of_words : WordsFault → ℕ
+status_of_words (words.Usage text) = 4
+status_of_words words.Memory = status_of fault.Memory
+
+-- a script or a certificate that isn't read ends the program as a file does that is refused
+abbrev pub status_of_unread : ReadFault → ℕ
+status_of_unread reading.Refused = status_of fault.File
+status_of_unread reading.Memory = status_of fault.Memory
+
+-- What a job met: what it asked the files and was answered, the counts of their refusals before and after it, and the output.
+pub record Met : Type 0 where
+  pub log : Log
+  pub refusals_before : ℕ
+  pub refusals : ℕ
+  pub sink : SinkChange
+
+-- a job came to this with whatever it met
+abbrev pub Somehow : (Met → ℕ → Type 0) → ℕ → Type 0
+Somehow Came status = (met : Met) × Came met status
+
+-- what `run` came to with what it met, for a script and a certificate of these bytes
+abbrev pub RunsOn : (script certificate : List ℕ) → Options → Met → ℕ → Type 0
+RunsOn script certificate options met =
+    Runs script certificate options met.log (MayFail options.path met.log met.refusals_before met.refusals met.sink) met.sink
+
+-- a certificate was read and used so, or it wasn't read
+pub data WithCertificate (Used : List ℕ → ℕ → Type 0) (status : ℕ) : Type 0 where
+  read : (certificate : List ℕ) → Used certificate status → WithCertificate Used status
+  unread : (fault : ReadFault) → status ≡ status_of_unread fault → WithCertificate Used status
+
+-- what a job comes to, for a script of these bytes
+abbrev pub Does : List ℕ → Job → ℕ → Type 0
+Does script (job.Edit options) = Somehow (λ met. Correct script options met.log met.sink)
+Does script (job.Vouch start) = Somehow (λ met. Says (Vouches script start) met.sink)
+Does script (job.Check path) = WithCertificate (λ certificate. Somehow (λ met. Says (Checks script certificate) met.sink))
+Does script (job.Run path options) = WithCertificate (λ certificate. Somehow (RunsOn script certificate options))
+
+-- the words weren't understood, the script wasn't read, or a job was done for a script
+pub data IsEnding (status : ℕ) : Type 0 where
+  refused : (fault : WordsFault) → status ≡ status_of_words fault → IsEnding status
+  unread : (fault : ReadFault) → status ≡ status_of_unread fault → IsEnding status
+  did : (script : List ℕ) (asked : Job) → IsGiven asked → Does script asked status → IsEnding status

@@ -1,0 +1,56 @@
+-- The program's subcommands and what each takes, as `clap` is told (XCU ed, "Synopsis"; our choice: a subcommand).
+use Rattle.std.specs.Prelude.{ℕ, true, List, [], ◌∷◌, codes, Some}
+use Rattle.clap.specs.Words.{App, Rule, new_app, new_rule, with_subcommand}
+use Rattle.clap.specs.Simple.{on_top}
+use Rattle.clap.specs.declared.builder.action.ArgAction.TheVariants.{Set, SetTrue}
+
+-- `-s`
+abbrev pub silent : Rule
+silent = record (new_rule (codes "silent")) { short = Some 115; action = Some SetTrue }
+
+-- `-p STRING`
+abbrev pub prompt : Rule
+prompt = record (new_rule (codes "prompt")) { short = Some 112; action = Some Set; value_names = 1 }
+
+-- `FILE`
+abbrev pub file : Rule
+file = record (new_rule (codes "file")) { action = Some Set; value_names = 1 }
+
+-- `--min N`
+abbrev pub min : Rule
+min = record (new_rule (codes "min")) { long = Some (codes "min"); action = Some Set; value_names = 1; required = true }
+
+-- `--max M`
+abbrev pub max : Rule
+max = record (new_rule (codes "max")) { long = Some (codes "max"); action = Some Set; value_names = 1; required = true }
+
+-- `CERT`
+abbrev pub certificate : Rule
+certificate = record (new_rule (codes "certificate")) { action = Some Set; value_names = 1; required = true }
+
+-- a subcommand of this name, that takes these
+abbrev pub subcommand : List ℕ → List Rule → App
+subcommand name takes = on_top (λ s. record s { rules = takes }) (new_app name)
+
+-- `edit [-s] [-p STRING] [FILE]`
+abbrev pub edit : App
+edit = subcommand (codes "edit") (silent ∷ prompt ∷ file ∷ [])
+
+-- `vouch --min N --max M [FILE]`
+abbrev pub vouch : App
+vouch = subcommand (codes "vouch") (min ∷ max ∷ file ∷ [])
+
+-- `check CERT`
+abbrev pub check : App
+check = subcommand (codes "check") (certificate ∷ [])
+
+-- `run CERT [-s] [FILE]`
+abbrev pub run : App
+run = subcommand (codes "run") (certificate ∷ silent ∷ file ∷ [])
+
+-- the program without its subcommands, of which it wants one
+abbrev pub bare : App
+bare = on_top (λ s. record s { has_version = true; subcommand_required = true }) (new_app (codes "ed_main"))
+
+unfoldable pub program : App
+program = with_subcommand (with_subcommand (with_subcommand (with_subcommand bare edit.top) vouch.top) check.top) run.top

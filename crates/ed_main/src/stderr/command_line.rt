@@ -1,0 +1,31 @@
+//! The line of a script that a command begins on, as a person reads it.
+
+use ed_syntax::first_lines;
+use std::alloc::{AllocError, Global};
+
+/// The line that a command begins on, without its newline and between backquotes; commands count from 1. None where the script has
+/// no such command. Bytes that would end the line, or aren't text, are escaped.
+pub fn line_of_command(
+    alloc: Global,
+    script: &[u8],
+    number: usize,
+) -> Result<Option<String>, AllocError> {
+    let numbers = first_lines(alloc, script)?;
+    match numbers.get(number.wrapping_sub(1)) {
+        Some(line) => Ok(Some(quoted(alloc, line_at(script, *line))?)),
+        None => Ok(None),
+    }
+}
+
+// The line of this number, without its newline; lines count from 1.
+fn line_at(script: &[u8], number: usize) -> &[u8] {
+    let mut lines = script.split(|byte| *byte == b'\n');
+    lines.nth(number.wrapping_sub(1)).unwrap_or(script)
+}
+
+fn quoted(alloc: Global, line: &[u8]) -> Result<String, AllocError> {
+    match str::from_utf8(line) {
+        Ok(text) if !text.chars().any(char::is_control) => Ok(format!(in alloc; "`{text}`")?),
+        _ => Ok(format!(in alloc; "`{}`", line.escape_ascii())?),
+    }
+}

@@ -1,0 +1,127 @@
+//! The program's subcommands and what each takes, as `clap` is told.
+ghost use Rattle.std.specs.Prelude.{◌≡◌, false, map, All, IfOk};
+ghost use Rattle.clap.specs.Words.{app_of, rule_of};
+ghost use Rattle.clap.specs.declared.builder.command.Command.TheViews.{out-Command as fields_of};
+ghost use Rattle.ed_main.specs.Subcommands as meaning;
+
+use clap::{Arg, ArgAction, Command};
+use std::alloc::{AllocError, Global};
+
+/// The program as `clap` sees it.
+pub fn program<'a>(alloc: Global) -> Result<Command<'a>, AllocError>
+    ensures value { IfOk result (λ command. app_of command ≡ meaning.program) }
+{
+    let edit = subcommand(
+        alloc,
+        "edit",
+        "Runs the script on standard input on a file",
+        vec![in alloc; silent(alloc), prompt(alloc), file(alloc)]?,
+    )?;
+    let vouch = subcommand(
+        alloc,
+        "vouch",
+        "Writes a certificate that the script on standard input can't fail, or where it can",
+        vec![in alloc; min(alloc), max(alloc), file(alloc)]?,
+    )?;
+    let check = subcommand(
+        alloc,
+        "check",
+        "Checks a certificate for the script on standard input",
+        vec![in alloc; certificate(alloc)]?,
+    )?;
+    let run = subcommand(
+        alloc,
+        "run",
+        "Runs the script on standard input on a file if a certificate for both is accepted",
+        vec![in alloc; certificate(alloc), silent(alloc), file(alloc)]?,
+    )?;
+    let command = Command::new(alloc, "ed_main")
+        .about("The line editor ed, for scripts that are checked before they are run")
+        .version("0.1")
+        .subcommand_required(true)
+        .subcommand(edit)?
+        .subcommand(vouch)?
+        .subcommand(check)?
+        .subcommand(run)?;
+    Ok(command)
+}
+
+// A subcommand that takes these options and words.
+fn subcommand<'a>(
+    alloc: Global,
+    name: &'a str,
+    about: &'a str,
+    takes: Vec<Arg<'a>>,
+) -> Result<Command<'a>, AllocError>
+    requires local { All (λ arg. arg.global ≡ false) takes.items }
+    ensures value { IfOk result (λ command. app_of command ≡ meaning.subcommand name.now (map rule_of takes.entry.items)) }
+    ensures local { IfOk result (λ command. (fields_of command).has_globals ≡ false) }
+{
+    Command::new(alloc, name).about(about).args(takes)
+}
+
+fn silent<'a>(alloc: Global) -> Arg<'a>
+    ensures value { rule_of result ≡ meaning.silent }
+    ensures local { result.global ≡ false }
+{
+    Arg::new(alloc, "silent")
+        .short('s')
+        .action(ArgAction::SetTrue)
+        .help("Doesn't write the counts of bytes that are read and written")
+}
+
+fn prompt<'a>(alloc: Global) -> Arg<'a>
+    ensures value { rule_of result ≡ meaning.prompt }
+    ensures local { result.global ≡ false }
+{
+    Arg::new(alloc, "prompt")
+        .short('p')
+        .action(ArgAction::Set)
+        .value_name("STRING")
+        .help("Writes STRING before each command")
+}
+
+fn file<'a>(alloc: Global) -> Arg<'a>
+    ensures value { rule_of result ≡ meaning.file }
+    ensures local { result.global ≡ false }
+{
+    Arg::new(alloc, "file")
+        .action(ArgAction::Set)
+        .value_name("FILE")
+        .help("The file that is edited")
+}
+
+fn min<'a>(alloc: Global) -> Arg<'a>
+    ensures value { rule_of result ≡ meaning.min }
+    ensures local { result.global ≡ false }
+{
+    Arg::new(alloc, "min")
+        .long("min")
+        .action(ArgAction::Set)
+        .value_name("N")
+        .required(true)
+        .help("The fewest lines that the file may have, at most 10^12")
+}
+
+fn max<'a>(alloc: Global) -> Arg<'a>
+    ensures value { rule_of result ≡ meaning.max }
+    ensures local { result.global ≡ false }
+{
+    Arg::new(alloc, "max")
+        .long("max")
+        .action(ArgAction::Set)
+        .value_name("M")
+        .required(true)
+        .help("The most lines that the file may have, at most 10^12, or any")
+}
+
+fn certificate<'a>(alloc: Global) -> Arg<'a>
+    ensures value { rule_of result ≡ meaning.certificate }
+    ensures local { result.global ≡ false }
+{
+    Arg::new(alloc, "certificate")
+        .action(ArgAction::Set)
+        .value_name("CERT")
+        .required(true)
+        .help("The file with the certificate")
+}

@@ -1,0 +1,67 @@
+//! The certificate of a script, or the need that fails.
+ghost use Rattle.std.specs.Prelude.{◌<◌, ◌≤◌, ◌-◌, ◌^◌, IfOk, IfSome};
+ghost use Rattle.ed_rules.specs.LineBounds.{IsAtMost, most_lines};
+ghost use Rattle.analyser.specs.Analysis.{HasTextIfVouched};
+ghost use Rattle.ed_session.specs.Sinks.{change};
+ghost use Rattle.ed_main.specs.Told.{Says};
+ghost use Rattle.ed_main.specs.Vouch.{IsAnswerFor, IsToldOf, Vouches};
+
+use crate::stderr::known::show_known;
+use crate::told::{Told, cannot_told, tell};
+use analyser::{Analysis, Start, analyse};
+use ed_base::Fault;
+use ed_session::Sink;
+use ed_syntax::{read_script, scripts_are_read_as_spelled};
+use std::alloc::{AllocError, Global};
+
+/// Tells a sink the certificate of the script that these bytes spell, for starts of these bounds, or the need that fails, and gives
+/// the exit status. What is known where it fails is shown to a person.
+pub fn vouch_text<W: Sink>(
+    alloc: Global,
+    rt: &impl Eprint,
+    script: &[u8],
+    start: Start,
+    sink: &mut W,
+) -> u8
+    requires count { (W.state sink.old).failures < 2 ^ 64 - 1 }
+    requires ordered { IsAtMost start.min start.max }
+    requires low { start.min ≤ most_lines }
+    requires high { IfSome start.max (λ most. most ≤ most_lines) }
+    ensures says { Says (Vouches script.now start) (change (W.state sink.old) (W.state sink.new)) result }
+    ensures status { result ≤ 4 }
+{
+    match answer(alloc, script, start) {
+        Ok(analysis) => {
+            let status = tell(told_of(alloc, &analysis), sink);
+            if status == 1 {
+                show_known(alloc, rt, script, &analysis);
+            }
+            status
+        }
+        Err(AllocError) => Fault::Memory.status(),
+    }
+}
+
+fn answer(alloc: Global, script: &[u8], start: Start) -> Result<Analysis, AllocError>
+    requires ordered { IsAtMost start.min start.max }
+    requires low { start.min ≤ most_lines }
+    requires high { IfSome start.max (λ most. most ≤ most_lines) }
+    ensures answers { IfOk result (IsAnswerFor script.now start) }
+    ensures texts { IfOk result HasTextIfVouched }
+{
+    scripts_are_read_as_spelled();
+    analyse(&read_script(alloc, script)?, start)
+}
+
+fn told_of(alloc: Global, analysis: &Analysis) -> Result<Told, AllocError>
+    requires texts { HasTextIfVouched analysis.now }
+    ensures value { IfOk result (IsToldOf analysis.now) }
+{
+    match analysis {
+        Analysis::Vouched(certificate) => Ok(Told {
+            output: certificate.write()?,
+            status: 0,
+        }),
+        Analysis::Cannot { place, why, .. } => cannot_told(alloc, *place, *why),
+    }
+}
