@@ -1,18 +1,19 @@
 -- A command is the naming of its lines, its effect, and its suffix.
 use Rattle.std.proofs.Common.{◌≡◌, ◌≢◌, ◌≤◌, ℕ, Bool, true, false, List, ◌++◌, refl, ap, subst, ◌∙◌}
-use Rattle.std.specs.Prelude.{Option, Some, None, Result, Ok, Err, IsOkAnd, MatchResult}
+use Rattle.std.specs.Prelude.{Option, Some, None, Result, Ok, Err, IsOkAnd, IsSome, MatchResult, unwrap_or}
 use Rattle.ed_base.specs.declared.fault.Fault.{Fault}
 use Rattle.ed_base.specs.declared.fault.Fault.TheVariants.{Memory}
 use Rattle.ed_syntax.specs.declared.request.Answer.{Answer}
+use Rattle.ed_syntax.specs.declared.request.Answer.TheVariants.{Refused}
 use Rattle.ed_syntax.specs.Commands as ed
 use Rattle.ed_syntax.specs.meaning.States.{State, Kept, kept, last}
 use Rattle.ed_syntax.specs.meaning.Values.{◌>>◌}
+use Rattle.ed_syntax.specs.meaning.Verbs.{asks}
 use Rattle.ed_syntax.specs.meaning.Ranges.{Span}
 use Rattle.ed_syntax.specs.meaning.Effects.{Outcome, Effect, Makes, Asks}
 use Rattle.ed_syntax.specs.meaning.Applied.{Placed, command, completed, effect_of, placed, settled, suffix_written}
 use Rattle.ed_commands.specs.declared.editor.past.Before.{Before}
 use Rattle.ed_commands.specs.declared.editor.Reply.TheVariants as reply
-use Rattle.ed_syntax.specs.meaning.Verbs.{asks}
 use Rattle.ed_commands.specs.Editors.{Leaves, Replies, kept_at, suffixed}
 use Rattle.ed_commands.proofs.Kept.{kept-same}
 
@@ -31,7 +32,7 @@ pub failed : (s : State) (c : ed.Command) (p : Placed) (given : Option Answer) (
 failed s c p given fault h k = at-lines s c p given h ∙ ap (λ r. r >> completed c s) k
 
 -- an answer that isn't asked for isn't looked at
-unasked-effect : (verb : ed.Verb) (listed : Bool) (x : Span) (target : ℕ) (s : State) (given : Answer) → asks verb ≡ false →
+unasked-effect : (verb : ed.Verb) (listed : Bool) (x : Span) (target : ℕ) (s : State) (given : Answer) → (asks verb ≡ true → ⊥) →
     effect_of verb listed x target s (Some given) ≡ effect_of verb listed x target s None
 unasked-effect (ed.Append text) listed x target s given unasks = refl
 unasked-effect (ed.Change text) listed x target s given unasks = refl
@@ -45,19 +46,18 @@ unasked-effect (ed.Substitute pattern replacement which form) listed x target s 
 unasked-effect ed.LineNumber listed x target s given unasks = refl
 unasked-effect ed.Null listed x target s given unasks = refl
 unasked-effect (ed.Write form) listed x target s given unasks = refl
-unasked-effect (ed.ReadFile path) listed x target s given unasks = absurd cc
-unasked-effect (ed.WriteFile path) listed x target s given unasks = absurd cc
-unasked-effect (ed.Edit path) listed x target s given unasks = absurd cc
-unasked-effect (ed.EditAnyway path) listed x target s given unasks = absurd cc
+unasked-effect (ed.ReadFile path) listed x target s given unasks = absurd (unasks refl)
+unasked-effect (ed.WriteFile path) listed x target s given unasks = absurd (unasks refl)
+unasked-effect (ed.Edit path) listed x target s given unasks = absurd (unasks refl)
+unasked-effect (ed.EditAnyway path) listed x target s given unasks = absurd (unasks refl)
 unasked-effect verb listed x target s given unasks = refl
 
-unasked-at : (r : Result Placed Fault) (s : State) (c : ed.Command) (given : Answer) → asks c.verb ≡ false →
-    (r >> λ p. effect_of c.verb c.listed p.span p.target p.state (Some given) >> completed c s) ≡ (r >> λ p. effect_of c.verb c.listed p.span p.target p.state None >> completed c s)
-unasked-at (Ok p) s c given unasks = ap (λ e. e >> completed c s) (unasked-effect c.verb c.listed p.span p.target p.state given unasks)
-unasked-at (Err fault) s c given unasks = refl
-
-pub unasked : (s : State) (c : ed.Command) (given : Answer) → asks c.verb ≡ false → command s c (Some given) ≡ command s c None
-unasked s c given = unasked-at (placed c s) s c given
+-- so some answer may stand for none
+pub any-answer : (verb : ed.Verb) (listed : Bool) (x : Span) (target : ℕ) (s : State) (given : Option Answer) → (asks verb ≡ true → IsSome given) →
+    effect_of verb listed x target s (Some (unwrap_or given Refused)) ≡ effect_of verb listed x target s given
+any-answer verb listed x target s (Some given) answered = refl
+any-answer verb listed x target s None answered =
+    unasked-effect verb listed x target s Refused (λ asked. let none : false ≡ true = answered asked in absurd cc)
 
 -- a change of the flags alone leaves what a suffix writes
 suffix-settled : (listed : Bool) (before : Kept) (alters : Bool) (s : State) (output : List ℕ) (suffix : Option ed.Form) →

@@ -25,7 +25,6 @@ use Rattle.ed_syntax.specs.meaning.Verbs.{asks, is_global}
 use Rattle.ed_commands.specs.Editors.{BeginsBy, Replies, with_pattern}
 use Rattle.ed_commands.proofs.Blocks.{block-more, length-block, set-one, whole}
 use Rattle.ed_commands.proofs.Changes.{same-texts}
-use Rattle.ed_commands.proofs.Commanding.{unasked}
 use Rattle.ed_commands.proofs.Kept.{kept-own, kept-same}
 use Rattle.ed_commands.proofs.Rewritten.{counted, gone, next-line}
 use Rattle.ed_commands.proofs.Texts.{texts-block, texts-exchanged}
@@ -108,9 +107,9 @@ global-stays s c given h =
     (λ e stays. completed-stays c s p.state.lines e stays)))
 
 -- it asks for no file
-pub unasking : (verb : ed.Verb) → is_global verb ≡ true → asks verb ≡ false
-unasking (ed.Global sense pattern) h = refl
-unasking verb h = absurd cc
+pub unasking : (verb : ed.Verb) → is_global verb ≡ true → asks verb ≡ true → ⊥
+unasking (ed.Global sense pattern) h asked = cc
+unasking verb h asked = absurd cc
 
 begun-by : (r : Result Effect Fault) (s mid : State) (output : List ℕ) (k : Kept) (count : ℕ) → IsOkAnd r (Replies s mid (reply.Done output)) → Gives (Stays s.lines) r →
     (texts mid.lines ≡ texts s.lines → k ≡ kept s) → count ≡ flags mid → IsOkAnd r (BeginsBy s (with_earlier (opening_global k (earlier_in mid)) mid) (record { lines = count; output = output }))
@@ -121,12 +120,11 @@ begun-by (Ok (Makes o)) s mid output k count h stays keeps counted =
     (ap (λ k. opened k mid) (keeps same) ∙ ap (opened (kept s)) h.0, counted ∙ ap flags h.0, h.1)
 
 -- it begins, once it is open
-pub begun : (s mid : State) (c : ed.Command) (given : Answer) (output : List ℕ) (current : ℕ) (marks : List (Option ℕ)) (count : ℕ) →
-    is_global c.verb ≡ true → IsOkAnd (command s c (Some given)) (Replies s mid (reply.Done output)) → current ≡ s.current → s.current ≤ last s → lettered marks 0 s.lines ≡ s.lines →
+pub begun : (s mid : State) (c : ed.Command) (output : List ℕ) (current : ℕ) (marks : List (Option ℕ)) (count : ℕ) →
+    is_global c.verb ≡ true → IsOkAnd (command s c None) (Replies s mid (reply.Done output)) → current ≡ s.current → s.current ≤ last s → lettered marks 0 s.lines ≡ s.lines →
     count ≡ flags mid → IsOkAnd (command s c None) (BeginsBy s (with_earlier (opening_global (kept_of current marks (texts mid.lines)) (earlier_in mid)) mid) (record { lines = count; output = output }))
-begun s mid c given output current marks count global done was within own counted =
+begun s mid c output current marks count global done was within own counted =
     begun-by (command s c None) s mid output (kept_of current marks (texts mid.lines)) count
-    (subst (λ r. IsOkAnd r (Replies s mid (reply.Done output))) (unasked s c given (unasking c.verb global)) done)
-    (global-stays s c None global)
+    done (global-stays s c None global)
     (λ same. ap (kept_of current marks) same ∙ kept-own current marks s.lines own ∙ kept-same s s current refl was within)
     counted

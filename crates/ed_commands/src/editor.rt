@@ -1,11 +1,12 @@
 //! An editor over any store: one command at a time.
-ghost use Rattle.std.specs.Prelude.{◌≡◌, ◌≢◌, [], Option, Some, None, Err, IfErr, IfSome, IsOkAnd, MatchResult, OnErr, OnOk, unwrap_or};
+ghost use Rattle.std.specs.Prelude.{◌≡◌, ◌≢◌, [], Option, Some, None, Err, IfErr, IfSome, IsOkAnd, IsSome, IsTrue, MatchResult, OnErr, OnOk, unwrap_or};
 ghost use Rattle.ed_base.specs.declared.fault.Fault.TheVariants.{Memory};
 ghost use Rattle.ed_syntax.specs.PublicTypes.{command_value};
 ghost use Rattle.ed_syntax.specs.declared.request.Answer.{Answer};
 ghost use Rattle.ed_syntax.specs.meaning.Applied as applied;
 ghost use Rattle.ed_syntax.specs.meaning.Files.{loaded};
 ghost use Rattle.ed_syntax.specs.meaning.States.{opening};
+ghost use Rattle.ed_syntax.specs.meaning.Verbs.{asks};
 ghost use Rattle.ed_commands.specs.Editors.{Applied, Replies, failure_of, opening_value};
 ghost use Rattle.ed_commands.specs.declared.editor.Reply.TheVariants as reply;
 
@@ -170,28 +171,22 @@ impl<S: LineStore> Editor<S> {
         if let Some(fault) = self.failed {
             return Err(fault);
         }
-        match self.perform(command, answer) {
-            Ok(reply) => Ok(reply),
+        if answer.is_none() && command.verb.takes().asks {
+            return match self.request(command) {
+                Ok(request) => Ok(Reply::Wants(request)),
+                Err(fault) => Err(self.fail(fault)),
+            };
+        }
+        match self.carry_out(command, answer) {
+            Ok(output) => Ok(Reply::Done(output)),
             Err(fault) => Err(self.fail(fault)),
         }
     }
 
-    // What it replies: the file that it needs, where there is no answer yet, or what it did.
-    fn perform(&mut self, command: &Command, answer: Option<Answer>) -> Result<Reply, Fault>
-        ensures exact { Applied (applied.command self.old.state (command_value command.now) answer) result self.old.state self.new.state }
-        ensures failed { self.new.failed ≡ self.old.failed }
-    {
-        match answer {
-            Some(given) => Ok(Reply::Done(self.carry_out(command, given)?)),
-            None if command.verb.takes().asks => Ok(Reply::Wants(self.request(command)?)),
-            // An answer that isn't asked for isn't looked at.
-            None => Ok(Reply::Done(self.carry_out(command, Answer::Refused)?)),
-        }
-    }
-
     // The lines that a command is applied to, its effect there, and its suffix.
-    fn carry_out(&mut self, command: &Command, answer: Answer) -> Result<Pieces, Fault>
-        ensures exact { let effect = applied.command self.old.state (command_value command.now) (Some answer) in
+    fn carry_out(&mut self, command: &Command, answer: Option<Answer>) -> Result<Pieces, Fault>
+        requires answered { IsTrue (asks (command_value command.now).verb) → IsSome answer }
+        ensures exact { let effect = applied.command self.old.state (command_value command.now) answer in
             MatchResult result (λ output. IsOkAnd effect (Replies self.old.state self.new.state (reply.Done output)))
             (λ fault. fault ≢ Memory → effect ≡ Err fault) }
         ensures failed { self.new.failed ≡ self.old.failed }
@@ -201,7 +196,9 @@ impl<S: LineStore> Editor<S> {
             listed: command.listed,
         };
         let named = self.addressed(command)?;
-        let output = self.effect(&command.verb, named, before, answer)?;
+        // An answer that isn't asked for isn't looked at.
+        let given = answer.unwrap_or(Answer::Refused);
+        let output = self.effect(&command.verb, named, before, given)?;
         self.write_suffix(command.suffix, output)
     }
 

@@ -14,7 +14,7 @@ use crate::editor::Editor;
 use crate::editor::addressing::Span;
 use bre_match::Searcher;
 use ed_base::{Fault, Pieces};
-use ed_syntax::{Answer, Command, Pattern, Sense};
+use ed_syntax::{Command, Pattern, Sense};
 use line_store::{LineStore, Marks};
 use std::alloc::{AllocError, Global};
 
@@ -93,7 +93,7 @@ impl<S: LineStore> Editor<S> {
     {
         let current = self.current;
         let marks = Marks::of(&self.store);
-        let output = self.carry_out(command, Answer::Refused)?;
+        let output = self.carry_out(command, None)?;
         self.past.open(current, marks);
         Ok(Begun {
             lines: self.store.flag_count(),
