@@ -1,5 +1,5 @@
 //! What a session has still to carry out.
-ghost use Rattle.std.specs.Prelude.{◌≡◌, ◌<◌, ◌^◌, Some, None, IsSome, is_some};
+ghost use Rattle.std.specs.Prelude.{◌≡◌, ◌<◌, ◌^◌, Some, None, IsSome, is_some, length};
 ghost use Rattle.ed_syntax.specs.PublicTypes.{command_value, steps_value};
 ghost use Rattle.ed_session.specs.Agendas.{lines_of, next_command, opened_for, passed, repeated};
 
@@ -55,6 +55,13 @@ impl Agenda {
         ensures value { result ≡ is_some self.now.running_list }
     {
         self.countdown.is_some()
+    }
+
+    /// How many commands of the script itself are left: those after the global command, where one is open.
+    pub(crate) fn left(&self) -> usize
+        ensures value { result ≡ length self.now.steps }
+    {
+        self.commands.len() - self.next
     }
 
     /// A command is left: of the list, where a global command is open, else of the script.

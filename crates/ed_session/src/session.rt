@@ -1,5 +1,5 @@
 //! A run that stops for its output and its files.
-ghost use Rattle.std.specs.Prelude.{◌≡◌, ◌≢◌, ◌≤◌, List, [], Some, None, true, false, IfOk, IfErr, OnOk, IfSome, IfNone, IsSome};
+ghost use Rattle.std.specs.Prelude.{◌≡◌, ◌≢◌, ◌≤◌, List, [], Some, None, true, false, IfOk, IfErr, OnOk, IfSome, IfNone, IsSome, is_some, length};
 ghost use Rattle.ed_base.specs.declared.fault.Fault.TheVariants.{File, Memory};
 ghost use Rattle.ed_commands.specs.Editors.{opening_value};
 ghost use Rattle.ed_session.specs.Insides.{counted, length_counted, state_loaded};
@@ -158,6 +158,21 @@ impl<S: LineStore> Session<S> {
         ensures value { result ≡ is_started self.now.phase }
     {
         !matches!(&self.phase, Phase::Fresh(_))
+    }
+
+    /// How many commands of the script are left, that which is being done among them; those of the list of a global command that is
+    /// open don't count, nor does that command.
+    pub fn left(&self) -> usize
+        ensures value { result ≡ length self.now.steps }
+    {
+        self.agenda.left()
+    }
+
+    /// A global command is open: its list is run.
+    pub fn in_list(&self) -> bool
+        ensures value { result ≡ is_some self.now.running_list }
+    {
+        self.agenda.in_list()
     }
 
     /// It waits for the answer to a request.
