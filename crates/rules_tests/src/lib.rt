@@ -8,6 +8,8 @@ mod certifying;
 #[cfg(test)]
 mod checking;
 #[cfg(test)]
+mod choices;
+#[cfg(test)]
 mod globals;
 #[cfg(test)]
 mod lists;

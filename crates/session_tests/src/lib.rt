@@ -16,6 +16,8 @@ mod listing;
 #[cfg(test)]
 mod refusals;
 #[cfg(test)]
+mod refused_in_turn;
+#[cfg(test)]
 mod replacing;
 #[cfg(test)]
 mod runs;

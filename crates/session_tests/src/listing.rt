@@ -1,7 +1,8 @@
 //! How `l` folds a line: no row is longer than 71 bytes, and none ends within an escape (XCU ed, "List Command").
 use crate::asserting::same;
-use crate::driving::{Case, UNREFUSED, run_plain};
+use crate::driving::{Case, UNREFUSED, run};
 use ed_base::Bytes;
+use line_store::{ChunkStore, GapStore, LineStore, PlainStore};
 use std::alloc::Global;
 use std::process::Abort;
 
@@ -46,14 +47,14 @@ fn folded(rt: &impl Abort, alloc: Global, folding: &Folding) -> Bytes {
     folded
 }
 
-fn check(rt: &impl Abort, alloc: Global, folding: &Folding) {
+fn check<S: LineStore>(rt: &impl Abort, alloc: Global, folding: &Folding) {
     let file = file(rt, alloc, folding);
     let case = Case {
         script: b"l\n",
         file: Some(file.as_slice()),
         ..UNREFUSED
     };
-    let outcome = run_plain(alloc, case).expect(rt, "memory");
+    let outcome = run::<S>(alloc, case).expect(rt, "memory");
     let expected = folded(rt, alloc, folding);
     let at = (folding.letters, folding.tail);
     same(rt, outcome.sink.taken(), expected.as_slice(), at);
@@ -62,6 +63,8 @@ fn check(rt: &impl Abort, alloc: Global, folding: &Folding) {
 #[test]
 fn a_long_line_is_folded_between_two_bytes(rt: HostRuntime) {
     for folding in &FOLDINGS {
-        check(&rt, rt.alloc(), folding);
+        check::<PlainStore>(&rt, rt.alloc(), folding);
+        check::<GapStore>(&rt, rt.alloc(), folding);
+        check::<ChunkStore>(&rt, rt.alloc(), folding);
     }
 }
