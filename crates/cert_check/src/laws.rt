@@ -13,7 +13,7 @@ ghost use Rattle.cert_check.specs.checker.Valid.{judged};
 ghost use Rattle.cert_check.specs.text.HasText.{IsText};
 ghost use Rattle.cert_check.specs.text.Faults.{IsVersionFault, IsLineFault, IsSizeFault};
 ghost use Rattle.cert_check.specs.checker.Opening.{StartIsSound};
-ghost use Rattle.cert_check.specs.checker.Sound.{CannotFail};
+ghost use Rattle.cert_check.specs.checker.Sound.{GlobalGoesWell, CannotFail};
 
 use ed_rules::{commands_are_sound, globals_are_sound, weaker_states_stand_for_more};
 use ed_syntax::{commands_are_placed, files_have_lines, lists_note_changes};
@@ -31,15 +31,26 @@ pub fn starts_are_sound()
     files_have_lines();
 }
 
+/// One global command, by induction on the lines that have its flag: where its checks hold, with those of its list, its run stops well, or
+/// goes on with an editor that the state after it stands for.
+pub fn checked_globals_go_well()
+    ensures sound { GlobalGoesWell }
+{
+    commands_are_sound();
+    globals_are_sound();
+    lists_note_changes();
+    covering_is_decided();
+    weaker_states_stand_for_more();
+}
+
 /// A script with a valid certificate can't fail; just the commands of lists are listed, as in each script that is read.
 pub fn accepted_scripts_cannot_fail()
     ensures sound { (script : ed.Script) (c : plain.Certificate) → IsTrue (list_all is_step script.steps) →
         judged script c ≡ Accepted → CannotFail script c }
 {
     commands_are_sound();
-    globals_are_sound();
+    checked_globals_go_well();
     commands_are_placed();
-    lists_note_changes();
     covering_is_decided();
     starts_are_sound();
     weaker_states_stand_for_more();

@@ -10,8 +10,8 @@ pub use certificate::{Certificate, Looped, Note};
 pub use checker::check;
 pub use checker::verdict::{Place, Verdict};
 pub use laws::{
-    accepted_scripts_cannot_fail, covering_is_decided, readings_are_told_apart, starts_are_sound,
-    texts_are_unambiguous,
+    accepted_scripts_cannot_fail, checked_globals_go_well, covering_is_decided,
+    readings_are_told_apart, starts_are_sound, texts_are_unambiguous,
 };
 pub use text::fault::CertFault;
 pub use text::reading::wanted;

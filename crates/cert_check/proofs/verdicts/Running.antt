@@ -24,43 +24,37 @@ use Rattle.ed_rules.specs.Order.{Covers}
 use Rattle.cert_check.specs.checker.Covering.{covers}
 use Rattle.ed_rules.specs.Soundness.{MayAskFor, IsDone, CommandIsSound}
 use Rattle.ed_rules.specs.Files.{written_paths}
-use Rattle.ed_rules.specs.Globals.{body_entry, loop_end}
-use Rattle.ed_rules.specs.GlobalSoundness as global
-use Rattle.ed_syntax.specs.meaning.CommandLaws.{CommandsArePlaced, ListsNoteChanges}
+use Rattle.ed_syntax.specs.meaning.CommandLaws.{CommandsArePlaced}
 use Rattle.ed_syntax.specs.meaning.Verbs.{is_global, ends_run}
-use Rattle.ed_rules.specs.GlobalSoundness.{TurnIsSound, EndIsSound}
 use Rattle.ed_rules.proofs.Choosing.{or-cases, has_choice-all}
 use Rattle.ed_rules.specs.StandsFor.{StandsFor, allows_change}
 use Rattle.ed_rules.specs.LineBounds.{IsAtMost, IsWithin}
 use Rattle.cert_check.specs.checker.Opening.{StartIsSound}
 use Rattle.cert_check.specs.Certificates.{Certificate}
 use Rattle.cert_check.specs.checker.Valid.{counted, are_met, left_by, is_listed, are_listed, knows_least, knows_most}
-use Rattle.cert_check.specs.checker.Sound.{MayAsk, StopsWell}
+use Rattle.cert_check.specs.checker.Sound.{MayAsk, RunsWell, GlobalGoesWell}
 use Rattle.cert_check.proofs.verdicts.Checks.{EndsSo, met-gives}
 use Rattle.cert_check.proofs.verdicts.Quitting.{SameMade, SavedMade, quit-leaves, saved-leaves}
 
--- the laws of the crates below
+-- the laws on one command and on what covers a state
 pub record Laws : Type 0 where
   pub command : CommandIsSound
-  pub begun : global.StartIsSound
-  pub turn : (invariant : State) → TurnIsSound invariant (body_entry invariant)
-  pub placed : CommandsArePlaced
-  pub changes : ListsNoteChanges
-  pub over : (x : Step) (before invariant : State) → EndIsSound x before invariant (loop_end x before invariant)
   pub decided : (weak strong : State) → IsTrue (covers weak strong) ↔ Covers weak strong
-  pub started : StartIsSound
   pub weaker : (weak strong : State) (e : editor.State) → Covers weak strong → StandsFor strong e → StandsFor weak e
-  pub known : (zone : Bounds) (number : Numbers) (x y : ℕ) (c : ℤ) → known zone x y c ≡ true → x < 32 → y < 32 → Holds zone number → (number x -ℤ number y) ≤ℤ c
 
--- a run stops well, and asks for nothing else
-abbrev pub RunsWell : Certificate → Progress → Type 0
-RunsWell c p = All (MayAsk c) (asked_of p) × StopsWell c (stop_of p)
+-- and those on the other parts of a run
+pub record RunLaws : Type 0 where
+  pub single : Laws
+  pub global : GlobalGoesWell
+  pub placed : CommandsArePlaced
+  pub started : StartIsSound
+  pub known : (zone : Bounds) (number : Numbers) (x y : ℕ) (c : ℤ) → known zone x y c ≡ true → x < 32 → y < 32 → Holds zone number → (number x -ℤ number y) ≤ℤ c
 
 -- what covers a state stands for all that it stands for
 pub covers-stands : Laws → (weak strong : State) (e : editor.State) → covers weak strong ≡ true → StandsFor strong e → StandsFor weak e
 covers-stands k weak strong e h st = k.weaker weak strong e ((k.decided weak strong).0 h) st
 
-least-holds : Laws → (s : State) (low : ℕ) (e : editor.State) → knows_least s.zone low ≡ true → StandsFor s e → low ≤ length e.lines
+least-holds : RunLaws → (s : State) (low : ℕ) (e : editor.State) → knows_least s.zone low ≡ true → StandsFor s e → low ≤ length e.lines
 unfolding knows_least
 least-holds k s low e h st =
     let d = k.known s.zone st.numbers 0 2 (neg_ℤ (pos low)) h (omega arith) (omega arith) st.stands.buffer.holds in
@@ -68,7 +62,7 @@ least-holds k s low e h st =
     let last_is = st.stands.buffer.reads.last_is in
     omega (arith, ints)
 
-most-holds : Laws → (s : State) (high : Option ℕ) (e : editor.State) → knows_most s.zone high ≡ true → StandsFor s e → IsAtMost (length e.lines) high
+most-holds : RunLaws → (s : State) (high : Option ℕ) (e : editor.State) → knows_most s.zone high ≡ true → StandsFor s e → IsAtMost (length e.lines) high
 unfolding knows_most
 most-holds k s None e h st = tt
 most-holds k s (Some high) e h st =
@@ -78,9 +72,9 @@ most-holds k s (Some high) e h st =
     omega (arith, ints)
 
 -- the number of lines of each state that the end stands for
-within-end : Laws → (quit : Bool) (bad : Option ℕ) (c : Certificate) (s : State) (e : editor.State) → EndsSo quit bad c s → StandsFor s e → IsWithin c.low c.high (length e.lines)
+within-end : RunLaws → (quit : Bool) (bad : Option ℕ) (c : Certificate) (s : State) (e : editor.State) → EndsSo quit bad c s → StandsFor s e → IsWithin c.low c.high (length e.lines)
 within-end k quit bad c s e h st =
-    let last : StandsFor c.last e = covers-stands k c.last s e h.covered st in
+    let last : StandsFor c.last e = covers-stands k.single c.last s e h.covered st in
     (least-holds k c.last c.low e h.least last, most-holds k c.last c.high e h.most last)
 
 pub prompted-well : (c : Certificate) (m : Present) (p : Progress) → RunsWell c p → RunsWell c (prompted m p)
@@ -96,17 +90,17 @@ not-changed true h e = absurd cc
 not-changed false h e = absurd cc
 
 -- the end of a script without a quit is a `q`
-quitting-well : Laws → (bad : Option ℕ) (c : Certificate) (s : State) (m : Present) → EndsSo false bad c s → StandsFor s m.state → RunsWell c (quitting m)
+quitting-well : RunLaws → (bad : Option ℕ) (c : Certificate) (s : State) (m : Present) → EndsSo false bad c s → StandsFor s m.state → RunsWell c (quitting m)
 quitting-well k bad c s m h st =
     (elim m.state.changed as (λ b. m.state.changed ≡ b → RunsWell c (elim b as (λ _. Progress) [ true ↦ failing m fault.Unsaved | false ↦ ending m ])) [
       | true ↦ λ e.
-          let last : StandsFor c.last m.state = covers-stands k c.last s m.state h.covered st in
+          let last : StandsFor c.last m.state = covers-stands k.single c.last s m.state h.covered st in
           let may : allows_change c.last.changed true ≡ true = subst (λ (b : Bool). allows_change c.last.changed b ≡ true) e last.stands.changed in
           absurd (not-changed c.last.changed.yes h.saved may)
       | false ↦ λ e. ending-well c m (within-end k false bad c s m.state h st)
     ]) refl
 
-pub at_end-well : Laws → (bad : Option ℕ) (c : Certificate) (s : State) (m : Present) → EndsSo false bad c s → StandsFor s m.state → RunsWell c (at_end bad m)
+pub at_end-well : RunLaws → (bad : Option ℕ) (c : Certificate) (s : State) (m : Present) → EndsSo false bad c s → StandsFor s m.state → RunsWell c (at_end bad m)
 at_end-well k None c s m h st = quitting-well k None c s m h st
 at_end-well k (Some line) c s m h st = let f : false ≡ true = h.readable in absurd cc
 
@@ -185,20 +179,20 @@ saved-made : (x : Command) (s t : State) (e : editor.State) (y : Result Effect F
 saved-made x s t e (Err f) a made = absurd a
 saved-made x s t e (Ok f) a made = made
 
-quit-well : Laws → (quit : Bool) (bad : Option ℕ) (c : Certificate) (x : Command) (s : State) (m : Present) →
+quit-well : RunLaws → (quit : Bool) (bad : Option ℕ) (c : Certificate) (x : Command) (s : State) (m : Present) →
     IfOk (command m.state x None) (SameMade m.state) → are_met x s ≡ true → StandsFor s m.state →
     EndsSo quit bad c (left_by x s) → RunsWell c (ending m)
 quit-well k quit bad c x s m same met st h =
     let t : State = left_by x s in
     ending-well c m
-    (quit-within c x s t m.state (command m.state x None) (k.command x s t m.state None st (met-gives x s met)) same
+    (quit-within c x s t m.state (command m.state x None) (k.single.command x s t m.state None st (met-gives x s met)) same
     (λ u stands. within-end k quit bad c t u h stands))
 
 quitting-saved : (m : Present) → m.state.changed ≡ false → quitting m ≡ ending m
 quitting-saved m e = ap (λ (b : Bool). elim b as (λ _. Progress) [ true ↦ failing m fault.Unsaved | false ↦ ending m ]) e
 
 -- a command that ends it
-pub ended-well : Laws → (quit : Bool) (bad : Option ℕ) (c : Certificate) (x : Step) (s : State) (m : Present) (go : Further) (answers : List Answer) (v : Verb) → x.command.verb ≡ v → ends_run v ≡ true →
+pub ended-well : RunLaws → (quit : Bool) (bad : Option ℕ) (c : Certificate) (x : Step) (s : State) (m : Present) (go : Further) (answers : List Answer) (v : Verb) → x.command.verb ≡ v → ends_run v ≡ true →
     are_met x.command s ≡ true → StandsFor s m.state → EndsSo quit bad c (left_by x.command s) → RunsWell c (step_by v x m go answers)
 ended-well k quit bad c x s m go answers ed.QuitAnyway is e met st h =
     let d : Command = x.command in
@@ -209,7 +203,7 @@ ended-well k quit bad c x s m go answers ed.QuitAnyway is e met st h =
     (quit-leaves k.placed d.addresses d.suffix d.listed m.state None)) met st h
 ended-well k quit bad c x s m go answers ed.Quit is e met st h =
     let d : Command = x.command in
-    let made = saved-made d s (left_by d s) m.state (command m.state d None) (k.command d s (left_by d s) m.state None st (met-gives d s met))
+    let made = saved-made d s (left_by d s) m.state (command m.state d None) (k.single.command d s (left_by d s) m.state None st (met-gives d s met))
     (subst (λ (v : Verb).
     IfOk (command m.state (record { addresses = d.addresses; verb = v; suffix = d.suffix; listed = d.listed }) None) (SavedMade m.state))
     (sym is)

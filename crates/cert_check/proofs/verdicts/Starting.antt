@@ -19,20 +19,20 @@ use Rattle.cert_check.specs.checker.Opening.{opened}
 use Rattle.cert_check.specs.declared.checker.verdict.Verdict.TheVariants.{Accepted}
 use Rattle.cert_check.specs.Certificates.{Certificate}
 use Rattle.cert_check.specs.checker.Valid.{counted, has_quit, are_shaped, judged}
-use Rattle.cert_check.specs.checker.Sound.{start_lines, MayAsk, CannotFail}
+use Rattle.cert_check.specs.checker.Sound.{start_lines, MayAsk, RunsWell, CannotFail}
 use Rattle.cert_check.proofs.verdicts.Checks.{first-holds}
-use Rattle.cert_check.proofs.verdicts.Running.{Laws, RunsWell}
+use Rattle.cert_check.proofs.verdicts.Running.{RunLaws}
 use Rattle.cert_check.proofs.verdicts.Stepping.{steps-well}
 use Rattle.ed_syntax.specs.meaning.Verbs.{is_step}
 use Rattle.std.specs.List.{list_all}
 
 -- what is left runs well from each editor that was opened within the bounds
-abbrev GoesWell : Certificate → (path : Option (List ℕ)) → Further → Type 0
-GoesWell c path go = (bytes : List ℕ) → IsWithin c.min c.max (length (lines_of bytes)) → (m : Present) → m.state ≡ opened path bytes → (answers : List Answer) →
+abbrev OpensWell : Certificate → (path : Option (List ℕ)) → Further → Type 0
+OpensWell c path go = (bytes : List ℕ) → IsWithin c.min c.max (length (lines_of bytes)) → (m : Present) → m.state ≡ opened path bytes → (answers : List Answer) →
     RunsWell c (go m answers)
 
 start-well : (c : Certificate) (path : Option (List ℕ)) (m : Present) (go : Further) (answers : List Answer) → m.state ≡ opening →
-    IfSome (start_lines path answers) (IsWithin c.min c.max) → GoesWell c path go → RunsWell c (runs.start path m go answers)
+    IfSome (start_lines path answers) (IsWithin c.min c.max) → OpensWell c path go → RunsWell c (runs.start path m go answers)
 start-well c None m go answers new within h = h [] within m new answers
 start-well c (Some path) m go [] new within h = (All-nil (MayAsk c), tt)
 start-well c (Some path) m go (answer.Bytes bytes ∷ later) new within h =
@@ -46,11 +46,11 @@ start-well c (Some path) m go (answer.Missing ∷ later) new within h =
 start-well c (Some path) m go (answer.Refused ∷ later) new within h = (All-cons (MayAsk c) (request.Read path) [] tt (All-nil (MayAsk c)), refl)
 start-well c (Some path) m go (answer.Done ∷ later) new within h = (All-cons (MayAsk c) (request.Read path) [] tt (All-nil (MayAsk c)), refl)
 
-pub accepted-safe : Laws → (script : Script) (c : Certificate) → IsTrue (list_all is_step script.steps) → judged script c ≡ Accepted → CannotFail script c
+pub accepted-safe : RunLaws → (script : Script) (c : Certificate) → IsTrue (list_all is_step script.steps) → judged script c ≡ Accepted → CannotFail script c
 accepted-safe k script c stands h o answers same within =
     let go : Further = steps script.steps script.fault in
     let shape = first-holds (are_shaped (counted script.steps) c.notes) _ _ h in
-    let goes : GoesWell c c.path go = λ bytes bounds m new more.
+    let goes : OpensWell c c.path go = λ bytes bounds m new more.
     steps-well k c script.fault (has_quit script.steps) script.steps 1 (start c.path c.min c.max) c.notes refl stands shape.0 shape.1 m
     (subst (λ (e : editor.State). StandsFor (start c.path c.min c.max) e) (sym new) (k.started c.path c.min c.max bytes bounds)) more in
     subst (λ (p : Option (List ℕ)). RunsWell c (runs.start p (present o) go answers)) (sym same) (start-well c c.path (present o) go answers refl within goes)

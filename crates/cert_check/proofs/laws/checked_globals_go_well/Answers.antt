@@ -1,0 +1,19 @@
+use Rattle.cert_check.proofs.verdicts.Running.{Laws}
+use Rattle.cert_check.proofs.verdicts.Turning.{ListLaws, global-goes-well}
+use Rattle.cert_check.proofs.laws.checked_globals_go_well.Goals as goal
+
+pub returns : goal.returns
+returns c =
+    let single : Laws = record {
+      command = c.commands_are_sound.ensures.sound;
+      decided = c.covering_is_decided.ensures.exact;
+      weaker = c.weaker_states_stand_for_more.ensures.covers;
+    } in
+    let laws : ListLaws = record {
+      single = single;
+      changes = c.lists_note_changes.ensures.notes;
+      begun = c.globals_are_sound.ensures.start;
+      turn = c.globals_are_sound.ensures.turn;
+      over = c.globals_are_sound.ensures.end;
+    } in
+    record { sound = global-goes-well laws }
