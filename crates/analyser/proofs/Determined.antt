@@ -1,18 +1,22 @@
 -- A script has one answer over a start.
 use Rattle.std.proofs.Common.{◌≡◌, ◌<◌, ◌+◌, ℕ, Bool, true, false, List, [], ◌∷◌, length, Option, None, Some, inl, inr, refl, sym, ap, subst, ◌∙◌, arith}
+use Rattle.std.specs.List.{Contains}
 use Rattle.std.proofs.lemmas.Bool.{cases_lt}
 use Rattle.ed_base.specs.declared.fault.Fault.{Fault}
+use Rattle.zones.specs.Known.{least, greatest}
 use Rattle.ed_syntax.specs.Commands.{Command, Step, Script}
 use Rattle.ed_syntax.specs.meaning.Verbs.{is_global}
 use Rattle.ed_rules.specs.declared.state.State.{State}
+use Rattle.ed_rules.specs.Choices.{Choice}
 use Rattle.ed_rules.specs.Globals.{body_entry}
 use Rattle.cert_check.specs.declared.checker.verdict.Place.{Place}
 use Rattle.cert_check.specs.Certificates.{Looped, Note, Certificate}
 use Rattle.cert_check.specs.checker.Valid.{counted, has_quit, are_met, left_by, left_after}
 use Rattle.analyser.specs.declared.analysis.Start.{Start}
 use Rattle.analyser.specs.Rounds.{round_invariant, ends, AreInner, InnerFail, IsSettled}
-use Rattle.analyser.specs.Following.{IsKnownOfList, IsNote, ListFails, NeedFails, AreNotes, NotesFail, result_from, begun, end_fault}
-use Rattle.analyser.specs.Analysis.{IsCertificate, IsFailure}
+use Rattle.analyser.specs.Following.{IsKnownOfList, IsNote, ListFails, NeedFails, AreNotes, NotesFail, result_from, paths_from, begun, end_fault}
+use Rattle.analyser.specs.Analysis.{low_of, high_of, IsCertificate, IsFailure}
+use Rattle.analyser.proofs.Listing.{rising-once}
 use Rattle.analyser.proofs.Rounding.{unmet-some}
 
 -- A LIST
@@ -193,8 +197,34 @@ either-comes script start c place why notes h (inr fails) =
     let faults : None ≡ Some why = sym none ∙ fails.fails in
     absurd cc
 
-pub certificate-once : (script : Script) (start : Start) (one other : Certificate) → IsCertificate script start one → IsCertificate script start other → one.notes ≡ other.notes
-certificate-once script start one other h k = notes-once (counted script.steps) (begun start) one.notes other.notes h.notes k.notes
+abbrev made : (path : Option (List ℕ)) → (min : ℕ) → (max : Option ℕ) → List Note → (last : State) → (low : ℕ) → (high : Option ℕ) → (writes : List (List ℕ)) → Certificate
+made path min max notes last low high writes = record { path = path; min = min; max = max; notes = notes; last = last; low = low; high = high; writes = writes }
+
+same-certificate : (one other : Certificate) → one.path ≡ other.path → one.min ≡ other.min → one.max ≡ other.max → one.notes ≡ other.notes → one.last ≡ other.last →
+    one.low ≡ other.low → one.high ≡ other.high → one.writes ≡ other.writes → one ≡ other
+same-certificate one other path min max notes last low high writes =
+    ap (λ (x : Option (List ℕ)). made x one.min one.max one.notes one.last one.low one.high one.writes) path
+    ∙ ap (λ (x : ℕ). made other.path x one.max one.notes one.last one.low one.high one.writes) min
+    ∙ ap (λ (x : Option ℕ). made other.path other.min x one.notes one.last one.low one.high one.writes) max
+    ∙ ap (λ (x : List Note). made other.path other.min other.max x one.last one.low one.high one.writes) notes
+    ∙ ap (λ (x : State). made other.path other.min other.max other.notes x one.low one.high one.writes) last
+    ∙ ap (λ (x : ℕ). made other.path other.min other.max other.notes other.last x one.high one.writes) low
+    ∙ ap (λ (x : Option ℕ). made other.path other.min other.max other.notes other.last other.low x one.writes) high
+    ∙ ap (λ (x : List (List ℕ)). made other.path other.min other.max other.notes other.last other.low other.high x) writes
+
+pub certificate-once : (script : Script) (start : Start) (one other : Certificate) → IsCertificate script start one → IsCertificate script start other → one ≡ other
+certificate-once script start one other h k =
+    let xs : List Step = counted script.steps in
+    let notes : one.notes ≡ other.notes = notes-once xs (begun start) one.notes other.notes h.notes k.notes in
+    let last : one.last ≡ other.last = h.last ∙ ap (λ (ns : List Note). result_from xs (begun start) ns) notes ∙ sym k.last in
+    let paths : paths_from xs one.notes ≡ paths_from xs other.notes = ap (λ (ns : List Note). paths_from xs ns) notes in
+    let writes : one.writes ≡ other.writes =
+    rising-once one.writes other.writes h.writes.rising k.writes.rising
+    (λ p m. (k.writes.just p).1 (subst (λ (cs : List Choice). Contains cs (Some p)) paths ((h.writes.just p).0 m)))
+    (λ p m. (h.writes.just p).1 (subst (λ (cs : List Choice). Contains cs (Some p)) (sym paths) ((k.writes.just p).0 m))) in
+    same-certificate one other (h.path ∙ sym k.path) (h.min ∙ sym k.min) (h.max ∙ sym k.max) notes last
+    (h.low ∙ ap (λ (s : State). low_of (least s.zone 2 0)) last ∙ sym k.low)
+    (h.high ∙ ap (λ (s : State). high_of (greatest s.zone 2 0)) last ∙ sym k.high) writes
 
 pub failure-once : (script : Script) (start : Start) (place other_place : Place) (why other_why : Fault) (notes other_notes : List Note) → IsFailure script start place why notes →
     IsFailure script start other_place other_why other_notes → (place ≡ other_place) × (why ≡ other_why) × (notes ≡ other_notes)

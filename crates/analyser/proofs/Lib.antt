@@ -5,6 +5,7 @@ pub mod Remembering
 pub mod Rooms
 pub mod Rounding
 pub mod ToldBounds
+pub mod Checking
 pub mod Accepting
 pub mod Answering
 pub mod Going

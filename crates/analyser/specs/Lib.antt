@@ -2,6 +2,7 @@
 pub mod Rounds
 pub mod Following
 pub mod Analysis
+pub mod Checked
 pub mod Exactness
 -- what only serves clauses inside the crate
 pub mod Walking

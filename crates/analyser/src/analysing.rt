@@ -6,6 +6,7 @@ ghost use Rattle.ed_syntax.specs.PublicScript.{script_value};
 ghost use Rattle.ed_rules.specs.LineBounds.{IsAtMost};
 ghost use Rattle.analyser.specs.Following.{begun, end_fault};
 ghost use Rattle.analyser.specs.Analysis.{most_lines, IsAnswer, IsValid, HasTextIfVouched};
+ghost use Rattle.analyser.specs.Checked.{IsChecked};
 ghost use Rattle.analyser.specs.Exactness.{IsExactAnswer};
 ghost use Rattle.analyser.specs.Walking.{IsWalk, StepIsBytes};
 
@@ -16,10 +17,9 @@ use crate::texts::{path_is_bytes, paths_are_bytes, steps_are_bytes};
 use crate::walk::{Outcome, Walk, go_through, place_of};
 use cert_check::{Certificate, covering_is_decided};
 use ed_base::Fault;
-use ed_rules::{KeptState, State, states_stay_formed};
+use ed_rules::{KeptState, State, covering_states_is_an_order, states_stay_formed};
 use ed_syntax::Script;
 use std::alloc::AllocError;
-use zones::covering_is_an_order;
 
 /// The fault that may come at the end of a script.
 fn end_fault(quit: bool, fault: Option<usize>, last: &KeptState) -> Option<Fault>
@@ -45,11 +45,12 @@ fn answer(script: &Script, start: Start, walk: Walk) -> Analysis
     requires bytes { All StepIsBytes (steps_value script.now.commands.items) }
     ensures exact { IsAnswer (script_value script.now) start result }
     ensures valid { IsValid (script_value script.now) result }
+    ensures checked { IsChecked (script_value script.now) start result }
     ensures texts { HasTextIfVouched result }
 {
     states_stay_formed();
     covering_is_decided();
-    covering_is_an_order();
+    covering_states_is_an_order();
     let Walk {
         notes,
         writes,
@@ -92,6 +93,9 @@ pub fn analyse(script: &Script, start: Start) -> Result<Analysis, AllocError>
 
     // What is vouched for the checker accepts.
     ensures valid { IfOk result (λ answer. IsValid (script_value script.now) answer) }
+
+    // Where a need fails, all checks at the places before it hold of the notes.
+    ensures checked { IfOk result (λ answer. IsChecked (script_value script.now) start answer) }
 
     // What is vouched for has a text.
     ensures texts { IfOk result (λ answer. HasTextIfVouched answer) }

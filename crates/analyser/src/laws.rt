@@ -13,13 +13,13 @@ ghost use Rattle.analyser.specs.Exactness.{IsExactAnswer};
 use ed_rules::exact_commands_are_exact;
 use ed_syntax::answers_are_asked_for;
 
-/// A script has one answer over a start: the notes are determined, and so is the first need that fails.
+/// A script has one answer over a start: its certificate is determined, and so is the first need that fails.
 pub fn answers_are_determined()
     // A certificate comes just where no need fails.
     ensures either { (script : Script) (start : Start) (c : plain.Certificate) (place : Place) (why : Fault) (notes : List plain.Note) →
         IsCertificate script start c → IsFailure script start place why notes → ⊥ }
     ensures certificate { (script : Script) (start : Start) (one other : plain.Certificate) →
-        IsCertificate script start one → IsCertificate script start other → one.notes ≡ other.notes }
+        IsCertificate script start one → IsCertificate script start other → one ≡ other }
     ensures failure { (script : Script) (start : Start) (place other_place : Place) (why other_why : Fault) (notes other_notes : List plain.Note) →
         IsFailure script start place why notes → IsFailure script start other_place other_why other_notes →
         (place ≡ other_place) × (why ≡ other_why) × (notes ≡ other_notes) }

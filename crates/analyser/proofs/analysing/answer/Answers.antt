@@ -10,7 +10,8 @@ use Rattle.ed_rules.specs.Formed.{ChoiceIsBytes}
 use Rattle.std.specs.List.{All}
 use Rattle.analyser.proofs.Texting as text
 use Rattle.analyser.proofs.Texting.{script-formed, has-text}
-use Rattle.analyser.proofs.Accepting.{Laws, accepted}
+use Rattle.analyser.proofs.Checking.{Laws, checked-before}
+use Rattle.analyser.proofs.Accepting.{accepted}
 use Rattle.analyser.proofs.Answering.{end-is, stops-at, stops-at_end}
 use Rattle.analyser.proofs.analysing.answer.Goals as goal
 
@@ -28,6 +29,28 @@ returns-in-Some-clause-exact c =
     let size : c.len.result ≡ length c.args.walk.notes.items = let counts = c.len.ensures in omega (arith, c.args.walk.notes.ok.0) in
     inr (stops-at_end script start c.args.walk.notes.items c.place_of.result c.in-Some.why left.0 ends
     (c.place_of.ensures.value ∙ ap (λ n. record { command = n + 1; inner = None }) size))
+
+pub returns-in-Fails-clause-checked : goal.returns-in-Fails-clause-checked
+returns-in-Fails-clause-checked c =
+    let laws : Laws = record {
+      same = c.covering_states_is_an_order.ensures.same;
+      through = c.covering_states_is_an_order.ensures.through;
+      join = c.covering_states_is_an_order.ensures.join;
+      widen = c.covering_states_is_an_order.ensures.widen;
+      decided = c.covering_is_decided.ensures.exact;
+    } in
+    checked-before laws (script_value c.args.script.now) c.args.start _ _ _ (returns-in-Fails-clause-exact c)
+
+pub returns-in-Some-clause-checked : goal.returns-in-Some-clause-checked
+returns-in-Some-clause-checked c =
+    let laws : Laws = record {
+      same = c.covering_states_is_an_order.ensures.same;
+      through = c.covering_states_is_an_order.ensures.through;
+      join = c.covering_states_is_an_order.ensures.join;
+      widen = c.covering_states_is_an_order.ensures.widen;
+      decided = c.covering_is_decided.ensures.exact;
+    } in
+    checked-before laws (script_value c.args.script.now) c.args.start _ _ _ (returns-in-Some-clause-exact c)
 
 pub returns-in-None-clause-exact : goal.returns-in-None-clause-exact
 returns-in-None-clause-exact c =
@@ -49,7 +72,13 @@ returns-in-None-clause-exact c =
 
 pub returns-in-None-clause-valid : goal.returns-in-None-clause-valid
 returns-in-None-clause-valid c =
-    let laws : Laws = record { same = c.covering_is_an_order.ensures.same; decided = c.covering_is_decided.ensures.exact } in
+    let laws : Laws = record {
+      same = c.covering_states_is_an_order.ensures.same;
+      through = c.covering_states_is_an_order.ensures.through;
+      join = c.covering_states_is_an_order.ensures.join;
+      widen = c.covering_states_is_an_order.ensures.widen;
+      decided = c.covering_is_decided.ensures.exact;
+    } in
     let formed : text.Laws = record {
       start = c.states_stay_formed.ensures.start;
       command = c.states_stay_formed.ensures.command;
