@@ -1,7 +1,7 @@
 //! `u`, after a command and after a global one (XCU ed, "Undo Command", "Global Command").
 ghost use Rattle.std.specs.Prelude.{IsTrue};
 ghost use Rattle.ed_syntax.specs.PublicTypes.{command_value};
-ghost use Rattle.ed_commands.specs.Editors.{is_global};
+ghost use Rattle.ed_syntax.specs.meaning.Verbs.{is_global};
 
 use crate::applying::{Value, apply, apply_listed, check_texts, check_values, loaded};
 use crate::asserting::same;
