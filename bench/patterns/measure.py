@@ -1,7 +1,7 @@
 #!/usr/bin/env python3
 """Measures bre_ask beside sed, perl and grep in one run: lines made to be slow, many short lines, and long lines.
 
-    python3 measure.py [hostile] [growth] [lines] [long] [places]
+    python3 measure.py [hostile] [growth] [lines] [long] [places] [searcher] [all] [letter]
 
 Each figure is processor seconds, the least of three runs, and the most memory in MB; what runs the programs has 11 MB
 itself, so no less is told, and no text is held here. `^` is how the time grows with the line: 1 is in proportion, 2 is with
@@ -11,6 +11,7 @@ The counts of lines have to agree. Build crates/bre_ask first.
 import itertools
 import math
 import os
+import random
 import resource
 import subprocess
 import sys
@@ -200,7 +201,78 @@ def measure_places(folder, starting):
             print(f'  {pattern} on {word}, {name:15} {told}'.rstrip(), flush=True)
 
 
-PARTS = {'hostile': measure_hostile, 'growth': measure_growth, 'lines': measure_lines, 'long': measure_long, 'places': measure_places}
+# Patterns of each kind that a searcher looks for in its own way.
+MANY = (
+    'needle', '[0-9][0-9]*', 'foo[0-9]*bar', '^#', '[ ]*$', 'x.*y.*z', r'\([a-z]*\) \([a-z]*\) foo', r'[aeiou]\{3\}x', r'\(ab*\)*c[0-9]',
+    'q[^ ]* [^ ]*q', r'[0-9]\{3,5\} [a-z]*$', r'a.\{8\}b', '[a-z]*=[0-9]', 'zz*[ ]',
+)
+
+
+def all_of(pattern):
+    """Programs that count all matches of each line, one after the other."""
+    count = 'chomp; $n++ while /' + extended(pattern) + '/g; END { print $n + 0, "\n" }'
+    return {
+        'all': [PROGRAM, 'all', pattern],
+        'searched': [PROGRAM, 'all_searched', pattern],
+        'perl': ['perl', '-ne', count],
+    }
+
+
+def by_searcher(pattern):
+    """Programs that count the lines with a match, with one searcher too."""
+    return {'searched': [PROGRAM, 'count_searched', pattern], **commands(pattern)}
+
+
+def measure_searcher(folder, starting):
+    """What a searcher costs, line after line."""
+    print('\n1,000,000 lines of 50 bytes, lines with a match')
+    one = many_lines(folder)[0]
+    path = os.path.join(folder, 'million')
+    with open(path, 'w') as file:
+        for _ in range(5):
+            with open(one) as text:
+                file.write(text.read())
+    print_rows(MANY, by_searcher, path)
+
+
+def measure_all(folder, starting):
+    print('\n200,000 lines of 50 bytes, all matches of each line')
+    print_rows(MANY, all_of, many_lines(folder)[0])
+    print('\nOne line, all its matches')
+    print_rows((r'\(a\)*b',), all_of, written(folder, 'abab', 'ab' * 500, 5_000, '\n')[0])
+    random.seed(1)
+    letters = ''.join(random.choice('abcdefghijklmnopqrstuvwxyz') for _ in range(100_000))
+    print_rows((r'\([ef]\)*g[h-j]*k', r'[ef][ef]*\(gh\)*k'), all_of, written(folder, 'letters', letters, 100, '\n')[0])
+
+
+def measure_letter(folder, starting):
+    """Each match of one letter in a long line, which sed and perl replace in memory."""
+    print('\nOne line of 50,000,000 bytes, all matches of a letter')
+    path = written(folder, 'letter', 'the a of a line, and now and then another one ' * 20, 53_192, '\n')[0]
+    print_rows(('a', 'q'), with_replacing, path)
+
+
+def with_replacing(letter):
+    """Programs that count all matches of a letter, and those that replace it and print nothing."""
+    replace = f's/{letter}/b/g'
+    return {**all_of(letter), 'sed s': ['sed', '-n', replace], 'perl s': ['perl', '-ne', replace]}
+
+
+def print_rows(patterns, programs, path):
+    """A row for each pattern: the seconds of each program, and what was counted."""
+    for pattern in patterns:
+        row, seen = [], {}
+        for name, command in programs(pattern).items():
+            found = best(command, path)
+            row.append(f'{name} over {MOST} s' if found is None else f'{name} {found[0]:.2f}')
+            if found is not None and not name.endswith(' s'):
+                seen[name] = found[2]
+        differ = '' if len(set(seen.values())) < 2 else f'  THE COUNTS DIFFER: {seen}'
+        print(f'  {pattern:26} {next(iter(seen.values()), "-"):>9}  ' + '  '.join(row) + differ, flush=True)
+
+
+PARTS = {'hostile': measure_hostile, 'growth': measure_growth, 'lines': measure_lines, 'long': measure_long, 'places': measure_places,
+         'searcher': measure_searcher, 'all': measure_all, 'letter': measure_letter}
 
 
 def main():

@@ -49,19 +49,19 @@ fill_state t ms = by_cases (none_marked ms) refl
 
 -- The search
 
--- what a search keeps: the marks at the place are those of the state, no match ends before it, and none starts before `clean`
+-- What a scan keeps: no match starts before the clean place; the marks at the place are those of the state, where the starts from the
+-- clean place on enter; and no match of these ends before the place.
 pub record Run (t : Tree) (s : List ℕ) (from : ℕ) (states : List (List (Option ℕ))) (table : List ℕ) (x clean state : ℕ) : Type 0 where
   pub serves : Serves (part_of t) states table
   pub begun : 2 ≤ length states
   pub within : state < length states
   pub start : eqb x 0 ≡ eqb state 0
-  pub low : from ≤ x
-  pub high : x ≤ length s + 1
-  pub column : fill (part_of t) (get_or states state []) ≡ columns (part_of t) s from any_start (x - from)
-  pub none : (n : ℕ) → n < x - from → out_of (part_of t) s from any_start n ≡ None
-  pub clean_low : from ≤ clean
-  pub clean_high : clean ≤ x
-  pub passed : (p y : ℕ) → from ≤ p → p < clean → Reaches (part_of t) s p y → ⊥
+  pub low : from ≤ clean
+  pub later : clean ≤ x
+  pub high : x ≤ length s
+  pub same : match_from t s clean ≡ match_from t s from
+  pub column : fill (part_of t) (get_or states state []) ≡ columns (part_of t) s clean any_start (x - clean)
+  pub none : (n : ℕ) → n < x - clean → out_of (part_of t) s clean any_start n ≡ None
 
 no_states_marks : (states : List (List (Option ℕ))) (state : ℕ) → state < 2 → get_or states 0 [] ≡ [] → get_or states 1 [] ≡ [] →
     get_or states state [] ≡ []
@@ -69,24 +69,23 @@ no_states_marks states zero lt e f = e
 no_states_marks states (suc zero) lt e f = f
 no_states_marks states (suc (suc n)) lt e f = absurd (omega arith)
 
-pub run_begins : (t : Tree) (s : List ℕ) (from : ℕ) (states : List (List (Option ℕ))) (table : List ℕ) (state : ℕ) → from ≤ length s →
-    2 ≤ length states → state < 2 → eqb from 0 ≡ eqb state 0 → Serves (part_of t) states table →
-    Run t s from states table from from state
-run_begins t s from states table state le begun lt start h = record {
+pub run_begins : (t : Tree) (s : List ℕ) (from clean : ℕ) (states : List (List (Option ℕ))) (table : List ℕ) (state : ℕ) →
+    from ≤ clean → clean ≤ length s → match_from t s clean ≡ match_from t s from → 2 ≤ length states → state < 2 →
+    eqb clean 0 ≡ eqb state 0 → Serves (part_of t) states table → Run t s from states table clean clean state
+run_begins t s from clean states table state low le same begun lt start h = record {
   serves = h;
   begun = begun;
   within = omega arith;
   start = start;
-  low = omega arith;
-  high = omega arith;
+  low = low;
+  later = omega arith;
+  high = le;
+  same = same;
   column =
       ap (fill (part_of t)) (no_states_marks states state lt h.first h.second)
       ∙ (no_marks (part_of t) (unmarked_part t)).0
-      ∙ sym (ap (λ n. columns (part_of t) s from any_start n) (let e : from - from ≡ 0 = omega arith in e));
+      ∙ sym (ap (λ n. columns (part_of t) s clean any_start n) (let e : clean - clean ≡ 0 = omega arith in e));
   none = λ n lt. absurd (omega arith);
-  clean_low = omega arith;
-  clean_high = omega arith;
-  passed = λ p y low lt r. absurd (omega arith);
 }
 
 -- the transition at a place is what the column gives
@@ -109,45 +108,79 @@ meaning_of-found : (states : List (List (Option ℕ))) (entry : ℕ) → entry �
 meaning_of-found states entry e = ap (λ v. meaning_of states v) e
 
 pub run_finds : (t : Tree) (s : List ℕ) (from : ℕ) (states old : List (List (Option ℕ))) (table : List ℕ) (x clean state entry : ℕ) →
-    refers t ≡ false → repeats_in_order t ≡ true → x ≤ length s → Run t s from old table x clean state →
+    refers t ≡ false → repeats_in_order t ≡ true → Run t s from old table x clean state →
     meaning_of states entry ≡ Some (transition (part_of t) (get_or old state []) s x) → entry ≡ 65534 →
     (from ≤ clean) × (clean ≤ length s) × (match_from t s clean ≡ match_from t s from) × (is_some (match_from t s from) ≡ true)
-run_finds t s from states old table x clean state entry free order le h tells is =
-    let low = h.low in
-    let clean_high = h.clean_high in
+run_finds t s from states old table x clean state entry free order h tells is =
+    let later = h.later in
+    let high = h.high in
     let inside : clean ≤ length s = omega arith in (
-      h.clean_low,
+      h.low,
       inside,
-      passed_over t s from clean free order h.clean_low inside h.passed,
-      out_is_match t s from (x - from) free order (omega arith)
-          (ap is_some (out_here (part_of t) s from old x state low h.column)
-          ∙ none_is_out (peek (fill (part_of t) (get_or old state [])) s x (Some 0)) _
-          (sym (same_Some None _ (sym (meaning_of-found states entry is) ∙ tells)))),
+      h.same,
+      ap is_some (sym h.same)
+      ∙ out_is_match t s clean (x - clean) free order (omega arith)
+      (ap is_some (out_here (part_of t) s clean old x state later h.column)
+      ∙ none_is_out (peek (fill (part_of t) (get_or old state [])) s x (Some 0)) _
+      (sym (same_Some None _ (sym (meaning_of-found states entry is) ∙ tells)))),
     )
 
-pub run_goes_on : (t : Tree) (s : List ℕ) (from : ℕ) (states old : List (List (Option ℕ))) (table before : List ℕ)
-    (x clean state entry new : ℕ) → x ≤ length s → Run t s from old before x clean state → 2 ≤ length states →
-    Serves (part_of t) states table → IsEntry states entry →
-    meaning_of states entry ≡ Some (transition (part_of t) (get_or old state []) s x) → entry ≢ 65535 → entry ≢ 65534 →
-    new ≡ cond (eqb entry 1) (x + 1) clean → Run t s from states table (x + 1) new entry
-run_goes_on t s from states old table before x clean state entry new le h begun serves good tells known on e =
-    subst (λ z. Run t s from states table (x + 1) z entry) (sym e)
-    (record {
-      serves = serves;
-      begun = begun;
-      within = later.1;
-      start = not_first;
-      low = omega arith;
-      high = omega arith;
-      column = column;
-      none = none;
-      clean_low = (clean_between (eqb entry 1)).0;
-      clean_high = (clean_between (eqb entry 1)).1;
-      passed = passed_still (eqb entry 1) refl;
-    })
+-- where an entry isn't that of a match's end, none ends at the place, and the entry's state has the marks of the next one
+goes_on : (t : Tree) (s : List ℕ) (from : ℕ) (states old : List (List (Option ℕ))) (before : List ℕ) (x clean state entry : ℕ) →
+    Run t s from old before x clean state → meaning_of states entry ≡ Some (transition (part_of t) (get_or old state []) s x) →
+    eqb entry 65535 ≡ false → eqb entry 65534 ≡ false →
+    ((n : ℕ) → n < x + 1 - clean → out_of (part_of t) s clean any_start n ≡ None) ×
+    (fill (part_of t) (get_or states entry []) ≡ columns (part_of t) s clean any_start (x + 1 - clean))
+goes_on t s from states old before x clean state entry h tells known on = (none, column)
   where
-    low : from ≤ x
+    later : clean ≤ x
+    later = h.later
+
+    both : (peek (fill (part_of t) (get_or old state [])) s x (Some 0) ≡ None) ×
+        (get_or states entry [] ≡ as_state (marks_of (step (fill (part_of t) (get_or old state [])) s x (Some 0))))
+    both =
+        some_is_next _ _ (get_or states entry [])
+        (sym (same_Some (Some (get_or states entry [])) _ (sym (meaning_of-state states entry known on) ∙ tells)))
+
+    here_or_before : (n : ℕ) → n < x + 1 - clean → (n ≡ x - clean) ⊎ (n < x - clean)
+    here_or_before n lt = grind arith
+
+    none : (n : ℕ) → n < x + 1 - clean → out_of (part_of t) s clean any_start n ≡ None
+    none n lt =
+        elim (here_or_before n lt) [
+          | inl here ↦ ap (λ z. out_of (part_of t) s clean any_start z) here ∙ out_here (part_of t) s clean old x state later h.column ∙ both.0
+          | inr earlier ↦ h.none n earlier
+        ]
+
+    row : marks_of (step (fill (part_of t) (get_or old state [])) s x (Some 0)) ≡
+        marks_of (columns (part_of t) s clean any_start (suc (x - clean)))
+    row =
+        ap (λ c. marks_of (step c s x (Some 0))) h.column
+        ∙ ap (λ z. marks_of (step (columns (part_of t) s clean any_start (x - clean)) s z (Some 0)))
+        (let e : x ≡ clean + (x - clean) = omega arith in e)
+
+    column : fill (part_of t) (get_or states entry []) ≡ columns (part_of t) s clean any_start (x + 1 - clean)
+    column =
+        ap (fill (part_of t)) both.1
+        ∙ fill_state (part_of t) _
+        ∙ column_of_row (part_of t) s clean any_start (suc (x - clean)) _ row
+        ∙ ap (λ n. columns (part_of t) s clean any_start n) (let e : suc (x - clean) ≡ x + 1 - clean = omega arith in e)
+
+pub run_goes_on : (t : Tree) (s : List ℕ) (from : ℕ) (states old : List (List (Option ℕ))) (table before : List ℕ)
+    (x clean state entry next new : ℕ) → refers t ≡ false → repeats_in_order t ≡ true → x < length s →
+    Run t s from old before x clean state → 2 ≤ length states → Serves (part_of t) states table → IsEntry states entry →
+    meaning_of states entry ≡ Some (transition (part_of t) (get_or old state []) s x) → entry ≢ 65535 → entry ≢ 65534 →
+    x + 1 ≤ next → next ≤ length s → (eqb entry 1 ≡ false → next ≡ x + 1) → match_from t s next ≡ match_from t s (x + 1) →
+    new ≡ cond (eqb entry 1) next clean → Run t s from states table next new entry
+run_goes_on t s from states old table before x clean state entry next new free order lt h begun serves good tells unlike on after within stays
+    same e =
+    by_cases (eqb entry 1) refl e
+  where
+    low : from ≤ clean
     low = h.low
+
+    later : clean ≤ x
+    later = h.later
 
     not_unknown : eqb entry 65535 ≡ false
     not_unknown = grind (arith, nat_tests)
@@ -155,62 +188,61 @@ run_goes_on t s from states old table before x clean state entry new le h begun 
     not_found : eqb entry 65534 ≡ false
     not_found = grind (arith, nat_tests)
 
-    later : (0 < entry) × (entry < length states)
-    later = good not_unknown not_found
+    number : (0 < entry) × (entry < length states)
+    number = good not_unknown not_found
 
-    not_first : eqb (x + 1) 0 ≡ eqb entry 0
+    not_first : eqb next 0 ≡ eqb entry 0
     not_first =
-        let a = later.0 in
-        let f : eqb (x + 1) 0 ≡ false = grind (arith, nat_tests) in
+        let a = number.0 in
+        let f : eqb next 0 ≡ false = grind (arith, nat_tests) in
         let g : eqb entry 0 ≡ false = grind (arith, nat_tests) in
         f ∙ sym g
 
-    here_or_before : (n : ℕ) → n < x + 1 - from → (n ≡ x - from) ⊎ (n < x - from)
-    here_or_before n lt = grind arith
+    both : ((n : ℕ) → n < x + 1 - clean → out_of (part_of t) s clean any_start n ≡ None) ×
+        (fill (part_of t) (get_or states entry []) ≡ columns (part_of t) s clean any_start (x + 1 - clean))
+    both = goes_on t s from states old before x clean state entry h tells not_unknown not_found
 
-    both : (peek (fill (part_of t) (get_or old state [])) s x (Some 0) ≡ None) ×
-        (get_or states entry [] ≡ as_state (marks_of (step (fill (part_of t) (get_or old state [])) s x (Some 0))))
-    both =
-        some_is_next _ _ (get_or states entry [])
-        (sym (same_Some (Some (get_or states entry [])) _ (sym (meaning_of-state states entry not_unknown not_found) ∙ tells)))
+    no_mark : entry ≡ 1 → columns (part_of t) s clean any_start (x + 1 - clean) ≡ part_of t
+    no_mark is =
+        sym both.1
+        ∙ ap (fill (part_of t)) (ap (λ i. get_or states i []) is ∙ serves.second)
+        ∙ (no_marks (part_of t) (unmarked_part t)).0
 
-    row : marks_of (step (fill (part_of t) (get_or old state [])) s x (Some 0)) ≡
-        marks_of (columns (part_of t) s from any_start (suc (x - from)))
-    row =
-        ap (λ c. marks_of (step c s x (Some 0))) h.column
-        ∙ ap (λ z. marks_of (step (columns (part_of t) s from any_start (x - from)) s z (Some 0)))
-        (let e : x ≡ from + (x - from) = omega arith in e)
+    passed : entry ≡ 1 → match_from t s (x + 1) ≡ match_from t s clean
+    passed is =
+        passed_over t s clean (x + 1) free order (omega arith) (omega arith)
+        (λ p y l high r.
+        none_before (part_of t) s clean (x + 1 - clean) (unmarked_part t) (no_mark is) both.0 p y l (omega arith) r)
 
-    column : fill (part_of t) (get_or states entry []) ≡ columns (part_of t) s from any_start (x + 1 - from)
-    column =
-        ap (fill (part_of t)) both.1
-        ∙ fill_state (part_of t) _
-        ∙ column_of_row (part_of t) s from any_start (suc (x - from)) _ row
-        ∙ ap (λ n. columns (part_of t) s from any_start n) (let e : suc (x - from) ≡ x + 1 - from = omega arith in e)
+    by_cases : (b : Bool) → eqb entry 1 ≡ b → new ≡ cond b next clean → Run t s from states table next new entry
+    by_cases true is f =
+        let one : entry ≡ 1 = grind (arith, nat_tests) in
+        subst (λ z. Run t s from states table next z entry) (sym f)
+        (run_begins t s from next states table entry (omega arith) within (same ∙ passed one ∙ h.same) begun (omega arith) not_first serves)
+    by_cases false is f =
+        subst (λ z. Run t s from states table next z entry) (sym f)
+        (subst (λ z. Run t s from states table z clean entry) (sym (stays is))
+        (record {
+          serves = serves;
+          begun = begun;
+          within = number.1;
+          start = ap (λ z. eqb z 0) (sym (stays is)) ∙ not_first;
+          low = low;
+          later = omega arith;
+          high = omega arith;
+          same = h.same;
+          column = both.1;
+          none = both.0;
+        }))
 
-    none : (n : ℕ) → n < x + 1 - from → out_of (part_of t) s from any_start n ≡ None
-    none n lt =
-        elim (here_or_before n lt) [
-          | inl here ↦ ap (λ z. out_of (part_of t) s from any_start z) here ∙ out_here (part_of t) s from old x state low h.column ∙ both.0
-          | inr earlier ↦ h.none n earlier
-        ]
-
-    no_mark : eqb entry 1 ≡ true → get_or states entry [] ≡ []
-    no_mark is = ap (λ i. get_or states i []) (let one : entry ≡ 1 = grind (arith, nat_tests) in one) ∙ serves.second
-
-    clean_between : (b : Bool) → (from ≤ cond b (x + 1) clean) × (cond b (x + 1) clean ≤ x + 1)
-    clean_between true = let a : from ≤ x + 1 = omega arith in let b : x + 1 ≤ x + 1 = omega arith in (a, b)
-    clean_between false = let a = h.clean_high in let b : clean ≤ x + 1 = omega arith in (h.clean_low, b)
-
-    passed_still : (b : Bool) → eqb entry 1 ≡ b → (p y : ℕ) → from ≤ p → p < cond b (x + 1) clean → Reaches (part_of t) s p y → ⊥
-    passed_still true is p y l lt r =
-        none_before (part_of t) s from (x + 1 - from) (unmarked_part t)
-        (sym column ∙ ap (fill (part_of t)) (no_mark is) ∙ (no_marks (part_of t) (unmarked_part t)).0)
-        none p y l (let a : p < x + 1 = lt in omega arith) r
-    passed_still false is p y l lt r = h.passed p y l lt r
-
-pub run_ends : (t : Tree) (s : List ℕ) (from : ℕ) (states : List (List (Option ℕ))) (table : List ℕ) (x clean state : ℕ) →
-    refers t ≡ false → repeats_in_order t ≡ true → from ≤ length s → length s < x → Run t s from states table x clean state →
+pub run_ends : (t : Tree) (s : List ℕ) (from : ℕ) (states old : List (List (Option ℕ))) (table : List ℕ) (x clean state entry : ℕ) →
+    refers t ≡ false → repeats_in_order t ≡ true → length s ≤ x → Run t s from old table x clean state →
+    meaning_of states entry ≡ Some (transition (part_of t) (get_or old state []) s x) → entry ≢ 65535 → entry ≢ 65534 →
     match_from t s from ≡ None
-run_ends t s from states table x clean state free order le lt h =
-    none_out_no_match t s from free order le (λ n high. h.none n (omega arith))
+run_ends t s from states old table x clean state entry free order le h tells unlike on =
+    sym h.same ∙ none_out_no_match t s clean free order (let a = h.later in let b = h.high in omega arith) none
+  where
+    none : (n : ℕ) → clean + n ≤ length s → out_of (part_of t) s clean any_start n ≡ None
+    none n high =
+        (goes_on t s from states old table x clean state entry h tells (grind (arith, nat_tests)) (grind (arith, nat_tests))).0 n
+        (let b = h.high in omega arith)

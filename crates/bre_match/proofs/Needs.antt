@@ -175,6 +175,24 @@ none_before (item ∷ items) part s from after start n rs some at is told le lt 
         let early : l.0 ≤ from + (start - from) + 1 = l.2 in
         absurd (omega arith)
 
+-- Where there is no such byte, no start has one.
+pub none_without : (items : List Node) (part : Node) (s : List ℕ) (from start : ℕ) (n : Bool) (rs : List (ℕ × ℕ)) → length items ≢ 0 → part ≡ get_or items 0 part → Some (n, rs) ≡ one_byte_of (tree_of part) → None ≡ after_first n rs from (drop from s) → from ≤ start → longest_from (sequence_of items) s start ≡ None
+none_without [] part s from start n rs some at is told le = absurd (some refl)
+none_without (item ∷ items) part s from start n rs some at is told le =
+    let t : tree_of item ≡ Set n rs = ap tree_of (sym at) ∙ set_is (tree_of part) (n, rs) (sym is) in
+    ap (λ x. longest_from (Then x (sequence_of items)) s start) t ∙ by_byte (has_byte_in n rs (slice_get s start)) refl
+  where
+    by_byte : (there : Bool) → has_byte_in n rs (slice_get s start) ≡ there → longest_from (Then (Set n rs) (sequence_of items)) s start ≡ None
+    by_byte false e =
+        ap (λ c. first (by_end (flat_map (from_way (ways (sequence_of items) s)) (by_end (only_if c (start + 1, no_groups)))))) e
+    by_byte true e =
+        let same : from + (start - from) ≡ start = (let h = le in omega arith) in
+        let here : has_byte_in n rs (slice_get (drop from s) (start - from)) ≡ true =
+        ap (has_byte_in n rs) (get_dropped s from (start - from) ∙ ap (slice_get s) same) ∙ e in
+        let l = least_after n rs from (start - from) (drop from s) here in
+        let both = told ∙ l.1 in
+        absurd cc
+
 -- So the search may begin there.
 pub passed_to : (t : Tree) (s : List ℕ) (from start : ℕ) → from ≤ start → start ≤ length s → ((k : ℕ) → from ≤ k → k < start → longest_from t s k ≡ None) → match_from t s from ≡ match_among (length s + 1 - start) t s start
 passed_to t s from start le high none = by_order (ltb from start) refl

@@ -18,6 +18,7 @@ pub mod laws;
 mod narrow;
 mod needed;
 mod order;
+mod pace;
 mod row;
 mod row_end;
 mod row_search;

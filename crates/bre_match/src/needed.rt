@@ -129,6 +129,32 @@ pub(crate) fn lacks_needed(items: &[Node], text: &[u8], from: usize) -> bool
     false
 }
 
+/// Whether bytes are needed, and all of them are bytes of ranges, or single ones, so that a text is told sooner by them than by a state
+/// at each place.
+pub(crate) fn needs_ranges(items: &[Node]) -> bool {
+    let mut needs = false;
+    for item in items {
+        if let Some(set) = one_byte_of(item) {
+            if only_range(set).is_none() {
+                return false;
+            }
+            needs = true;
+        }
+    }
+    needs
+}
+
+/// Whether the first item is one byte of a range, or a single byte, which is looked for sooner than a state at each place.
+pub(crate) fn begins_with_range(items: &[Node]) -> bool {
+    if items.is_empty() {
+        return false;
+    }
+    match one_byte_of(&items[0]) {
+        None => false,
+        Some(set) => only_range(set).is_some(),
+    }
+}
+
 /// The first start from a place on that doesn't lack the first item's byte, as far as that is told.
 pub(crate) fn first_start(items: &[Node], text: &[u8], from: usize) -> usize
     requires place { from ≤ length text.now }
@@ -142,7 +168,7 @@ pub(crate) fn first_start(items: &[Node], text: &[u8], from: usize) -> usize
     match one_byte_of(&items[0]) {
         None => from,
         Some(set) => match after_first(set, text, from) {
-            None => from,
+            None => text.len(),
             Some(after) => after.saturating_sub(1).min(text.len()).max(from),
         },
     }

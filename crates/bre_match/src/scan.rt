@@ -10,48 +10,18 @@ ghost use Rattle.bre_match.specs.Automata.{meaning_of, IsEntry, Serves};
 ghost use Rattle.bre_match.specs.Scans.{IsTold};
 
 use crate::automaton::{FOUND, UNKNOWN, WIDTH, begin};
+use crate::pace::Pace;
 use crate::state::State;
 use crate::transition::{learn, symbol_at};
 use bre_parse::tree::Node;
 use std::alloc::AllocError;
-
-// What a transition costs that has to be worked out, in bytes that are scanned by the table.
-const PRICE: usize = 32;
-
-/// The credit of an automaton before its first byte.
-pub(crate) const FIRST_CREDIT: usize = 100_000;
-
-// What may be spent on transitions that have to be worked out: each byte of a text brings one. So a pattern whose states seldom
-// recur isn't scanned for long.
-#[derive(Clone, Copy)]
-struct Credit {
-    amount: usize,
-    // The place in the text up to which bytes were counted.
-    counted: usize,
-}
-
-impl Credit {
-    // What is left at a place.
-    fn at(self, place: usize) -> usize {
-        self.amount
-            .saturating_add(place.saturating_sub(self.counted))
-    }
-
-    // Pays for a transition at a place, if enough is left.
-    fn pay(&mut self, place: usize) -> bool {
-        let amount = self.at(place);
-        self.amount = amount.saturating_sub(PRICE);
-        self.counted = place;
-        amount >= PRICE
-    }
-}
 
 // The entry for a state at a place, worked out where the table doesn't have it. None where that can't be paid.
 #[inline(always)]
 fn entry_at(
     states: &mut Vec<State>,
     table: &mut Vec<u16>,
-    credit: &mut Credit,
+    pace: &mut Pace,
     items: &[Node],
     text: &[u8],
     place: usize,
@@ -73,7 +43,7 @@ fn entry_at(
     if entry != UNKNOWN {
         return Ok(Some(entry));
     }
-    if !credit.pay(place) {
+    if !pace.pay(place) {
         return Ok(None);
     }
     let entry = learn(states, table, items, text, place, state)?;
@@ -111,7 +81,7 @@ pub(crate) enum Scanned {
 pub(crate) fn scan(
     states: &mut Vec<State>,
     table: &mut Vec<u16>,
-    credit: &mut usize,
+    pace: &mut Pace,
     items: &[Node],
     text: &[u8],
     from: usize,
@@ -124,27 +94,31 @@ pub(crate) fn scan(
     ensures told { IfOk result (IsTold (sequence_of items.now) text.now from) }
 {
     begin(states, table)?;
-    let mut left = Credit {
-        amount: *credit,
-        counted: from,
-    };
+    let mut own = pace.begun(from);
     let mut state = first_state(from);
     let mut clean = from;
     let mut place = from;
-    while place <= text.len() {
-        let known = entry_at(states, table, &mut left, items, text, place, state)?;
+    while place < text.len() {
+        let known = entry_at(states, table, &mut own, items, text, place, state)?;
         let Some(entry) = known else {
-            *credit = left.at(place);
+            *pace = own.ended(place);
             return Ok(Scanned::Untold);
         };
         if entry == FOUND {
-            *credit = left.at(place);
+            *pace = own.ended(place);
             return Ok(Scanned::From(clean));
         }
         state = entry as usize;
-        place += 1;
+        place = own.next_place(items, text, place + 1, state);
         clean = clean_place(state, place, clean);
     }
-    *credit = left.at(text.len());
+    let known = entry_at(states, table, &mut own, items, text, place, state)?;
+    *pace = own.ended(place);
+    let Some(entry) = known else {
+        return Ok(Scanned::Untold);
+    };
+    if entry == FOUND {
+        return Ok(Scanned::From(clean));
+    }
     Ok(Scanned::Nowhere)
 }

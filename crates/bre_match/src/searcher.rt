@@ -7,28 +7,17 @@ ghost use Rattle.bre_parse.specs.Literal.{literal};
 ghost use Rattle.bre_match.specs.Parts.{part_of};
 ghost use Rattle.bre_match.specs.Automata.{Serves, Serves-prop};
 
-use crate::row::{has_wide_states, is_quick_row};
-use crate::scan::{FIRST_CREDIT, Scanned, scan};
-use crate::start::begins_at_start;
+use crate::needed::{lacks_needed, needs_ranges};
+use crate::pace::Pace;
+use crate::row::has_wide_states;
+use crate::scan::{Scanned, scan};
 use crate::state::State;
 use crate::{Match, find, matches};
 use bre_parse::Bre;
-use bre_parse::tree::Node;
 use std::alloc::{AllocError, Global};
 
 // How many bytes are searched before an automaton is made: the steps for its first line cost as much as some hundred bytes do by columns.
 const FIRST_BYTES: usize = 256;
-
-// Whether a row of bytes and anchors is found sooner than an automaton goes through a text.
-fn is_quicker_alone(items: &[Node]) -> bool {
-    if !is_quick_row(items) {
-        return false;
-    }
-    match items.last() {
-        Some(Node::TextEnd) => begins_at_start(items),
-        _ => true,
-    }
-}
 
 // Whether a pattern is looked for in each text by itself, without an automaton.
 fn is_plain(pattern: &Bre) -> bool
@@ -42,7 +31,7 @@ fn is_plain(pattern: &Bre) -> bool
         return true;
     }
     let items = pattern.items();
-    has_wide_states(items) || is_quicker_alone(items)
+    has_wide_states(items)
 }
 
 /// A pattern that is looked for in many texts, with an automaton that fills up while they are searched. What was worked out for one
@@ -61,9 +50,11 @@ fn is_plain(pattern: &Bre) -> bool
 pub struct Searcher<'a> {
     pattern: &'a Bre,
     is_plain: bool,
+    // Whether a text is first searched for the bytes that the pattern needs.
+    needs: bool,
     states: Vec<State>,
     table: Vec<u16>,
-    credit: usize,
+    pace: Pace,
     // How many bytes are still searched without an automaton.
     wait: usize,
     ghost free: { is_plain ≡ false → refers (bre_tree pattern.now) ≡ false },
@@ -86,9 +77,10 @@ impl<'a> Searcher<'a> {
         Searcher {
             pattern,
             is_plain: is_plain(pattern),
+            needs: needs_ranges(pattern.items()),
             states: Vec::new(alloc),
             table: Vec::new(alloc),
-            credit: FIRST_CREDIT,
+            pace: Pace::first(pattern.items()),
             wait: FIRST_BYTES,
         }
     }
@@ -109,10 +101,13 @@ impl<'a> Searcher<'a> {
             return Ok(Scanned::Untold);
         }
         let items = self.pattern.items();
+        if self.needs && lacks_needed(items, text, from) {
+            return Ok(Scanned::Nowhere);
+        }
         let told = scan(
             &mut self.states,
             &mut self.table,
-            &mut self.credit,
+            &mut self.pace,
             items,
             text,
             from,
@@ -143,6 +138,9 @@ impl<'a> Searcher<'a> {
         ensures pattern { searched self.new ≡ searched self.old }
     {
         let alloc = *self.table.allocator();
+        if self.is_plain {
+            return find(alloc, self.pattern, text, from);
+        }
         match self.scan(text, from)? {
             Scanned::Untold => find(alloc, self.pattern, text, from),
             Scanned::Nowhere => Ok(None),
