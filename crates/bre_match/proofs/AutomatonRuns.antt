@@ -119,10 +119,10 @@ run_finds t s from states old table x clean state entry free order h tells is =
       inside,
       h.same,
       ap is_some (sym h.same)
-      ∙ out_is_match t s clean (x - clean) free order (omega arith)
-      (ap is_some (out_here (part_of t) s clean old x state later h.column)
-      ∙ none_is_out (peek (fill (part_of t) (get_or old state [])) s x (Some 0)) _
-      (sym (same_Some None _ (sym (meaning_of-found states entry is) ∙ tells)))),
+          ∙ out_is_match t s clean (x - clean) free order (omega arith)
+          (ap is_some (out_here (part_of t) s clean old x state later h.column)
+          ∙ none_is_out (peek (fill (part_of t) (get_or old state [])) s x (Some 0)) _
+          (sym (same_Some None _ (sym (meaning_of-found states entry is) ∙ tells)))),
     )
 
 -- where an entry isn't that of a match's end, none ends at the place, and the entry's state has the marks of the next one

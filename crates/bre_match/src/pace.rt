@@ -20,6 +20,9 @@ const LEAST_JUMP: usize = 16;
 // How many bytes are scanned after a jump that wasn't.
 const REST: usize = 128;
 
+// How many bytes are scanned after one that was, or where the state has marks.
+const PAUSE: usize = 8;
+
 /// What is counted from one text to the next. Each byte of a text brings one of credit, which pays for transitions that have to be
 /// worked out, so that a pattern whose states seldom recur isn't scanned for long.
 #[derive(Clone, Copy)]
@@ -76,9 +79,15 @@ impl Pace {
     }
 
     /// Where a scan goes on that came to a state at a place: there, or at a later place, where the state has no marks and no start
-    /// before it leads on.
+    /// before it leads on. A byte costs one comparison, and the state is looked at where it is due: it can't be foretold.
     #[inline(always)]
-    pub(crate) fn next_place(&mut self, items: &[Node], text: &[u8], place: usize, state: usize) -> usize
+    pub(crate) fn next_place(
+        &mut self,
+        items: &[Node],
+        text: &[u8],
+        place: usize,
+        state: usize,
+    ) -> usize
         requires place { place ≤ length text.now }
         requires later { 0 < place }
         ensures after { place ≤ result }
@@ -86,28 +95,34 @@ impl Pace {
         ensures stays { nat_eq state 1 ≡ false → result ≡ place }
         ensures same { match_from (sequence_of items.now) text.now result ≡ match_from (sequence_of items.now) text.now place }
     {
-        if place < self.jump || state != 1 {
+        if place < self.jump {
             place
         } else {
-            self.landed(items, text, place)
+            self.jumped(items, text, place, state)
         }
     }
 
-    // Where a jump from a place lands.
+    // Where a jump from a place leads, which needs a state without marks.
     #[inline(never)]
-    fn landed(&mut self, items: &[Node], text: &[u8], place: usize) -> usize
+    fn jumped(&mut self, items: &[Node], text: &[u8], place: usize, state: usize) -> usize
         requires place { place ≤ length text.now }
         requires later { 0 < place }
         ensures after { place ≤ result }
         ensures within { result ≤ length text.now }
+        ensures stays { nat_eq state 1 ≡ false → result ≡ place }
         ensures same { match_from (sequence_of items.now) text.now result ≡ match_from (sequence_of items.now) text.now place }
     {
+        if state != 1 {
+            self.jump = place.saturating_add(PAUSE);
+            return place;
+        }
         let start = later_start(items, text, place);
-        self.jump = if start - place < LEAST_JUMP {
-            place.saturating_add(REST)
+        let rest = if start - place < LEAST_JUMP {
+            REST
         } else {
-            start
+            PAUSE
         };
+        self.jump = start.saturating_add(rest);
         start
     }
 }

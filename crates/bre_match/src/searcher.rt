@@ -37,11 +37,11 @@ fn is_plain(pattern: &Bre) -> bool
 /// A pattern that is looked for in many texts, with an automaton that fills up while they are searched. What was worked out for one
 /// text serves the next ones: take a searcher for the lines of a file or a buffer, and `find` or `matches` for a single text.
 ///
-/// A byte of a text then costs one look into a table, whatever the pattern. Where there is a match, `find` takes the time of `crate::find`
-/// from the last place before the match's end at which no start led on. Without an automaton, in the time of `crate::find` and
-/// `crate::matches`, a searcher looks for literal patterns, for patterns with back-references or with more than 256 byte sets (the turns of
-/// counted repeats written out), and for most rows of bytes and anchors; and so it searches the first 256 bytes, and texts of which too
-/// many steps would have to be worked out, since the pattern's states seldom recur.
+/// A byte of a text then costs one look into a table, whatever the pattern, and less where bytes that the pattern needs are lacking or
+/// far away. Where there is a match, `find` takes the time of `crate::find` from the last place before the match's end at which no start
+/// led on. Without an automaton, in the time of `crate::find` and `crate::matches`, a searcher looks for literal patterns, and for patterns
+/// with back-references or with more than 256 byte sets (the turns of counted repeats written out); and so it searches the first 256 bytes,
+/// and texts of which too many steps would have to be worked out, since the pattern's states seldom recur.
 ///
 /// An automaton has at most 128 states: once they are used up, all but three are forgotten. Its table takes at most 128 KB, and a state
 /// 16 bytes for each byte set. After an `Err` a searcher may be used as before: it looks for the same pattern, and all that it has
@@ -137,10 +137,21 @@ impl<'a> Searcher<'a> {
         ensures without_memory { IsSome (literal (searched self.old)) → IsOk result }
         ensures pattern { searched self.new ≡ searched self.old }
     {
-        let alloc = *self.table.allocator();
         if self.is_plain {
-            return find(alloc, self.pattern, text, from);
+            return find(*self.table.allocator(), self.pattern, text, from);
         }
+        self.find_scanned(text, from)
+    }
+
+    // The match by an automaton. It is apart from `find`, so that a literal pattern doesn't pay for its locals.
+    fn find_scanned(&mut self, text: &[u8], from: usize) -> Result<Option<Match>, AllocError>
+        requires place { from ≤ length text.now }
+        ensures value { IfOk result (λ found. option_map spans found ≡ match_from (searched self.old) text.now from) }
+        ensures within { IfOk result (λ found. IfSome found (LiesWithin from (length text.now))) }
+        ensures without_memory { IsSome (literal (searched self.old)) → IsOk result }
+        ensures pattern { searched self.new ≡ searched self.old }
+    {
+        let alloc = *self.table.allocator();
         match self.scan(text, from)? {
             Scanned::Untold => find(alloc, self.pattern, text, from),
             Scanned::Nowhere => Ok(None),
