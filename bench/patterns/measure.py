@@ -219,8 +219,8 @@ def all_of(pattern):
 
 
 def by_searcher(pattern):
-    """Programs that count the lines with a match, with one searcher too."""
-    return {'searched': [PROGRAM, 'count_searched', pattern], **commands(pattern)}
+    """Programs that count the lines with a match: ours by one searcher for all of them."""
+    return {**commands(pattern), 'bre_ask': [PROGRAM, 'count_searched', pattern]}
 
 
 def measure_searcher(folder, starting):
