@@ -1,0 +1,75 @@
+-- The order of places, and what gets past one of them.
+use Rattle.std.proofs.Common.{◌≡◌, ◌<◌, ◌≤◌, ◌⊎◌, ◌↔◌, refl, ℕ, Bool, true, false, IsTrue, List, Option, Some, None, inl, inr, arith, subst, sym}
+use Rattle.std.proofs.Math.Nat.{eq-or-lt_of_le}
+use Rattle.std.specs.Option.{unwrap_or}
+use Rattle.std.specs.declared.alloc.AllocError.{AllocError}
+use Rattle.std.specs.Prelude.{Result, Ok, Err, IfOk}
+use Rattle.ed_base.specs.declared.fault.Fault.{Fault}
+use Rattle.ed_syntax.specs.Commands.{Script}
+use Rattle.cert_check.specs.declared.checker.verdict.Place.{Place}
+use Rattle.cert_check.specs.Certificates.{Note, Certificate}
+use Rattle.analyser.specs.declared.analysis.Start.{Start}
+use Rattle.analyser.specs.Analysis.{IsCertificate, IsFailure}
+use Rattle.hints.specs.Passing.{IsVouched, IsLaterInside, IsAfter, GetsPast, vouched, later}
+
+-- what the law of answers says
+pub record Laws : Type 0 where
+  pub either : (script : Script) (start : Start) (c : Certificate) (place : Place) (why : Fault) (notes : List Note) →
+      IsCertificate script start c → IsFailure script start place why notes → ⊥
+  pub failure : (script : Script) (start : Start) (place other_place : Place) (why other_why : Fault) (notes other_notes : List Note) →
+      IsFailure script start place why notes → IsFailure script start other_place other_why other_notes →
+      (place ≡ other_place) × (why ≡ other_why) × (notes ≡ other_notes)
+
+-- where a need fails at a place, a script gets past no place that doesn't come before it
+after-of : Laws → (script : Script) (start : Start) (place next : Place) (why : Fault) (notes : List Note) →
+    IsFailure script start next why notes → GetsPast script start place → IsAfter next place
+after-of laws script start place next why notes fails (vouched (c, is)) = absurd (laws.either script start c next why notes is fails)
+after-of laws script start place next why notes fails (later other other_why other_notes other_fails after) =
+    subst (λ (p : Place). IsAfter p place) (laws.failure script start other next other_why why other_notes notes other_fails fails).0 after
+
+-- so the place where a need fails decides
+pub past-decided : Laws → (script : Script) (start : Start) (place next : Place) (why : Fault) (notes : List Note) (past : Bool) →
+    IsFailure script start next why notes → IsTrue past ↔ IsAfter next place → IsTrue past ↔ GetsPast script start place
+past-decided laws script start place next why notes past fails is =
+    (λ t. later next why notes fails (is.0 t), λ g. is.1 (after-of laws script start place next why notes fails g))
+
+-- a place inside that comes after the greatest one comes after each
+inside-back : (next inner : Option ℕ) (most last : ℕ) → last ≡ unwrap_or inner most → IsLaterInside next (Some last) → IsLaterInside next inner
+inside-back None inner most last is after = absurd after
+inside-back (Some next) None most last is after = tt
+inside-back (Some next) (Some inner) most last is after = subst (λ n. n < next) is after
+
+-- what comes after a later place inside comes after this one
+after-back : (next place last : Place) (most inner : ℕ) → place.command ≤ last.command → last.inner ≡ Some inner → inner ≡ unwrap_or place.inner most →
+    IsAfter next last → IsAfter next place
+after-back next place last most inner le some is (inl lt) = inl (omega arith)
+after-back next place last most inner le some is (inr (same, inside)) =
+    elim (eq-or-lt_of_le le) [
+      | inr lt ↦ inl (omega arith)
+      | inl eq ↦ inr (omega arith, inside-back next.inner place.inner most inner is (subst (λ (o : Option ℕ). IsLaterInside next.inner o) some inside))
+    ]
+
+-- a script that gets past a later place gets past this one
+pub past-back : (script : Script) (start : Start) (place last : Place) (most inner : ℕ) → place.command ≤ last.command → last.inner ≡ Some inner →
+    inner ≡ unwrap_or place.inner most → GetsPast script start last → GetsPast script start place
+past-back script start place last most inner le some is (vouched v) = vouched v
+past-back script start place last most inner le some is (later next why notes fails after) =
+    later next why notes fails (after-back next place last most inner le some is after)
+
+-- the same of an answer
+pub all-back : (script : Script) (start : Start) (place last : Place) (most inner : ℕ) (r : Result Bool AllocError) → place.command ≤ last.command →
+    last.inner ≡ Some inner → inner ≡ unwrap_or place.inner most → IfOk r (λ b. IsTrue b ↔ GetsPast script start last) →
+    IfOk r (λ b. b ≡ true → GetsPast script start place)
+all-back script start place last most inner (Ok true) le some is past = λ e. past-back script start place last most inner le some is (past.0 refl)
+all-back script start place last most inner (Ok false) le some is past = λ e. cc
+all-back script start place last most inner (Err e) le some is past = tt
+
+-- where a need fails, a script isn't vouched for
+pub not-vouched : Laws → (script : Script) (start : Start) (place : Place) (why : Fault) (notes : List Note) → IsFailure script start place why notes →
+    IsTrue false ↔ IsVouched script start
+not-vouched laws script start place why notes fails = (λ e. cc, λ v. absurd (laws.either script start v.0 place why notes v.1 fails))
+
+-- a script is vouched for by whatever names it and its start have
+pub vouched-as : (script other : Script) (start bounded : Start) (c : Certificate) → script ≡ other → start ≡ bounded → IsCertificate script start c → IsVouched other bounded
+vouched-as script other start bounded c same also is =
+    (c, subst (λ (s : Start). IsCertificate other s c) also (subst (λ (s : Script). IsCertificate s start c) same is))

@@ -1,0 +1,12 @@
+use Rattle.ed_syntax.specs.PublicScript.{script_value}
+use Rattle.ed_syntax.specs.reading.Reading.{script_of}
+use Rattle.cert_check.specs.Certificates.{certificate_value}
+use Rattle.hints.proofs.Places.{vouched-as}
+use Rattle.hints.proofs.refusing.first_refusal.Goals as goal
+
+pub returns-in-Vouched : goal.returns-in-Vouched
+returns-in-Vouched c = record {
+  exact =
+      vouched-as (script_value c.in_ok-read.read) (script_of c.args.script.now) c.in_ok-copy_of.field-0 c.args.start.now (certificate_value c.in-Vouched.field-0)
+      c.in_ok-read.ensures.value c.in_ok-copy_of.ensures.value (rw c.in-Vouched.is at c.in_ok-analyse.ensures.exact);
+}

@@ -1,0 +1,36 @@
+use Rattle.std.proofs.Common.{sym, ◌∙◌, subst}
+use Rattle.hints.specs.Passing.{IsAllowed}
+use Rattle.hints.specs.Hints.{mended}
+use Rattle.hints.proofs.Chains.{begins, begins-few, stops, goes-on, goes-on-few, stays-allowed}
+use Rattle.hints.proofs.refusing.refusals.Goals as goal
+
+pub turns-init : goal.turns-init
+turns-init c = record {
+  mended = begins c.args.script.now c.args.start.now c.new-found.result.items c.in_ok-current.current c.in_ok-opened.opened c.new-found.ensures.items c.in_ok-current.ensures.value c.in_ok-opened.ensures.value;
+  allowed = subst IsAllowed (sym c.in_ok-opened.ensures.value) (record { ordered = c.requires.ordered; low = c.requires.low; high = c.requires.high });
+  few = begins-few c.new-found.result.items c.new-found.ensures.items;
+}
+
+pub returns-in_default-clause-each : goal.returns-in_default-clause-each
+returns-in_default-clause-each c = mended c.turns.found.items c.turns.current c.turns.opened c.turns.invariant.mended
+
+pub returns-in-None-clause-each : goal.returns-in-None-clause-each
+returns-in-None-clause-each c =
+    let found = rw c.in-Some.is at c.in_ok-refusal.ensures.exact in
+    stops c.args.script.now c.args.start.now c.turns.found.items c.push.new.self.items c.turns.current c.turns.opened c.in-Some.refusal c.turns.invariant.mended
+    found.0 (found.1 ∙ c.as_slice.ensures.value) found.2 c.in_ok-push-in-None.ensures.items
+
+pub turns-preserved : goal.turns-preserved
+turns-preserved c =
+    let found = rw c.in-Some.is at c.in_ok-refusal.ensures.exact in
+    let kept = rw c.in-Some-2.is at c.in_ok-mended.ensures.value in
+    record {
+      mended =
+          goes-on c.args.script.now c.args.start.now c.turns.found.items c.push-in-Some-2.new.self.items c.turns.current c.in-Some-2.mended c.turns.opened c.in-Some-2.bounded c.in-Some.refusal kept.0 kept.1
+          c.turns.invariant.mended found.0 (found.1 ∙ c.as_slice.ensures.value) found.2 kept.2 c.in_ok-push-in-Some-2.ensures.items kept.3 kept.4;
+      allowed = stays-allowed c.in-Some.refusal kept.0 kept.1 c.in-Some-2.bounded found.0 kept.2 kept.4;
+      few = goes-on-few c.turns.found.items c.push-in-Some-2.new.self.items c.in-Some.refusal c.turns.turn c.in_ok-push-in-Some-2.ensures.items c.turns.invariant.few;
+    }
+
+pub returns-clause-each : goal.returns-clause-each
+returns-clause-each c = mended c.turns.found.items c.turns.current c.turns.opened c.turns.invariant.mended

@@ -1,0 +1,12 @@
+use Rattle.std.proofs.Common.{◌≤◌, length}
+use Rattle.hints.specs.Passing.{IsAllowed}
+use Rattle.hints.specs.Hints.{IsMended}
+use Rattle.hints.proofs.refusing.refusals.Given as goal
+
+-- the refusals so far were mended, and this script and this start came of it
+abbrev pub invariant-turns : goal.invariant-turns
+invariant-turns l = record {
+  mended : IsMended l.script l.start l.found.items l.current l.opened;
+  allowed : IsAllowed l.opened;
+  few : length l.found.items ≤ l.turn;
+}

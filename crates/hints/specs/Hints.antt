@@ -1,0 +1,33 @@
+-- What a hint promises, and which refusals are told of a script (our own).
+use Rattle.std.specs.Prelude.{◌≡◌, ℕ, List, [], ◌∷◌, ◌++◌, map, All}
+use Rattle.ed_syntax.specs.reading.Reading.{script_of}
+use Rattle.cert_check.specs.declared.checker.verdict.Place.{Place}
+use Rattle.cert_check.specs.Certificates.{note_value}
+use Rattle.analyser.specs.declared.analysis.Start.{Start}
+use Rattle.analyser.specs.Analysis.{IsFailure}
+use Rattle.hints.specs.declared.hint.Hint.{Hint}
+use Rattle.hints.specs.declared.refusing.Refusal.{Refusal}
+use Rattle.hints.specs.Passing.{IsAllowed, GetsPast}
+
+-- A hint was tried: the script as it reads by it, over the start that it names, gets past the place.
+pub record IsTried (place : Place) (h : Hint) : Type 0 where
+  pub allowed : IsAllowed h.start
+  pub past : GetsPast (script_of h.script) h.start place
+
+-- A refusal is the first need that fails of its script over its start, and its hints were tried.
+pub record IsRefusal (r : Refusal) : Type 0 where
+  pub fails : IsFailure (script_of r.script) r.start r.place r.why (map note_value r.notes.items)
+  pub tried : All (IsTried r.place) r.hints.items
+
+-- Refusals that were mended, each as its first hint says, and what script and start came of it. The first is one of this script over
+-- this start, each later one of what the one before it left.
+pub data IsMended (script : List ℕ) (start : Start) : (told : List Refusal) → (now : List ℕ) → (then : Start) → Type 0 where
+  none : IsMended script start [] script start
+  more : (told : List Refusal) (r : Refusal) (h : Hint) (hs : List Hint) → IsMended script start told r.script r.start → IsRefusal r →
+      r.hints.items ≡ h ∷ hs → IsMended script start (told ++ r ∷ []) h.script h.start
+
+-- The refusals that are told of a script over a start: those that were mended, and maybe one more, of what came of it.
+pub data AreRefusals (script : List ℕ) (start : Start) : List Refusal → Type 0 where
+  mended : (told : List Refusal) (now : List ℕ) (then : Start) → IsMended script start told now then → AreRefusals script start told
+  stopped : (told : List Refusal) (r : Refusal) → IsMended script start told r.script r.start → IsRefusal r →
+      AreRefusals script start (told ++ r ∷ [])

@@ -1,0 +1,42 @@
+-- Where a script is vouched for, and which places an analysis gets past (our own).
+use Rattle.std.specs.Prelude.{◌≡◌, ◌<◌, ◌≤◌, ◌⊎◌, ℕ, List, Option, Some, None, IfSome}
+use Rattle.ed_base.specs.declared.fault.Fault.{Fault}
+use Rattle.ed_syntax.specs.Commands.{Script}
+use Rattle.ed_rules.specs.LineBounds.{most_lines, IsAtMost}
+use Rattle.cert_check.specs.declared.checker.verdict.Place.{Place}
+use Rattle.cert_check.specs.Certificates.{Note, Certificate}
+use Rattle.analyser.specs.declared.analysis.Start.{Start}
+use Rattle.analyser.specs.Analysis.{IsCertificate, IsFailure}
+
+-- the bounds of a start are those of some start file: in order, and at most most_lines
+pub record IsAllowed (start : Start) : Type 0 where
+  pub ordered : IsAtMost start.min start.max
+  pub low : start.min ≤ most_lines
+  pub high : IfSome start.max (λ most. most ≤ most_lines)
+
+-- no need of the script fails over this start, as some certificate shows
+abbrev pub IsVouched : Script → Start → Type 0
+IsVouched script start = (c : Certificate) × IsCertificate script start c
+
+-- a start with another least number of lines
+abbrev pub with_min : Start → ℕ → Start
+with_min start min = record { path = start.path; min = min; max = start.max }
+
+-- a start with this greatest number of lines
+abbrev pub with_max : Start → ℕ → Start
+with_max start most = record { path = start.path; min = start.min; max = Some most }
+
+-- In one command: its own needs come first, and then those of its list's commands in their order.
+abbrev pub IsLaterInside : (next place : Option ℕ) → Type 0
+IsLaterInside (Some next) (Some place) = place < next
+IsLaterInside (Some next) None = Unit {0}
+IsLaterInside None place = ⊥
+
+-- The order of an analysis: a later command, or the same one and a later place inside.
+abbrev pub IsAfter : (next place : Place) → Type 0
+IsAfter next place = (place.command < next.command) ⊎ ((next.command ≡ place.command) × IsLaterInside next.inner place.inner)
+
+-- The script gets past a place: no need of it fails over this start, or the first one that fails comes after the place.
+pub data GetsPast (script : Script) (start : Start) (place : Place) : Type 0 where
+  vouched : IsVouched script start → GetsPast script start place
+  later : (next : Place) (why : Fault) (notes : List Note) → IsFailure script start next why notes → IsAfter next place → GetsPast script start place

@@ -1,0 +1,201 @@
+//! Hints and remarks on a need that fails.
+
+ghost use Rattle.std.specs.Prelude.{◌≡◌, ◌≤◌, All, IfOk, IfSome, OnOk};
+ghost use Rattle.ed_rules.specs.LineBounds.{most_lines, IsAtMost};
+ghost use Rattle.hints.specs.Hints.{IsTried};
+
+use crate::commands::{count_of_lines, line_at, line_of_span, span_of};
+use crate::drafts::Draft;
+use crate::endings::{push_end, push_losing};
+use crate::foreign::push_spellings;
+use crate::hint::{Advice, Hint, Remark};
+use crate::passing::gets_past_all;
+use crate::searches::{push_blank, push_offset, push_searching};
+use crate::starts::{copy_of, greatest_start, least_start, with_bounds};
+use analyser::Start;
+use cert_check::Place;
+use ed_base::{Bytes, Fault};
+use std::alloc::{AllocError, Global};
+
+/// What may help at a place, the best first.
+fn drafts_at(
+    alloc: Global,
+    script: &[u8],
+    place: Place,
+    why: Fault,
+) -> Result<Vec<Draft>, AllocError> {
+    let mut drafts = Vec::new(alloc);
+    let Some(span) = span_of(alloc, script, place.command)? else {
+        if why == Fault::Unsaved {
+            push_end(&mut drafts, alloc, script)?;
+        }
+        return Ok(drafts);
+    };
+    match (place.inner, why) {
+        (None, Fault::Syntax) => {
+            push_spellings(&mut drafts, alloc, script, line_of_span(script, span))?;
+        }
+        (None, Fault::Unsaved) => push_losing(&mut drafts, alloc, script, span)?,
+        (None, Fault::NoMatch) => push_searching(&mut drafts, alloc, script, span)?,
+        (None, Fault::Address) => push_blank(&mut drafts, alloc, script, span)?,
+        (Some(inner), Fault::Address) => {
+            push_offset(&mut drafts, alloc, script, place.command, inner)?;
+        }
+        _ => {}
+    }
+    Ok(drafts)
+}
+
+/// The line at a place, or the last one at the end; lines count from 1.
+fn number_at(alloc: Global, script: &[u8], place: Place) -> Result<usize, AllocError> {
+    match line_at(alloc, script, place)? {
+        Some(span) => Ok(span.line),
+        None => Ok(count_of_lines(script)),
+    }
+}
+
+/// The first of these drafts that gets past a place.
+fn first_past(
+    alloc: Global,
+    start: &Start,
+    place: Place,
+    line: usize,
+    drafts: Vec<Draft>,
+) -> Result<Option<Hint>, AllocError>
+    requires ordered { IsAtMost start.now.min start.now.max }
+    requires low { start.now.min ≤ most_lines }
+    requires high { IfSome start.now.max (λ most. most ≤ most_lines) }
+    ensures tried { IfOk result (λ found. IfSome found (IsTried place)) }
+{
+    for draft in drafts {
+        let Draft {
+            advice,
+            text,
+            script,
+            added,
+        } = draft;
+        if let Some(script) = script {
+            if gets_past_all(alloc, script.as_slice(), start, place, added)? {
+                return Ok(Some(Hint {
+                    advice,
+                    line,
+                    text,
+                    script,
+                    start: copy_of(start)?,
+                }));
+            }
+        }
+    }
+    Ok(None)
+}
+
+/// The least number of lines under which the script is vouched for.
+fn at_least(
+    alloc: Global,
+    script: &[u8],
+    start: &Start,
+    place: Place,
+    line: usize,
+) -> Result<Option<Hint>, AllocError>
+    requires ordered { IsAtMost start.now.min start.now.max }
+    requires low { start.now.min ≤ most_lines }
+    requires high { IfSome start.now.max (λ most. most ≤ most_lines) }
+    ensures tried { IfOk result (λ found. IfSome found (IsTried place)) }
+{
+    let Some(min) = least_start(alloc, script, start)? else {
+        return Ok(None);
+    };
+    Ok(Some(Hint {
+        advice: Advice::AtLeast,
+        line,
+        text: format!(in alloc; "vouched for with --min {min}")?,
+        script: Bytes::from_slice(alloc, script)?,
+        start: with_bounds(start, min, start.max)?,
+    }))
+}
+
+/// The greatest number of lines under which the script is vouched for. That of no lines helps nobody.
+fn at_most(
+    alloc: Global,
+    script: &[u8],
+    start: &Start,
+    place: Place,
+    line: usize,
+) -> Result<Option<Hint>, AllocError>
+    requires ordered { IsAtMost start.now.min start.now.max }
+    requires low { start.now.min ≤ most_lines }
+    requires high { IfSome start.now.max (λ most. most ≤ most_lines) }
+    ensures tried { IfOk result (λ found. IfSome found (IsTried place)) }
+{
+    match greatest_start(alloc, script, start)? {
+        Some(most) if most > 0 => Ok(Some(Hint {
+            advice: Advice::AtMost,
+            line,
+            text: format!(in alloc; "vouched for with --max {most}")?,
+            script: Bytes::from_slice(alloc, script)?,
+            start: with_bounds(start, start.min, Some(most))?,
+        })),
+        _ => Ok(None),
+    }
+}
+
+/// Puts a hint after those that were found.
+fn push_hint(found: &mut Vec<Hint>, place: Place, hint: Option<Hint>) -> Result<(), AllocError>
+    requires found { All (IsTried place) found.old.items }
+    requires hint { IfSome hint (IsTried place) }
+    ensures tried { OnOk result (All (IsTried place) found.new.items) }
+{
+    if let Some(hint) = hint {
+        found.push(hint)?;
+    }
+    Ok(())
+}
+
+/// What to write where a need of a script fails at a place by a fault: the best hint first. Each gets past the place.
+pub fn hints(
+    alloc: Global,
+    script: &[u8],
+    start: &Start,
+    place: Place,
+    why: Fault,
+) -> Result<Vec<Hint>, AllocError>
+    requires ordered { IsAtMost start.now.min start.now.max }
+    requires low { start.now.min ≤ most_lines }
+    requires high { IfSome start.now.max (λ most. most ≤ most_lines) }
+    ensures tried { IfOk result (λ found. All (IsTried place) found.items) }
+{
+    let line = number_at(alloc, script, place)?;
+    let drafts = drafts_at(alloc, script, place, why)?;
+    let written = first_past(alloc, start, place, line, drafts)?;
+    let fewest = at_least(alloc, script, start, place, line)?;
+    let most = at_most(alloc, script, start, place, line)?;
+    let mut found = Vec::new(alloc);
+    if why == Fault::Address {
+        push_hint(&mut found, place, fewest)?;
+        push_hint(&mut found, place, most)?;
+        push_hint(&mut found, place, written)?;
+        return Ok(found);
+    }
+    push_hint(&mut found, place, written)?;
+    push_hint(&mut found, place, fewest)?;
+    push_hint(&mut found, place, most)?;
+    Ok(found)
+}
+
+/// What may be told beside hints of a need that fails at a place by a fault.
+pub fn remarks(
+    alloc: Global,
+    script: &[u8],
+    place: Place,
+    why: Fault,
+) -> Result<Vec<Remark>, AllocError> {
+    let line = number_at(alloc, script, place)?;
+    let mut found = Vec::new(alloc);
+    for draft in drafts_at(alloc, script, place, why)? {
+        let Draft { text, script, .. } = draft;
+        if script.is_none() {
+            found.push(Remark { line, text })?;
+        }
+    }
+    Ok(found)
+}

@@ -1,0 +1,194 @@
+//! Changes that would be lost: writing them first, ending anyway, and a text whose period is missing.
+
+use crate::bytes::{between, first, from, is_blank, joined, replaced};
+use crate::commands::{Span, command_at, first_line, last_command, last_line, span_of};
+use crate::drafts::{Draft, drafted};
+use crate::hint::Advice;
+use crate::words::quoted;
+use ed_base::Bytes;
+use ed_syntax::{Script, Verb, read_script};
+use std::alloc::{AllocError, Global};
+
+/// Whether a script ends in a text that no period closes.
+fn ends_in_text(script: &[u8], read: &Script) -> bool {
+    match last_command(read) {
+        Some(command) => match &command.verb {
+            Verb::Append(_) | Verb::Change(_) | Verb::Insert(_) => last_line(script)
+                != b".".as_slice(),
+            _ => false,
+        },
+        None => false,
+    }
+}
+
+/// The script with a newline at its end, and with the period that a text at its end needs.
+fn closed(alloc: Global, script: &[u8], in_text: bool) -> Result<Bytes, AllocError> {
+    let newline: &[u8] = match script.last() {
+        Some(b'\n') | None => b"",
+        Some(_) => b"\n",
+    };
+    let period: &[u8] = if in_text { b".\n" } else { b"" };
+    joined(alloc, &[script, newline, period])
+}
+
+/// Whether a line was meant to be a period: one with blanks or a carriage return after it.
+fn is_meant(line: &[u8]) -> bool {
+    match line {
+        [b'.', after @ ..] => !after.is_empty()
+            && after.iter().all(|byte| is_blank(*byte) || *byte == b'\r'),
+        _ => false,
+    }
+}
+
+/// Whether lines write and end, as no text would.
+fn are_last_commands(alloc: Global, lines: &[u8]) -> Result<bool, AllocError> {
+    let read = read_script(alloc, lines)?;
+    if read.fault.is_some() {
+        return Ok(false);
+    }
+    for command in read.commands.as_slice() {
+        match &command.verb {
+            Verb::WriteFile(_) | Verb::Quit | Verb::QuitAnyway => {}
+            _ => return Ok(false),
+        }
+    }
+    Ok(!read.commands.is_empty())
+}
+
+/// Where each of some bytes' lines begins.
+fn starts_of_lines(alloc: Global, bytes: &[u8]) -> Result<Vec<usize>, AllocError> {
+    let mut starts = Vec::new(alloc);
+    starts.push(0)?;
+    for (index, byte) in bytes.iter().enumerate() {
+        let next = index.saturating_add(1);
+        if *byte == b'\n' && next < bytes.len() {
+            starts.push(next)?;
+        }
+    }
+    Ok(starts)
+}
+
+/// A period in the place of the first line of a text that was meant to be one.
+fn push_meant(
+    drafts: &mut Vec<Draft>,
+    alloc: Global,
+    script: &[u8],
+    span: Span,
+    starts: &[usize],
+) -> Result<(), AllocError> {
+    let text = between(script, span.low, span.high);
+    for start in starts {
+        let line = first_line(from(text, *start));
+        if is_meant(line) {
+            let low = span.low.saturating_add(*start);
+            let high = low.saturating_add(line.len());
+            let mended = replaced(alloc, script, low, high, b".")?;
+            let told = no_period(alloc, text)?;
+            drafts.push(drafted(Advice::Period, told, mended, 0))?;
+            return Ok(());
+        }
+    }
+    Ok(())
+}
+
+/// A period before the last lines of a text, where these write and end.
+fn push_closing(
+    drafts: &mut Vec<Draft>,
+    alloc: Global,
+    script: &[u8],
+    span: Span,
+    starts: &[usize],
+) -> Result<(), AllocError> {
+    let text = between(script, span.low, span.high);
+    for start in from_last(starts) {
+        if *start > 0 && are_last_commands(alloc, from(text, *start))? {
+            let place = span.low.saturating_add(*start);
+            let mended = replaced(alloc, script, place, place, b".\n")?;
+            let told = no_period(alloc, text)?;
+            drafts.push(drafted(Advice::Period, told, mended, 0))?;
+            return Ok(());
+        }
+    }
+    Ok(())
+}
+
+/// The last three, in their order.
+fn from_last(starts: &[usize]) -> &[usize] {
+    match starts.get(starts.len().saturating_sub(3)..) {
+        Some(last) => last,
+        None => starts,
+    }
+}
+
+/// What is told of a text without its period.
+fn no_period(alloc: Global, command: &[u8]) -> Result<String, AllocError> {
+    let shown = quoted(alloc, first_line(command))?;
+    Ok(format!(in alloc; "the text of {shown} has no `.`")?)
+}
+
+/// A text without its period.
+fn push_period(
+    drafts: &mut Vec<Draft>,
+    alloc: Global,
+    script: &[u8],
+    number: usize,
+) -> Result<(), AllocError> {
+    if let Some(span) = span_of(alloc, script, number)? {
+        let starts = starts_of_lines(alloc, between(script, span.low, span.high))?;
+        push_meant(drafts, alloc, script, span, starts.as_slice())?;
+        push_closing(drafts, alloc, script, span, starts.as_slice())?;
+    }
+    Ok(())
+}
+
+/// A command more at the end of a script, that writes or ends it.
+fn push_last(
+    drafts: &mut Vec<Draft>,
+    alloc: Global,
+    script: &[u8],
+    in_text: bool,
+    last: &[u8],
+) -> Result<(), AllocError> {
+    let front = closed(alloc, script, in_text)?;
+    let mended = joined(alloc, &[front.as_slice(), last])?;
+    let text = format!(in alloc; "write first (w), or end with Q")?;
+    drafts.push(drafted(Advice::Save, text, mended, 0))?;
+    Ok(())
+}
+
+/// What may help at the end of a script, where changes are left.
+pub(crate) fn push_end(
+    drafts: &mut Vec<Draft>,
+    alloc: Global,
+    script: &[u8],
+) -> Result<(), AllocError> {
+    let read = read_script(alloc, script)?;
+    let in_text = ends_in_text(script, &read);
+    if in_text {
+        push_period(drafts, alloc, script, read.commands.len())?;
+    }
+    push_last(drafts, alloc, script, in_text, b"w\n")?;
+    push_last(drafts, alloc, script, in_text, b"Q\n")
+}
+
+/// What may help at a command that would lose changes.
+pub(crate) fn push_losing(
+    drafts: &mut Vec<Draft>,
+    alloc: Global,
+    script: &[u8],
+    span: Span,
+) -> Result<(), AllocError> {
+    let command = command_at(script, span);
+    let writes = replaced(alloc, script, span.low, span.low, b"w\n")?;
+    if first(command) == Some(b'q') {
+        let text = format!(in alloc; "write first (w), or end with Q")?;
+        drafts.push(drafted(Advice::Save, text, writes, 1))?;
+        let anyway = replaced(alloc, script, span.low, span.low.saturating_add(1), b"Q")?;
+        let text = format!(in alloc; "write first (w), or end with Q")?;
+        drafts.push(drafted(Advice::Save, text, anyway, 0))?;
+        return Ok(());
+    }
+    let text = format!(in alloc; "write first (w)")?;
+    drafts.push(drafted(Advice::Save, text, writes, 1))?;
+    Ok(())
+}

@@ -1,0 +1,26 @@
+//! Hints: what to write where a script isn't vouched for, each one tried before it is given.
+#![tactic(auto)]
+
+mod advising;
+mod bytes;
+mod commands;
+mod drafts;
+mod endings;
+mod escapes;
+mod foreign;
+mod globals;
+mod hint;
+mod passing;
+mod patterns;
+mod refusing;
+mod searches;
+mod starts;
+mod telling;
+mod words;
+
+pub use advising::{hints, remarks};
+pub use hint::{Advice, Hint, Remark};
+pub use passing::gets_past;
+pub use refusing::{Refusal, first_refusal, refusals};
+pub use starts::{copy_of, greatest_start, least_start};
+pub use telling::told;

@@ -1,0 +1,11 @@
+//! Bytes of a script as a person reads them.
+
+use std::alloc::{AllocError, Global};
+
+/// Bytes between backquotes. Those that would end the line, or aren't text, are escaped.
+pub(crate) fn quoted(alloc: Global, bytes: &[u8]) -> Result<String, AllocError> {
+    match str::from_utf8(bytes) {
+        Ok(text) if !text.chars().any(char::is_control) => Ok(format!(in alloc; "`{text}`")?),
+        _ => Ok(format!(in alloc; "`{}`", bytes.escape_ascii())?),
+    }
+}
