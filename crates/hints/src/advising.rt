@@ -36,7 +36,9 @@ fn drafts_at(
             push_spellings(&mut drafts, alloc, script, line_of_span(script, span))?;
         }
         (None, Fault::Unsaved) => push_losing(&mut drafts, alloc, script, span)?,
-        (None, Fault::NoMatch) => push_searching(&mut drafts, alloc, script, span)?,
+        (None, Fault::NoMatch) => {
+            push_searching(&mut drafts, alloc, script, span, place.command)?;
+        }
         (None, Fault::Address) => push_blank(&mut drafts, alloc, script, span)?,
         (Some(inner), Fault::Address) => {
             push_offset(&mut drafts, alloc, script, place.command, inner)?;

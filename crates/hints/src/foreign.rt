@@ -110,6 +110,16 @@ fn writing_and_quitting(rest: &[u8]) -> Option<(&'static str, &[u8])> {
     }
 }
 
+/// The addresses of a `w`: all lines are those that it writes without addresses, also where there are none.
+fn written(addresses: &[u8]) -> &[u8] {
+    let given = addresses.trim_ascii();
+    if given == b",".as_slice() || given == b"1,$".as_slice() || given == b"%".as_slice() {
+        b""
+    } else {
+        given
+    }
+}
+
 /// `wq` and `x`, which write and quit.
 fn push_quit(
     drafts: &mut Vec<Draft>,
@@ -123,7 +133,7 @@ fn push_quit(
         return Ok(false);
     };
     let text = spelled(alloc, letters, "`w` and `q` on two lines")?;
-    let lines = joined(alloc, &[before(line, len), b"w", after, b"\nq\n"])?;
+    let lines = joined(alloc, &[written(before(line, len)), b"w", after, b"\nq\n"])?;
     let mended = replaced(alloc, script, span.low, span.high, lines.as_slice())?;
     drafts.push(drafted(Advice::Spelling, text, mended, 1))?;
     Ok(true)
@@ -188,8 +198,8 @@ pub(crate) fn push_spellings(
     let line = command_at(script, span);
     if push_returns(drafts, alloc, script, line)?
         || push_comment(drafts, alloc, script, line)?
-        || push_percent(drafts, alloc, script, span, line)?
         || push_quit(drafts, alloc, script, span, line)?
+        || push_percent(drafts, alloc, script, span, line)?
         || push_forced(drafts, alloc, script, span, line)?
         || push_shell(drafts, alloc, script, span, line)?
     {

@@ -8,6 +8,7 @@ use ed_syntax::{Verb, read_script};
 use std::alloc::{AllocError, Global};
 
 /// The search in front of a command's first line, and what stands after it.
+#[derive(Clone, Copy)]
 struct Searched<'a> {
     /// The pattern with both of its delimiters.
     pattern: &'a [u8],
@@ -29,6 +30,14 @@ fn search_in_front(alloc: Global, line: &[u8]) -> Result<Option<Searched<'_>>, A
             }))
         }
         _ => Ok(None),
+    }
+}
+
+/// Whether a command, without the newline after its last line, is a search alone.
+pub(crate) fn is_search(alloc: Global, command: &[u8]) -> Result<bool, AllocError> {
+    match search_in_front(alloc, after_blanks(command))? {
+        Some(searched) => Ok(searched.rest.is_empty()),
+        None => Ok(false),
     }
 }
 

@@ -1,9 +1,9 @@
 //! What may help where a search finds nothing, or a line isn't there.
 
-use crate::bytes::{before, between, blanks, first, from, replaced};
-use crate::commands::{Span, command_at, first_line};
+use crate::bytes::{after_blanks, between, blanks, first, from, joined, replaced};
+use crate::commands::{Span, command_at, first_line, span_of};
 use crate::drafts::{Draft, drafted, remark};
-use crate::globals::as_global;
+use crate::globals::{as_global, is_search};
 use crate::hint::Advice;
 use crate::patterns::{Quoted, pattern_at};
 use crate::words::quoted;
@@ -35,6 +35,44 @@ fn push_global(
     if let Some(global) = as_global(alloc, command)? {
         let text = global_text(alloc, global.as_slice())?;
         let high = span.low.saturating_add(command.len());
+        let mended = replaced(alloc, script, span.low, high, global.as_slice())?;
+        drafts.push(drafted(Advice::Global, text, mended, 0))?;
+    }
+    Ok(())
+}
+
+/// Whether a command, by its bytes, is applied to the current line where it has no addresses, and may stand in a list.
+fn works_here(command: &[u8]) -> bool {
+    matches!(
+        first(after_blanks(command)),
+        Some(b's' | b'd' | b'c' | b'a' | b'i' | b'p' | b'n' | b'l' | b'=')
+    )
+}
+
+/// A search alone and the command after it, which works on the line that was found, as one global command.
+fn push_two(
+    drafts: &mut Vec<Draft>,
+    alloc: Global,
+    script: &[u8],
+    span: Span,
+    number: usize,
+) -> Result<(), AllocError> {
+    let search = command_at(script, span);
+    if !is_search(alloc, search)? {
+        return Ok(());
+    }
+    let Some(next) = span_of(alloc, script, number.saturating_add(1))? else {
+        return Ok(());
+    };
+    let command = command_at(script, next);
+    if !works_here(command) {
+        return Ok(());
+    }
+    let both = joined(alloc, &[search, command])?;
+    if let Some(global) = as_global(alloc, both.as_slice())? {
+        let told = global_text(alloc, global.as_slice())?;
+        let text = format!(in alloc; "{told}; it stands for two commands")?;
+        let high = next.low.saturating_add(command.len());
         let mended = replaced(alloc, script, span.low, high, global.as_slice())?;
         drafts.push(drafted(Advice::Global, text, mended, 0))?;
     }
@@ -95,8 +133,10 @@ pub(crate) fn push_searching(
     alloc: Global,
     script: &[u8],
     span: Span,
+    number: usize,
 ) -> Result<(), AllocError> {
     push_global(drafts, alloc, script, span)?;
+    push_two(drafts, alloc, script, span, number)?;
     push_semicolon(drafts, alloc, script, span)
 }
 
@@ -121,6 +161,7 @@ pub(crate) fn push_blank(
         drafts.push(drafted(Advice::LeaveOut, text, mended, 0))?;
         return Ok(());
     }
+    push_global(drafts, alloc, script, span)?;
     push_semicolon(drafts, alloc, script, span)
 }
 
