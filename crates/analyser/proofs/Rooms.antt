@@ -1,5 +1,5 @@
 -- How often the invariant of the rounds of a list can still be weakened, and that this falls from each round to the next.
-use Rattle.std.proofs.Common.{pos, negsuc, ℤ, ◌≡◌, ◌≤◌, ◌<◌, ◌+◌, ◌*◌, ℕ, zero, suc, Bool, true, false, ◌||◌, ◌&&◌, List, [], ◌∷◌, length, get_or, Option, None, Some, ◌⊎◌, inl, inr, refl, ap, subst, arith}
+use Rattle.std.proofs.Common.{pos, negsuc, ℤ, ◌≡◌, ◌≤◌, ◌<◌, ◌+◌, ◌*◌, ℕ, zero, suc, Bool, true, false, ◌||◌, ◌&&◌, List, [], ◌∷◌, length, get_or, Option, None, Some, ◌⊎◌, inl, inr, refl, sym, ap, subst, arith}
 use Rattle.std.specs.Prelude.{nat_lt}
 use Rattle.std.specs.Ordering.{is_eq, nat_cmp}
 use Rattle.std.specs.Cmp.Lexicographic.{slice_cmp}
@@ -16,20 +16,27 @@ use Rattle.zones.specs.Limits.{IsZone}
 use Rattle.zones.specs.Room.{room, total_room}
 use Rattle.zones.specs.Steps.{join_of, widening_of}
 use Rattle.zones.proofs.Kept.{IsZone-join_of, IsZone-widening_of}
-use Rattle.zones.proofs.Order.{each-Covers, Covers-through, Covers-join_of, Covers-join_of_other, Covers-widening_of, Covers-widening_of_other}
+use Rattle.zones.proofs.Order.{each-Covers, Covers-through}
 use Rattle.zones.proofs.Rooms.{total_room-covers, total_room-not_covered}
 use Rattle.ed_rules.specs.declared.state.Old.{Old}
 use Rattle.ed_rules.specs.declared.state.State.{State}
 use Rattle.ed_rules.specs.Choices.{Choice, order_of, has_choice, union, are_choices}
 use Rattle.ed_rules.specs.Marks.{is_sure, both_sure}
-use Rattle.ed_rules.specs.Order.{old_of_both, united, join, widen}
+use Rattle.ed_rules.specs.Order.{old_of_both, united, join, widen, CoversOld, Covers}
 use Rattle.ed_rules.proofs.Basics.{and-both}
-use Rattle.ed_rules.proofs.Choosing.{or-cases, or-left, or-right, choice-itself, has-union, has-union_other}
+use Rattle.ed_rules.proofs.Choosing.{or-cases, or-left, or-right, choice-itself}
 use Rattle.cert_check.specs.checker.Covering.{zone_covers, allows, are_among, old_covers, covers}
 use Rattle.cert_check.proofs.verdicts.Covering.{below-each}
 use Rattle.analyser.specs.Rounds.{next_invariant}
 use Rattle.analyser.specs.Walking.{OldIsZone, HasZones}
 use Rattle.analyser.proofs.Results.{either}
+
+-- the laws that this rests on: what is joined or widened covers both
+pub record Laws : Type 0 where
+  pub join : (one other : State) → Covers (join one other) one
+  pub join_other : (one other : State) → Covers (join one other) other
+  pub widen : (old new : State) → Covers (widen old new) old
+  pub widen_other : (old new : State) → Covers (widen old new) new
 
 -- a room doesn't grow, and it falls where the old part doesn't cover the other
 pub record Falls (covered : Bool) (new old : ℕ) : Type 0 where
@@ -181,10 +188,21 @@ set-fewer cs few many (c ∷ new) h k within e =
       | false ↦ λ q f. lacking-fewer cs few many c h inside.0 q (k c (or-left (is_eq (order_of c c)) (has_choice new c) (choice-itself c)))
     ]) refl e
 
-falls-set : (cs one other : List Choice) → are_choices other cs ≡ true → Falls (are_choices other one) (lacking cs (union one other)) (lacking cs one)
-falls-set cs one other within = record {
-  no_more = lacking-less cs one (union one other) (λ c h. has-union one other c h);
-  fewer = λ e. set-fewer cs one (union one other) other (λ c h. has-union one other c h) (λ c h. has-union_other one other c h) within e;
+held : (few many : List Choice) → are_choices few many ≡ true → Holds few many
+held [] many within c h = absurd cc
+held (d ∷ few) many within c h =
+    let both = and-both (has_choice many d) (are_choices few many) within in
+    elim (or-cases (is_eq (order_of c d)) (has_choice few c) h) [
+      | inl q ↦ subst (λ (x : Choice). has_choice many x ≡ true) (sym (same-choices c d q)) both.0
+      | inr q ↦ held few many both.1 c q
+    ]
+
+-- a set grows to one that has all of both
+falls-set : (cs one other both : List Choice) → are_choices other cs ≡ true → are_choices one both ≡ true → are_choices other both ≡ true →
+    Falls (are_choices other one) (lacking cs both) (lacking cs one)
+falls-set cs one other both within has_one has_other = record {
+  no_more = lacking-less cs one both (held one both has_one);
+  fewer = λ e. set-fewer cs one both other (held one both has_one) (held other both has_other) within e;
 }
 
 -- UNDO
@@ -227,14 +245,15 @@ old-most old h =
     let marks = sure-most 26 old.marks in
     omega arith
 
-falls-old : (one other : Option Old) → OldIsZone one → OldIsZone other → Falls (old_covers one other) (old_room (old_of_both one other)) (old_room one)
-falls-old None None h k = record { no_more = omega arith; fewer = λ e. absurd cc }
-falls-old (Some one) None h k = record { no_more = omega arith; fewer = λ e. absurd cc }
-falls-old None (Some other) h k = let f = old-most other k in record { no_more = omega arith; fewer = λ e. f }
-falls-old (Some one) (Some other) h k =
+falls-old : (one other : Option Old) → OldIsZone one → OldIsZone other → CoversOld (old_of_both one other) one → CoversOld (old_of_both one other) other →
+    Falls (old_covers one other) (old_room (old_of_both one other)) (old_room one)
+falls-old None None h k c d = record { no_more = omega arith; fewer = λ e. absurd cc }
+falls-old (Some one) None h k c d = record { no_more = omega arith; fewer = λ e. absurd cc }
+falls-old None (Some other) h k c d = let f = old-most other k in record { no_more = omega arith; fewer = λ e. f }
+falls-old (Some one) (Some other) h k c d =
     falls-and (zone_covers one.zone other.zone) (are_among one.marks other.marks) (total_room (join_of one.zone other.zone)) (total_room one.zone)
     (sure_room 26 (both_sure one.marks other.marks)) (sure_room 26 one.marks)
-    (falls-zone one.zone other.zone (join_of one.zone other.zone) h (IsZone-join_of one.zone other.zone h k) (Covers-join_of one.zone other.zone) (Covers-join_of_other one.zone other.zone))
+    (falls-zone one.zone other.zone (join_of one.zone other.zone) h (IsZone-join_of one.zone other.zone h k) c.0 d.0)
     (falls-marks one.marks other.marks)
 
 -- A STATE, beside the patterns and the paths that may ever be remembered
@@ -247,34 +266,34 @@ state_room patterns names s =
 
 module _ (patterns names : List Choice) where
   falls-united : (one other : State) (zone : Bounds) → HasZones one → HasZones other → are_choices other.patterns patterns ≡ true → are_choices other.names names ≡ true →
-      IsZone zone → zones.Covers zone one.zone → zones.Covers zone other.zone → Falls (covers one other) (state_room patterns names (united one other zone)) (state_room patterns names one)
+      IsZone zone → Covers (united one other zone) one → Covers (united one other zone) other → Falls (covers one other) (state_room patterns names (united one other zone)) (state_room patterns names one)
   unfolding covers
-  falls-united one other zone h k p n z covers_one covers_other =
-      falls-and _ _ _ _ _ _ (falls-zone one.zone other.zone zone h.zone z covers_one covers_other) (
+  falls-united one other zone h k p n z c d =
+      falls-and _ _ _ _ _ _ (falls-zone one.zone other.zone zone h.zone z c.zone d.zone) (
       falls-and _ _ _ _ _ _ (falls-marks one.marks other.marks) (
-      falls-and _ _ _ _ _ _ (falls-set patterns one.patterns other.patterns p) (
+      falls-and _ _ _ _ _ _ (falls-set patterns one.patterns other.patterns (union one.patterns other.patterns) p c.patterns d.patterns) (
       falls-and _ _ _ _ _ _
       (falls-and _ _ _ _ _ _ (falls-flag one.replacements.none other.replacements.none)
       (falls-and _ _ _ _ _ _ (falls-flag one.replacements.plain other.replacements.plain) (falls-flag one.replacements.split other.replacements.split))) (
-      falls-and _ _ _ _ _ _ (falls-set names one.names other.names n) (
+      falls-and _ _ _ _ _ _ (falls-set names one.names other.names (union one.names other.names) n c.names d.names) (
       falls-and _ _ _ _ _ _ (falls-and _ _ _ _ _ _ (falls-flag one.changed.no other.changed.no) (falls-flag one.changed.yes other.changed.yes)) (
       falls-and _ _ _ _ _ _ (falls-flag one.undo.nothing other.undo.nothing) (
-      falls-and _ _ _ _ _ _ (falls-flag one.undo.same other.undo.same) (falls-old one.undo.was other.undo.was h.old k.old))))))))
+      falls-and _ _ _ _ _ _ (falls-flag one.undo.same other.undo.same) (falls-old one.undo.was other.undo.was h.old k.old c.was d.was))))))))
 
-  falls-join : (one other : State) → HasZones one → HasZones other → are_choices other.patterns patterns ≡ true → are_choices other.names names ≡ true →
+  falls-join : Laws → (one other : State) → HasZones one → HasZones other → are_choices other.patterns patterns ≡ true → are_choices other.names names ≡ true →
       Falls (covers one other) (state_room patterns names (join one other)) (state_room patterns names one)
   unfolding join
-  falls-join one other h k p n =
-      falls-united one other (join_of one.zone other.zone) h k p n (IsZone-join_of one.zone other.zone h.zone k.zone) (Covers-join_of one.zone other.zone) (Covers-join_of_other one.zone other.zone)
+  falls-join l one other h k p n =
+      falls-united one other (join_of one.zone other.zone) h k p n (IsZone-join_of one.zone other.zone h.zone k.zone) (l.join one other) (l.join_other one other)
 
-  falls-widen : (one other : State) → HasZones one → HasZones other → are_choices other.patterns patterns ≡ true → are_choices other.names names ≡ true →
+  falls-widen : Laws → (one other : State) → HasZones one → HasZones other → are_choices other.patterns patterns ≡ true → are_choices other.names names ≡ true →
       Falls (covers one other) (state_room patterns names (widen one other)) (state_room patterns names one)
   unfolding widen
-  falls-widen one other h k p n =
-      falls-united one other (widening_of one.zone other.zone) h k p n (IsZone-widening_of one.zone other.zone h.zone k.zone) (Covers-widening_of one.zone other.zone) (Covers-widening_of_other one.zone other.zone)
+  falls-widen l one other h k p n =
+      falls-united one other (widening_of one.zone other.zone) h k p n (IsZone-widening_of one.zone other.zone h.zone k.zone) (l.widen one other) (l.widen_other one other)
 
-  pub falls-next : (before : ℕ) (one other : State) → HasZones one → HasZones other → are_choices other.patterns patterns ≡ true → are_choices other.names names ≡ true →
+  pub falls-next : Laws → (before : ℕ) (one other : State) → HasZones one → HasZones other → are_choices other.patterns patterns ≡ true → are_choices other.names names ≡ true →
       Falls (covers one other) (state_room patterns names (next_invariant before one other)) (state_room patterns names one)
-  falls-next before one other h k p n =
+  falls-next l before one other h k p n =
       either (λ (u : State). Falls (covers one other) (state_room patterns names u) (state_room patterns names one)) (nat_lt before 2) (join one other) (widen one other)
-      (falls-join one other h k p n) (falls-widen one other h k p n)
+      (falls-join l one other h k p n) (falls-widen l one other h k p n)

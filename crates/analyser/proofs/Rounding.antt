@@ -26,7 +26,7 @@ use Rattle.analyser.proofs.Going.{at-place, counted-none}
 use Rattle.analyser.proofs.Results.{either}
 use Rattle.analyser.proofs.Sets.{append-all, are-front, are-back, are-same}
 use Rattle.analyser.proofs.Remembering.{command_patterns, verb_paths, Within, within-step, within-join, within-widen}
-use Rattle.analyser.proofs.Rooms.{state_room, falls-next}
+use Rattle.analyser.proofs.Rooms.{Laws, state_room, falls-next}
 
 -- ONE COMMAND
 
@@ -194,11 +194,11 @@ rounds-on list first invariant next counted more r g e =
 pub rounds-end : (list : List Command) (first invariant : State) (counted : ℕ) → Rounds list first counted invariant → ends list invariant ≡ true → IsSettled list first invariant
 rounds-end list first invariant counted r e = record { before = r.number; is = r.is; last = e; none_before = r.none_before }
 
-pub rounds-fall : (list : List Command) (first invariant next : State) (counted : ℕ) → HasZones invariant → HasZones (turned list invariant) → Rounds list first counted invariant → Goes list counted invariant next →
+pub rounds-fall : Laws → (list : List Command) (first invariant next : State) (counted : ℕ) → HasZones invariant → HasZones (turned list invariant) → Rounds list first counted invariant → Goes list counted invariant next →
     state_room (patterns_of list first) (names_of list first) next < state_room (patterns_of list first) (names_of list first) invariant
-rounds-fall list first invariant next counted h k r g =
+rounds-fall l list first invariant next counted h k r g =
     let within = known-turned list first invariant r.known in
-    let falls = falls-next (patterns_of list first) (names_of list first) counted invariant (turned list invariant) h k within.0 within.1 in
+    let falls = falls-next (patterns_of list first) (names_of list first) l counted invariant (turned list invariant) h k within.0 within.1 in
     subst (λ (u : State). state_room (patterns_of list first) (names_of list first) u < state_room (patterns_of list first) (names_of list first) invariant) (sym g.is) (falls.fewer g.uncovered)
 
 -- THE WALK OVER A LIST
@@ -283,11 +283,11 @@ zones-turned : (list : List Command) (invariant next : State) (counted : ℕ) (i
 zones-turned list invariant next counted inner (Some why) t round after h = absurd cc
 zones-turned list invariant next counted inner None t round after h = subst (λ (u : State). HasZones u) round.1 h
 
-pub rounds-smaller : (all list : List Command) (first invariant next entry : State) (counted : ℕ) (inner : List State) (failed : Option Fault) (t : State) (o : Option State) → all ≡ list → entry ≡ body_entry invariant →
+pub rounds-smaller : Laws → (all list : List Command) (first invariant next entry : State) (counted : ℕ) (inner : List State) (failed : Option Fault) (t : State) (o : Option State) → all ≡ list → entry ≡ body_entry invariant →
     IsRound all entry inner failed t → o ≡ invariant_after counted invariant failed t → o ≡ Some next → HasZones invariant → HasZones t → Rounds list first counted invariant →
     state_room (patterns_of list first) (names_of list first) next < state_room (patterns_of list first) (names_of list first) invariant
-rounds-smaller all list first invariant next entry counted inner failed t o same begins round after some h k r =
-    rounds-fall list first invariant next counted h
+rounds-smaller l all list first invariant next entry counted inner failed t o same begins round after some h k r =
+    rounds-fall l list first invariant next counted h
     (zones-turned list invariant next counted inner failed t (round-of all list invariant entry inner failed t same begins round) (sym after ∙ some) k) r
     (goes-by all list invariant next entry counted inner failed t o same begins round after some)
 

@@ -7,7 +7,7 @@ ghost use Rattle.analyser.specs.Walking.{IsRound, invariant_after, OldIsZone, Ha
 
 use cert_check::covering_is_decided;
 use ed_base::Fault;
-use ed_rules::{KeptState, Old, State, body_entry, outcome_into};
+use ed_rules::{KeptState, Old, State, body_entry, covering_states_is_an_order, outcome_into};
 use ed_syntax::Command;
 use std::alloc::{AllocError, Global};
 use zones::{Name, Zone};
@@ -108,6 +108,7 @@ pub(crate) fn settle(
 ) -> Result<Round, AllocError>
     ensures value { IfOk result (λ round. IsLastRound (step_value command.now).list known.old known.new round) }
 {
+    covering_states_is_an_order();
     let list = command.list();
     let mut left = known.try_copy()?;
     let mut before = 0;

@@ -1,5 +1,6 @@
 use Rattle.std.proofs.Common.{map}
 use Rattle.ed_syntax.specs.PublicTypes.{command_value, step_value}
+use Rattle.analyser.proofs.Rooms.{Laws}
 use Rattle.analyser.proofs.Rounding.{rounds-start, rounds-next, rounds-smaller, rounds-last}
 use Rattle.analyser.proofs.rounds.settle.Goals as goal
 
@@ -14,7 +15,13 @@ settling-preserved c =
 
 pub settling-smaller : goal.settling-smaller
 settling-smaller c =
-    rounds-smaller (map command_value c.list-list.result.now) (step_value c.args.command.now).list c.args.known.now c.settling.known c.in-Some.next c.in_ok-coming.coming c.settling.before
+    let laws : Laws = record {
+      join = c.covering_states_is_an_order.ensures.join;
+      join_other = c.covering_states_is_an_order.ensures.join_other;
+      widen = c.covering_states_is_an_order.ensures.widen;
+      widen_other = c.covering_states_is_an_order.ensures.widen_other;
+    } in
+    rounds-smaller laws (map command_value c.list-list.result.now) (step_value c.args.command.now).list c.args.known.now c.settling.known c.in-Some.next c.in_ok-coming.coming c.settling.before
     c.in_ok-round.round.inner.items c.in_ok-round.round.failed c.go_round.new.coming c.in_ok-invariant_after.field-0
     c.list-list.ensures.value c.in_ok-coming.ensures.exact c.in_ok-round.ensures.value c.in_ok-invariant_after.ensures.value c.in-Some.is c.zones_are_kept.ensures.kept c.zones_are_kept-in-settling.ensures.kept c.settling.invariant
 
