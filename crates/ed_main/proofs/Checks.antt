@@ -1,6 +1,7 @@
 -- What holds of a run that was checked, by the checker's soundness.
 use Rattle.std.proofs.Common.{◌≡◌, ◌≢◌, ◌<◌, ◌⊎◌, ◌∙◌, ℕ, zero, suc, ◌≤◌, length, List, [], ◌++◌, Option, Some, None, Result, Ok, Err, inl, inr, refl, ap, sym, subst, arith, append-nil, append_assoc}
-use Rattle.std.specs.Prelude.{IsFalse, IfSome, All}
+use Rattle.std.specs.Prelude.{IsFalse, IsTrue, IfSome, All}
+use Rattle.std.specs.List.{list_all}
 use Rattle.std.proofs.Math.Seq.{drop-length}
 use Rattle.std.proofs.lemmas.List.{drop-append-le}
 use Rattle.std.proofs.lemmas.List.Elements.{All-nil, All-cons, All-head, All-tail}
@@ -14,8 +15,9 @@ use Rattle.ed_syntax.specs.declared.request.Request.{Request}
 use Rattle.ed_syntax.specs.declared.request.Request.TheVariants as request
 use Rattle.ed_syntax.specs.Commands.{Script}
 use Rattle.ed_syntax.specs.meaning.Laws.{starts}
-use Rattle.ed_syntax.specs.meaning.Progress.{Progress, Stops, Writes, Hears, Waits, Ends, asked_of, stop_of, cut}
+use Rattle.ed_syntax.specs.meaning.Progress.{Progress, Stops, Writes, Hears, Waits, Ends, asked_of, stop_of, cut, CutsAfter}
 use Rattle.ed_syntax.specs.meaning.Runs.{run}
+use Rattle.ed_syntax.specs.meaning.Verbs.{is_step}
 use Rattle.ed_session.specs.Drives.{Log, answers, requests, added, EndsMissing}
 use Rattle.ed_session.specs.Sinks.{SinkChange, SinkState, Failed, change}
 use Rattle.cert_check.specs.Certificates.{Certificate}
@@ -29,10 +31,10 @@ use Rattle.ed_main.specs.Edit as edit
 use Rattle.ed_main.specs.Edit.{ComesTo}
 use Rattle.ed_main.specs.Run as checked
 use Rattle.ed_main.specs.Run.{CheckedRun, LiesOutside, StartsInside, reading, told_of}
-use Rattle.ed_main.specs.Headline as headline
-use Rattle.ed_main.specs.Headline.{EndsWell, Headline, MayFail}
+use Rattle.ed_main.specs.Headline.{EndsWell, Headline, MayFail, EndsAsCertified, AcceptedRunsEndWell}
 use Rattle.ed_main.specs.RunOver as parts
 use Rattle.ed_main.specs.RunOver.{RunsOver, lines_told}
+use Rattle.ed_main.proofs.Correctness.{comes_after}
 
 -- what a longer log has more
 pub added_is : (old new more : Log) → new ≡ old ++ more → added old new ≡ more
@@ -89,21 +91,25 @@ module _ (P : Request → Type 0) where
   asks_no_more whole asked sink result (edit.refused front more (inr r) some wrote risen is) all = subst (All P) (sym r.answered) (asked_of_cut r.steps r.bytes whole all)
 
 -- the ends that a sound run comes to
-abbrev Ended : Certificate → Result Ending Fault → Type 0
-Ended c (Ok ending) = IsWithin c.low c.high ending.lines
-Ended c (Err f) = (f ≡ Memory) ⊎ ((f ≡ File) ⊎ (f ≡ Output))
-
-stopped : (c : Certificate) (result : Result Ending Fault) → StopsWell c (Ends result) → Ended c result
+stopped : (c : Certificate) (result : Result Ending Fault) → StopsWell c (Ends result) → EndsAsCertified c result
 stopped c (Ok ending) well = well
 stopped c (Err f) well = inr (inl well)
 
-ends_well : (c : Certificate) (whole : Progress) (asked : List Request) (sink : SinkChange) (result : Result Ending Fault) → ComesTo whole asked sink result → StopsWell c (stop_of whole) → Ended c result
+ends_well : (c : Certificate) (whole : Progress) (asked : List Request) (sink : SinkChange) (result : Result Ending Fault) → ComesTo whole asked sink result → StopsWell c (stop_of whole) → EndsAsCertified c result
 ends_well c whole asked sink result (edit.ended stops is wrote) well = stopped c result (subst (StopsWell c) stops well)
-ends_well c whole asked sink result (edit.cut output r wrote is) well = subst (Ended c) (sym is) (inl refl)
-ends_well c whole asked sink result (edit.refused front more begun some wrote risen is) well = subst (Ended c) (sym is) (inr (inr refl))
+ends_well c whole asked sink result (edit.cut output r wrote is) well = subst (EndsAsCertified c) (sym is) (inl refl)
+ends_well c whole asked sink result (edit.refused front more begun some wrote risen is) well = subst (EndsAsCertified c) (sym is) (inr (inr refl))
+
+-- so does a session just made, when it is driven
+pub runs_end_well : CutsAfter → ((script : Script) (c : Certificate) → IsTrue (list_all is_step script.steps) → judged script c ≡ Accepted → CannotFail script c) → AcceptedRunsEndWell
+runs_end_well cuts safe script c o from log sink result steps accepted named is none within drove =
+    let whole : Progress = run script o (answers log) in
+    let well = safe script c steps accepted o (answers log) named (subst (λ p. IfSome (start_lines p (answers log)) (IsWithin c.min c.max)) named within) in
+    let comes : ComesTo whole (requests log) sink result = comes_after cuts from [] whole log sink result (sym (is (answers log))) none drove in
+    (ends_well c whole (requests log) sink result comes well.1, asks_no_more (MayAsk c) whole (requests log) sink result comes well.0)
 
 -- and what is told of them
-told_well : (c : Certificate) (may_fail : Fault → Type 0) (result : Result Ending Fault) → Ended c result → may_fail Memory → (result ≡ Err File → may_fail File) → (result ≡ Err Output → may_fail Output)
+told_well : (c : Certificate) (may_fail : Fault → Type 0) (result : Result Ending Fault) → EndsAsCertified c result → may_fail Memory → (result ≡ Err File → may_fail File) → (result ≡ Err Output → may_fail Output)
     → EndsWell c may_fail (told_of result)
 told_well c may_fail (Ok ending) well memory file output = well
 told_well c may_fail (Err f) (inl e) memory file output = subst may_fail (sym e) memory
@@ -111,7 +117,7 @@ told_well c may_fail (Err f) (inr (inl e)) memory file output = subst may_fail (
 told_well c may_fail (Err f) (inr (inr e)) memory file output = subst may_fail (sym e) (output (ap Err e))
 
 -- the answer to the start's read leaves what was asked later
-later_is : (path : Option (List ℕ)) (a : Answer) (later : Log) → headline.after_start path (reading path a ++ later) ≡ later
+later_is : (path : Option (List ℕ)) (a : Answer) (later : Log) → edit.after_start path (reading path a ++ later) ≡ later
 later_is None a later = refl
 later_is (Some path) a later = refl
 
@@ -145,10 +151,10 @@ module _ (script : Script) (c : Certificate) (o : Options) (start : Answer) (lat
       let read : reading o.path start ++ later ≡ reading o.path start = ap (λ l. reading o.path start ++ l) none ∙ append-nil (reading o.path start) in
       subst (λ l. All (MayAsk c) (requests l)) (sym read) (only_read c o.path start)
 
-  ended_well : CannotFail script c → RunsOver script o start later sink ended → Ended c ended
+  ended_well : CannotFail script c → RunsOver script o start later sink ended → EndsAsCertified c ended
   ended_well cannot (parts.driven comes) =
       ends_well c (run script o (answers (reading o.path start ++ later))) (requests (reading o.path start ++ later)) sink ended comes (sound cannot).1
-  ended_well cannot (parts.no_memory none unwritten is) = subst (Ended c) (sym is) (inl refl)
+  ended_well cannot (parts.no_memory none unwritten is) = subst (EndsAsCertified c) (sym is) (inl refl)
 
   module _ (files_before files_read files : ℕ) (rises : files_before ≤ files_read) (counted : start ≡ answer.Refused → files_before < files_read)
       (other : start ≢ answer.Done) (rises_on : files_read ≤ files) where

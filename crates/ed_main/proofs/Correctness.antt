@@ -1,7 +1,7 @@
 -- A session that was driven has done what the run of its script says.
-use Rattle.std.proofs.Common.{◌≡◌, ◌∙◌, ℕ, List, [], ◌++◌, Result, Err, inl, inr, refl, ap, sym, subst, append_assoc}
+use Rattle.std.proofs.Common.{◌≡◌, ◌∙◌, ℕ, List, [], ◌++◌, Option, Some, None, Result, Err, inl, inr, refl, ap, sym, subst, append_assoc}
 use Rattle.ed_base.specs.declared.fault.Fault.{Fault}
-use Rattle.ed_base.specs.declared.fault.Fault.TheVariants.{Memory, Output}
+use Rattle.ed_base.specs.declared.fault.Fault.TheVariants.{Memory, File, Output}
 use Rattle.ed_syntax.specs.declared.options.Ending.{Ending}
 use Rattle.ed_syntax.specs.declared.options.Options.{Options}
 use Rattle.ed_syntax.specs.declared.request.Answer.{Answer}
@@ -9,12 +9,14 @@ use Rattle.ed_syntax.specs.meaning.Progress.{Progress, Event, after, asked_of, o
 use Rattle.ed_syntax.specs.reading.Reading.{script_of}
 use Rattle.ed_syntax.specs.meaning.Runs.{run}
 use Rattle.ed_syntax.specs.spelling.Spellings.{SpellsWhatIsRead}
+use Rattle.ed_session.specs.declared.phase.Phase.{Phase}
+use Rattle.ed_session.specs.declared.phase.Phase.TheVariants as phases
 use Rattle.ed_session.specs.Calls.{written, heard}
-use Rattle.ed_session.specs.Drives.{Log, answers, requests, Drove, Finished, CutOff}
+use Rattle.ed_session.specs.Drives.{Log, answers, requests, Drove, EndsMissing, FileRefused, Finished, CutOff, of_commands}
 use Rattle.ed_session.specs.Sessions.{SessionValue, rest}
 use Rattle.ed_session.specs.Sinks.{SinkChange, SinkState, Took, Failed, change}
 use Rattle.ed_main.specs.Edit as edit
-use Rattle.ed_main.specs.Edit.{ComesTo, Correct, status_at}
+use Rattle.ed_main.specs.Edit.{ComesTo, Correct, FileIsLost, after_start, status_at}
 use Rattle.ed_main.proofs.Steps.{output_after, asked_after, stop_after, runs_out_after, some_more}
 
 -- A session was driven after some steps of the run, whose output was pending.
@@ -59,24 +61,38 @@ module _ (cuts : CutsAfter) (from : SessionValue) (events : List Event) (whole :
   comes_after (inr (inl x)) = let r = x.2 in edit.cut (written events ++ r.output) (cut_after r.output r.cut) (on r.output r.wrote) x.0
   comes_after (inr (inr x)) = cut_off x.1 x.2 x.0
 
+-- what a session just made is asked by commands is asked after its start
+asked_after_start : (path : Option (List ℕ)) (log : Log) → of_commands (phases.Fresh path) log ≡ after_start path log
+asked_after_start None log = refl
+asked_after_start (Some path) log = refl
+
+-- so a file was lost where its run ends by one
+lost_file : (path : Option (List ℕ)) (from : SessionValue) (log : Log) (before failed : ℕ) → from.phase ≡ phases.Fresh path → FileRefused from log before failed → FileIsLost path log before failed
+lost_file path from log before failed fresh (inl x) = inl x
+lost_file path from log before failed fresh (inr (inl x)) = inr (subst EndsMissing (ap (λ (at : Phase). of_commands at log) fresh ∙ asked_after_start path log) x)
+lost_file path from log before failed fresh (inr (inr over)) = absurd cc
+
 -- so it is correct
-pub driven_correct : SpellsWhatIsRead script_of → CutsAfter → (from : SessionValue) (bytes : List ℕ) (options : Options) (log : Log) (sink : SinkChange) (result : Result Ending Fault)
-    → ((given : List Answer) → rest from given ≡ run (script_of bytes) options given) → from.pending ≡ [] → Drove from log sink result
-    → Correct bytes options log sink (status_at result)
-driven_correct spells cuts from bytes options log sink result is none d = record {
+pub driven_correct : SpellsWhatIsRead script_of → CutsAfter → (from : SessionValue) (bytes : List ℕ) (options : Options) (log : Log) (before failed : ℕ) (sink : SinkChange) (result : Result Ending Fault)
+    → from.phase ≡ phases.Fresh options.path → (result ≡ Err File → FileRefused from log before failed) → ((given : List Answer) → rest from given ≡ run (script_of bytes) options given) → from.pending ≡ [] → Drove from log sink result
+    → Correct bytes options log before failed sink (status_at result)
+driven_correct spells cuts from bytes options log before failed sink result fresh refused is none d = record {
   script = script_of bytes;
   spelled = spells bytes;
   result = result;
   comes = inl (comes_after cuts from [] (run (script_of bytes) options (answers log)) log sink result (sym (is (answers log))) none d);
+  file_refused = λ e. lost_file options.path from log before failed fresh (refused e);
   status_is = refl;
 }
 
 -- there was no memory to begin
-pub unbegun_correct : SpellsWhatIsRead script_of → (bytes : List ℕ) (options : Options) (log : Log) (state : SinkState) (status : ℕ) → log ≡ [] → status ≡ status_at (Err Memory) → Correct bytes options log (change state state) status
-unbegun_correct spells bytes options log state status none is = record {
+pub unbegun_correct : SpellsWhatIsRead script_of → (bytes : List ℕ) (options : Options) (log : Log) (before failed : ℕ) (state : SinkState) (status : ℕ) → log ≡ [] → status ≡ status_at (Err Memory) →
+    Correct bytes options log before failed (change state state) status
+unbegun_correct spells bytes options log before failed state status none is = record {
   script = script_of bytes;
   spelled = spells bytes;
   result = Err Memory;
   comes = inr (rw none refl, refl, refl);
+  file_refused = λ e. absurd cc;
   status_is = is;
 }

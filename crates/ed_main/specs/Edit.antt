@@ -1,5 +1,5 @@
 -- What a run of the program means, from its script's bytes to its exit status (XCU ed, "Stdout", "Exit Status", "Consequences of Errors").
-use Rattle.std.specs.Prelude.{ℕ, ◌≡◌, ◌≢◌, ◌⊎◌, ◌++◌, List, [], Result, Ok, Err}
+use Rattle.std.specs.Prelude.{ℕ, ◌≡◌, ◌≢◌, ◌<◌, ◌⊎◌, ◌++◌, List, [], drop, Option, Some, None, Result, Ok, Err}
 use Rattle.ed_base.specs.Fault.{status_of}
 use Rattle.ed_base.specs.declared.fault.Fault.{Fault}
 use Rattle.ed_base.specs.declared.fault.Fault.TheVariants as fault
@@ -10,7 +10,7 @@ use Rattle.ed_syntax.specs.Commands.{Script}
 use Rattle.ed_syntax.specs.meaning.Progress.{Progress, Ends, asked_of, output_of, stop_of, RunsOut}
 use Rattle.ed_syntax.specs.meaning.Runs.{run}
 use Rattle.ed_syntax.specs.spelling.Spellings.{SpellsScript}
-use Rattle.ed_session.specs.Drives.{Log, answers, requests}
+use Rattle.ed_session.specs.Drives.{Log, answers, requests, EndsMissing}
 use Rattle.ed_session.specs.Sinks.{SinkChange, Took, TookNothing, Failed}
 
 -- the exit status of a run's end
@@ -31,10 +31,21 @@ pub data ComesTo (whole : Progress) (asked : List Request) (sink : SinkChange) (
 abbrev pub Unbegun : List Request → SinkChange → Result Ending Fault → Type 0
 Unbegun asked sink result = (asked ≡ []) × TookNothing sink × (result ≡ Err fault.Memory)
 
--- the run of the script that the bytes spell, with the answers of this log of requests, has come to an end with this status
-pub record Correct (bytes : List ℕ) (options : Options) (log : Log) (sink : SinkChange) (status : ℕ) : Type 0 where
+-- what was asked after the start
+abbrev pub after_start : Option (List ℕ) → Log → Log
+after_start None log = log
+after_start (Some path) log = drop 1 log
+
+-- where a file's fault comes from: a file was refused, as the start may be, or a command read one that isn't there
+abbrev pub FileIsLost : Option (List ℕ) → Log → (refusals_before refusals : ℕ) → Type 0
+FileIsLost path log refusals_before refusals = (refusals_before < refusals) ⊎ EndsMissing (after_start path log)
+
+-- The run of the script that the bytes spell, with the answers of this log of requests, has come to an end with this status. The counts are of
+-- the files that were refused before the run and by its end.
+pub record Correct (bytes : List ℕ) (options : Options) (log : Log) (refusals_before refusals : ℕ) (sink : SinkChange) (status : ℕ) : Type 0 where
   pub script : Script
   pub spelled : SpellsScript bytes script
   pub result : Result Ending Fault
   pub comes : ComesTo (run script options (answers log)) (requests log) sink result ⊎ Unbegun (requests log) sink result
+  pub file_refused : result ≡ Err fault.File → FileIsLost options.path log refusals_before refusals
   pub status_is : status ≡ status_at result

@@ -53,7 +53,7 @@ pub data WithCertificate (Used : List ℕ → ℕ → Type 0) (status : ℕ) : T
 
 -- what a job comes to, for a script of these bytes
 abbrev pub Does : List ℕ → Job → ℕ → Type 0
-Does script (job.Edit options) = Somehow (λ met. Correct script options met.log met.sink)
+Does script (job.Edit options) = Somehow (λ met. Correct script options met.log met.refusals_before met.refusals met.sink)
 Does script (job.Vouch start) = Somehow (λ met. Says (Vouches script start) met.sink)
 Does script (job.Check path) = WithCertificate (λ certificate. Somehow (λ met. Says (Checks script certificate) met.sink))
 Does script (job.Run path options) = WithCertificate (λ certificate. Somehow (RunsOn script certificate options))

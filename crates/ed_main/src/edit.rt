@@ -25,7 +25,7 @@ pub fn edit<O: Outside, W: Sink>(
     // What was asked is added to the log; all else is what the run of the script says.
     ensures log { O.log outside.new ≡ O.log outside.old ++ added (O.log outside.old) (O.log outside.new) }
     ensures correct { Correct script.now options (added (O.log outside.old) (O.log outside.new))
-        (change (W.state sink.old) (W.state sink.new)) result }
+        (O.failures outside.old) (O.failures outside.new) (change (W.state sink.old) (W.state sink.new)) result }
 
     ensures status { result ≤ 3 }
 {

@@ -4,6 +4,7 @@
 mod check;
 mod edit;
 mod job;
+mod laws;
 mod program;
 mod run;
 mod source;

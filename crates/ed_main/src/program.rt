@@ -160,7 +160,8 @@ fn edit_file<R>(rt: &R, script: &[u8], options: Options) -> u8
 where
     R: Files<File = File> + Print + Eprint + AllocGlobal,
     ensures status { result ≤ 4 }
-    ensures came { Somehow (λ met. Correct script.now options met.log met.sink) result }
+    ensures came { Somehow (λ met.
+        Correct script.now options met.log met.refusals_before met.refusals met.sink) result }
 {
     let mut files = files_of(rt, &options);
     let mut output = Out::new(io::writer(rt));

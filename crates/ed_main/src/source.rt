@@ -8,13 +8,16 @@ use ed_base::Bytes;
 use std::alloc::{AllocError, Global};
 use std::io;
 use std::marker::Model;
+use thiserror::Error;
 
 /// Why a source wasn't read.
-#[derive(Clone, Copy, Debug, PartialEq, Eq)]
+#[derive(Clone, Copy, Debug, PartialEq, Eq, Error)]
 pub enum ReadFault {
     /// It has more bytes than the limit, or a read failed.
+    #[error("not read, or too long")]
     Refused,
     /// An allocation was refused.
+    #[error("out of memory")]
     Memory,
 }
 

@@ -1,4 +1,4 @@
 use Rattle.ed_main.proofs.program.edit_file.Goals as goal
 
 pub returns-clause-came : goal.returns-clause-came
-returns-clause-came g c = (record { log = _; refusals_before = 0; refusals = 0; sink = _ }, c.edit-status.ensures.correct)
+returns-clause-came g c = (record { log = _; refusals_before = _; refusals = _; sink = _ }, c.edit-status.ensures.correct)
