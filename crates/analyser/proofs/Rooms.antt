@@ -33,10 +33,10 @@ use Rattle.analyser.proofs.Results.{either}
 
 -- the laws that this rests on: what is joined or widened covers both
 pub record Laws : Type 0 where
-  pub join : (one other : State) → Covers (join one other) one
-  pub join_other : (one other : State) → Covers (join one other) other
-  pub widen : (old new : State) → Covers (widen old new) old
-  pub widen_other : (old new : State) → Covers (widen old new) new
+  pub joined : (one other : State) → Covers (join one other) one
+  pub joined_other : (one other : State) → Covers (join one other) other
+  pub widened : (old new : State) → Covers (widen old new) old
+  pub widened_other : (old new : State) → Covers (widen old new) new
 
 -- a room doesn't grow, and it falls where the old part doesn't cover the other
 pub record Falls (covered : Bool) (new old : ℕ) : Type 0 where
@@ -284,13 +284,13 @@ module _ (patterns names : List Choice) where
       Falls (covers one other) (state_room patterns names (join one other)) (state_room patterns names one)
   unfolding join
   falls-join l one other h k p n =
-      falls-united one other (join_of one.zone other.zone) h k p n (IsZone-join_of one.zone other.zone h.zone k.zone) (l.join one other) (l.join_other one other)
+      falls-united one other (join_of one.zone other.zone) h k p n (IsZone-join_of one.zone other.zone h.zone k.zone) (l.joined one other) (l.joined_other one other)
 
   falls-widen : Laws → (one other : State) → HasZones one → HasZones other → are_choices other.patterns patterns ≡ true → are_choices other.names names ≡ true →
       Falls (covers one other) (state_room patterns names (widen one other)) (state_room patterns names one)
   unfolding widen
   falls-widen l one other h k p n =
-      falls-united one other (widening_of one.zone other.zone) h k p n (IsZone-widening_of one.zone other.zone h.zone k.zone) (l.widen one other) (l.widen_other one other)
+      falls-united one other (widening_of one.zone other.zone) h k p n (IsZone-widening_of one.zone other.zone h.zone k.zone) (l.widened one other) (l.widened_other one other)
 
   pub falls-next : Laws → (before : ℕ) (one other : State) → HasZones one → HasZones other → are_choices other.patterns patterns ≡ true → are_choices other.names names ≡ true →
       Falls (covers one other) (state_room patterns names (next_invariant before one other)) (state_room patterns names one)

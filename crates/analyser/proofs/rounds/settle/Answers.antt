@@ -16,10 +16,10 @@ settling-preserved c =
 pub settling-smaller : goal.settling-smaller
 settling-smaller c =
     let laws : Laws = record {
-      join = c.covering_states_is_an_order.ensures.join;
-      join_other = c.covering_states_is_an_order.ensures.join_other;
-      widen = c.covering_states_is_an_order.ensures.widen;
-      widen_other = c.covering_states_is_an_order.ensures.widen_other;
+      joined = c.covering_states_is_an_order.ensures.join;
+      joined_other = c.covering_states_is_an_order.ensures.join_other;
+      widened = c.covering_states_is_an_order.ensures.widen;
+      widened_other = c.covering_states_is_an_order.ensures.widen_other;
     } in
     rounds-smaller laws (map command_value c.list-list.result.now) (step_value c.args.command.now).list c.args.known.now c.settling.known c.in-Some.next c.in_ok-coming.coming c.settling.before
     c.in_ok-round.round.inner.items c.in_ok-round.round.failed c.go_round.new.coming c.in_ok-invariant_after.field-0
