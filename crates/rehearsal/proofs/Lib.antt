@@ -1,0 +1,4 @@
+pub mod Reading
+pub mod Appending
+pub mod Holding
+pub mod Calls
