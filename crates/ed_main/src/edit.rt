@@ -4,6 +4,7 @@ ghost use Rattle.ed_session.specs.Drives.{added};
 ghost use Rattle.ed_session.specs.Sinks.{change};
 ghost use Rattle.ed_main.specs.Edit.{Correct, status_at};
 
+use crate::stderr::aside::Aside;
 use ed_base::Fault;
 use ed_session::{Outside, Session, Sink, drive};
 use ed_syntax::{
@@ -12,13 +13,14 @@ use ed_syntax::{
 use line_store::ChunkStore;
 use std::alloc::Global;
 
-/// Runs the script that these bytes spell, and gives its exit status.
+/// Runs the script that these bytes spell, and gives its exit status. Where the script is at fault, a person is told where.
 pub fn edit<O: Outside, W: Sink>(
     alloc: Global,
     script: &[u8],
     options: Options,
     outside: &mut O,
     sink: &mut W,
+    aside: &mut Aside<'_>,
 ) -> u8
     requires count { (W.state sink.old).failures < 2 ^ 64 - 1 }
 
@@ -34,8 +36,13 @@ pub fn edit<O: Outside, W: Sink>(
     let Ok(script) = read_script(alloc, script) else {
         return Fault::Memory.status();
     };
+    let commands = script.commands.len();
     match Session::<ChunkStore>::new(alloc, script, options) {
-        Ok(mut session) => status_of_end(drive(&mut session, outside, sink)),
+        Ok(mut session) => {
+            let end = drive(&mut session, outside, sink);
+            aside.ended(commands, &session, &end);
+            status_of_end(end)
+        }
         Err(_) => Fault::Memory.status(),
     }
 }

@@ -13,7 +13,8 @@ use crate::edit::edit;
 use crate::job::Job;
 use crate::run::run;
 use crate::source::{In, ReadFault, read_all};
-use crate::stderr::refusals::{Watched, Wrong, show_file, show_input, show_output};
+use crate::stderr::aside::Aside;
+use crate::stderr::refusals::{Watched, show_input, show_output, show_unread};
 use crate::stderr::usage::USAGE;
 use crate::vouch::vouch_text;
 use crate::words::{WordsFault, read_words};
@@ -40,10 +41,13 @@ where
     ensures ending { IsEnding result }
 {
     match job_of_run(rt) {
-        Ok(job) => match read_all(rt.alloc(), &mut In::new(rt.reader()), LIMIT) {
-            Ok(script) => do_job(rt, script.as_slice(), job),
-            Err(fault) => refuse_script(rt, fault),
-        },
+        Ok(job) => {
+            let mut input = In::new(rt.reader());
+            match read_all(rt.alloc(), &mut input, LIMIT) {
+                Ok(script) => do_job(rt, script.as_slice(), job),
+                Err(fault) => refuse_script(rt, fault, input.reason()),
+            }
+        }
         Err(fault) => refuse(rt, &fault),
     }
 }
@@ -81,13 +85,15 @@ fn job_of_run<R: Env + AllocGlobal>(rt: &R) -> Result<Job, WordsFault>
     read_words(rt.alloc(), texts.as_slice())
 }
 
-// Shows that standard input wasn't read.
-fn refuse_script(rt: &impl Eprint, fault: ReadFault) -> u8
+// Shows that standard input wasn't read, and why.
+fn refuse_script<R>(rt: &R, fault: ReadFault, reason: Option<io::Error>) -> u8
+where
+    R: Eprint + AllocGlobal,
     ensures status { result ≤ 4 }
     ensures value { result ≡ status_of_unread fault }
 {
     if fault == ReadFault::Refused {
-        show_input(rt);
+        show_input(rt.alloc(), rt, reason);
     }
     status_of_read(fault)
 }
@@ -115,14 +121,14 @@ where
         Job::Edit(options) => edit_file(rt, script, options),
         Job::Vouch(start) => vouch_file(rt, script, start),
         Job::Check(path) => match certificate_at(rt, &path) {
-            Ok(certificate) => check_file(rt, script, certificate.as_slice()),
+            Ok(certificate) => check_file(rt, script, &path, certificate.as_slice()),
             Err(fault) => status_of_read(fault),
         },
         Job::Run {
-            certificate,
+            certificate: path,
             options,
-        } => match certificate_at(rt, &certificate) {
-            Ok(certificate) => run_file(rt, script, certificate.as_slice(), options),
+        } => match certificate_at(rt, &path) {
+            Ok(certificate) => run_file(rt, script, &path, certificate.as_slice(), options),
             Err(fault) => status_of_read(fault),
         },
     }
@@ -134,24 +140,26 @@ where
     R: Files<File = File> + Eprint + AllocGlobal,
 {
     let path = path.as_slice();
-    let wrong = match file_at(rt, path) {
-        Ok(file) => match read_all(rt.alloc(), &mut In::new(file), LIMIT) {
-            Err(ReadFault::Refused) => Wrong::Unread,
-            read => return read,
-        },
-        Err(io::ErrorKind::OutOfMemory) => return Err(ReadFault::Memory),
-        Err(io::ErrorKind::NotFound) => Wrong::Missing,
-        Err(_) => Wrong::Unread,
+    let reason = match file_at(rt, path) {
+        Ok(file) => {
+            let mut input = In::new(file);
+            match read_all(rt.alloc(), &mut input, LIMIT) {
+                Err(ReadFault::Refused) => input.reason(),
+                read => return read,
+            }
+        }
+        Err(error) if error.kind() == io::ErrorKind::OutOfMemory => return Err(ReadFault::Memory),
+        Err(error) => Some(error),
     };
-    show_file(rt, path, wrong);
+    show_unread(rt.alloc(), rt, path, reason);
     Err(ReadFault::Refused)
 }
 
 // The file at this path, or why there is none.
-fn file_at<R: Files<File = File>>(rt: &R, path: &[u8]) -> Result<File, io::ErrorKind> {
+fn file_at<R: Files<File = File>>(rt: &R, path: &[u8]) -> Result<File, io::Error> {
     match str::from_utf8(path) {
-        Ok(path) => File::open(rt, path).map_err(|error| error.kind()),
-        Err(_) => Err(io::ErrorKind::InvalidInput),
+        Ok(path) => File::open(rt, path),
+        Err(_) => Err(io::Error::new(io::ErrorKind::InvalidInput, "a name that isn't UTF-8")),
     }
 }
 
@@ -165,8 +173,17 @@ where
 {
     let mut files = files_of(rt, &options);
     let mut output = Out::new(io::writer(rt));
-    let status = edit(rt.alloc(), script, options, &mut files, &mut output);
+    let mut aside = Aside::new(rt.alloc(), script, b"");
+    let status = edit(
+        rt.alloc(),
+        script,
+        options,
+        &mut files,
+        &mut output,
+        &mut aside,
+    );
     files.show_refusal(rt, status);
+    aside.show(rt, status);
     status
 }
 
@@ -193,21 +210,23 @@ where
     status
 }
 
-// Tells the standard output the verdict on a certificate for the script's bytes.
-fn check_file<R>(rt: &R, script: &[u8], certificate: &[u8]) -> u8
+// Tells the standard output the verdict on a certificate for the script's bytes. The path is that of the certificate's file.
+fn check_file<R>(rt: &R, script: &[u8], path: &Bytes, certificate: &[u8]) -> u8
 where
     R: Print + Eprint + AllocGlobal,
     ensures status { result ≤ 4 }
     ensures came { Somehow (λ met. Says (Checks script.now certificate.now) met.sink) result }
 {
     let mut output = Out::new(io::writer(rt));
-    let status = check_text(rt.alloc(), script, certificate, &mut output);
+    let mut aside = Aside::new(rt.alloc(), script, path.as_slice());
+    let status = check_text(rt.alloc(), script, certificate, &mut output, &mut aside);
     show_output(rt, status);
+    aside.show(rt, status);
     status
 }
 
 // Runs the script's bytes as `edit_file`, where the certificate allows it.
-fn run_file<R>(rt: &R, script: &[u8], certificate: &[u8], options: Options) -> u8
+fn run_file<R>(rt: &R, script: &[u8], path: &Bytes, certificate: &[u8], options: Options) -> u8
 where
     R: Files<File = File> + Print + Eprint + AllocGlobal,
     ensures status { result ≤ 4 }
@@ -215,6 +234,7 @@ where
 {
     let mut files = files_of(rt, &options);
     let mut output = Out::new(io::writer(rt));
+    let mut aside = Aside::new(rt.alloc(), script, path.as_slice());
     let status = run(
         rt.alloc(),
         script,
@@ -222,7 +242,9 @@ where
         options,
         &mut files,
         &mut output,
+        &mut aside,
     );
     files.show_refusal(rt, status);
+    aside.show(rt, status);
     status
 }

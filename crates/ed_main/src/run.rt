@@ -10,6 +10,7 @@ ghost use Rattle.ed_main.specs.Headline.{Headline, MayFail};
 ghost use Rattle.ed_main.specs.Run.{CheckedRun, LiesOutside, Runs, reading, told_of};
 ghost use Rattle.ed_main.specs.RunOver.{RunsOver, lines_told};
 
+use crate::stderr::aside::Aside;
 use crate::told::{outside_told, tell, unread_told, verdict_told};
 use cert_check::{Certificate, Place, Verdict, check};
 use ed_base::{Bytes, Fault, count_lines};
@@ -23,7 +24,7 @@ use line_store::{ChunkStore, LineStore};
 use std::alloc::{AllocError, Global};
 
 /// Runs the script that these bytes spell where its certificate, whose text the others are, allows it, and gives the exit status.
-/// What keeps it from being run is told to the sink.
+/// What keeps it from being run is told to the sink, and to a person in more words, as is where it stopped by a fault.
 pub fn run<O: Outside, W: Sink>(
     alloc: Global,
     script: &[u8],
@@ -31,6 +32,7 @@ pub fn run<O: Outside, W: Sink>(
     options: Options,
     outside: &mut O,
     sink: &mut W,
+    aside: &mut Aside<'_>,
 ) -> u8
     requires count { (W.state sink.old).failures < 2 ^ 64 - 1 }
     ensures log { O.log outside.new ≡ O.log outside.old ++ added (O.log outside.old) (O.log outside.new) }
@@ -43,12 +45,23 @@ pub fn run<O: Outside, W: Sink>(
     scripts_are_read_as_spelled();
     let certificate = match Certificate::read(alloc, certificate) {
         Ok(certificate) => certificate,
-        Err(fault) => return tell(unread_told(alloc, fault), sink),
+        Err(fault) => {
+            aside.unread(certificate, fault);
+            return tell(unread_told(alloc, fault), sink);
+        }
     };
     let Ok(script) = read_script(alloc, script) else {
         return Fault::Memory.status();
     };
-    match run_checked::<ChunkStore, O, W>(alloc, script, &certificate, options, outside, sink) {
+    match run_checked::<ChunkStore, O, W>(
+        alloc,
+        script,
+        &certificate,
+        options,
+        outside,
+        sink,
+        aside,
+    ) {
         Ok(Ran::Refused(place)) => tell(verdict_told(alloc, Verdict::Refused(place)), sink),
         Ok(Ran::StartOutside) => tell(outside_told(alloc), sink),
         Ok(Ran::Done(_)) => 0,
@@ -72,7 +85,7 @@ pub enum Ran {
 ///
 /// The file is read once, and the run edits the bytes that were read; with no path nothing is read, and the buffer is empty. A
 /// missing file has no lines. One that is refused goes on to the run, which ends by `Fault::File`. Nothing is written before
-/// the run. `Fault::Memory` may come at any point.
+/// the run. `Fault::Memory` may come at any point. A person is told why it isn't run, or where it stopped.
 pub fn run_checked<S: LineStore, O: Outside, W: Sink>(
     alloc: Global,
     script: Script,
@@ -80,6 +93,7 @@ pub fn run_checked<S: LineStore, O: Outside, W: Sink>(
     options: Options,
     outside: &mut O,
     sink: &mut W,
+    aside: &mut Aside<'_>,
 ) -> Result<Ran, Fault>
     requires count { (W.state sink.old).failures < 2 ^ 64 - 1 }
 
@@ -96,16 +110,19 @@ pub fn run_checked<S: LineStore, O: Outside, W: Sink>(
         (MayFail options.path log (O.failures outside.old) (O.failures outside.new) (change (W.state sink.old) (W.state sink.new))) result }
 {
     if let Verdict::Refused(place) = check(&script, certificate)? {
+        aside.verdict(certificate, &Verdict::Refused(place));
         return Ok(Ran::Refused(place));
     }
     if !is_path(&options.path, &certificate.path) {
+        aside.other_path(certificate, &options.path);
         return Ok(Ran::StartOutside);
     }
     let start = read_start(&options.path, outside)?;
     if lies_outside(certificate, &start) {
+        aside.other_size(certificate, &options.path, &start);
         return Ok(Ran::StartOutside);
     }
-    outcome(run_over::<S, O, W>(alloc, script, options, start, outside, sink))
+    outcome(run_over::<S, O, W>(alloc, script, options, start, outside, sink, aside))
 }
 
 fn is_path(path: &Option<Bytes>, wanted: &Option<Bytes>) -> bool
@@ -160,6 +177,7 @@ fn run_over<S: LineStore, O: Outside, W: Sink>(
     start: Answer,
     outside: &mut O,
     sink: &mut W,
+    aside: &mut Aside<'_>,
 ) -> Result<Ending, Fault>
     requires count { (W.state sink.old).failures < 2 ^ 64 - 1 }
     ensures log { O.log outside.new ≡ O.log outside.old ++ added (O.log outside.old) (O.log outside.new) }
@@ -172,9 +190,12 @@ fn run_over<S: LineStore, O: Outside, W: Sink>(
 {
     cut_runs_write_a_front();
     runs_end_for_a_cause();
+    let commands = script.commands.len();
     let mut session = Session::<S>::new(alloc, script, options)?;
     session.start(start);
-    drive(&mut session, outside, sink)
+    let end = drive(&mut session, outside, sink);
+    aside.ended(commands, &session, &end);
+    end
 }
 
 fn outcome(ended: Result<Ending, Fault>) -> Result<Ran, Fault>

@@ -61,6 +61,7 @@ pub struct In<R: io::Read + Drop> {
     reader: R,
     reads: u64,
     failures: u64,
+    reason: Option<io::Error>,
 }
 
 impl<R: io::Read + Drop> Model for In<R> {
@@ -84,7 +85,13 @@ impl<R: io::Read + Drop> In<R> {
             reader,
             reads: 0,
             failures: 0,
+            reason: None,
         }
+    }
+
+    /// Why the read failed that failed last.
+    pub fn reason(&self) -> Option<io::Error> {
+        self.reason
     }
 }
 
@@ -99,8 +106,9 @@ impl<R: io::Read + Drop> Source for In<R> {
         self.reads = self.reads.saturating_add(1);
         match self.reader.read(room) {
             Ok(n) => Ok(n),
-            Err(_) => {
+            Err(reason) => {
                 self.failures += 1;
+                self.reason = Some(reason);
                 Err(SourceFault)
             }
         }

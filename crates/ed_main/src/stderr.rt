@@ -1,5 +1,7 @@
 //! What is shown on standard error, for a person to read. No clause speaks of these lines.
+pub mod aside;
 mod command_line;
-pub mod known;
+mod file_name;
+pub mod hinted;
 pub mod refusals;
 pub mod usage;

@@ -6,16 +6,17 @@ ghost use Rattle.ed_session.specs.Sinks.{change};
 ghost use Rattle.ed_main.specs.Told.{Says};
 ghost use Rattle.ed_main.specs.Vouch.{IsAnswerFor, IsToldOf, Vouches};
 
-use crate::stderr::known::show_known;
+use crate::stderr::hinted::show_hinted;
 use crate::told::{Told, cannot_told, tell};
 use analyser::{Analysis, Start, analyse};
 use ed_base::Fault;
 use ed_session::Sink;
 use ed_syntax::{read_script, scripts_are_read_as_spelled};
+use hints::copy_of;
 use std::alloc::{AllocError, Global};
 
 /// Tells a sink the certificate of the script that these bytes spell, for starts of these bounds, or the need that fails, and gives
-/// the exit status. What is known where it fails is shown to a person.
+/// the exit status. A person is shown where it fails, what is known there, and what to write.
 pub fn vouch_text<W: Sink>(
     alloc: Global,
     rt: &impl Eprint,
@@ -30,11 +31,14 @@ pub fn vouch_text<W: Sink>(
     ensures says { Says (Vouches script.now start) (change (W.state sink.old) (W.state sink.new)) result }
     ensures status { result ≤ 4 }
 {
+    let Ok(kept) = copy_of(&start) else {
+        return Fault::Memory.status();
+    };
     match answer(alloc, script, start) {
         Ok(analysis) => {
             let status = tell(told_of(alloc, &analysis), sink);
             if status == 1 {
-                show_known(alloc, rt, script, &analysis);
+                show_hinted(alloc, rt, script, &kept, &analysis);
             }
             status
         }

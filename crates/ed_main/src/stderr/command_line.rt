@@ -3,16 +3,27 @@
 use ed_syntax::first_lines;
 use std::alloc::{AllocError, Global};
 
-/// The line that a command begins on, without its newline and between backquotes; commands count from 1. None where the script has
-/// no such command. Bytes that would end the line, or aren't text, are escaped.
+/// A line of a script on which a command begins.
+#[derive(Drop)]
+pub struct CommandLine {
+    /// Its number, counted from 1.
+    pub number: usize,
+    /// The line without its newline, between backquotes. Bytes that would end the line, or aren't text, are escaped.
+    pub text: String,
+}
+
+/// The line that a command begins on; commands count from 1. None where the script has no such command.
 pub fn line_of_command(
     alloc: Global,
     script: &[u8],
     number: usize,
-) -> Result<Option<String>, AllocError> {
+) -> Result<Option<CommandLine>, AllocError> {
     let numbers = first_lines(alloc, script)?;
     match numbers.get(number.wrapping_sub(1)) {
-        Some(line) => Ok(Some(quoted(alloc, line_at(script, *line))?)),
+        Some(line) => Ok(Some(CommandLine {
+            number: *line,
+            text: quoted(alloc, line_at(script, *line))?,
+        })),
         None => Ok(None),
     }
 }

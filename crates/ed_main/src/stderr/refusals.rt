@@ -1,11 +1,12 @@
 //! What was refused outside, as a person reads it: a file, standard input, standard output. No clause speaks of these lines.
 ghost use Rattle.std.specs.Prelude.{◌≡◌};
 
+use crate::stderr::file_name::quoted_name;
 use ed_base::{Bytes, Fault, Pieces};
 use ed_session::Outside;
 use ed_syntax::Answer;
 use std::alloc::{AllocError, Global};
-use std::mem;
+use std::{io, mem};
 
 /// What is wrong with a file that was asked for.
 #[derive(Clone, Copy, Debug, PartialEq, Eq)]
@@ -111,8 +112,8 @@ impl<O: Outside + Drop> Outside for Watched<O> {
     }
 }
 
-/// Shows in one line what is wrong with the file at a path. Bytes that would end the line, or aren't text, are escaped.
-pub fn show_file(rt: &impl Eprint, path: &[u8], wrong: Wrong) {
+// Shows in one line what is wrong with the file at a path. Bytes that would end the line, or aren't text, are escaped.
+fn show_file(rt: &impl Eprint, path: &[u8], wrong: Wrong) {
     let wrong = wrong.text();
     let _ = match str::from_utf8(path) {
         Ok(text) => eprintln!(rt; "error: {text:?}: {wrong}"),
@@ -120,9 +121,44 @@ pub fn show_file(rt: &impl Eprint, path: &[u8], wrong: Wrong) {
     };
 }
 
-/// Shows in one line that standard input wasn't read.
-pub fn show_input(rt: &impl Eprint) {
-    let _ = eprintln!(rt; "error: standard input: can't be read");
+/// Shows in one line that the file at a path isn't there or wasn't read, with the system's reason where there is one.
+pub fn show_unread(alloc: Global, rt: &impl Eprint, path: &[u8], reason: Option<io::Error>) {
+    if let Some(error) = reason {
+        if error.kind() == io::ErrorKind::NotFound {
+            show_file(rt, path, Wrong::Missing);
+            return;
+        }
+    }
+    if let Ok(name) = quoted_name(alloc, path) {
+        let reason = reason_text(alloc, reason).unwrap_or(String::new(alloc));
+        let _ = eprintln!(rt; "error: {name}: can't be read{reason}");
+    }
+}
+
+/// Shows in one line that standard input wasn't read, with the system's reason where there is one.
+pub fn show_input(alloc: Global, rt: &impl Eprint, reason: Option<io::Error>) {
+    let reason = reason_text(alloc, reason).unwrap_or(String::new(alloc));
+    let _ = eprintln!(rt; "error: standard input: can't be read{reason}");
+}
+
+// The system's words for an error after a colon, without its number.
+fn reason_text(alloc: Global, reason: Option<io::Error>) -> Result<String, AllocError> {
+    match reason {
+        Some(error) => {
+            let text = format!(in alloc; "{error}")?;
+            let words = without_number(text.as_str());
+            Ok(format!(in alloc; ": {words}")?)
+        }
+        None => Ok(String::new(alloc)),
+    }
+}
+
+// A text of the system without the number of the error in brackets.
+fn without_number(text: &str) -> &str {
+    match text.split_once(" (os error ") {
+        Some((words, _)) => words,
+        None => text,
+    }
 }
 
 /// Shows in one line that standard output was refused, if what was to be told ended with the status of that.

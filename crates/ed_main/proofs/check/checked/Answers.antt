@@ -8,10 +8,10 @@ use Rattle.ed_main.specs.Check as meaning
 use Rattle.ed_main.specs.Told.{verdict_told}
 use Rattle.ed_main.proofs.check.checked.Goals as goal
 
-pub returns-in_ok-check-in-Ok : goal.returns-in_ok-check-in-Ok
-returns-in_ok-check-in-Ok c =
+pub returns-in_ok-verdict-in-Ok : goal.returns-in_ok-verdict-in-Ok
+returns-in_ok-verdict-in-Ok c =
     let read = certificate_value c.in-Ok.certificate in
-    let verdict = c.in_ok-check-in-Ok.ensures.exact ∙ ap (λ s. judged s read) c.in_ok-script-in-Ok.ensures.value in
+    let verdict = c.in_ok-verdict-in-Ok.ensures.exact ∙ ap (λ s. judged s read) c.in_ok-script-in-Ok.ensures.value in
     record {
       value = IfOk-weaker c.verdict_told.result _ _ (λ told is.
           meaning.verdict (script_of c.args.script.now) read (c.scripts_are_read_as_spelled.ensures.spelled c.args.script.now)

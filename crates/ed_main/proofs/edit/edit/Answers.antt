@@ -11,7 +11,7 @@ returns-in-Ok-new-clause-correct g c =
     let s = c.in-Ok-new.ensures in
     rw c.status_of_end.ensures.value
     (driven_correct c.scripts_are_read_as_spelled.ensures.spelled c.cut_runs_write_a_front.ensures.after _ c.args.script.now c.args.options _ _ _ _ _
-    (ap (λ (v : SessionValue). v.phase) s.value) c.drive.ensures.file_refused (λ given. s.rest given ∙ ap (λ read. run read c.args.options given) c.in-Ok.ensures.value) (ap (λ (v : SessionValue). v.pending) s.value) c.drive.ensures.run)
+    (ap (λ (v : SessionValue). v.phase) s.value) c.drive-end.ensures.file_refused (λ given. s.rest given ∙ ap (λ read. run read c.args.options given) c.in-Ok.ensures.value) (ap (λ (v : SessionValue). v.pending) s.value) c.drive-end.ensures.run)
 
 pub returns-in-Err-clause-correct : goal.returns-in-Err-clause-correct
 returns-in-Err-clause-correct g c =

@@ -1,0 +1,48 @@
+//! The name of a file, as a person reads it.
+
+use ed_base::Bytes;
+use std::alloc::{AllocError, Global};
+
+/// The name between double quotes. Bytes that would end the line, or aren't text, are escaped.
+pub fn quoted_name(alloc: Global, path: &[u8]) -> Result<String, AllocError> {
+    match str::from_utf8(path) {
+        Ok(text) => Ok(format!(in alloc; "{text:?}")?),
+        Err(_) => Ok(format!(in alloc; "\"{}\"", path.escape_ascii())?),
+    }
+}
+
+/// The name of the file that a run starts with, where it has one.
+pub fn start_name(alloc: Global, path: &Option<Bytes>) -> Result<String, AllocError> {
+    match path {
+        Some(path) => quoted_name(alloc, path.as_slice()),
+        None => String::from_str(alloc, "a run without a file"),
+    }
+}
+
+/// The name as it stands in a command of the shell, after two hyphens where it begins with one.
+pub fn shell_word(alloc: Global, path: &[u8]) -> Result<String, AllocError> {
+    let word = quoted_word(alloc, path)?;
+    if path.starts_with(b"-") {
+        let word = word.as_str();
+        return Ok(format!(in alloc; "-- {word}")?);
+    }
+    Ok(word)
+}
+
+fn quoted_word(alloc: Global, path: &[u8]) -> Result<String, AllocError> {
+    match str::from_utf8(path) {
+        Ok(text) if path.iter().all(is_plain) => String::from_str(alloc, text),
+        Ok(text) if !text.chars().any(is_strange) => Ok(format!(in alloc; "'{text}'")?),
+        _ => quoted_name(alloc, path),
+    }
+}
+
+// Whether the shell leaves a byte as it is, wherever it stands in a word.
+fn is_plain(byte: &u8) -> bool {
+    matches!(byte, b'a'..=b'z' | b'A'..=b'Z' | b'0'..=b'9' | b'_' | b'-' | b'.' | b'/' | b',' | b':' | b'+' | b'@')
+}
+
+// Whether a character may not stand between single quotes in one line.
+fn is_strange(character: char) -> bool {
+    character == '\'' || character.is_control()
+}
