@@ -3,7 +3,7 @@ _ed_main() {
   local word=${COMP_WORDS[COMP_CWORD]} before=${COMP_WORDS[COMP_CWORD - 1]} job=${COMP_WORDS[1]:-}
   COMPREPLY=()
   if [ "$COMP_CWORD" -eq 1 ]; then
-    mapfile -t COMPREPLY < <(compgen -W "edit vouch check run --help --version" -- "$word")
+    mapfile -t COMPREPLY < <(compgen -W "edit vouch check run fits --help --version" -- "$word")
     return
   fi
   case $before in
@@ -18,10 +18,11 @@ _ed_main() {
   -*)
     local words=
     case $job in
-    edit) words="-s -p --help" ;;
+    edit) words="-n -s -p --help" ;;
     vouch) words="--min --max --help" ;;
     check) words="--help" ;;
-    run) words="-s --help" ;;
+    run) words="-n -s --help" ;;
+    fits) words="--help" ;;
     esac
     mapfile -t COMPREPLY < <(compgen -W "$words" -- "$word")
     ;;

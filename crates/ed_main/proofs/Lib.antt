@@ -1,6 +1,8 @@
 mod Checks
 mod Correctness
+mod Fitting
 mod Joining
+mod Rehearsing
 mod Sayings
 mod Steps
 mod SubcommandLemmas

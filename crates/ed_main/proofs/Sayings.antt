@@ -42,7 +42,7 @@ pub says_of : (P : Told → Type 0) (made : Result Told AllocError) (sink : Sink
 says_of P made sink status is says = says_more (λ one. made ≡ Ok one) P sink status (λ t e. subst (λ r. IfOk r P) e is) says
 
 -- where only one thing may have been made, that was told, or there was no memory for it
-tells_only : (told : Told) (made : Result Told AllocError) (sink : SinkChange) (status : ℕ) → told.output ≢ [] → IfOk made (λ t. t ≡ told)
+pub tells_only : (told : Told) (made : Result Told AllocError) (sink : SinkChange) (status : ℕ) → told.output ≢ [] → IfOk made (λ t. t ≡ told)
     → Says (λ one. made ≡ Ok one) sink status → Tells told sink status
 tells_only told made sink status some is (telling.tells t p x) = subst (λ o. Tells o sink status) (subst (λ r. IfOk r (λ o. o ≡ told)) p is) x
 tells_only told made sink status some is (telling.nothing same ends) = telling.untold some same ends

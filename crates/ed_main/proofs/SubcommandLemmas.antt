@@ -41,3 +41,17 @@ three_rules a b c r s t e f g = rw (e, f, g) refl
 
 pub three_local : (a b c : Arg) → IsLocal a → IsLocal b → IsLocal c → All IsLocal (a ∷ b ∷ c ∷ [])
 three_local a b c e f g = All-cons IsLocal a (b ∷ c ∷ []) e (All-cons IsLocal b (c ∷ []) f (All-cons IsLocal c [] g (All-nil IsLocal)))
+
+-- two rules in a row
+pub two_rules : (a b : Arg) (r s : Rule) → rule_of a ≡ r → rule_of b ≡ s → map rule_of (a ∷ b ∷ []) ≡ r ∷ s ∷ []
+two_rules a b r s e f = rw (e, f) refl
+
+pub two_local : (a b : Arg) → IsLocal a → IsLocal b → All IsLocal (a ∷ b ∷ [])
+two_local a b e f = All-cons IsLocal a (b ∷ []) e (All-cons IsLocal b [] f (All-nil IsLocal))
+
+-- four rules in a row
+pub four_rules : (a b c d : Arg) (r s t u : Rule) → rule_of a ≡ r → rule_of b ≡ s → rule_of c ≡ t → rule_of d ≡ u → map rule_of (a ∷ b ∷ c ∷ d ∷ []) ≡ r ∷ s ∷ t ∷ u ∷ []
+four_rules a b c d r s t u e f g h = rw (e, f, g, h) refl
+
+pub four_local : (a b c d : Arg) → IsLocal a → IsLocal b → IsLocal c → IsLocal d → All IsLocal (a ∷ b ∷ c ∷ d ∷ [])
+four_local a b c d e f g h = All-cons IsLocal a (b ∷ c ∷ d ∷ []) e (three_local b c d f g h)

@@ -8,7 +8,11 @@ use Rattle.ed_main.specs.declared.job.Job.TheVariants as job
 
 -- a run with these options
 abbrev edit : Bool → Option (List ℕ) → Option (List ℕ) → Option Job
-edit silent prompt path = Some (job.Edit (record { silent = silent; prompt = prompt; path = path }))
+edit silent prompt path = Some (job.Edit (record { silent = silent; prompt = prompt; path = path }) false)
+
+-- its rehearsal
+abbrev rehearsal : Bool → Option (List ℕ) → Option (List ℕ) → Option Job
+rehearsal silent prompt path = Some (job.Edit (record { silent = silent; prompt = prompt; path = path }) true)
 
 -- a certificate for these bounds
 abbrev vouch : ℕ → Option ℕ → Option (List ℕ) → Option Job
@@ -16,7 +20,15 @@ vouch min max path = Some (job.Vouch (record { path = path; min = min; max = max
 
 -- a run that is checked first
 abbrev run : List ℕ → Bool → Option (List ℕ) → Option Job
-run certificate silent path = Some (job.Run certificate (record { silent = silent; prompt = None; path = path }))
+run certificate silent path = Some (job.Run certificate (record { silent = silent; prompt = None; path = path }) false)
+
+-- its rehearsal
+abbrev rehearsed_run : List ℕ → Bool → Option (List ℕ) → Option Job
+rehearsed_run certificate silent path = Some (job.Run certificate (record { silent = silent; prompt = None; path = path }) true)
+
+-- a test of a start
+abbrev fits : (certificate : List ℕ) → (path : Option (List ℕ)) → Option Job
+fits certificate path = Some (job.Fits certificate path)
 
 -- the job of words after the program's name
 abbrev job_given : List (List ℕ) → Option Job
@@ -289,3 +301,67 @@ run_on_a_hyphen = refl
 run_with_two_files : job_given (codes "run" ∷ codes "C" ∷ codes "F" ∷ codes "G" ∷ []) ≡ None
 unfolding clap_on_literals program job_of
 run_with_two_files = refl
+
+fits_with_a_file : job_given (codes "fits" ∷ codes "C" ∷ codes "F" ∷ []) ≡ fits (codes "C") (Some (codes "F"))
+unfolding clap_on_literals program job_of
+fits_with_a_file = refl
+
+fits_without_a_file : job_given (codes "fits" ∷ codes "C" ∷ []) ≡ fits (codes "C") None
+unfolding clap_on_literals program job_of
+fits_without_a_file = refl
+
+fits_without_a_certificate : job_given (codes "fits" ∷ []) ≡ None
+unfolding clap_on_literals program job_of
+fits_without_a_certificate = refl
+
+fits_on_a_hyphen : job_given (codes "fits" ∷ codes "C" ∷ codes "-" ∷ []) ≡ None
+unfolding clap_on_literals program job_of
+fits_on_a_hyphen = refl
+
+fits_by_a_hyphen : job_given (codes "fits" ∷ codes "-" ∷ codes "F" ∷ []) ≡ None
+unfolding clap_on_literals program job_of
+fits_by_a_hyphen = refl
+
+fits_silent : job_given (codes "fits" ∷ codes "-s" ∷ codes "C" ∷ codes "F" ∷ []) ≡ None
+unfolding clap_on_literals program job_of
+fits_silent = refl
+
+fits_with_two_files : job_given (codes "fits" ∷ codes "C" ∷ codes "F" ∷ codes "G" ∷ []) ≡ None
+unfolding clap_on_literals program job_of
+fits_with_two_files = refl
+
+rehearsed_before_the_file : job_given (codes "edit" ∷ codes "-n" ∷ codes "F" ∷ []) ≡ rehearsal false None (Some (codes "F"))
+unfolding clap_on_literals program job_of
+rehearsed_before_the_file = refl
+
+rehearsed_and_silent : job_given (codes "edit" ∷ codes "-sn" ∷ codes "-p" ∷ codes "> " ∷ codes "F" ∷ []) ≡ rehearsal true (Some (codes "> ")) (Some (codes "F"))
+unfolding clap_on_literals program job_of
+rehearsed_and_silent = refl
+
+rehearsed_without_a_file : job_given (codes "edit" ∷ codes "-n" ∷ []) ≡ rehearsal false None None
+unfolding clap_on_literals program job_of
+rehearsed_without_a_file = refl
+
+rehearsed_twice : job_given (codes "edit" ∷ codes "-n" ∷ codes "-n" ∷ codes "F" ∷ []) ≡ None
+unfolding clap_on_literals program job_of
+rehearsed_twice = refl
+
+run_rehearsed : job_given (codes "run" ∷ codes "-n" ∷ codes "C" ∷ codes "F" ∷ []) ≡ rehearsed_run (codes "C") false (Some (codes "F"))
+unfolding clap_on_literals program job_of
+run_rehearsed = refl
+
+run_rehearsed_at_the_end : job_given (codes "run" ∷ codes "C" ∷ codes "F" ∷ codes "-s" ∷ codes "-n" ∷ []) ≡ rehearsed_run (codes "C") true (Some (codes "F"))
+unfolding clap_on_literals program job_of
+run_rehearsed_at_the_end = refl
+
+vouching_rehearsed : job_given (codes "vouch" ∷ codes "-n" ∷ codes "--min" ∷ codes "0" ∷ codes "--max" ∷ codes "any" ∷ []) ≡ None
+unfolding clap_on_literals program job_of
+vouching_rehearsed = refl
+
+checking_rehearsed : job_given (codes "check" ∷ codes "-n" ∷ codes "C" ∷ []) ≡ None
+unfolding clap_on_literals program job_of
+checking_rehearsed = refl
+
+fits_rehearsed : job_given (codes "fits" ∷ codes "-n" ∷ codes "C" ∷ []) ≡ None
+unfolding clap_on_literals program job_of
+fits_rehearsed = refl

@@ -5,6 +5,8 @@ pub mod Told
 pub mod Check
 pub mod Vouch
 pub mod Run
+pub mod Fits
+pub mod Rehearsed
 pub mod Source
 pub mod Subcommands
 pub mod Words
@@ -12,3 +14,4 @@ pub mod Job
 pub mod Program
 -- what serves clauses inside the crate
 pub mod RunOver
+pub mod StartTest

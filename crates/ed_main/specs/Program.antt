@@ -1,6 +1,6 @@
 -- The status that the program ends with, whatever its words, its script and its certificate are, and whatever the files answer (our
 -- choice; where memory ran out or an input isn't read, it is that of the editor's fault).
-use Rattle.std.specs.Prelude.{◌≡◌, ℕ, List}
+use Rattle.std.specs.Prelude.{◌≡◌, ℕ, Bool, List, IsTrue}
 use Rattle.ed_base.specs.Fault.{status_of}
 use Rattle.ed_base.specs.declared.fault.Fault.TheVariants as fault
 use Rattle.ed_syntax.specs.declared.options.Options.{Options}
@@ -14,8 +14,10 @@ use Rattle.ed_main.specs.declared.words.WordsFault.{WordsFault}
 use Rattle.ed_main.specs.declared.words.WordsFault.TheVariants as words
 use Rattle.ed_main.specs.Check.{Checks}
 use Rattle.ed_main.specs.Edit.{Correct}
+use Rattle.ed_main.specs.Fits.{Fits}
 use Rattle.ed_main.specs.Headline.{MayFail}
 use Rattle.ed_main.specs.Job.{IsGiven}
+use Rattle.ed_main.specs.Rehearsed.{Rehearsed}
 use Rattle.ed_main.specs.Run.{Runs}
 use Rattle.ed_main.specs.Told.{Says}
 use Rattle.ed_main.specs.Vouch.{Vouches}
@@ -41,22 +43,32 @@ pub record Met : Type 0 where
 abbrev pub Somehow : (Met → ℕ → Type 0) → ℕ → Type 0
 Somehow Came status = (met : Met) × Came met status
 
+-- what `edit` came to with what it met, for a script of these bytes; nothing is written where it was rehearsed
+abbrev pub Edits : (script : List ℕ) → Options → (rehearsed : Bool) → Met → ℕ → Type 0
+Edits script options rehearsed met status =
+    Correct script options met.log met.refusals_before met.refusals met.sink status × (IsTrue rehearsed → Rehearsed met.log)
+
 -- what `run` came to with what it met, for a script and a certificate of these bytes
-abbrev pub RunsOn : (script certificate : List ℕ) → Options → Met → ℕ → Type 0
-RunsOn script certificate options met =
+abbrev pub RunsWith : (script certificate : List ℕ) → Options → Met → ℕ → Type 0
+RunsWith script certificate options met =
     Runs script certificate options met.log (MayFail options.path met.log met.refusals_before met.refusals met.sink) met.sink
+
+-- likewise, whether or not it was rehearsed
+abbrev pub RunsOn : (script certificate : List ℕ) → Options → (rehearsed : Bool) → Met → ℕ → Type 0
+RunsOn script certificate options rehearsed met status = RunsWith script certificate options met status × (IsTrue rehearsed → Rehearsed met.log)
 
 -- a certificate was read and used so, or it wasn't read
 pub data WithCertificate (Used : List ℕ → ℕ → Type 0) (status : ℕ) : Type 0 where
   read : (certificate : List ℕ) → Used certificate status → WithCertificate Used status
   unread : (fault : ReadFault) → status ≡ status_of_unread fault → WithCertificate Used status
 
--- what a job comes to, for a script of these bytes
+-- what a job comes to, for a script of these bytes; a test of a start has none
 abbrev pub Does : List ℕ → Job → ℕ → Type 0
-Does script (job.Edit options) = Somehow (λ met. Correct script options met.log met.refusals_before met.refusals met.sink)
+Does script (job.Edit options rehearsed) = Somehow (Edits script options rehearsed)
 Does script (job.Vouch start) = Somehow (λ met. Says (Vouches script start) met.sink)
 Does script (job.Check path) = WithCertificate (λ certificate. Somehow (λ met. Says (Checks script certificate) met.sink))
-Does script (job.Run path options) = WithCertificate (λ certificate. Somehow (RunsOn script certificate options))
+Does script (job.Run path options rehearsed) = WithCertificate (λ certificate. Somehow (RunsOn script certificate options rehearsed))
+Does script (job.Fits certificate path) = WithCertificate (λ bytes. Somehow (λ met. Fits bytes path met.log met.sink))
 
 -- the words weren't understood, the script wasn't read, or a job was done for a script
 pub data IsEnding (status : ℕ) : Type 0 where

@@ -8,6 +8,10 @@ use Rattle.clap.specs.declared.builder.action.ArgAction.TheVariants.{Set, SetTru
 abbrev pub silent : Rule
 silent = record (new_rule (codes "silent")) { short = Some 115; action = Some SetTrue }
 
+-- `-n`
+abbrev pub rehearsed : Rule
+rehearsed = record (new_rule (codes "rehearsed")) { short = Some 110; action = Some SetTrue }
+
 -- `-p STRING`
 abbrev pub prompt : Rule
 prompt = record (new_rule (codes "prompt")) { short = Some 112; action = Some Set; value_names = 1 }
@@ -32,9 +36,9 @@ certificate = record (new_rule (codes "certificate")) { action = Some Set; value
 abbrev pub subcommand : List ℕ → List Rule → App
 subcommand name takes = on_top (λ s. record s { rules = takes }) (new_app name)
 
--- `edit [-s] [-p STRING] [FILE]`
+-- `edit [-n] [-s] [-p STRING] [FILE]`
 abbrev pub edit : App
-edit = subcommand (codes "edit") (silent ∷ prompt ∷ file ∷ [])
+edit = subcommand (codes "edit") (rehearsed ∷ silent ∷ prompt ∷ file ∷ [])
 
 -- `vouch --min N --max M [FILE]`
 abbrev pub vouch : App
@@ -44,13 +48,17 @@ vouch = subcommand (codes "vouch") (min ∷ max ∷ file ∷ [])
 abbrev pub check : App
 check = subcommand (codes "check") (certificate ∷ [])
 
--- `run CERT [-s] [FILE]`
+-- `run CERT [-n] [-s] [FILE]`
 abbrev pub run : App
-run = subcommand (codes "run") (certificate ∷ silent ∷ file ∷ [])
+run = subcommand (codes "run") (certificate ∷ rehearsed ∷ silent ∷ file ∷ [])
+
+-- `fits CERT [FILE]`
+abbrev pub fits : App
+fits = subcommand (codes "fits") (certificate ∷ file ∷ [])
 
 -- the program without its subcommands, of which it wants one
 abbrev pub bare : App
 bare = on_top (λ s. record s { has_version = true; subcommand_required = true }) (new_app (codes "ed_main"))
 
 unfoldable pub program : App
-program = with_subcommand (with_subcommand (with_subcommand (with_subcommand bare edit.top) vouch.top) check.top) run.top
+program = with_subcommand (with_subcommand (with_subcommand (with_subcommand (with_subcommand bare edit.top) vouch.top) check.top) run.top) fits.top

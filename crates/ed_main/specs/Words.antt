@@ -38,9 +38,13 @@ options_in rows = record {
   path = first_of (codes "file") rows;
 }
 
+-- a run is only to be rehearsed
+abbrev pub is_rehearsed : List Row → Bool
+is_rehearsed rows = is_given (first_of (codes "rehearsed") rows)
+
 -- a run with these options, where they may be given
-abbrev pub editing : Options → Option Job
-editing o = elim (is_prompt o.prompt && is_path o.path) [ true ↦ Some (job.Edit o) | false ↦ None ]
+abbrev pub editing : Options → (rehearsed : Bool) → Option Job
+editing o rehearsed = elim (is_prompt o.prompt && is_path o.path) [ true ↦ Some (job.Edit o rehearsed) | false ↦ None ]
 
 -- digits, of which there is one at least
 abbrev pub are_digits : List ℕ → Bool
@@ -79,13 +83,18 @@ checking None = None
 checking (Some path) = elim (is_path (Some path)) [ true ↦ Some (job.Check path) | false ↦ None ]
 
 -- a run of a script that is checked first
-abbrev pub running : Option (List ℕ) → Options → Option Job
-running None o = None
-running (Some path) o = elim (is_path (Some path) && is_path o.path) [ true ↦ Some (job.Run path o) | false ↦ None ]
+abbrev pub running : Option (List ℕ) → Options → (rehearsed : Bool) → Option Job
+running None o rehearsed = None
+running (Some path) o rehearsed = elim (is_path (Some path) && is_path o.path) [ true ↦ Some (job.Run path o rehearsed) | false ↦ None ]
+
+-- a test of the file at a path that may be given, by the certificate at another
+abbrev pub fitting : (certificate path : Option (List ℕ)) → Option Job
+fitting None path = None
+fitting (Some certificate) path = elim (is_path (Some certificate) && is_path path) [ true ↦ Some (job.Fits certificate path) | false ↦ None ]
 
 -- the job of each subcommand with what it was given
 abbrev pub edit_job : List Row → Option Job
-edit_job rows = editing (options_in rows)
+edit_job rows = editing (options_in rows) (is_rehearsed rows)
 
 abbrev pub vouch_job : List Row → Option Job
 vouch_job rows = vouching (first_of (codes "min") rows) (first_of (codes "max") rows) (first_of (codes "file") rows)
@@ -95,13 +104,17 @@ check_job rows = checking (first_of (codes "certificate") rows)
 
 -- there is no prompt here
 abbrev pub run_job : List Row → Option Job
-run_job rows = running (first_of (codes "certificate") rows) (record (options_in rows) { prompt = None })
+run_job rows = running (first_of (codes "certificate") rows) (record (options_in rows) { prompt = None }) (is_rehearsed rows)
+
+abbrev pub fits_job : List Row → Option Job
+fits_job rows = fitting (first_of (codes "certificate") rows) (first_of (codes "file") rows)
 
 -- the job of a subcommand by its name
 abbrev pub job_by_name : List ℕ → List Row → Option Job
 job_by_name name rows =
     if bytes_eq name (codes "edit") then edit_job rows else if bytes_eq name (codes "vouch") then vouch_job rows
-    else if bytes_eq name (codes "check") then check_job rows else if bytes_eq name (codes "run") then run_job rows else None
+    else if bytes_eq name (codes "check") then check_job rows else if bytes_eq name (codes "run") then run_job rows
+    else if bytes_eq name (codes "fits") then fits_job rows else None
 
 abbrev pub job_named : Option (List ℕ × List Row) → Option Job
 job_named None = None

@@ -3,6 +3,8 @@
 
 mod check;
 mod edit;
+mod fits;
+mod held_writes;
 mod job;
 mod laws;
 mod program;

@@ -1,18 +1,22 @@
 //! One run of the program: its words, its script, its files, and the status that it ends with.
-ghost use Rattle.std.specs.Prelude.{◌≡◌, ◌≤◌, IfOk};
+ghost use Rattle.std.specs.Prelude.{◌≡◌, ◌<◌, ◌≤◌, ◌-◌, ◌^◌, true, IfOk};
+ghost use Rattle.ed_session.specs.Drives.{added};
 ghost use Rattle.ed_main.specs.Check.{Checks};
 ghost use Rattle.ed_main.specs.Edit.{Correct};
+ghost use Rattle.ed_main.specs.Fits.{Fits};
 ghost use Rattle.ed_main.specs.Job.{IsGiven};
-ghost use Rattle.ed_main.specs.Program.{Does, IsEnding, RunsOn, Somehow, status_of_unread, status_of_words};
+ghost use Rattle.ed_main.specs.Program.{Does, Edits, IsEnding, RunsOn, RunsWith, Somehow, status_of_unread, status_of_words};
 ghost use Rattle.ed_main.specs.Told.{Says};
 ghost use Rattle.ed_main.specs.Vouch.{Vouches};
 ghost use Rattle.ed_main.specs.declared.job.Job.TheVariants as job;
 
 use crate::check::check_text;
 use crate::edit::edit;
+use crate::fits::fit;
+use crate::held_writes::show_held;
 use crate::job::Job;
 use crate::run::run;
-use crate::source::{In, ReadFault, read_all};
+use crate::source::{In, ReadFault, Source, read_all};
 use crate::stderr::aside::Aside;
 use crate::stderr::refusals::{Watched, show_input, show_output, show_unread};
 use crate::stderr::usage::USAGE;
@@ -20,9 +24,10 @@ use crate::vouch::vouch_text;
 use crate::words::{WordsFault, read_words};
 use analyser::Start;
 use ed_base::{Bytes, Fault};
-use ed_session::{DiskFiles, Out};
+use ed_session::{DiskFiles, Out, Outside};
 use ed_syntax::Options;
-use std::alloc::AllocError;
+use rehearsal::Rehearsal;
+use std::alloc::{AllocError, Global};
 use std::fs::File;
 use std::rt::{Env, Files};
 use std::{env, io};
@@ -43,7 +48,7 @@ where
     match job_of_run(rt) {
         Ok(job) => {
             let mut input = In::new(rt.reader());
-            match read_all(rt.alloc(), &mut input, LIMIT) {
+            match script_from(rt.alloc(), &mut input, &job) {
                 Ok(script) => do_job(rt, script.as_slice(), job),
                 Err(fault) => refuse_script(rt, fault, input.reason()),
             }
@@ -85,6 +90,16 @@ fn job_of_run<R: Env + AllocGlobal>(rt: &R) -> Result<Job, WordsFault>
     read_words(rt.alloc(), texts.as_slice())
 }
 
+// All bytes of standard input, or none for a job without a script.
+fn script_from<S: Source>(alloc: Global, input: &mut S, job: &Job) -> Result<Bytes, ReadFault>
+    requires count { S.failures input.old < 2 ^ 64 - 1 }
+{
+    match job {
+        Job::Fits { .. } => Ok(Bytes::new(alloc)),
+        _ => read_all(alloc, input, LIMIT),
+    }
+}
+
 // Shows that standard input wasn't read, and why.
 fn refuse_script<R>(rt: &R, fault: ReadFault, reason: Option<io::Error>) -> u8
 where
@@ -118,7 +133,7 @@ where
     ensures did { Does script.now job result }
 {
     match job {
-        Job::Edit(options) => edit_file(rt, script, options),
+        Job::Edit { options, rehearsed } => edit_file(rt, script, options, rehearsed),
         Job::Vouch(start) => vouch_file(rt, script, start),
         Job::Check(path) => match certificate_at(rt, &path) {
             Ok(certificate) => check_file(rt, script, &path, certificate.as_slice()),
@@ -127,8 +142,23 @@ where
         Job::Run {
             certificate: path,
             options,
+            rehearsed,
         } => match certificate_at(rt, &path) {
-            Ok(certificate) => run_file(rt, script, &path, certificate.as_slice(), options),
+            Ok(certificate) => run_file(
+                rt,
+                script,
+                &path,
+                certificate.as_slice(),
+                options,
+                rehearsed,
+            ),
+            Err(fault) => status_of_read(fault),
+        },
+        Job::Fits {
+            certificate: path,
+            path: start,
+        } => match certificate_at(rt, &path) {
+            Ok(certificate) => fit_file(rt, &path, certificate.as_slice(), &start),
             Err(fault) => status_of_read(fault),
         },
     }
@@ -163,37 +193,62 @@ fn file_at<R: Files<File = File>>(rt: &R, path: &[u8]) -> Result<File, io::Error
     }
 }
 
-// Runs the script's bytes over the system's files and the standard output.
-fn edit_file<R>(rt: &R, script: &[u8], options: Options) -> u8
+// Runs the script's bytes over the system's files and the standard output, or rehearses that.
+fn edit_file<R>(rt: &R, script: &[u8], options: Options, rehearsed: bool) -> u8
 where
     R: Files<File = File> + Print + Eprint + AllocGlobal,
     ensures status { result ≤ 4 }
-    ensures came { Somehow (λ met.
-        Correct script.now options met.log met.refusals_before met.refusals met.sink) result }
+    ensures came { Somehow (Edits script.now options rehearsed) result }
 {
-    let mut files = files_of(rt, &options);
+    if rehearsed {
+        return rehearse_edit(rt, script, options);
+    }
+    let mut files = files_of(rt, &options.path);
+    edit_over(rt, script, options, &mut files)
+}
+
+// Runs the script's bytes over the system's files, of which none is written, and shows what would have been.
+fn rehearse_edit<R>(rt: &R, script: &[u8], options: Options) -> u8
+where
+    R: Files<File = File> + Print + Eprint + AllocGlobal,
+    ensures status { result ≤ 4 }
+    ensures came { Somehow (Edits script.now options true) result }
+{
+    let rehearsal = Rehearsal::new(rt.alloc(), DiskFiles::new(rt.alloc(), rt));
+    let mut files = Watched::new(rt.alloc(), rehearsal, options.path.is_some());
+    let status = edit_over(rt, script, options, &mut files);
+    let rehearsal = files.files();
+    rehearsal.real_files_are_only_read();
+    rehearsal.writes_are_done();
+    rehearsal.reads_show_what_was_written();
+    show_held(rt, rehearsal.writes());
+    status
+}
+
+// Runs the script's bytes over these files and the standard output.
+fn edit_over<R, O>(rt: &R, script: &[u8], options: Options, files: &mut Watched<O>) -> u8
+where
+    R: Print + Eprint + AllocGlobal,
+    O: Outside + Drop,
+    ensures status { result ≤ 4 }
+    ensures came { Somehow (λ met status. (met.log ≡ added (O.log files.old.files) (O.log files.new.files))
+        × Correct script.now options met.log met.refusals_before met.refusals met.sink status) result }
+{
     let mut output = Out::new(io::writer(rt));
     let mut aside = Aside::new(rt.alloc(), script, b"");
-    let status = edit(
-        rt.alloc(),
-        script,
-        options,
-        &mut files,
-        &mut output,
-        &mut aside,
-    );
+    let status = edit(rt.alloc(), script, options, files, &mut output, &mut aside);
     files.show_refusal(rt, status);
     aside.show(rt, status);
     status
 }
 
-// The system's files, watched for a run that starts with these options.
-fn files_of<'a, R>(rt: &'a R, options: &Options) -> Watched<DiskFiles<&'a R>>
+// The system's files, watched for a run that starts with the file at this path, if there is one.
+fn files_of<'a, R>(rt: &'a R, path: &Option<Bytes>) -> Watched<DiskFiles<&'a R>>
 where
     R: Files<File = File> + AllocGlobal,
 {
     let files = DiskFiles::new(rt.alloc(), rt);
-    Watched::new(rt.alloc(), files, options.path.is_some())
+    Watched::new(rt.alloc(), files, path.is_some())
 }
 
 // Tells the standard output the certificate of the script's bytes, or why there is none.
@@ -225,14 +280,61 @@ where
     status
 }
 
-// Runs the script's bytes as `edit_file`, where the certificate allows it.
-fn run_file<R>(rt: &R, script: &[u8], path: &Bytes, certificate: &[u8], options: Options) -> u8
+// Runs the script's bytes as `edit_file`, where the certificate allows it, or rehearses that. The path is that of the certificate's file.
+fn run_file<R>(
+    rt: &R,
+    script: &[u8],
+    path: &Bytes,
+    certificate: &[u8],
+    options: Options,
+    rehearsed: bool,
+) -> u8
 where
     R: Files<File = File> + Print + Eprint + AllocGlobal,
     ensures status { result ≤ 4 }
-    ensures came { Somehow (RunsOn script.now certificate.now options) result }
+    ensures came { Somehow (RunsOn script.now certificate.now options rehearsed) result }
 {
-    let mut files = files_of(rt, &options);
+    if rehearsed {
+        return rehearse_run(rt, script, path, certificate, options);
+    }
+    let mut files = files_of(rt, &options.path);
+    run_over(rt, script, path, certificate, options, &mut files)
+}
+
+// Runs the script's bytes as `rehearse_edit`, where the certificate allows it.
+fn rehearse_run<R>(rt: &R, script: &[u8], path: &Bytes, certificate: &[u8], options: Options) -> u8
+where
+    R: Files<File = File> + Print + Eprint + AllocGlobal,
+    ensures status { result ≤ 4 }
+    ensures came { Somehow (RunsOn script.now certificate.now options true) result }
+{
+    let rehearsal = Rehearsal::new(rt.alloc(), DiskFiles::new(rt.alloc(), rt));
+    let mut files = Watched::new(rt.alloc(), rehearsal, options.path.is_some());
+    let status = run_over(rt, script, path, certificate, options, &mut files);
+    let rehearsal = files.files();
+    rehearsal.real_files_are_only_read();
+    rehearsal.writes_are_done();
+    rehearsal.reads_show_what_was_written();
+    show_held(rt, rehearsal.writes());
+    status
+}
+
+// Runs the script's bytes as `edit_over`, where the certificate allows it.
+fn run_over<R, O>(
+    rt: &R,
+    script: &[u8],
+    path: &Bytes,
+    certificate: &[u8],
+    options: Options,
+    files: &mut Watched<O>,
+) -> u8
+where
+    R: Print + Eprint + AllocGlobal,
+    O: Outside + Drop,
+    ensures status { result ≤ 4 }
+    ensures came { Somehow (λ met status. (met.log ≡ added (O.log files.old.files) (O.log files.new.files))
+        × RunsWith script.now certificate.now options met status) result }
+{
     let mut output = Out::new(io::writer(rt));
     let mut aside = Aside::new(rt.alloc(), script, path.as_slice());
     let status = run(
@@ -240,6 +342,30 @@ where
         script,
         certificate,
         options,
+        files,
+        &mut output,
+        &mut aside,
+    );
+    files.show_refusal(rt, status);
+    aside.show(rt, status);
+    status
+}
+
+// Tells the standard output where the file at a path isn't one that the certificate allows. The other path is that of the certificate's
+// file.
+fn fit_file<R>(rt: &R, path: &Bytes, certificate: &[u8], start: &Option<Bytes>) -> u8
+where
+    R: Files<File = File> + Print + Eprint + AllocGlobal,
+    ensures status { result ≤ 4 }
+    ensures came { Somehow (λ met. Fits certificate.now start.now met.log met.sink) result }
+{
+    let mut files = files_of(rt, start);
+    let mut output = Out::new(io::writer(rt));
+    let mut aside = Aside::new(rt.alloc(), b"", path.as_slice());
+    let status = fit(
+        rt.alloc(),
+        certificate,
+        start,
         &mut files,
         &mut output,
         &mut aside,

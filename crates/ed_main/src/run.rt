@@ -125,7 +125,8 @@ pub fn run_checked<S: LineStore, O: Outside, W: Sink>(
     outcome(run_over::<S, O, W>(alloc, script, options, start, outside, sink, aside))
 }
 
-fn is_path(path: &Option<Bytes>, wanted: &Option<Bytes>) -> bool
+/// Whether a path is the one that is wanted.
+pub(crate) fn is_path(path: &Option<Bytes>, wanted: &Option<Bytes>) -> bool
     ensures exact { IsTrue result ↔ (path.now ≡ wanted.now) }
 {
     match (path, wanted) {
@@ -135,8 +136,11 @@ fn is_path(path: &Option<Bytes>, wanted: &Option<Bytes>) -> bool
     }
 }
 
-// The answer to the one read of the start file. Without a path nothing is asked, and there is no file.
-fn read_start<O: Outside>(path: &Option<Bytes>, outside: &mut O) -> Result<Answer, AllocError>
+/// The answer to the one read of the start file. Without a path nothing is asked, and there is no file.
+pub(crate) fn read_start<O: Outside>(
+    path: &Option<Bytes>,
+    outside: &mut O,
+) -> Result<Answer, AllocError>
     ensures asked { IfOk result (λ a. O.log outside.new ≡ O.log outside.old ++ reading path.now a) }
     ensures missing { path.now ≡ None → IfOk result (λ a. a ≡ Answer.Missing) }
     ensures unchanged { OnErr result (O.log outside.new ≡ O.log outside.old) }
@@ -152,8 +156,8 @@ fn read_start<O: Outside>(path: &Option<Bytes>, outside: &mut O) -> Result<Answe
     }
 }
 
-// Whether a start has too few or too many lines. A refused one isn't known to have.
-fn lies_outside(certificate: &Certificate, start: &Answer) -> bool
+/// Whether a start has too few or too many lines. A refused one isn't known to have.
+pub(crate) fn lies_outside(certificate: &Certificate, start: &Answer) -> bool
     ensures outside { IsTrue result → LiesOutside (certificate_value certificate.now) (lines_told start.now) }
     ensures inside { IsFalse result →
         IfSome (lines_told start.now) (IsWithin certificate.now.min certificate.now.max) }

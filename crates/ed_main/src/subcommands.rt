@@ -11,53 +11,121 @@ use std::alloc::{AllocError, Global};
 pub fn program<'a>(alloc: Global) -> Result<Command<'a>, AllocError>
     ensures value { IfOk result (λ command. app_of command ≡ meaning.program) }
 {
-    let edit = subcommand(
-        alloc,
-        "edit",
-        "Runs the script on standard input on a file",
-        vec![in alloc; silent(alloc), prompt(alloc), file(alloc)]?,
-    )?;
-    let vouch = subcommand(
-        alloc,
-        "vouch",
-        "Writes a certificate that the script on standard input can't fail, or where it can",
-        vec![in alloc; min(alloc), max(alloc), file(alloc)]?,
-    )?;
-    let check = subcommand(
-        alloc,
-        "check",
-        "Checks a certificate for the script on standard input",
-        vec![in alloc; certificate(alloc)]?,
-    )?;
-    let run = subcommand(
-        alloc,
-        "run",
-        "Runs the script on standard input on a file if a certificate for both is accepted",
-        vec![in alloc; certificate(alloc), silent(alloc), file(alloc)]?,
-    )?;
     let command = Command::new(alloc, "ed_main")
         .about("The line editor ed, for scripts that are checked before they are run")
         .version("0.1")
         .subcommand_required(true)
-        .subcommand(edit)?
-        .subcommand(vouch)?
-        .subcommand(check)?
-        .subcommand(run)?;
+        .subcommand(edit(alloc)?)?
+        .subcommand(vouch(alloc)?)?
+        .subcommand(check(alloc)?)?
+        .subcommand(run(alloc)?)?
+        .subcommand(fits(alloc)?)?;
     Ok(command)
 }
 
-// A subcommand that takes these options and words.
+fn edit<'a>(alloc: Global) -> Result<Command<'a>, AllocError>
+    ensures value { IfOk result (λ command. app_of command ≡ meaning.edit) }
+    ensures local { IfOk result (λ command. (fields_of command).has_globals ≡ false) }
+{
+    subcommand(
+        alloc,
+        "edit",
+        "Runs the script on standard input on a file",
+        "Example: ed_main edit FILE <script.ed",
+        vec![in alloc;
+            rehearsed(alloc),
+            silent(alloc),
+            prompt(alloc),
+            file(alloc, "The file that is edited"),
+        ]?,
+    )
+}
+
+fn vouch<'a>(alloc: Global) -> Result<Command<'a>, AllocError>
+    ensures value { IfOk result (λ command. app_of command ≡ meaning.vouch) }
+    ensures local { IfOk result (λ command. (fields_of command).has_globals ≡ false) }
+{
+    subcommand(
+        alloc,
+        "vouch",
+        "Writes a certificate that the script on standard input can't fail, or where it can",
+        "Example: ed_main vouch --min 1 --max any FILE <script.ed >CERT",
+        vec![in alloc;
+            min(alloc),
+            max(alloc),
+            file(alloc, "The file that the certificate is for"),
+        ]?,
+    )
+}
+
+fn check<'a>(alloc: Global) -> Result<Command<'a>, AllocError>
+    ensures value { IfOk result (λ command. app_of command ≡ meaning.check) }
+    ensures local { IfOk result (λ command. (fields_of command).has_globals ≡ false) }
+{
+    subcommand(
+        alloc,
+        "check",
+        "Checks a certificate for the script on standard input",
+        "Example: ed_main check CERT <script.ed",
+        vec![in alloc; certificate(alloc)]?,
+    )
+}
+
+fn run<'a>(alloc: Global) -> Result<Command<'a>, AllocError>
+    ensures value { IfOk result (λ command. app_of command ≡ meaning.run) }
+    ensures local { IfOk result (λ command. (fields_of command).has_globals ≡ false) }
+{
+    subcommand(
+        alloc,
+        "run",
+        "Runs the script on standard input on a file if a certificate for both is accepted",
+        "Example: ed_main run CERT FILE <script.ed",
+        vec![in alloc;
+            certificate(alloc),
+            rehearsed(alloc),
+            silent(alloc),
+            file(alloc, "The file that is edited"),
+        ]?,
+    )
+}
+
+fn fits<'a>(alloc: Global) -> Result<Command<'a>, AllocError>
+    ensures value { IfOk result (λ command. app_of command ≡ meaning.fits) }
+    ensures local { IfOk result (λ command. (fields_of command).has_globals ≡ false) }
+{
+    subcommand(
+        alloc,
+        "fits",
+        "Tells whether a file is one that a certificate allows; no script is read",
+        "Example: ed_main fits CERT FILE",
+        vec![in alloc; certificate(alloc), file(alloc, "The file that is tested")]?,
+    )
+}
+
+// A subcommand that takes these options and words, with what its help begins and ends with.
 fn subcommand<'a>(
     alloc: Global,
     name: &'a str,
     about: &'a str,
+    example: &'a str,
     takes: Vec<Arg<'a>>,
 ) -> Result<Command<'a>, AllocError>
     requires local { All (λ arg. arg.global ≡ false) takes.items }
     ensures value { IfOk result (λ command. app_of command ≡ meaning.subcommand name.now (map rule_of takes.entry.items)) }
     ensures local { IfOk result (λ command. (fields_of command).has_globals ≡ false) }
 {
-    Command::new(alloc, name).about(about).args(takes)
+    let command = Command::new(alloc, name).about(about).after_help(example);
+    command.args(takes)
+}
+
+fn rehearsed<'a>(alloc: Global) -> Arg<'a>
+    ensures value { rule_of result ≡ meaning.rehearsed }
+    ensures local { result.global ≡ false }
+{
+    Arg::new(alloc, "rehearsed")
+        .short('n')
+        .action(ArgAction::SetTrue)
+        .help("Writes no file, and says on standard error what would be written")
 }
 
 fn silent<'a>(alloc: Global) -> Arg<'a>
@@ -81,14 +149,14 @@ fn prompt<'a>(alloc: Global) -> Arg<'a>
         .help("Writes STRING before each command")
 }
 
-fn file<'a>(alloc: Global) -> Arg<'a>
+fn file<'a>(alloc: Global, help: &'a str) -> Arg<'a>
     ensures value { rule_of result ≡ meaning.file }
     ensures local { result.global ≡ false }
 {
     Arg::new(alloc, "file")
         .action(ArgAction::Set)
         .value_name("FILE")
-        .help("The file that is edited")
+        .help(help)
 }
 
 fn min<'a>(alloc: Global) -> Arg<'a>

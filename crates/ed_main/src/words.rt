@@ -8,7 +8,7 @@ ghost use Rattle.ed_main.specs.Job.{IsGiven};
 
 use crate::job::Job;
 use crate::stderr::usage::{
-    CHECK_USAGE, EDIT_USAGE, NO_CERTIFICATE, NO_FILE, NO_MAX, NO_MIN, RUN_USAGE, USAGE,
+    CHECK_USAGE, EDIT_USAGE, FITS_USAGE, NO_CERTIFICATE, NO_FILE, NO_MAX, NO_MIN, RUN_USAGE, USAGE,
     VOUCH_USAGE, refused,
 };
 use crate::subcommands::program;
@@ -87,6 +87,7 @@ fn job_by_name(alloc: Global, name: &str, given: &ArgMatches<'_>) -> Result<Job,
         "vouch" => vouch_job(alloc, given),
         "check" => check_job(alloc, given),
         "run" => run_job(alloc, given),
+        "fits" => fits_job(alloc, given),
         _ => Err(WordsFault::of(alloc, "error: no subcommand", USAGE)),
     }
 }
@@ -106,11 +107,15 @@ fn edit_job(alloc: Global, given: &ArgMatches<'_>) -> Result<Job, WordsFault>
     if !is_path(path) {
         return Err(WordsFault::of(alloc, NO_FILE, EDIT_USAGE));
     }
-    Ok(Job::Edit(Options {
+    let options = Options {
         silent: is_given(text_of(given, "silent")),
         prompt: bytes_of(alloc, prompt)?,
         path: bytes_of(alloc, path)?,
-    }))
+    };
+    Ok(Job::Edit {
+        options,
+        rehearsed: is_given(text_of(given, "rehearsed")),
+    })
 }
 
 fn vouch_job(alloc: Global, given: &ArgMatches<'_>) -> Result<Job, WordsFault>
@@ -175,6 +180,27 @@ fn run_job(alloc: Global, given: &ArgMatches<'_>) -> Result<Job, WordsFault>
     Ok(Job::Run {
         certificate,
         options,
+        rehearsed: is_given(text_of(given, "rehearsed")),
+    })
+}
+
+fn fits_job(alloc: Global, given: &ArgMatches<'_>) -> Result<Job, WordsFault>
+    ensures value { IfOk result (λ job. meaning.fits_job (rows_of (found_of given.now)) ≡ Some job) }
+    ensures only_if_refused { IfErr result (λ fault. fault ≢ WordsFault.Memory →
+        meaning.fits_job (rows_of (found_of given.now)) ≡ None) }
+    ensures given { IfOk result IsGiven }
+{
+    let path = text_of(given, "file");
+    let certificate = match text_of(given, "certificate") {
+        Some(path) if is_path(Some(path)) => Bytes::from_slice(alloc, path.as_bytes())?,
+        _ => return Err(WordsFault::of(alloc, NO_CERTIFICATE, FITS_USAGE)),
+    };
+    if !is_path(path) {
+        return Err(WordsFault::of(alloc, NO_FILE, FITS_USAGE));
+    }
+    Ok(Job::Fits {
+        certificate,
+        path: bytes_of(alloc, path)?,
     })
 }
 

@@ -70,6 +70,13 @@ impl<O: Outside + Drop> Watched<O> {
         }
     }
 
+    /// The files that are watched.
+    pub fn files(&self) -> &O
+        ensures value { result.now ≡ self.now.files }
+    {
+        &self.files
+    }
+
     /// Shows in one line what was refused where a run over these files ended with this status: a file, else standard output.
     pub fn show_refusal(&self, rt: &impl Eprint, status: u8) {
         match &self.refusal {

@@ -8,19 +8,22 @@ use std::alloc::{AllocError, Global};
 
 /// How the program is used.
 pub const USAGE: &str = "\
-usage: ed_main edit [-s] [-p STRING] [FILE] <SCRIPT
+usage: ed_main edit [-n] [-s] [-p STRING] [FILE] <SCRIPT
        ed_main vouch --min N --max M [FILE] <SCRIPT
        ed_main check CERT <SCRIPT
-       ed_main run CERT [-s] [FILE] <SCRIPT
+       ed_main run CERT [-n] [-s] [FILE] <SCRIPT
+       ed_main fits CERT [FILE]
 ";
 
-pub const EDIT_USAGE: &str = "usage: ed_main edit [-s] [-p STRING] [FILE] <SCRIPT\n";
+pub const EDIT_USAGE: &str = "usage: ed_main edit [-n] [-s] [-p STRING] [FILE] <SCRIPT\n";
 
 pub const VOUCH_USAGE: &str = "usage: ed_main vouch --min N --max M [FILE] <SCRIPT\n";
 
 pub const CHECK_USAGE: &str = "usage: ed_main check CERT <SCRIPT\n";
 
-pub const RUN_USAGE: &str = "usage: ed_main run CERT [-s] [FILE] <SCRIPT\n";
+pub const RUN_USAGE: &str = "usage: ed_main run CERT [-n] [-s] [FILE] <SCRIPT\n";
+
+pub const FITS_USAGE: &str = "usage: ed_main fits CERT [FILE]\n";
 
 pub const NO_FILE: &str = "error: a file without a name, or named -";
 
@@ -88,6 +91,7 @@ fn usage_of(words: &[&str]) -> &'static str {
         [_, "vouch", ..] => VOUCH_USAGE,
         [_, "check", ..] => CHECK_USAGE,
         [_, "run", ..] => RUN_USAGE,
+        [_, "fits", ..] => FITS_USAGE,
         _ => USAGE,
     }
 }

@@ -16,5 +16,11 @@ returns-in-Check-clause-did g c = rw c.in-Check.is (meaning.unread _ c.status_of
 pub returns-in-Ok-certificate_at-clause-did : goal.returns-in-Ok-certificate_at-clause-did
 returns-in-Ok-certificate_at-clause-did g c = rw c.in-Run.is (meaning.read c.as_slice-in-Ok-certificate_at.result.now c.run_file.ensures.came)
 
+pub returns-in-Run-clause-did : goal.returns-in-Run-clause-did
+returns-in-Run-clause-did g c = rw c.in-Run.is (meaning.unread _ c.status_of_read-in-Err-certificate_at.ensures.value)
+
+pub returns-in-Ok-certificate_at-2-clause-did : goal.returns-in-Ok-certificate_at-2-clause-did
+returns-in-Ok-certificate_at-2-clause-did g c = rw c.in-Fits.is (meaning.read c.as_slice-in-Ok-certificate_at-2.result.now c.fit_file.ensures.came)
+
 pub returns-clause-did : goal.returns-clause-did
-returns-clause-did g c = rw c.in-Run.is (meaning.unread _ c.status_of_read-in-Err-certificate_at.ensures.value)
+returns-clause-did g c = rw c.in-Fits.is (meaning.unread _ c.status_of_read-in-Err-certificate_at-2.ensures.value)

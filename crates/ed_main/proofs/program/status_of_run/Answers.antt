@@ -1,11 +1,11 @@
 use Rattle.ed_main.specs.Program as meaning
 use Rattle.ed_main.proofs.program.status_of_run.Goals as goal
 
-pub returns-in-Ok-read_all-clause-ending : goal.returns-in-Ok-read_all-clause-ending
-returns-in-Ok-read_all-clause-ending g c = meaning.did c.as_slice.result.now c.in-Ok.job c.in-Ok.ensures.given c.do_job.ensures.did
+pub returns-in-Ok-script_from-clause-ending : goal.returns-in-Ok-script_from-clause-ending
+returns-in-Ok-script_from-clause-ending g c = meaning.did c.as_slice.result.now c.in-Ok.job c.in-Ok.ensures.given c.do_job.ensures.did
 
-pub returns-in-Err-read_all-clause-ending : goal.returns-in-Err-read_all-clause-ending
-returns-in-Err-read_all-clause-ending g c = meaning.unread c.in-Err-read_all.fault c.refuse_script.ensures.value
+pub returns-in-Err-script_from-clause-ending : goal.returns-in-Err-script_from-clause-ending
+returns-in-Err-script_from-clause-ending g c = meaning.unread c.in-Err-script_from.fault c.refuse_script.ensures.value
 
 pub returns-in-Err-clause-ending : goal.returns-in-Err-clause-ending
 returns-in-Err-clause-ending g c = meaning.refused c.in-Err.fault c.refuse.ensures.value
