@@ -1,0 +1,62 @@
+#!/usr/bin/env python3
+"""Measures searches by a pattern through the editor beside GNU ed, sed and vim, on 1,000,000 lines of 50 bytes made by
+bench/patterns/lines.awk: the search that finds the last line, `g` that prints, `g` with `s`, and `s` on all lines. Processor seconds of
+user and system, the least of two runs; what takes more than 20 seconds is left out, and so is GNU ed where `g` changes lines, which takes
+it a time that grows with their square. It runs the program that `make` built."""
+import os
+import resource
+import subprocess
+import tempfile
+
+HERE = os.path.dirname(os.path.abspath(__file__))
+PROGRAM = os.path.join(HERE, "../../crates/ed_main/out/ed_main")
+PATTERNS = [r"needle", r"[0-9][0-9]*", r"x.*y.*z", r"[0-9]\{3,5\} [a-z]*$", r"\([a-z]*\) \([a-z]*\) foo"]
+
+
+def seconds(words, script):
+    least = None
+    for _ in range(2):
+        before = resource.getrusage(resource.RUSAGE_CHILDREN)
+        try:
+            subprocess.run(words, input=script, stdout=subprocess.DEVNULL, stderr=subprocess.DEVNULL, timeout=20)
+        except subprocess.TimeoutExpired:
+            return None
+        except FileNotFoundError:
+            return None
+        after = resource.getrusage(resource.RUSAGE_CHILDREN)
+        took = after.ru_utime - before.ru_utime + after.ru_stime - before.ru_stime
+        least = took if least is None else min(least, took)
+    return least
+
+
+def shown(took):
+    return "     -" if took is None else f"{took:6.2f}"
+
+
+def rows(pattern):
+    yield f"/{pattern}/ to the last line", f"1\n/^END {pattern}/=\nQ\n", f"/^END {pattern}/=", f"/^END {pattern}/="
+    yield f"g/{pattern}/p", f"g/{pattern}/p\nQ\n", f"/{pattern}/p", f"g/{pattern}/p"
+    yield f"g/{pattern}/s//x/", f"g/{pattern}/s//x/\nQ\n", f"s/{pattern}/x/", f"g/{pattern}/s//x/"
+    yield f"1,$s/{pattern}/x/", f"1,$s/{pattern}/x/\nQ\n", f"s/{pattern}/x/", f"%s/{pattern}/x/"
+
+
+def main():
+    environment_is_c = os.environ.setdefault("LC_ALL", "C")
+    with tempfile.TemporaryDirectory() as folder:
+        lines = os.path.join(folder, "lines")
+        made = subprocess.run(["awk", "-f", os.path.join(HERE, "../patterns/lines.awk")], capture_output=True, check=True).stdout
+        with open(lines, "wb") as file:
+            for _ in range(5):
+                file.write(made)
+            file.write(b"END needle 12345 x y z ab cd foo 777 abc\n")
+        print(f"processor seconds, locale {environment_is_c}; ours, sed, GNU ed, vim")
+        for pattern in PATTERNS:
+            for name, script, by_sed, by_vim in rows(pattern):
+                ours = seconds([PROGRAM, "edit", "-s", lines], script.encode())
+                sed = seconds(["sed", "-n", by_sed, lines], b"")
+                ed = None if "/s//" in name else seconds(["ed", "-s", lines], script.encode())
+                vim = seconds(["vim", "-es", "-u", "NONE", "-N", "-c", by_vim, "-c", "q!", lines], b"")
+                print(f"{shown(ours)} {shown(sed)} {shown(ed)} {shown(vim)}  {name}", flush=True)
+
+
+main()
