@@ -28,7 +28,7 @@ pub fn substitute(
     ensures value { IfOk result (λ lines. lines ≡ substituted (bre_tree pattern.now) replacement.now which line.now) }
 {
     let mut searcher = Searcher::new(alloc, pattern);
-    match rewritten(alloc, &mut searcher, replacement, which, line)? {
+    match rewritten(alloc, &mut searcher, replacement, &which, line)? {
         Some(text) => Ok(Some(split(alloc, text)?)),
         None => Ok(None),
     }
@@ -39,18 +39,16 @@ pub(crate) fn rewritten(
     alloc: Global,
     searcher: &mut Searcher<'_>,
     replacement: &Replacement,
-    which: Which,
+    which: &Which,
     line: &[u8],
 ) -> Result<Option<Bytes>, AllocError>
     ensures value { IfOk result (λ text.
-        text ≡ replaced_in replacement.now line.now (picked which (taken (searched searcher.old) line.now))) }
+        text ≡ replaced_in replacement.now line.now (picked which.now (taken (searched searcher.old) line.now))) }
     ensures pattern { searched searcher.new ≡ searched searcher.old }
 {
     match which {
         Which::First => replace_one(alloc, searcher, replacement, 0, line),
-        Which::Nth(number) => {
-            replace_one(alloc, searcher, replacement, number.saturating_sub(1), line)
-        }
+        Which::Nth(number) => replace_one(alloc, searcher, replacement, number.before(), line),
         Which::All => replace_all(alloc, searcher, replacement, line),
     }
 }

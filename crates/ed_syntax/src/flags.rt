@@ -4,7 +4,7 @@ ghost use Rattle.ed_syntax.specs.PublicTypes.{suffix_value};
 ghost use Rattle.ed_syntax.specs.reading.ReadParameters.{form_at, count_at, which_at, later_which, flags, end_at};
 
 use crate::tokens::{form_of, number};
-use crate::{Form, Which};
+use crate::{Form, MatchNumber, Which};
 
 /// The closing delimiter with its flags, or the line's end, which writes as `p` does.
 pub fn end_at(bytes: &[u8]) -> Option<((Which, Option<Form>), &[u8])>
@@ -22,10 +22,14 @@ fn flags(bytes: &[u8]) -> Option<((Which, Option<Form>), &[u8])>
     ensures value { MatchOption result (flags bytes.now ≡ None)
         (λ ((w, form), rest). flags bytes.now ≡ Some ((w, suffix_value form), rest.now)) }
 {
-    let (first, rest) = which_at(bytes)?;
+    let Some((first, rest)) = which_at(bytes) else {
+        return None;
+    };
     let (form, rest) = form_at(rest);
-    let (which, rest) = later_which(first, rest)?;
-    Some(((which, form), rest))
+    match later_which(first, rest) {
+        Some((which, rest)) => Some(((which, form), rest)),
+        None => None,
+    }
 }
 
 // A count or `g` after the letter of a form, where none stood before it.
@@ -35,10 +39,10 @@ fn later_which(first: Option<Which>, bytes: &[u8]) -> Option<(Which, &[u8])>
 {
     match first {
         Some(which) => Some((which, bytes)),
-        None => {
-            let (second, rest) = which_at(bytes)?;
-            Some((second.unwrap_or(Which::First), rest))
-        }
+        None => match which_at(bytes) {
+            Some((second, rest)) => Some((second.unwrap_or(Which::First), rest)),
+            None => None,
+        },
     }
 }
 
@@ -59,10 +63,9 @@ fn count_at(bytes: &[u8]) -> Option<(Option<Which>, &[u8])>
     ensures value { MatchOption result (count_at bytes.now ≡ None)
         (λ (w, rest). count_at bytes.now ≡ Some (w, rest.now)) }
 {
-    match number(bytes)? {
-        (0, _) => None,
-        (count, rest) => Some((Some(Which::Nth(count)), rest)),
-    }
+    let (count, rest) = number(bytes)?;
+    let which = Which::Nth(MatchNumber::new(count)?);
+    Some((Some(which), rest))
 }
 
 // The letter of a form, or none.

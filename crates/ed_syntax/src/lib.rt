@@ -32,7 +32,7 @@ pub use laws::{
 pub use options::{Ending, Options};
 pub use pattern::Pattern;
 pub use reading::{first_lines, read_script};
-pub use replacement::{Part, Replacement, Which};
+pub use replacement::{MatchNumber, Part, Replacement, Which};
 pub use request::{Answer, Request};
 pub use script::Script;
 pub use spelling::scripts_are_read_as_spelled;

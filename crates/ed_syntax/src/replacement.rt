@@ -1,5 +1,5 @@
 //! Replacements, and the matches that they take the place of.
-ghost use Rattle.std.specs.Prelude.{◌≡◌, ◌++◌, ◌∷◌, [], IfOk, OnOk, OnErr};
+ghost use Rattle.std.specs.Prelude.{◌≡◌, ◌++◌, ◌∷◌, [], suc, IfOk, IfSome, IfNone, OnOk, OnErr};
 ghost use Rattle.ed_syntax.specs.PartNumbers.{part_number};
 
 use std::alloc::{AllocError, Global};
@@ -55,12 +55,48 @@ impl Eq for Part {
     ghost laws = { Prim.search (comparing, rules) };
 }
 
+/// The number of a match on a line, which counts from 1. Contracts see it as how many matches stand before that one.
+#[derive(Clone, Copy, Debug, PartialEq, Eq)]
+pub struct MatchNumber {
+    before: u32,
+}
+
+impl Model for MatchNumber {
+    ghost use Rattle.std.specs.Prelude.{ℕ};
+
+    ghost Value = { ℕ };
+
+    ghost view = { λ n. n.before };
+
+    ghost inverse = { λ n. record { before = n } };
+}
+
+impl MatchNumber {
+    /// The match of a number; `None` where that is 0.
+    pub fn new(number: u32) -> Option<MatchNumber>
+        ensures value { IfSome result (λ n. suc n ≡ number) }
+        ensures zero { IfNone result (number ≡ 0) }
+    {
+        match number {
+            0 => None,
+            _ => Some(MatchNumber { before: number - 1 }),
+        }
+    }
+
+    /// How many matches stand before it on its line.
+    pub fn before(self) -> u32
+        ensures value { result ≡ self }
+    {
+        self.before
+    }
+}
+
 /// Which of the matches on a line are replaced.
 #[derive(Clone, Copy, Debug, PartialEq, Eq)]
 pub enum Which {
     First,
-    /// The match of this number, counted from 1; 0 stands for 1.
-    Nth(u32),
+    /// The match of this number.
+    Nth(MatchNumber),
     All,
 }
 

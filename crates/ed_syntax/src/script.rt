@@ -12,7 +12,6 @@ pub struct Script {
     pub commands: Vec<Command>,
     /// The line on which the first command begins that can't be read, counted from 1.
     pub fault: Option<usize>,
-    // None of its own commands is listed; those of lists are, and are such as may stand there. What marks a line is a letter, and a count
-    // is at least 1.
+    // None of its own commands is listed; those of lists are, and are such as may stand there. What marks a line is a letter.
     ghost stand: { IsTrue (list_all is_step (steps_value commands.items)) },
 }

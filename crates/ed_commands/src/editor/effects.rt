@@ -49,7 +49,7 @@ impl<S: LineStore> Editor<S> {
                 replacement,
                 which,
                 form,
-            } => return self.substitute(pattern, replacement, *which, *form, span, before),
+            } => return self.substitute(pattern, replacement, which, *form, span, before),
             Verb::LineNumber => return Ok(self.line_number(span)?),
             Verb::Null => return Ok(self.write(Form::Plain, span)?),
             Verb::Write(form) => return Ok(self.write(*form, span)?),

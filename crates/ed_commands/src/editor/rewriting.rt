@@ -23,11 +23,11 @@ fn new_lines_of(
     alloc: Global,
     searcher: &mut Searcher<'_>,
     replacement: &Replacement,
-    which: Which,
+    which: &Which,
     line: &[u8],
 ) -> Result<Option<Vec<Line>>, AllocError>
     ensures value { (text : List ℕ) → pattern_of text ≡ Ok (searched searcher.old) → IfOk result (λ made.
-        option_map (λ lines. lines.items) made ≡ option_map (map plain_line) (made_of text replacement.now which line.now)) }
+        option_map (λ lines. lines.items) made ≡ option_map (map plain_line) (made_of text replacement.now which.now line.now)) }
     ensures pattern { searched searcher.new ≡ searched searcher.old }
 {
     let made = rewritten(alloc, searcher, replacement, which, line)?;
@@ -44,7 +44,7 @@ pub fn rewrite_lines<S: LineStore>(
     alloc: Global,
     pattern: &Pattern,
     replacement: &Replacement,
-    which: Which,
+    which: &Which,
     span: Span,
     before: Before,
     store: &mut S,
@@ -54,9 +54,9 @@ pub fn rewrite_lines<S: LineStore>(
     requires order { span.first ≤ span.last }
     requires last { span.last ≤ length (S.lines store.old) }
     ensures made { IfOk result (λ made. made
-        ≡ option_map (λ n. span.first - 1 + n) (each (made_of pattern.now replacement.now which) (between span.first span.last (S.lines store.old))).1) }
+        ≡ option_map (λ n. span.first - 1 + n) (each (made_of pattern.now replacement.now which.now) (between span.first span.last (S.lines store.old))).1) }
     ensures put { OnOk result (S.lines store.new
-        ≡ replaced span.first span.last (each (made_of pattern.now replacement.now which) (between span.first span.last (S.lines store.old))).0 (S.lines store.old)) }
+        ≡ replaced span.first span.last (each (made_of pattern.now replacement.now which.now) (between span.first span.last (S.lines store.old))).0 (S.lines store.old)) }
     ensures kept { IfOk result (λ made. earlier_of past.new (texts (S.lines store.new))
         ≡ earlier_of_rewritten made before.listed (kept_lines before.current (S.lines store.old)) (earlier_of past.old (texts (S.lines store.old)))) }
     ensures untouched { IfOk result (λ made. IfNone made (S.lines store.new ≡ S.lines store.old)) }

@@ -103,7 +103,7 @@ impl<S: LineStore> Editor<S> {
         &mut self,
         pattern: &Option<Pattern>,
         replacement: &Option<Replacement>,
-        which: Which,
+        which: &Which,
         flag: Option<Form>,
         span: Span,
         before: Before,
@@ -111,7 +111,7 @@ impl<S: LineStore> Editor<S> {
         requires first { 1 ≤ span.first }
         requires order { span.first ≤ span.last }
         requires last { span.last ≤ last self.old.state }
-        ensures exact { let expected = substitute before.listed pattern.now replacement.now which (suffix_value flag) (span_value span) self.old.state in
+        ensures exact { let expected = substitute before.listed pattern.now replacement.now which.now (suffix_value flag) (span_value span) self.old.state in
             MatchResult result (λ output. IsOkAnd expected (λ o. (self.new.state ≡ left_by before self.old.state o) × (output ≡ o.output)))
             (λ fault. fault ≢ Memory → expected ≡ Err fault) }
         ensures failed { self.new.failed ≡ self.old.failed }

@@ -10,7 +10,7 @@ use Rattle.ed_syntax.specs.declared.request.Answer.{Answer}
 use Rattle.ed_syntax.specs.declared.request.Request.{Request}
 use Rattle.ed_syntax.specs.declared.request.Request.TheVariants as request
 use Rattle.ed_syntax.specs.Commands.{Verb, Command}
-use Rattle.ed_syntax.specs.meaning.Verbs.{may_be_listed, is_sound, has_split, is_listed}
+use Rattle.ed_syntax.specs.meaning.Verbs.{may_be_listed, marks_by_letter, has_split, is_listed}
 use Rattle.ed_syntax.specs.spelling.Readable.{enters_lines}
 use Rattle.ed_syntax.specs.meaning.States.{State, Kept, Past, Open, kept, unflagged, noted}
 use Rattle.ed_syntax.specs.meaning.Effects.{Outcome, Effect, Makes, Asks}
@@ -212,9 +212,9 @@ flags_are_no_bytes lines others same all =
 -- a command of a list is listed, and may be
 in-list : (c : Command) → is_listed c ≡ true → (c.listed ≡ true) × (may_be_listed c.verb ≡ true)
 in-list c is =
-    let sound : Bool = c.listed && is_sound c.verb in
+    let sound : Bool = c.listed && marks_by_letter c.verb in
     let both = and_parts sound (may_be_listed c.verb) (and_parts (sound && may_be_listed c.verb) (not (has_split c.verb)) is).0 in
-    ((and_parts c.listed (is_sound c.verb) both.0).0, both.1)
+    ((and_parts c.listed (marks_by_letter c.verb) both.0).0, both.1)
 
 -- so its effect neither loads nor brings back
 within-list : (verb : Verb) (s : State) (o : Outcome) → may_be_listed verb ≡ true → Shape verb s o → Within verb s o

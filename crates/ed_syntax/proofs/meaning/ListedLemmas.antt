@@ -8,7 +8,7 @@ use Rattle.ed_syntax.specs.declared.command.Verb.TheVariants as verb
 use Rattle.ed_syntax.specs.declared.command.Command.{Command, out-Command}
 use Rattle.ed_syntax.specs.declared.command.Sense.{Sense}
 use Rattle.ed_syntax.specs.Commands as ed
-use Rattle.ed_syntax.specs.meaning.Verbs.{is_sound}
+use Rattle.ed_syntax.specs.meaning.Verbs.{marks_by_letter}
 use Rattle.ed_syntax.specs.spelling.Spellings.{global_of}
 use Rattle.ed_syntax.specs.reading.Tokens.{Parsed, ◌>>=◌}
 use Rattle.ed_syntax.specs.reading.ReadCommands.{Taken, command_after_addresses}
@@ -55,7 +55,7 @@ single_read given own later None left unsensed is =
     ap (λ (o : Taken ed.Command). o >>= λ r. Some (ed.alone r.0, r.1)) is ∙ ap (λ (o : Parsed Sense). step_by o given own later) (sym unsensed)
 single_read given own later (Some c) left unsensed is =
     let stands = (command_after_addresses-stands false given own later (command_value c, left) (sym is)).sound in
-    let single = none_listed (out-Command c).verb (and_parts (not (is_global (command_value c).verb)) (is_sound (command_value c).verb) stands).0 in
+    let single = none_listed (out-Command c).verb (and_parts (not (is_global (command_value c).verb)) (marks_by_letter (command_value c).verb) stands).0 in
     ap (λ list. Some (record { command = command_value c; list = list }, left)) single
     ∙ ap (λ (o : Taken ed.Command). o >>= λ r. Some (ed.alone r.0, r.1)) is
     ∙ ap (λ (o : Parsed Sense). step_by o given own later) (sym unsensed)

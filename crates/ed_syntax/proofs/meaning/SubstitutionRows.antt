@@ -37,16 +37,16 @@ empty_match_right_after_a_full_one = refl
 several_bytes_in_one_match : becomes (codes "a*") (letter_x ∷ []) which.All (codes "baaac") ≡ one (codes "xbxcx")
 several_bytes_in_one_match = refl
 
-second_match_is_full : becomes (codes "b*") (part.Literal 88 ∷ []) (which.Nth 2) (codes "abb") ≡ one (codes "aX")
+second_match_is_full : becomes (codes "b*") (part.Literal 88 ∷ []) (which.Nth 1) (codes "abb") ≡ one (codes "aX")
 second_match_is_full = refl
 
-third_of_two : becomes (codes "X") hyphen (which.Nth 3) (codes "aXbXc") ≡ None
+third_of_two : becomes (codes "X") hyphen (which.Nth 2) (codes "aXbXc") ≡ None
 third_of_two = refl
 
-second_of_two : becomes (codes "X") hyphen (which.Nth 2) (codes "aXbXc") ≡ one (codes "aXb-c")
+second_of_two : becomes (codes "X") hyphen (which.Nth 1) (codes "aXbXc") ≡ one (codes "aXb-c")
 second_of_two = refl
 
-last_of_three_empty : becomes (codes "x*") hyphen (which.Nth 3) (codes "ab") ≡ one (codes "ab-")
+last_of_three_empty : becomes (codes "x*") hyphen (which.Nth 2) (codes "ab") ≡ one (codes "ab-")
 last_of_three_empty = refl
 
 first_alone : becomes (codes "X") hyphen which.First (codes "aXbXc") ≡ one (codes "a-bXc")

@@ -26,17 +26,17 @@ data WhichRead (text : List ℕ) : Option Which × List ℕ → Type 0 where
 abbrev ReadsWhich : List ℕ → Parsed (Option Which) → Type 0
 ReadsWhich text read = (r : Option Which × List ℕ) → read ≡ Some r → WhichRead text r
 
-nth-sound : (n : ℕ) (w : Which) → nth n ≡ Some w → (0 < n) × (which.Nth n ≡ w)
-nth-sound zero w is = absurd (none_some is)
-nth-sound (suc n) w is = (omega arith, Some-same (which.Nth (suc n)) w is)
+nth-sound : (text rest : List ℕ) (n : ℕ) (w : Which) → SpellsNumber text rest n → nth n ≡ Some w → SpellsWhich text rest w
+nth-sound text rest zero w spells is = absurd (none_some is)
+nth-sound text rest (suc before) w spells is =
+    subst (SpellsWhich text rest) (Some-same (which.Nth before) w is) (SpellsWhich.nth text rest before spells)
 
 count_at-sound : (text : List ℕ) → ReadsWhich text (count_at text)
 count_at-sound text r is =
     let n = bind-some (number text) (λ r. nth r.0 >>= λ w. Some (Some w, r.1)) r is in
     let w = bind-some (nth n.0.0) (λ w. Some (Some w, n.0.1)) r n.2 in
-    let count = nth-sound n.0.0 w.0 w.1 in
-    subst (WhichRead text) (Some-same (Some w.0, n.0.1) r w.2)
-    (one_which w.0 n.0.1 (subst (SpellsWhich text n.0.1) count.1 (SpellsWhich.nth text n.0.1 n.0.0 (number-sound text n.0 n.1) count.0)))
+    let spells = nth-sound text n.0.1 n.0.0 w.0 (number-sound text n.0 n.1) w.1 in
+    subst (WhichRead text) (Some-same (Some w.0, n.0.1) r w.2) (one_which w.0 n.0.1 spells)
 
 which_at-sound : (text : List ℕ) → ReadsWhich text (which_at text)
 which_at-sound [] = λ r is. subst (WhichRead []) (Some-same (None, []) r is) no_which
@@ -121,14 +121,13 @@ digit_first b bs digit =
     let high = leb-true b 57 (and_parts (nat_le 48 b) (nat_le b 57) digit).1 in
     rw (ne_eqb b letter_g (λ e. omega (arith, e, high)), digit, which_at) refl
 
-nth_read : (text rest : List ℕ) (n : ℕ) → SpellsNumber text rest n → 0 < n → count_at text ≡ Some (Some (which.Nth n), rest)
-nth_read text rest zero is some = absurd (omega (arith, some))
-nth_read text rest (suc n) is some = ap (λ (o : Parsed ℕ). o >>= λ r. nth r.0 >>= λ w. Some (Some w, r.1)) (number-complete is)
+nth_read : (text rest : List ℕ) (before : ℕ) → SpellsNumber text rest (suc before) → count_at text ≡ Some (Some (which.Nth before), rest)
+nth_read text rest before is = ap (λ (o : Parsed ℕ). o >>= λ r. nth r.0 >>= λ w. Some (Some w, r.1)) (number-complete is)
 
 which_at-complete : {text rest : List ℕ} {w : Which} → SpellsWhich text rest w → which_at text ≡ Some (Some w, rest)
 which_at-complete (SpellsWhich.all rest) = refl
-which_at-complete (SpellsWhich.nth [] rest n is some) = absurd (false≢true (number-first is))
-which_at-complete (SpellsWhich.nth (b ∷ bs) rest n is some) = digit_first b bs (number-first is) ∙ nth_read (b ∷ bs) rest n is some
+which_at-complete (SpellsWhich.nth [] rest before is) = absurd (false≢true (number-first is))
+which_at-complete (SpellsWhich.nth (b ∷ bs) rest before is) = digit_first b bs (number-first is) ∙ nth_read (b ∷ bs) rest before is
 
 -- neither stands in blanks
 blank_first : (b : ℕ) (bs : List ℕ) → is_blank b ≡ true → which_at (b ∷ bs) ≡ Some (None, b ∷ bs)

@@ -4,7 +4,7 @@ use Rattle.std.specs.Prelude.{nat_lt}
 use Rattle.std.proofs.lemmas.Bool.{lt-ltb, and_from}
 use Rattle.ed_syntax.specs.Commands as ed
 use Rattle.ed_syntax.specs.Commands.{Verb}
-use Rattle.ed_syntax.specs.meaning.Verbs.{takes, is_sound, has_split}
+use Rattle.ed_syntax.specs.meaning.Verbs.{takes, marks_by_letter, has_split}
 use Rattle.ed_syntax.specs.reading.ReadCommands.{text, entering, with_text}
 use Rattle.ed_syntax.proofs.meaning.StepLemmas.{either}
 use Rattle.ed_syntax.proofs.reader.VerbLemmas.{PlainVerb, FileVerb, SpellsLetter}
@@ -14,9 +14,9 @@ abbrev pub is_global : Verb → Bool
 is_global (ed.Global sense pattern) = true
 is_global _ = false
 
--- it has no list, and its letter and its count are such
+-- it has no list, and what marks a line is one of the letters
 abbrev pub stands : Verb → Bool
-stands verb = not (is_global verb) && is_sound verb
+stands verb = not (is_global verb) && marks_by_letter verb
 
 -- what the verb of a letter is
 pub record IsSimple (verb : Verb) : Type 0 where
@@ -33,7 +33,7 @@ file-simple _ = record { stands = refl; whole = refl }
 
 pub letter-simple : {own more : List ℕ} {verb : Verb} → SpellsLetter own more verb → IsSimple verb
 letter-simple (SpellsLetter.plain b more verb is) = plain-simple is
-letter-simple (SpellsLetter.mark letter more small) = record { stands = and_from (nat_lt letter 26) true (lt-ltb letter 26 small) refl; whole = refl }
+letter-simple (SpellsLetter.mark letter more small) = record { stands = lt-ltb letter 26 small; whole = refl }
 letter-simple (SpellsLetter.file b own path verb is spells) = file-simple is
 letter-simple _ = record { stands = refl; whole = refl }
 

@@ -8,7 +8,7 @@ use Rattle.ed_base.specs.Lines.{newline, IsLine, AreLines, lines_of, bytes_of}
 use Rattle.ed_base.proofs.LineLemmas.{HoldsLines-lines, HoldsLines-lines_of}
 use Rattle.ed_syntax.specs.spelling.Characters.{after_blanks}
 use Rattle.ed_syntax.specs.Commands.{Verb, Command}
-use Rattle.ed_syntax.specs.meaning.Verbs.{is_sound, may_be_listed, has_split, is_listed}
+use Rattle.ed_syntax.specs.meaning.Verbs.{marks_by_letter, may_be_listed, has_split, is_listed}
 use Rattle.ed_syntax.specs.spelling.Spellings as spelled
 use Rattle.ed_syntax.specs.spelling.Spellings.{SpellsCommand, SpellsEach, SpellsList, print}
 use Rattle.ed_syntax.specs.reading.Tokens.{◌>>=◌, addresses}
@@ -49,15 +49,15 @@ listed-read line later r are even is =
     let h = bind-some (heading_after_addresses true given.0.0 given.0.1 later) (λ h. Some (finished true h.0 h.1)) r given.2 in
     let read = heading-sound true given.0.0 given.0.1 later h.0 (All-tail IsLine line later are) h.1 in
     let stands = command_after_addresses-stands true given.0.0 given.0.1 later r given.2 in
-    let parts = and_parts (not (is_global r.0.verb)) (is_sound r.0.verb) stands.sound in
+    let parts = and_parts (not (is_global r.0.verb)) (marks_by_letter r.0.verb) stands.sound in
     let whole : has_split r.0.verb ≡ false =
     ap (λ (r : Command × List (List ℕ)). has_split r.0.verb) (sym (Some-same (finished true h.0.0 h.0.1) r h.2))
     ∙ text-keeps has_split (λ new old. (refl, refl, refl)) h.0.0.verb h.0.1
     ∙ head-whole line (addresses-end (addresses-sound line given.0 given.1)) read.spells.head even in
-    let marked = and_from r.0.listed (is_sound r.0.verb) stands.marked parts.1 in
-    let may = and_from (r.0.listed && is_sound r.0.verb) (may_be_listed r.0.verb) marked stands.may in
+    let marked = and_from r.0.listed (marks_by_letter r.0.verb) stands.marked parts.1 in
+    let may = and_from (r.0.listed && marks_by_letter r.0.verb) (may_be_listed r.0.verb) marked stands.may in
     let P : Command × List (List ℕ) → Type 0 = λ r. End later r.1 in record {
-      listed = and_from (r.0.listed && is_sound r.0.verb && may_be_listed r.0.verb) (not (has_split r.0.verb)) may (ap not whole);
+      listed = and_from (r.0.listed && marks_by_letter r.0.verb && may_be_listed r.0.verb) (not (has_split r.0.verb)) may (ap not whole);
       after = subst P (Some-same (finished true h.0.0 h.0.1) r h.2) (end-of (read.taken, read.split) (with_text-end h.0.0.verb h.0.1));
     }
 

@@ -10,7 +10,7 @@ use Rattle.ed_syntax.specs.declared.command.Sense.TheVariants as sense
 use Rattle.ed_syntax.specs.spelling.Characters.{is_delimiter}
 use Rattle.ed_syntax.specs.spelling.Letters.{letter_g, letter_v}
 use Rattle.ed_syntax.specs.Commands.{Addresses, Command, Step, alone}
-use Rattle.ed_syntax.specs.meaning.Verbs.{is_sound, is_listed, is_step}
+use Rattle.ed_syntax.specs.meaning.Verbs.{marks_by_letter, is_listed, is_step}
 use Rattle.ed_syntax.specs.spelling.Addressing.{SpellsAddresses}
 use Rattle.ed_syntax.specs.spelling.Parameters.{SpellsSense}
 use Rattle.ed_syntax.specs.spelling.Spellings.{Spells, global_of}
@@ -48,8 +48,8 @@ single-sound line own given later are addressed r is =
     let here = command_after_addresses-stands false given own later c.0 c.1 in
     let verb = c.0.0.verb in
     let unlisted : not c.0.0.listed ≡ true = ap not here.marked in
-    let sound = (and_parts (not (is_global verb)) (is_sound verb) here.sound).1 in
-    let stands = and_from (not c.0.0.listed && is_sound verb) (list_all is_listed []) (and_from (not c.0.0.listed) (is_sound verb) unlisted sound) refl in
+    let sound = (and_parts (not (is_global verb)) (marks_by_letter verb) here.sound).1 in
+    let stands = and_from (not c.0.0.listed && marks_by_letter verb) (list_all is_listed []) (and_from (not c.0.0.listed) (marks_by_letter verb) unlisted sound) refl in
     subst (ReadsStep (line ∷ later)) (Some-same (alone c.0.0, c.0.1) r c.2) (record {
       first = record { bytes = read.bytes; split = read.split; spells = Spells.single read.bytes (bytes_of c.0.1) c.0.0 read.spells; counted = read.counted; are = read.are };
       stands = stands;

@@ -1,15 +1,11 @@
--- What is read as a command by itself has no list, letters for its marks, and counts from 1.
-use Rattle.std.proofs.Common.{◌≡◌, ℕ, nat_eq, Bool, true, ◌&&◌, List, [], ◌∷◌, Option, Some, None, refl, sym, ap, ◌∙◌, subst, arith}
-use Rattle.std.proofs.lemmas.Bool.{le-leb, and_parts}
-use Rattle.ed_syntax.specs.declared.replacement.Part.{Part}
-use Rattle.ed_syntax.specs.declared.replacement.Which.{Which}
-use Rattle.ed_syntax.specs.declared.replacement.Which.TheVariants as which
+-- What is read as a command by itself has no list, and letters for its marks.
+use Rattle.std.proofs.Common.{◌≡◌, ℕ, nat_eq, Bool, true, ◌&&◌, List, [], ◌∷◌, Option, Some, None, refl, sym, ap, ◌∙◌, subst}
+use Rattle.std.proofs.lemmas.Bool.{and_parts}
 use Rattle.ed_syntax.specs.spelling.Characters.{is_delimiter}
 use Rattle.ed_syntax.specs.spelling.Letters.{letter_s}
 use Rattle.ed_syntax.specs.Commands as ed
 use Rattle.ed_syntax.specs.Commands.{Addresses, Form, Verb, Command}
 use Rattle.ed_syntax.specs.meaning.Verbs.{may_have, may_stand}
-use Rattle.ed_syntax.specs.spelling.Parameters.{SpellsWhich, SpellsFlags}
 use Rattle.ed_syntax.specs.reading.Tokens.{◌>>=◌, pattern_at}
 use Rattle.ed_syntax.specs.reading.ReadParameters.{Place, ParsedAt, place, replacement, end_at, substitution_with, substitution}
 use Rattle.ed_syntax.specs.reading.ReadVerbs.{verb_at}
@@ -17,23 +13,6 @@ use Rattle.ed_syntax.specs.reading.ReadCommands.{Heading, Headed, verb_from, suf
 use Rattle.ed_syntax.proofs.meaning.StepLemmas.{Some-same, none_some, bind-some, either}
 use Rattle.ed_syntax.proofs.reader.VerbLemmas.{verb_at-sound}
 use Rattle.ed_syntax.proofs.reader.LetterLemmas.{stands, letter-simple, text-keeps}
-use Rattle.ed_syntax.proofs.reader.FlagsLemmas.{flags-sound}
-
-module _ (pattern : Option (List ℕ)) (replaced : Option (List Part)) where
-  which-stands : {text rest : List ℕ} {w : Which} (form : Option Form) → SpellsWhich text rest w → stands (ed.Substitute pattern replaced w form) ≡ true
-  which-stands form (SpellsWhich.all rest) = refl
-  which-stands form (SpellsWhich.nth text rest n is some) = le-leb 1 n (omega (arith, some))
-
-  flags-stands : {text rest : List ℕ} {w : Which} {form : Option Form} → SpellsFlags text rest w form → stands (ed.Substitute pattern replaced w form) ≡ true
-  flags-stands (SpellsFlags.none rest) = refl
-  flags-stands (SpellsFlags.choice text rest w is) = which-stands None is
-  flags-stands (SpellsFlags.form letter rest form is) = refl
-  flags-stands (SpellsFlags.choice_form letter text rest w form is spells) = which-stands (Some form) is
-  flags-stands (SpellsFlags.form_choice letter text rest w form spells is) = which-stands (Some form) is
-
-  end-stands : (text : List ℕ) (e : (Which × Option Form) × List ℕ) → end_at text ≡ Some e → stands (ed.Substitute pattern replaced e.0.0 e.0.1) ≡ true
-  end-stands [] e is = subst (λ (e : (Which × Option Form) × List ℕ). stands (ed.Substitute pattern replaced e.0.0 e.0.1) ≡ true) (Some-same ((which.First, Some ed.Plain), []) e is) refl
-  end-stands (b ∷ bs) e is = flags-stands (flags-sound bs e is)
 
 -- all that may be read stands
 abbrev Stands : ParsedAt Verb → Type 0
@@ -44,8 +23,7 @@ with-stands delimiter pattern [] lines r is = absurd (none_some is)
 with-stands delimiter pattern (b ∷ bs) lines r is =
     let found = bind-some (replacement delimiter bs lines) (λ r. end_at r.1.line >>= λ e. Some (ed.Substitute pattern r.0 e.0.0 e.0.1, place e.1 r.1.later)) r is in
     let end = bind-some (end_at found.0.1.line) (λ e. Some (ed.Substitute pattern found.0.0 e.0.0 e.0.1, place e.1 found.0.1.later)) r found.2 in
-    subst (λ (r : Verb × Place). stands r.0 ≡ true) (Some-same (ed.Substitute pattern found.0.0 end.0.0.0 end.0.0.1, place end.0.1 found.0.1.later) r end.2)
-    (end-stands pattern found.0.0 found.0.1.line end.0 end.1)
+    subst (λ (r : Verb × Place). stands r.0 ≡ true) (Some-same (ed.Substitute pattern found.0.0 end.0.0.0 end.0.0.1, place end.0.1 found.0.1.later) r end.2) refl
 
 substitution-stands : (own : List ℕ) (lines : List (List ℕ)) → Stands (substitution own lines)
 substitution-stands [] lines = λ r is. absurd (none_some is)

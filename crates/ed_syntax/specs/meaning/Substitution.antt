@@ -1,6 +1,6 @@
 -- Substitution on one line: the matches that are taken, those that are replaced, and the lines that come of it (XCU ed, "Substitute
 -- Command").
-use Rattle.std.specs.Prelude.{ℕ, zero, suc, ◌+◌, ◌-◌, Bool, true, false, ◌&&◌, List, [], ◌∷◌, ◌++◌, flat_map, length, take, drop, Option, Some, None, option_map, nat_eq, nat_le, slice_index_or}
+use Rattle.std.specs.Prelude.{ℕ, zero, suc, ◌+◌, Bool, true, false, ◌&&◌, List, [], ◌∷◌, ◌++◌, flat_map, length, take, drop, Option, Some, None, option_map, nat_eq, nat_le, slice_index_or}
 use Rattle.bre_parse.specs.Tree.{Tree}
 use Rattle.bre_parse.specs.Match.{match_from}
 use Rattle.bre_parse.specs.Ways.{Way, bytes_of}
@@ -44,7 +44,7 @@ taken tree text = taken_from (suc (length text)) tree text 0 false
 -- those of them that are replaced
 abbrev pub picked : Which → List Found → List Found
 picked which.First matches = take 1 matches
-picked (which.Nth number) matches = take 1 (drop (number - 1) matches)
+picked (which.Nth before) matches = take 1 (drop before matches)
 picked which.All matches = matches
 
 -- the bytes of a group; one that isn't set has none

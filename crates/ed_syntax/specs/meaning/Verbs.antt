@@ -1,11 +1,10 @@
 -- What each command takes, and what else is asked of it: one table of all commands (XCU ed, "Commands in ed").
-use Rattle.std.specs.Prelude.{pos, Bool, true, false, not, ◌&&◌, ◌||◌, nat_le, nat_lt, Option, Some, None, is_some}
+use Rattle.std.specs.Prelude.{pos, Bool, true, false, not, ◌&&◌, ◌||◌, nat_lt, Option, Some, None, is_some}
 use Rattle.std.specs.List.{list_all, list_any}
 use Rattle.ed_syntax.specs.Commands as ed
 use Rattle.ed_syntax.specs.Commands.{Address, Addresses, Without, One, Comma, Semicolon, Verb, Command, Step, at_base}
 use Rattle.ed_syntax.specs.declared.replacement.Part.{Part}
 use Rattle.ed_syntax.specs.declared.replacement.Part.TheVariants as part
-use Rattle.ed_syntax.specs.declared.replacement.Which.TheVariants as which
 use Rattle.ed_syntax.specs.declared.verbs.Ends.{Ends}
 use Rattle.ed_syntax.specs.declared.verbs.Ends.TheVariants as ends
 use Rattle.ed_syntax.specs.declared.verbs.Taking.{Taking}
@@ -144,15 +143,6 @@ abbrev pub marks_by_letter : Verb → Bool
 marks_by_letter (ed.Mark letter) = nat_lt letter 26
 marks_by_letter _ = true
 
--- the count of a substitution counts from 1
-abbrev pub counts_from_one : Verb → Bool
-counts_from_one (ed.Substitute pattern replacement (which.Nth number) form) = nat_le 1 number
-counts_from_one _ = true
-
--- its letter and its count are such
-abbrev pub is_sound : Verb → Bool
-is_sound verb = marks_by_letter verb && counts_from_one verb
-
 -- it may stand in the list of a global command
 abbrev pub may_be_listed : Verb → Bool
 may_be_listed verb = (takes verb).listed
@@ -189,8 +179,8 @@ ends_run verb = is_some (takes verb).ends
 
 -- a command of a list
 abbrev pub is_listed : Command → Bool
-is_listed c = c.listed && is_sound c.verb && may_be_listed c.verb && not (has_split c.verb)
+is_listed c = c.listed && marks_by_letter c.verb && may_be_listed c.verb && not (has_split c.verb)
 
 -- a step of a script: only commands of lists are listed
 abbrev pub is_step : Step → Bool
-is_step x = not x.command.listed && is_sound x.command.verb && list_all is_listed x.list
+is_step x = not x.command.listed && marks_by_letter x.command.verb && list_all is_listed x.list

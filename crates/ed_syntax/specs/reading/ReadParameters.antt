@@ -105,7 +105,7 @@ form_at (b ∷ bs) = elim (form_of b) [ Some form ↦ (Some form, bs) | None ↦
 -- a count isn't 0
 abbrev pub nth : ℕ → Option Which
 nth zero = None
-nth (suc n) = Some (which.Nth (suc n))
+nth (suc before) = Some (which.Nth before)
 
 -- a count
 abbrev pub count_at : List ℕ → Parsed (Option Which)

@@ -1,7 +1,7 @@
 -- Which bytes spell a command's text, its path, the parameters of `s` and the letters of forms and global commands (XCU ed, "Commands
 -- in ed", "Substitute Command").
 -- Each names a text, what stands after the part at its head, and what that part means. A text ends with its line.
-use Rattle.std.specs.Prelude.{ℕ, ◌+◌, ◌<◌, ◌≡◌, ◌≢◌, List, [], ◌∷◌, ◌++◌, Option, Some, None, IsTrue, IsFalse}
+use Rattle.std.specs.Prelude.{ℕ, suc, ◌+◌, ◌<◌, ◌≡◌, ◌≢◌, List, [], ◌∷◌, ◌++◌, Option, Some, None, IsTrue, IsFalse}
 use Rattle.ed_base.specs.Lines.{newline, IsLine}
 use Rattle.ed_syntax.specs.declared.command.Sense.{Sense}
 use Rattle.ed_syntax.specs.declared.command.Sense.TheVariants as sense
@@ -66,10 +66,10 @@ pub data SpellsReplacement (delimiter : ℕ) : (own more text : List ℕ) → Op
   given : (own more text : List ℕ) (parts : List Part) → own ≢ percent_sign ∷ more → SpellsParts delimiter own more text parts →
       SpellsReplacement delimiter own more text (Some parts)
 
--- a count that isn't 0, or `g`
+-- a count, from 1 on, by how many matches stand before the one that it counts; or `g`
 pub data SpellsWhich : (text rest : List ℕ) → Which → Type 0 where
   all : (rest : List ℕ) → SpellsWhich (letter_g ∷ rest) rest which.All
-  nth : (text rest : List ℕ) (n : ℕ) → SpellsNumber text rest n → 0 < n → SpellsWhich text rest (which.Nth n)
+  nth : (text rest : List ℕ) (before : ℕ) → SpellsNumber text rest (suc before) → SpellsWhich text rest (which.Nth before)
 
 -- at most one of each, in any order
 pub data SpellsFlags : (text rest : List ℕ) → Which → Option Form → Type 0 where

@@ -21,7 +21,7 @@ returns-clause-exact g c =
     let past = c.rewrite_lines.new.past in
     let line = c.in-Some.line in
     let made = c.in_ok-made.ensures in
-    substituted c.args.pattern.now c.args.replacement.now c.args.which (suffix_value c.args.flag) (span_value c.args.span) before c.args.self.now.state mid
+    substituted c.args.pattern.now c.args.replacement.now c.args.which.now (suffix_value c.args.flag) (span_value c.args.span) before c.args.self.now.state mid
     (held after line e.pattern e.replacement e.name true past) c.in-Some-Some.pattern c.in-Some-Some.replacement line c.in_ok-flag_written.field-0
     (c.in_ok-remember_both.ensures.remembered ∙ ap (λ s. Ok s) (sym is)) c.in-Some-Some.is-0 c.in-Some-Some.is-1
     (sym c.in-Some.is ∙ made.made)

@@ -9,10 +9,10 @@ use Rattle.ed_commands.proofs.editor.rewriting.new_lines_of.Goals as goal
 pub returns-clause-value : goal.returns-clause-value
 returns-clause-value c = λ text is.
     ap (λ (l : List Line). Some l) c.in_ok-lines.ensures.value
-    ∙ sym (ap (option_map (map plain_line)) (made-by text (searched c.args.searcher.now) c.args.replacement.now c.args.which c.args.line.now
+    ∙ sym (ap (option_map (map plain_line)) (made-by text (searched c.args.searcher.now) c.args.replacement.now c.args.which.now c.args.line.now
     c.in_ok-made.made is c.in_ok-made.ensures.value ∙ ap (option_map split_at_newlines) c.in-Some.is))
 
 pub returns-in_default-clause-value : goal.returns-in_default-clause-value
 returns-in_default-clause-value c = λ text is.
-    sym (ap (option_map (map plain_line)) (made-by text (searched c.args.searcher.now) c.args.replacement.now c.args.which c.args.line.now
+    sym (ap (option_map (map plain_line)) (made-by text (searched c.args.searcher.now) c.args.replacement.now c.args.which.now c.args.line.now
     c.in_ok-made.made is c.in_ok-made.ensures.value ∙ ap (option_map split_at_newlines) c.in_default.is))

@@ -15,7 +15,7 @@ pub loop-i-init : goal.loop-i-init
 loop-i-init g c =
     let old = g.S.LineStore.lines c.args.store.now in
     let from = c.args.span.first - 1 in
-    let f = made_of c.args.pattern.now c.args.replacement.now c.args.which in
+    let f = made_of c.args.pattern.now c.args.replacement.now c.args.which.now in
     let put : old ≡ exchanged from from (each f (block from from old)).0 old =
     sym (ap (λ t. exchanged from from (each f t).0 old) (block-none from old) ∙ take-append-drop from old) in
     record {
@@ -31,7 +31,7 @@ loop-i-init g c =
 
 pub rewrite_line-requires-clause-new : goal.rewrite_line-requires-clause-new
 rewrite_line-requires-clause-new g c =
-    let f = made_of c.args.pattern.now c.args.replacement.now c.args.which in
+    let f = made_of c.args.pattern.now c.args.replacement.now c.args.which.now in
     new-made (f c.text-text.result.now) c.in-Some.lines.items
     (subst (λ made. option_map (λ lines. lines.items) made ≡ option_map (map plain_line) (f c.text-text.result.now)) c.in-Some.is
     (c.in_ok-new.ensures.value c.args.pattern.now c.loop-i.invariant.searches))
@@ -42,7 +42,7 @@ loop-i-preserved-in_default g c =
     let now = g.S.LineStore.lines c.loop-i.store in
     let from = c.args.span.first - 1 in
     let i = c.loop-i.i in
-    let f = made_of c.args.pattern.now c.args.replacement.now c.args.which in
+    let f = made_of c.args.pattern.now c.args.replacement.now c.args.which.now in
     let r = each f (block from i old) in
     let d = plain_line [] in
     let place = c.len.result - (c.len-count.result - i) in
@@ -76,7 +76,7 @@ loop-i-preserved g c =
     let after = g.S.LineStore.lines c.rewrite_line.new.store in
     let from = c.args.span.first - 1 in
     let i = c.loop-i.i in
-    let f = made_of c.args.pattern.now c.args.replacement.now c.args.which in
+    let f = made_of c.args.pattern.now c.args.replacement.now c.args.which.now in
     let r = each f (block from i old) in
     let d = plain_line [] in
     let new = c.in-Some.lines.items in
@@ -94,7 +94,7 @@ loop-i-preserved g c =
     let put : after ≡ exchanged from (i + 1) (r.0 ++ new) old =
     c.in_ok-rewrite_line.ensures.put ∙ gone from i place r.0 new old now d (omega arith) below c.loop-i.invariant.put at in
     let long = length-exchanged from (i + 1) (r.0 ++ new) old (omega arith) (omega arith) in
-    let some = some-made c.args.pattern.now c.args.replacement.now c.args.which (get_or old i d).bytes new told in
+    let some = some-made c.args.pattern.now c.args.replacement.now c.args.which.now (get_or old i d).bytes new told in
     let number : c.len-in-loop-i.result - (c.len-count.result - i - 1) ≡ from + (length r.0 + length new) =
     omega (arith, ap length put, long, length-append r.0 new, c.len-in-loop-i.ensures.value, c.len-count.ensures.value) in
     let whole : after ≡ exchanged from (i + 1) (each f (block from (i + 1) old)).0 old = put ∙ ap (λ t. exchanged from (i + 1) t.0 old) (sym further) in
@@ -127,7 +127,7 @@ pub returns : goal.returns
 returns g c =
     let old = g.S.LineStore.lines c.args.store.now in
     let from = c.args.span.first - 1 in
-    let f = made_of c.args.pattern.now c.args.replacement.now c.args.which in
+    let f = made_of c.args.pattern.now c.args.replacement.now c.args.which.now in
     let end : c.loop-i.i ≡ c.args.span.last = omega arith in
     record {
       made = c.loop-i.invariant.made ∙ ap (λ n. option_map (λ m. from + m) (each f (block from n old)).1) end;
