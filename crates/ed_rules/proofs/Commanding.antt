@@ -41,6 +41,7 @@ use Rattle.ed_rules.proofs.Lifting.{Holds-lifted}
 use Rattle.ed_rules.proofs.Finishing.{Final, Follows, finish-sound}
 use Rattle.ed_rules.proofs.SubstitutionEffects.{substitute-follows}
 use Rattle.ed_rules.proofs.Lettered.{lettered-marked}
+use Rattle.ed_rules.proofs.Aside.{step_aside}
 use Rattle.ed_rules.proofs.GlobalEffects.{flag-follows, undo-follows}
 use Rattle.ed_rules.proofs.Answering.{Does, Comes, does-agreed, does-bind, finish-does}
 use Rattle.ed_rules.proofs.Filing.{Written, all-written, whole-range, ranges-written, read-does, write-does, edit-does, edit_anyway-does, name-does, quit-does}
@@ -49,7 +50,8 @@ use Rattle.ed_syntax.specs.meaning.Files as file
 use Rattle.zones.specs.Known.{known}
 use Rattle.ed_rules.specs.Pieces.{ended, with_zone, modified, replaced, lifted}
 use Rattle.ed_rules.specs.Addresses.{copied, addressed, standing, last_given, evaluated, ranged}
-use Rattle.ed_rules.specs.Rules.{taken, effect, suffixed, step_at}
+use Rattle.ed_rules.specs.Rules.{taken, effect, suffixed}
+use Rattle.ed_rules.specs.Matched.{AreMatched}
 use Rattle.ed_rules.specs.Lines.{appended, put_before}
 use Rattle.zones.proofs.Known.{known-true}
 use Rattle.ed_rules.proofs.Basics.{chain, and-both, Agrees-bind, Agrees-ok, Agrees-map, Agrees-needing, Agrees-need_then, Agrees-weaker, Agrees-also}
@@ -61,7 +63,7 @@ IsGiven (One a) = Unit {0}
 IsGiven (Comma a b) = Unit {0}
 IsGiven (Semicolon a b) = Unit {0}
 
-names-given : (a : Addresses) → IsGiven a → (vs : List ℕ) (lines : List Line) (v : Numbers) → NamesOf a vs lines v → Names ⊥ vs lines v
+pub names-given : (a : Addresses) → IsGiven a → (vs : List ℕ) (lines : List Line) (v : Numbers) → NamesOf a vs lines v → Names ⊥ vs lines v
 names-given Without g vs lines v n = absurd g
 names-given (One a) g vs lines v n = record { first_is = n.first_is; last_is = n.last_is; first_in = n.first_in; last_in = n.last_in; same = λ z. absurd z }
 names-given (Comma a b) g vs lines v n = n
@@ -107,10 +109,10 @@ abbrev InRange : editor.State → State → Span → Type 0
 InRange e u x = Ranges u e x
 
 -- a range, and what else is said of the same numbers
-abbrev RangeWith : (Numbers → Type 0) → editor.State → State → Span → Type 0
+abbrev pub RangeWith : (Numbers → Type 0) → editor.State → State → Span → Type 0
 RangeWith E e u x = (r : Ranges u e x) × E r.spans.numbers
 
-range-with : (E : Numbers → Type 0) (t : State) (e : editor.State) (vs : List ℕ) (v : Numbers) (count : ℕ) → StandsBy t e v → Names ⊥ vs e.lines v → E v →
+pub range-with : (E : Numbers → Type 0) (t : State) (e : editor.State) (vs : List ℕ) (v : Numbers) (count : ℕ) → StandsBy t e v → Names ⊥ vs e.lines v → E v →
     Agrees (RangeWith E e) (ranged t) (spanned many.Range count vs)
 range-with E t e vs v count st n extra =
     Agrees-needing (RangeWith E e) _ fault.Address t (spanned many.Range count vs) (λ k.
@@ -132,10 +134,10 @@ range-with E t e vs v count st n extra =
       extra,
     ))
 
-abbrev Nothing_more : Numbers → Type 0
+abbrev pub Nothing_more : Numbers → Type 0
 Nothing_more v = Unit {0}
 
-range-sound : (a : Addresses) → IsGiven a → (t : State) (p : editor.State × List ℕ) (count : ℕ) → Addressed (NamesOf a) t p →
+pub range-sound : (a : Addresses) → IsGiven a → (t : State) (p : editor.State × List ℕ) (count : ℕ) → Addressed (NamesOf a) t p →
     Agrees (RangeWith Nothing_more p.0) (ranged t) (spanned many.Range count p.1)
 range-sound a g t p count h =
     range-with Nothing_more t p.0 p.1 h.numbers count h.stands (names-given a g p.1 p.0.lines h.numbers h.names) tt
@@ -308,7 +310,7 @@ lines-sound given d g t p h =
     lifted-range p.0 u a b q.0 q.1 q.2 q.3 le p.1 refl refl in
     Agrees-need_then (InRange p.0) (known t.zone 3 4 (pos 0)) fault.Address u ranged (spanned many.Lines (length p.0.lines) p.1) both
 
-abbrev Equal : Numbers → Type 0
+abbrev pub Equal : Numbers → Type 0
 Equal v = v 3 ≡ v 4
 
 -- `j`: with one address nothing happens
@@ -332,7 +334,7 @@ join-sound c (Semicolon a b) d g s e start t p h =
     (λ u x r. finish-sound c e (joined c.listed s u) (Makes (effects.join x p.0)) (join-follows c.listed s e start u p.0 x r.0))
 
 -- the target has its value in t3
-record Targeted (p : editor.State) (vs : List ℕ) (t : State) (q : editor.State × ℕ) : Type 0 where
+pub record Targeted (p : editor.State) (vs : List ℕ) (t : State) (q : editor.State × ℕ) : Type 0 where
   pub numbers : Numbers
   pub stands : StandsBy t q.0 numbers
   pub names : Names ⊥ vs q.0.lines numbers
@@ -340,10 +342,10 @@ record Targeted (p : editor.State) (vs : List ℕ) (t : State) (q : editor.State
   pub target_in : q.1 ≤ length q.0.lines
   pub same_lines : q.0.lines ≡ p.lines
 
-targeted-sound : (to : Address) (t : State) (p : editor.State) (vs : List ℕ) (v : Numbers) → StandsBy t p v → Names ⊥ vs p.lines v →
+pub targeted-sound : (to : Address) (t : State) (p : editor.State) (vs : List ℕ) (v : Numbers) → StandsBy t p v → Names ⊥ vs p.lines v → AreMatched t.has p.lines →
     Agrees (Targeted p vs) (evaluated 5 to t) (targeted (Some to) p)
-targeted-sound to t p vs v st n =
-    Agrees-map (Valued 5 (concrete.evaluated to p) v) (Targeted p vs) (evaluated 5 to t) (value to p) (λ m. (concrete.evaluated to p, m)) (valued-sound 5 to t p v (omega arith) (omega arith) st)
+targeted-sound to t p vs v st n matched =
+    Agrees-map (Valued 5 (concrete.evaluated to p) v) (Targeted p vs) (evaluated 5 to t) (value to p) (λ m. (concrete.evaluated to p, m)) (valued-sound 5 to t p v (omega arith) (omega arith) st matched)
     (λ u m r. record {
       numbers = updated v 5 (pos m);
       stands = r.0;
@@ -353,7 +355,7 @@ targeted-sound to t p vs v st n =
       same_lines = refl;
     })
 
-abbrev At_target : ℕ → Numbers → Type 0
+abbrev pub At_target : ℕ → Numbers → Type 0
 At_target n v = v 5 ≡ pos n
 
 -- the range of `w`
@@ -418,7 +420,7 @@ module _ (order : SpansAreInOrder) (c : Command) (answer : Option Answer) (given
       (subst (λ (ls : List Line). KnowLetters ls) (sym same_lines) marked_well.known))))
   after_addresses (ed.Move to) f g =
       let n = names-given (given_or given d) (given_or-given given d g) p.1 p.0.lines h.numbers h.names in
-      Agrees-bind (Targeted p.0 p.1) Final (evaluated 5 to t) (targeted (Some to) p.0) _ _ (targeted-sound to t p.0 p.1 h.numbers h.stands n)
+      Agrees-bind (Targeted p.0 p.1) Final (evaluated 5 to t) (targeted (Some to) p.0) _ _ (targeted-sound to t p.0 p.1 h.numbers h.stands n h.matched)
       (λ u q k. Agrees-bind (RangeWith (At_target q.1) q.0) Final (ranged u) (spanned many.Range (length e.lines) p.1) _ _
       (range-with (At_target q.1) u q.0 p.1 k.numbers (length e.lines) k.stands k.names k.target_is)
       (λ w x r. Agrees-bind (Follows c.listed e) Final (moved_lines c.listed s w) (making (effects.move x q.1 q.0)) _ _
@@ -427,7 +429,7 @@ module _ (order : SpansAreInOrder) (c : Command) (answer : Option Answer) (given
       (λ m f i. finish-sound c e m f i)))
   after_addresses (ed.Copy to) f g =
       let n = names-given (given_or given d) (given_or-given given d g) p.1 p.0.lines h.numbers h.names in
-      Agrees-bind (Targeted p.0 p.1) Final (evaluated 5 to t) (targeted (Some to) p.0) _ _ (targeted-sound to t p.0 p.1 h.numbers h.stands n)
+      Agrees-bind (Targeted p.0 p.1) Final (evaluated 5 to t) (targeted (Some to) p.0) _ _ (targeted-sound to t p.0 p.1 h.numbers h.stands n h.matched)
       (λ u q k. Agrees-bind (RangeWith (At_target q.1) q.0) Final (ranged u) (spanned many.Range (length e.lines) p.1) _ _
       (range-with (At_target q.1) u q.0 p.1 k.numbers (length e.lines) k.stands k.names k.target_is)
       (λ w x r. finish-sound c e (copied_lines c.listed s w) (Makes (effects.copy x q.1 q.0))
@@ -510,12 +512,12 @@ command-is c e answer =
     (λ v q x. record { state = q.0; span = x; target = q.1 }) (λ r. effect_of c.verb c.listed r.span r.target r.state answer >> completed c e)
 
 pub phases_sound : SpansAreInOrder → (c : Command) (s : State) (e : editor.State) (answer : Option Answer) → AreLettered e.lines →
-    Stands s e →
-    Does Comes answer (step_at (given_or c.addresses (standing (takes c.verb).default)) c s) (command e c answer)
-phases_sound order c s e answer letters st =
+    Stands s e → AreMatched s.has e.lines →
+    Does Comes answer (step_aside (given_or c.addresses (standing (takes c.verb).default)) c s) (command e c answer)
+phases_sound order c s e answer letters st matched =
     let d : Addresses = standing (takes c.verb).default in
     let a : Addresses = given_or c.addresses d in
-    subst (λ (y : Result Effect Fault). Does Comes answer (step_at a c s) y) (sym (command-is c e answer))
-    (does-bind (AddressedIn e.lines (NamesOf a)) Comes answer (addressed a s) (values (given_or c.addresses (takes c.verb).default) e) _ _ (command_addressed c.addresses c.verb s e st)
+    subst (λ (y : Result Effect Fault). Does Comes answer (step_aside a c s) y) (sym (command-is c e answer))
+    (does-bind (AddressedIn e.lines (NamesOf a)) Comes answer (addressed a s) (values (given_or c.addresses (takes c.verb).default) e) _ _ (command_addressed c.addresses c.verb s e st matched)
     (λ t p h. all_after_addresses order c answer c.addresses d s e st letters.whole (lettered-marked e.lines letters) t p h.1 h.0 c.verb
     (suits c.verb)))

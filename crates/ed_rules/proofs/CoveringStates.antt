@@ -1,5 +1,5 @@
 -- Covering is an order of states, in which what unites two states covers both.
-use Rattle.std.proofs.Common.{◌≡◌, ◌<◌, ℕ, Bool, true, false, ◌||◌, ◌&&◌, List, [], ◌∷◌, Option, None, Some, refl, ◌∙◌, sym, arith}
+use Rattle.std.proofs.Common.{◌≡◌, ◌<◌, ℕ, Bool, true, false, ◌&&◌, List, [], ◌∷◌, Option, None, Some, refl, ◌∙◌, sym, arith}
 use Rattle.std.specs.Ordering.{is_eq}
 use Rattle.std.proofs.lemmas.List.FromFn.{get_or-map-range_with_len}
 use Rattle.zones.specs.Zone as zones
@@ -9,7 +9,8 @@ use Rattle.ed_rules.specs.declared.state.Old.{Old}
 use Rattle.ed_rules.specs.declared.state.State.{State}
 use Rattle.ed_rules.specs.Choices.{Choice, order_of, has_choice, union, are_choices}
 use Rattle.ed_rules.specs.Marks.{is_sure, both_sure}
-use Rattle.ed_rules.specs.Order.{old_of_both, united, join, widen, CoversOld, Covers}
+use Rattle.ed_rules.specs.Order.{old_of_both, old_has_of_both, united, join, widen, CoversOld, CoversOldHas, Covers}
+use Rattle.ed_rules.proofs.Texting.{members-same, members-through, members-both, members-both_other}
 use Rattle.ed_rules.proofs.Choosing.{choice-itself, or-left, or-right, has_choice-all, has-union, has-union_other}
 
 -- the laws on zones that this rests on
@@ -79,6 +80,27 @@ old-both_other k one None = tt
 old-both_other k None (Some other) = old-same k (Some other)
 old-both_other k (Some one) (Some other) = (k.join_other one.zone other.zone, λ letter l e. (sure-both one.marks other.marks letter l e).1)
 
+-- WHAT LINES MATCH OF WHAT UNDO KEEPS
+
+matched-same : (was : Option Old) (has : List (List ℕ)) → CoversOldHas was has has
+matched-same None has = tt
+matched-same (Some old) has = members-same has
+
+matched-through : (b c : Option Old) (few many more : List (List ℕ)) → CoversOld b c → CoversOldHas b few many → CoversOldHas c many more → CoversOldHas c few more
+matched-through b None few many more o h k = tt
+matched-through None (Some c) few many more o h k = absurd o
+matched-through (Some b) (Some c) few many more o h k = members-through few many more h k
+
+matched-both : (one other : Option Old) (has old_has : List (List ℕ)) → CoversOldHas one (old_has_of_both one other has old_has) has
+matched-both None other has old_has = tt
+matched-both (Some one) None has old_has = members-same has
+matched-both (Some one) (Some other) has old_has = members-both has old_has
+
+matched-both_other : (one other : Option Old) (has old_has : List (List ℕ)) → CoversOldHas other (old_has_of_both one other has old_has) old_has
+matched-both_other one None has old_has = tt
+matched-both_other None (Some other) has old_has = members-same old_has
+matched-both_other (Some one) (Some other) has old_has = members-both_other has old_has
+
 -- STATES
 
 pub Covers-itself : Laws → (s : State) → Covers s s
@@ -95,6 +117,8 @@ Covers-itself k s = record {
   nothing = λ e. e;
   same = λ e. e;
   was = old-same k s.undo.was;
+  matched = members-same s.has;
+  old_matched = matched-same s.undo.was s.old_has;
 }
 
 pub Covers-on : Laws → (a b c : State) → Covers a b → Covers b c → Covers a c
@@ -111,6 +135,8 @@ Covers-on laws a b c h k = record {
   nothing = λ e. h.nothing (k.nothing e);
   same = λ e. h.same (k.same e);
   was = old-through laws a.undo.was b.undo.was c.undo.was h.was k.was;
+  matched = members-through a.has b.has c.has h.matched k.matched;
+  old_matched = matched-through b.undo.was c.undo.was a.old_has b.old_has c.old_has k.was h.old_matched k.old_matched;
 }
 
 united-covers : Laws → (one other : State) (zone : Bounds) → zones.Covers zone one.zone → Covers (united one other zone) one
@@ -127,6 +153,8 @@ united-covers k one other zone z = record {
   nothing = λ e. or-left one.undo.nothing other.undo.nothing e;
   same = λ e. or-left one.undo.same other.undo.same e;
   was = old-both k one.undo.was other.undo.was;
+  matched = members-both one.has other.has;
+  old_matched = matched-both one.undo.was other.undo.was one.old_has other.old_has;
 }
 
 united-covers_other : Laws → (one other : State) (zone : Bounds) → zones.Covers zone other.zone → Covers (united one other zone) other
@@ -143,6 +171,8 @@ united-covers_other k one other zone z = record {
   nothing = λ e. or-right one.undo.nothing other.undo.nothing e;
   same = λ e. or-right one.undo.same other.undo.same e;
   was = old-both_other k one.undo.was other.undo.was;
+  matched = members-both_other one.has other.has;
+  old_matched = matched-both_other one.undo.was other.undo.was one.old_has other.old_has;
 }
 
 pub Covers-join : Laws → (one other : State) → Covers (join one other) one

@@ -33,6 +33,7 @@ use Rattle.ed_rules.specs.Exact.{are_by_number, is_exact_verb}
 use Rattle.ed_rules.specs.LineBounds.{most_lines}
 use Rattle.ed_rules.specs.ExactRules.{is_of_buffer, numbers_of, Tells, EndAlike, LeavesTold, LeavesFew, CommandIsExact}
 use Rattle.ed_rules.proofs.Basics.{and-both}
+use Rattle.ed_rules.proofs.Aside.{step_aside, Beside, step_at-beside}
 use Rattle.ed_rules.proofs.Commanding.{IsGiven, given_or-given, Suits, suits, command-is}
 use Rattle.ed_rules.proofs.Finishing.{settled-current, made}
 use Rattle.ed_rules.proofs.EndAlike.{EndAlike-under, EndAlike-ok, EndAlike-fault, needing-met, needing-failed, met-goes}
@@ -321,8 +322,21 @@ module _ (c : Command) (given d : Addresses) (s : State) (e : editor.State) (t :
 
 -- ONE COMMAND
 
+-- what is known of matches makes no difference to what is told
+matching-told : (t : State) (has old_has : List (List ℕ)) (f : Effect) → LeavesTold t f → LeavesTold (record t { has = has; old_has = old_has }) f
+matching-told t has old_has (Makes o) h = record { zone = h.zone; marks = h.marks; names = h.names; changed = h.changed; inside = h.inside; few = h.few }
+matching-told t has old_has (Asks r) h = h
+
+alike-beside : (x y : Result State Fault) (z : Result Effect Fault) → Beside x y → EndAlike LeavesTold x z → EndAlike LeavesTold y z
+alike-beside (Ok t) (Ok u) (Ok f) b h = subst (λ (v : State). LeavesTold v f) (sym b.2) (matching-told t b.0 b.1 f h)
+alike-beside (Ok t) (Ok u) (Err e) b h = h
+alike-beside (Ok t) (Err g) z b h = absurd b
+alike-beside (Err f) (Ok u) z b h = absurd b
+alike-beside (Err f) (Err g) (Ok o) b h = h
+alike-beside (Err f) (Err g) (Err e) b h = sym b ∙ h
+
 pub command-exact : CommandIsExact
-command-exact c s e exact tells few =
+command-exact watched c s e exact tells few =
     let both = and-both (are_by_number c.addresses && is_exact_verb c.verb) (is_readable c) exact in
     let reads = and-both (may_have c.addresses c.verb && (is_none c.suffix || (takes c.verb).suffix)) (enters_lines c.verb) both.1 in
     let two = and-both (are_by_number c.addresses) (is_exact_verb c.verb) both.0 in
@@ -330,9 +344,10 @@ command-exact c s e exact tells few =
     let a : Addresses = given_or c.addresses d in
     let is = command-is c e (Some answer.Done) in
     subst (λ (x : Result State Fault). EndAlike LeavesTold x (command e c (Some answer.Done)))
-    (sym (met-goes (enters_lines c.verb) fault.Syntax s (step_at a c) reads.1))
-    (subst (λ (y : Result Effect Fault). EndAlike LeavesTold (step_at a c s) y) (sym is)
+    (sym (met-goes (enters_lines c.verb) fault.Syntax s (step_at watched a c) reads.1))
+    (alike-beside (step_aside a c s) (step_at watched a c s) (command e c (Some answer.Done)) (step_at-beside watched a c s)
+    (subst (λ (y : Result Effect Fault). EndAlike LeavesTold (step_aside a c s) y) (sym is)
     (EndAlike-under LeavesFew (PairsOf a e.lines) LeavesTold (addressed a s) (values (given_or c.addresses (takes c.verb).default) e) _ _
     (subst (λ (y : Result Effect Fault). LeavesFew y) is few)
     (command-addressed c.addresses c.verb s e two.0 two.1 (Tells-sees s e tells))
-    (λ t p h few. after_addresses c c.addresses d s e t p (pairs-lines a e.lines t p h) h c.verb two.1 (suits c.verb) few)))
+    (λ t p h few. after_addresses c c.addresses d s e t p (pairs-lines a e.lines t p h) h c.verb two.1 (suits c.verb) few))))

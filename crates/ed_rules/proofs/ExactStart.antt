@@ -1,5 +1,5 @@
 -- The start of a known number of lines.
-use Rattle.std.proofs.Common.{◌≡◌, ◌≤◌, ◌==◌, ℕ, zero, suc, ℤ, pos, neg_ℤ, Bool, true, false, length, Some, arith, refl, ◌∙◌, sym}
+use Rattle.std.proofs.Common.{◌≡◌, ◌≤◌, ◌==◌, ℕ, zero, suc, ℤ, pos, neg_ℤ, Bool, true, false, List, length, Some, arith, refl, ◌∙◌, sym}
 use Rattle.std.proofs.lemmas.Int.{ints}
 use Rattle.std.proofs.lemmas.Bool.{eqb-true, ltb-true}
 use Rattle.zones.specs.Zone.{Bounds, Numbers}
@@ -73,10 +73,10 @@ module _ (n : ℕ) (few : n ≤ most_lines) where
         small = s;
       }
 
-start-sees : (path : Choice) (n : ℕ) (e : editor.State) → e.name ≡ path → length e.lines ≡ n → e.current ≡ n → e.changed ≡ false →
-    n ≤ most_lines → Sees 3 (pos 0) (pos 0) (pos 0) (start path n (Some n)) e
+start-sees : (path : Choice) (n : ℕ) (has : List (List ℕ)) (e : editor.State) → e.name ≡ path → length e.lines ≡ n → e.current ≡ n → e.changed ≡ false →
+    n ≤ most_lines → Sees 3 (pos 0) (pos 0) (pos 0) (start path n (Some n) has) e
 unfolding start
-start-sees path n e name size current flag few = record {
+start-sees path n has e name size current flag few = record {
   zone = rw (size, current) (buffer-at n few);
   marks = refl;
   names = rw name refl;
@@ -86,4 +86,4 @@ start-sees path n e name size current flag few = record {
 }
 
 pub start-exact : StartIsExact
-start-exact path n e name lines current flag few = sees-Tells (start path n (Some n)) e (start-sees path n e name lines current flag few)
+start-exact path n has e name lines current flag few = sees-Tells (start path n (Some n) has) e (start-sees path n has e name lines current flag few)

@@ -17,7 +17,7 @@ use Rattle.ed_rules.specs.Choices.{has_choice}
 use Rattle.ed_rules.specs.Marks.{is_sure}
 use Rattle.ed_rules.specs.Formed.{ChoiceIsBytes, SetIsFormed, BaseIsBytes, AddressesAreBytes, VerbIsBytes}
 use Rattle.ed_rules.specs.Pieces.{with_zone, lifted}
-use Rattle.ed_rules.specs.Addresses.{is_always, possible_patterns, in_buffer, copied, set_from, found, searched, evaluated_base, evaluated, addressed, standing, last_given, targeted, ranged}
+use Rattle.ed_rules.specs.Addresses.{is_found, possible_patterns, in_buffer, copied, set_from, found, searched, evaluated_base, evaluated, addressed, standing, last_given, targeted, ranged}
 use Rattle.ed_rules.specs.Lines.{lifted_range}
 use Rattle.ed_rules.specs.Files.{whole_or_ranged}
 use Rattle.ed_rules.specs.Rules.{taken}
@@ -47,7 +47,7 @@ searched-formed : (x : ℕ) (text : Option (List ℕ)) (k : ℤ) (s : State) →
 searched-formed x text k s hx b h =
     IfOk-bind SetIsFormed Forming (possible_patterns text s) _ (possible-formed text s b h)
     (λ possible p.
-    IfOk-need_then Forming (known s.zone 0 2 (negsuc 0) && list_all is_always possible) fault.NoMatch (record s { zone = found x k s.zone; patterns = possible }) (in_buffer x)
+    IfOk-need_then Forming (list_all (is_found s) possible) fault.NoMatch (record s { zone = found x k s.zone; patterns = possible }) (in_buffer x)
     (λ e.
     in_buffer-formed x (record s { zone = found x k s.zone; patterns = possible })
     (forming-patterns (with_zone (found x k s.zone) s) possible p (forming-zone s (found x k s.zone) (Inner-found s.marks x k s.zone hx h.zone) h))))

@@ -1,4 +1,6 @@
 pub mod Choosing
+pub mod Texting
+pub mod Watched
 pub mod Letters
 pub mod Basics
 pub mod Folds
@@ -11,6 +13,8 @@ pub mod Lifting
 pub mod Replacing
 pub mod Joining
 pub mod Searching
+pub mod AsBefore
+pub mod Outcomes
 pub mod Addressing
 pub mod Effects
 pub mod Moving
@@ -23,9 +27,13 @@ pub mod Answering
 pub mod GlobalEffects
 pub mod Reading
 pub mod Filing
+pub mod Aside
 pub mod Commanding
 pub mod Asking
+pub mod MatchedLeft
+pub mod MatchedPhases
 pub mod Sound
+pub mod FlagsKept
 pub mod Looping
 pub mod Speaking
 pub mod Naming
@@ -33,10 +41,13 @@ pub mod Saying
 pub mod SpeakingPieces
 pub mod RisingChoices
 pub mod CountedLines
+pub mod RisingTexts
 pub mod Forming
 pub mod FormingAddresses
 pub mod FormingRows
 pub mod StatesFormed
+pub mod OldMatches
+pub mod MatchesFormed
 pub mod Weaker
 pub mod EndAlike
 pub mod ExactZones

@@ -2,7 +2,7 @@
 use Rattle.std.proofs.Common.{◌≡◌, ◌≢◌, ◌≤◌, ℕ, suc, ◌+◌, ◌-◌, Bool, true, false, cond, ◌||◌, List, [], ◌∷◌, ◌++◌, map, take, drop, length, length-append, Option, None, Some, option_map, Ok, Err, arith, refl, sym, ◌∙◌, ap, subst, nat_le, IsSome, IsTrue}
 use Rattle.std.specs.Prelude.{unwrap_or, slice_index_or}
 use Rattle.std.specs.List.{list_any, flat_map}
-use Rattle.std.proofs.lemmas.Bool.{eqb-false, leb-true, le-leb}
+use Rattle.std.proofs.lemmas.Bool.{eqb-true, eqb-false, le-leb}
 use Rattle.std.proofs.lemmas.List.{length-map}
 use Rattle.std.proofs.lemmas.List.Concat.{flat_map-cons}
 use Rattle.std.proofs.lemmas.List.Elements.{All-nil, All-cons, All-head, All-tail, All-append, All-take, All-drop}
@@ -212,10 +212,7 @@ taken-is tree line =
 
 picked-some : (choice : Which) (m : Found) (ms : List Found) → takes_first choice ≡ true → (k : Found) × (ks : List Found) × (picked choice (m ∷ ms) ≡ k ∷ ks)
 picked-some which.First m ms h = (m, take 0 ms, refl)
-picked-some (which.Nth number) m ms h =
-    let le : number ≤ 1 = leb-true number 1 h in
-    let none : number - 1 ≡ 0 = omega arith in
-    (m, take 0 ms, ap (λ (i : ℕ). take 1 (drop i (m ∷ ms))) none)
+picked-some (which.Nth before) m ms h = (m, take 0 ms, ap (λ (i : ℕ). take 1 (drop i (m ∷ ms))) (eqb-true before 0 h))
 picked-some which.All m ms h = (m, ms, refl)
 
 replaced-some : (parts : List Part) (line : List ℕ) (all : List Found) (m : Found) (ms : List Found) → all ≡ m ∷ ms → (ts : List (List ℕ)) × (option_map split_at_newlines (replaced_in parts line all) ≡ Some ts)

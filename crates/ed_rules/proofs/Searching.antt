@@ -1,10 +1,14 @@
--- A search for a pattern that always matches finds a line, where there is one.
-use Rattle.std.proofs.Common.{◌≡◌, ◌<◌, ◌≤◌, inl, inr, ℕ, zero, suc, ◌+◌, ◌-◌, ℤ, pos, negsuc, ◌+ℤ◌, max, Bool, true, false, List, [], ◌∷◌, ◌++◌, reverse, length, Option, Some, Ok, Err, arith, refl, ◌∙◌, sym, ap, subst, length-append, IsSome, IsTrue}
-use Rattle.std.specs.List.{find}
+-- A search for a pattern that some line matches finds a line.
+use Rattle.std.proofs.Common.{◌≡◌, ◌<◌, ◌≤◌, inl, inr, ℕ, zero, suc, ◌+◌, ◌-◌, ℤ, pos, negsuc, ◌+ℤ◌, max, Bool, true, false, cond, ◌||◌, List, [], ◌∷◌, ◌++◌, reverse, length, get_or, Option, Some, Ok, Err, arith, refl, ◌∙◌, sym, ap, subst, IsSome, IsTrue}
+use Rattle.std.specs.List.{find, list_any}
 use Rattle.std.specs.Option.{is_some, ok_or}
 use Rattle.std.proofs.lemmas.Int.{ints}
-use Rattle.std.proofs.lemmas.Bool.{cases_lt}
-use Rattle.std.proofs.lemmas.List.{length-reverse, reverse-append}
+use Rattle.std.proofs.lemmas.Bool.{cases_lt, cases_eq}
+use Rattle.std.proofs.lemmas.List.Folds.{list_any-append}
+use Rattle.ed_base.specs.Buffer.{Line, plain_line}
+use Rattle.ed_rules.specs.Matched.{is_matched}
+use Rattle.ed_rules.proofs.Choosing.{or-cases, or-left, or-right}
+use Rattle.std.proofs.lemmas.List.{reverse-append}
 use Rattle.ed_base.specs.declared.fault.Fault.TheVariants as fault
 use Rattle.bre_parse.specs.Grammar.{pattern}
 use Rattle.bre_parse.specs.Match.{match_from}
@@ -41,11 +45,45 @@ length-count_from : (first many : ℕ) → length (count_from first many) ≡ ma
 length-count_from first zero = refl
 length-count_from first (suc many) = ap suc (length-count_from (first + 1) many)
 
--- the first of them is found
-find-line : (p : ℕ → Bool) (count : ℕ) (ns : List ℕ) → ((n : ℕ) → p n ≡ true) → Each count ns → 1 ≤ length ns →
-    (n : ℕ) × (find p ns ≡ Some n) × (1 ≤ n) × (n ≤ count)
-find-line p count [] all each h = absurd (omega arith)
-find-line p count (n ∷ ns) all each h = (n, (rw (all n) refl), each.0, each.1)
+-- where one of them passes, the first that passes is found
+pub find-line : (p : ℕ → Bool) (count : ℕ) (ns : List ℕ) → list_any p ns ≡ true → Each count ns → (n : ℕ) × (find p ns ≡ Some n) × (1 ≤ n) × (n ≤ count)
+find-line p count [] any each = absurd cc
+find-line p count (n ∷ ns) any each =
+    (elim (p n) as (λ b. p n ≡ b → b || list_any p ns ≡ true → (m : ℕ) × (cond b (Some n) (find p ns) ≡ Some m) × (1 ≤ m) × (m ≤ count)) [
+      | true ↦ λ e h. (n, refl, each.0, each.1)
+      | false ↦ λ e h. find-line p count ns h each.2
+    ]) refl any
+
+-- a number that passes is among those that are counted
+any-count_from : (p : ℕ → Bool) (n first many : ℕ) → p n ≡ true → first ≤ n → n < first + many → list_any p (count_from first many) ≡ true
+any-count_from p n first zero e h k = absurd (omega arith)
+any-count_from p n first (suc many) e h k = elim (cases_eq n first) [
+  | inl s ↦ or-left (p first) (list_any p (count_from (first + 1) many)) (subst (λ (m : ℕ). p m ≡ true) s e)
+  | inr d ↦ or-right (p first) (list_any p (count_from (first + 1) many)) (any-count_from p n (first + 1) many e (omega arith) (omega arith))
+]
+
+any-reverse : (p : ℕ → Bool) (ns : List ℕ) → list_any p ns ≡ true → list_any p (reverse ns) ≡ true
+any-reverse p [] h = h
+any-reverse p (n ∷ ns) h =
+    ap (list_any p) (reverse-append (n ∷ []) ns) ∙ list_any-append p (reverse ns) (n ∷ []) ∙ (elim (or-cases (p n) (list_any p ns) h) [
+      | inl e ↦ or-right (list_any p (reverse ns)) (p n || false) (or-left (p n) false e)
+      | inr e ↦ or-left (list_any p (reverse ns)) (p n || false) (any-reverse p ns e)
+    ])
+
+-- the place of a line that matches
+matched-place : (text : List ℕ) (ls : List Line) → is_matched ls text ≡ true → (i : ℕ) × (i < length ls) × (matches text (get_or ls i (plain_line [])).bytes ≡ true)
+matched-place text [] h = absurd cc
+matched-place text (l ∷ ls) h = elim (or-cases (matches text l.bytes) (is_matched ls text) h) [
+  | inl e ↦ (0, omega arith, e)
+  | inr e ↦ let q = matched-place text ls e in let k = q.1 in (suc q.0, omega arith, q.2)
+]
+
+matched-number : (text : List ℕ) (ls : List Line) → is_matched ls text ≡ true → (n : ℕ) × (1 ≤ n) × (n ≤ length ls) × (matches_line text ls n ≡ true)
+matched-number text ls h =
+    let q = matched-place text ls h in
+    let k = q.1 in
+    let same : q.0 + 1 - 1 ≡ q.0 = omega arith in
+    (q.0 + 1, omega arith, omega arith, subst (λ (i : ℕ). matches text (get_or ls i (plain_line [])).bytes ≡ true) (sym same) q.2)
 
 is_some-true : {A : Type 0} (o : Option A) → IsSome o → is_some o ≡ true
 is_some-true o h = h
@@ -60,16 +98,28 @@ always-matches text line =
       | Err f ↦ λ e h. cc
     ]) refl
 
+-- a pattern that always matches is matched where there is a line
+pub always-matched : (text : List ℕ) (ls : List Line) → is_always (Some text) ≡ true → 1 ≤ length ls → is_matched ls text ≡ true
+always-matched text [] h k = absurd (omega arith)
+always-matched text (l ∷ ls) h k = or-left (matches text l.bytes) (is_matched ls text) (always-matches text l.bytes h)
+
 -- forward
-pub forward-finds : (text : List ℕ) (e : editor.State) → is_always (Some text) ≡ true → e.current ≤ length e.lines → 1 ≤ length e.lines →
+pub forward-finds : (text : List ℕ) (e : editor.State) → is_matched e.lines text ≡ true → e.current ≤ length e.lines →
     (n : ℕ) × (concrete.searched (Some text) (lines_forward e) e ≡ Ok n) × (1 ≤ n) × (n ≤ length e.lines)
-forward-finds text e h inside some =
+forward-finds text e h inside =
     let count : ℕ = length e.lines in
+    let p : ℕ → Bool = matches_line text e.lines in
     let after : List ℕ = upwards (e.current + 1) count in
     let before : List ℕ = upwards 1 e.current in
-    let size : length (after ++ before) ≡ count = length-append after before ∙ (let a = length-count_from (e.current + 1) (count + 1 - (e.current + 1)) in let b = length-count_from 1 (e.current + 1 - 1) in omega arith) in
-    let q = find-line (matches_line text e.lines) count (after ++ before) (λ n. always-matches text _ h)
-    (Each-append count after before (Each-upwards count (e.current + 1) count (omega arith) (omega arith)) (Each-upwards count 1 e.current (omega arith) inside)) (omega arith) in
+    let k = matched-number text e.lines h in
+    let low = k.1 in
+    let high = k.2 in
+    let any : list_any p (after ++ before) ≡ true = list_any-append p after before ∙ (elim (cases_lt e.current k.0) [
+      | inl l ↦ or-left (list_any p after) (list_any p before) (any-count_from p k.0 (e.current + 1) (count + 1 - (e.current + 1)) k.3 (omega arith) (omega arith))
+      | inr l ↦ or-right (list_any p after) (list_any p before) (any-count_from p k.0 1 (e.current + 1 - 1) k.3 (omega arith) (omega arith))
+    ]) in
+    let q = find-line p count (after ++ before) any
+    (Each-append count after before (Each-upwards count (e.current + 1) count (omega arith) (omega arith)) (Each-upwards count 1 e.current (omega arith) inside)) in
     (q.0, ap (λ (o : Option ℕ). ok_or o fault.NoMatch) q.1, q.2, q.3)
 
 -- the zone with the found line
@@ -93,15 +143,21 @@ Each-reverse : (count : ℕ) (xs : List ℕ) → Each count xs → Each count (r
 Each-reverse count [] h = tt
 Each-reverse count (x ∷ xs) h = subst (λ (l : List ℕ). Each count l) (sym (reverse-append (x ∷ []) xs)) (Each-append count (reverse xs) (x ∷ []) (Each-reverse count xs h.2) (h.0, h.1, tt))
 
-pub backward-finds : (text : List ℕ) (e : editor.State) → is_always (Some text) ≡ true → e.current ≤ length e.lines → 1 ≤ length e.lines →
+pub backward-finds : (text : List ℕ) (e : editor.State) → is_matched e.lines text ≡ true → e.current ≤ length e.lines →
     (n : ℕ) × (concrete.searched (Some text) (lines_backward e) e ≡ Ok n) × (1 ≤ n) × (n ≤ length e.lines)
-backward-finds text e h inside some =
+backward-finds text e h inside =
     let count : ℕ = length e.lines in
+    let p : ℕ → Bool = matches_line text e.lines in
     let before : List ℕ = upwards 1 (e.current - 1) in
     let after : List ℕ = upwards (max 1 e.current) count in
-    let size : 1 ≤ length (reverse before ++ reverse after) =
-    (let a = length-count_from (max 1 e.current) (count + 1 - max 1 e.current) in let r = length-reverse after in omega (arith, length-append (reverse before) (reverse after))) in
-    let q = find-line (matches_line text e.lines) count (reverse before ++ reverse after) (λ n. always-matches text _ h)
+    let k = matched-number text e.lines h in
+    let low = k.1 in
+    let high = k.2 in
+    let any : list_any p (reverse before ++ reverse after) ≡ true = list_any-append p (reverse before) (reverse after) ∙ (elim (cases_lt k.0 e.current) [
+      | inl l ↦ or-left (list_any p (reverse before)) (list_any p (reverse after)) (any-reverse p before (any-count_from p k.0 1 (e.current - 1 + 1 - 1) k.3 (omega arith) (omega arith)))
+      | inr l ↦ or-right (list_any p (reverse before)) (list_any p (reverse after)) (any-reverse p after (any-count_from p k.0 (max 1 e.current) (count + 1 - max 1 e.current) k.3 (omega arith) (omega arith)))
+    ]) in
+    let q = find-line p count (reverse before ++ reverse after) any
     (Each-append count (reverse before) (reverse after) (Each-reverse count before (Each-upwards count 1 (e.current - 1) (omega arith) (omega arith)))
-    (Each-reverse count after (Each-upwards count (max 1 e.current) count (omega arith) (omega arith)))) size in
+    (Each-reverse count after (Each-upwards count (max 1 e.current) count (omega arith) (omega arith)))) in
     (q.0, ap (λ (o : Option ℕ). ok_or o fault.NoMatch) q.1, q.2, q.3)

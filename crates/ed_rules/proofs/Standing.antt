@@ -82,3 +82,11 @@ StandsBy-guarded s e v x y c hx hy h st = record {
   changed = st.changed;
   past = st.past;
 }
+
+-- what is known of matches is said beside
+pub Stands-matching : (s : State) (e : editor.State) (has old_has : List (List ℕ)) → Stands s e → Stands (record s { has = has; old_has = old_has }) e
+Stands-matching s e has old_has st =
+    (st.0, record { buffer = st.1.buffer; remembered = st.1.remembered; changed = st.1.changed; past = st.1.past })
+
+pub StandsBy-has : (s : State) (e : editor.State) (v : Numbers) (has : List (List ℕ)) → StandsBy s e v → StandsBy (record s { has = has }) e v
+StandsBy-has s e v has st = record { buffer = st.buffer; remembered = st.remembered; changed = st.changed; past = st.past }

@@ -1,5 +1,5 @@
 -- States stay formed: the start, each rule, join and widening, the list of a global command.
-use Rattle.std.proofs.Common.{ℕ, pos, negsuc, neg_ℤ, Bool, true, false, length, Option, None, Some, refl}
+use Rattle.std.proofs.Common.{ℕ, pos, negsuc, neg_ℤ, Bool, true, false, List, length, Option, None, Some, refl}
 use Rattle.std.specs.Prelude.{IfOk}
 use Rattle.ed_base.specs.declared.fault.Fault.TheVariants as fault
 use Rattle.zones.specs.Known.{known}
@@ -17,7 +17,8 @@ use Rattle.ed_rules.specs.Pieces.{with_zone, ended}
 use Rattle.ed_rules.specs.Addresses.{addressed, standing, targeted}
 use Rattle.ed_syntax.specs.spelling.Readable.{enters_lines}
 use Rattle.ed_rules.specs.Rules.{taken, effect, suffixed, step_at, step}
-use Rattle.ed_rules.specs.Globals.{finished, line_taken, body_entry, list_may_alter, old_if, undo_of_global, loop_end}
+use Rattle.ed_rules.specs.Globals.{taken_matches, old_has_if, finished, line_taken, body_entry, list_may_alter, old_if, undo_of_global, loop_end}
+use Rattle.ed_rules.specs.Matching.{matched_after, old_matched_after, with_matches}
 use Rattle.ed_rules.proofs.SpeakingPieces.{Speaks-start, Inner-line_taken}
 use Rattle.ed_rules.proofs.RisingChoices.{SetIsFormed-only}
 use Rattle.ed_rules.proofs.CountedLines.{start-counted}
@@ -27,18 +28,26 @@ use Rattle.ed_rules.proofs.Forming.{OldSpeaks, Forming, Closed, Closed-forming, 
 use Rattle.ed_rules.proofs.FormingAddresses.{addressed-formed, targeted-formed, given-bytes, own-bytes, target-bytes, taken-formed}
 use Rattle.ed_rules.proofs.FormingRows.{appended-formed, inserted-formed, changed_to-formed, joined_given-formed, mark-formed, current_at-formed, copied_lines-formed, moved_lines-formed, pattern-formed, substituted-formed, read-formed, written-formed, saved-formed, edited_anyway-formed, edited-formed, file_named-formed, undone-formed}
 
-Closed-start : (path : Choice) (min : ℕ) (max : Option ℕ) → ChoiceIsBytes path → Closed (start path min max)
+Closed-start : (path : Choice) (min : ℕ) (max : Option ℕ) (has : List (List ℕ)) → ChoiceIsBytes path → Closed (start path min max has)
 unfolding start
-Closed-start path min max b = record {
+Closed-start path min max has b = record {
   letters = refl;
   zone = Speaks-start no_marks max (neg_ℤ (pos min));
   aside = record { patterns_are = SetIsFormed-only None tt; kind = refl; names_are = SetIsFormed-only path b; flag = refl; past = refl; old = tt };
 }
 
-pub start-formed : (path : Choice) (min : ℕ) (max : Option ℕ) → ChoiceIsBytes path → IsEnded (start path min max)
+pub start-formed : (path : Choice) (min : ℕ) (max : Option ℕ) (has : List (List ℕ)) → ChoiceIsBytes path → IsEnded (start path min max has)
 unfolding start
-start-formed path min max b =
-    record { formed = Closed-formed (start path min max) (Closed-start path min max b); counted = start-counted min max }
+start-formed path min max has b =
+    record { formed = Closed-formed (start path min max has) (Closed-start path min max has b); counted = start-counted min max }
+
+-- what is known of matches is said beside
+
+matching-ended : (s : State) (has old_has : List (List ℕ)) → AtEnd s → AtEnd (record s { has = has; old_has = old_has })
+matching-ended s has old_has h = (record { letters = h.0.letters; zone = h.0.zone; aside = h.0.aside }, h.1)
+
+matching-forming : (s : State) (has old_has : List (List ℕ)) → Forming s → Forming (record s { has = has; old_has = old_has })
+matching-forming s has old_has h = record { letters = h.letters; zone = h.zone; aside = h.aside }
 
 pub join-formed : (one other : State) → IsFormed one → IsFormed other → IsFormed (join one other)
 join-formed one other h k = Closed-formed (join one other) (Closed-join one other (formed-Closed one h) (formed-Closed other k))
@@ -48,12 +57,13 @@ widen-formed old new h k = Closed-formed (widen old new) (Closed-widen old new (
 
 -- THE LIST OF A GLOBAL COMMAND
 
-pub entry-formed : (invariant : State) → IsFormed invariant → IsEnded (body_entry invariant)
-entry-formed invariant h =
+pub entry-formed : (verb : Verb) (invariant : State) → IsFormed invariant → IsEnded (body_entry verb invariant)
+entry-formed verb invariant h =
     let f : Forming invariant = Closed-forming invariant (formed-Closed invariant h) in
     let t : State = with_zone (line_taken invariant.zone) invariant in
-    AtEnd-ended (finished t)
-    (finished-AtEnd t (forming-zone invariant (line_taken invariant.zone) (Inner-line_taken invariant.marks invariant.zone f.zone) f))
+    let has : List (List ℕ) = taken_matches verb invariant.has in
+    AtEnd-ended (finished (record t { has = has }))
+    (finished-AtEnd (record t { has = has }) (matching-forming t has invariant.old_has (forming-zone invariant (line_taken invariant.zone) (Inner-line_taken invariant.marks invariant.zone f.zone) f)))
 
 old_if-speaks : (b : Bool) (before : State) → Closed before → OldSpeaks (old_if b before)
 old_if-speaks true before h = (h.letters, h.zone)
@@ -63,10 +73,11 @@ pub end-formed : (x : Step) (before invariant : State) → IsFormed before → I
 end-formed x before invariant h k =
     let f : Forming invariant = Closed-forming invariant (formed-Closed invariant k) in
     let u : Undo = undo_of_global x.list before in
-    let t : State = record invariant { undo = u } in
+    let old_has : List (List ℕ) = old_has_if (list_may_alter x.list) before in
+    let t : State = record invariant { undo = u; old_has = old_has } in
     AtEnd-ended (finished t)
-    (finished-AtEnd t (forming-change invariant invariant.changed u f.aside.flag refl
-    (old_if-speaks (list_may_alter x.list) before (formed-Closed before h)) f))
+    (finished-AtEnd t (matching-forming (record invariant { undo = u }) invariant.has old_has (forming-change invariant invariant.changed u f.aside.flag refl
+    (old_if-speaks (list_may_alter x.list) before (formed-Closed before h)) f)))
 
 -- ONE COMMAND
 
@@ -100,9 +111,9 @@ suffixed-formed : (suffix : Option Form) (s : State) → AtEnd s → IfOk (suffi
 suffixed-formed None s h = h
 suffixed-formed (Some form) s h = IfOk-needing AtEnd (known s.zone 0 1 (negsuc 0)) fault.Address s (λ e. h)
 
-step_at-formed : (a : Addresses) (c : Command) (s : State) → AddressesAreBytes a → VerbIsBytes c.verb → Closed s →
-    IfOk (step_at a c s) AtEnd
-step_at-formed a c s b v h =
+step_at-formed : (watched : List (List ℕ)) (a : Addresses) (c : Command) (s : State) → AddressesAreBytes a → VerbIsBytes c.verb → Closed s →
+    IfOk (step_at watched a c s) AtEnd
+step_at-formed watched a c s b v h =
     IfOk-bind Forming AtEnd (addressed a s) _ (addressed-formed a s b (Closed-forming s h))
     (λ t f.
     IfOk-bind Forming AtEnd (targeted (takes c.verb).target t) _ (targeted-formed (takes c.verb).target t (target-bytes c.verb v) f)
@@ -110,11 +121,12 @@ step_at-formed a c s b v h =
     IfOk-bind Forming AtEnd (taken (takes c.verb).taking c.addresses a p) _ (taken-formed (takes c.verb).taking c.addresses a p g)
     (λ u k.
     IfOk-bind Forming AtEnd (effect c.listed c.addresses c.verb s u) _ (effect-formed c.listed c.addresses c.verb s u v h k)
-    (λ r q. suffixed-formed c.suffix (with_zone (ended r.marks r.zone) r) (finished-AtEnd r q)))))
+    (λ r q. suffixed-formed c.suffix (with_matches watched c.listed c.addresses c.verb s u (with_zone (ended r.marks r.zone) r))
+    (matching-ended (with_zone (ended r.marks r.zone) r) (matched_after watched c.addresses c.verb u) (old_matched_after c.listed c.addresses c.verb s u) (finished-AtEnd r q))))))
 
-pub command-formed : (c : Command) (s : State) → TextsAreBytes c → IsFormed s → IfOk (step c s) IsEnded
-command-formed c s b h =
+pub command-formed : (watched : List (List ℕ)) (c : Command) (s : State) → TextsAreBytes c → IsFormed s → IfOk (step watched c s) IsEnded
+command-formed watched c s b h =
     let a : Addresses = given_or c.addresses (standing (takes c.verb).default) in
-    IfOk-weaker (step c s) AtEnd IsEnded AtEnd-ended
-    (IfOk-need_then AtEnd (enters_lines c.verb) fault.Syntax s (step_at a c)
-    (λ e. step_at-formed a c s (given-bytes c.addresses (standing (takes c.verb).default) b.0 (own-bytes c.verb)) b.1 (formed-Closed s h)))
+    IfOk-weaker (step watched c s) AtEnd IsEnded AtEnd-ended
+    (IfOk-need_then AtEnd (enters_lines c.verb) fault.Syntax s (step_at watched a c)
+    (λ e. step_at-formed watched a c s (given-bytes c.addresses (standing (takes c.verb).default) b.0 (own-bytes c.verb)) b.1 (formed-Closed s h)))

@@ -25,10 +25,10 @@ repeat_in_each_line = refl
 letter_in_some_lines : is_sure_to_match (Some (codes "x") ∷ []) which.First ≡ false
 letter_in_some_lines = refl
 
-first_by_its_number : is_sure_to_match (Some (codes "x*") ∷ []) (which.Nth 1) ≡ true
+first_by_its_number : is_sure_to_match (Some (codes "x*") ∷ []) (which.Nth 0) ≡ true
 first_by_its_number = refl
 
-second_match_in_some_lines : is_sure_to_match (Some (codes "x*") ∷ []) (which.Nth 2) ≡ false
+second_match_in_some_lines : is_sure_to_match (Some (codes "x*") ∷ []) (which.Nth 1) ≡ false
 second_match_in_some_lines = refl
 
 one_of_two_patterns : is_sure_to_match (Some (codes "$") ∷ Some (codes "x") ∷ []) which.First ≡ false

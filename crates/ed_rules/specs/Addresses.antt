@@ -1,5 +1,5 @@
 -- The state with its addresses evaluated, or the fault of the first need that fails (XCU ed, "Addresses in ed").
-use Rattle.std.specs.Prelude.{ℕ, ℤ, pos, negsuc, ◌+ℤ◌, Bool, true, false, ◌&&◌, not, nat_lt, List, [], ◌∷◌, Option, Some, None, Result, Ok, Err, if◌then◌else◌}
+use Rattle.std.specs.Prelude.{ℕ, ℤ, pos, negsuc, ◌+ℤ◌, Bool, true, false, ◌&&◌, ◌||◌, not, nat_lt, List, [], ◌∷◌, Option, Some, None, Result, Ok, Err, if◌then◌else◌}
 use Rattle.std.specs.List.{list_all}
 use Rattle.std.specs.Ordering.{int_eq}
 use Rattle.ed_base.specs.declared.fault.Fault.{Fault}
@@ -18,6 +18,7 @@ use Rattle.ed_syntax.specs.meaning.Values.{◌>>◌}
 use Rattle.ed_rules.specs.declared.state.State.{State}
 use Rattle.ed_rules.specs.Choices.{Choice, has_choice}
 use Rattle.ed_rules.specs.Marks.{is_sure}
+use Rattle.ed_rules.specs.Texts.{is_member}
 use Rattle.ed_rules.specs.Pieces.{needing, with_zone}
 
 -- the pattern has a match in every line; a text that is no pattern has none
@@ -47,11 +48,16 @@ unfoldable pub found : ℕ → ℤ → Bounds → Bounds
 found x k zone =
     after_shift (after_guard (after_guard (after_forget zone x) name.zero x (negsuc 0)) x last_line (pos 0)) x (Some k) (Some k)
 
--- a search: some line is there, and each pattern that may be looked for has a match in every line
+-- some line is known to match the pattern: it is one of those of which that is known, or has a match in every line, and some line is there
+abbrev pub is_found : State → Choice → Bool
+is_found s None = false
+is_found s (Some text) = is_member s.has text || (known s.zone name.zero last_line (negsuc 0) && is_always (Some text))
+
+-- a search: some line is known to match each pattern that may be looked for
 abbrev pub searched : ℕ → Option (List ℕ) → ℤ → State → Result State Fault
 searched x text k s =
     possible_patterns text s >> λ possible.
-    needing (known s.zone name.zero last_line (negsuc 0) && list_all is_always possible) fault.NoMatch
+    needing (list_all (is_found s) possible) fault.NoMatch
     (record s { zone = found x k s.zone; patterns = possible }) >> in_buffer x
 
 -- one address, evaluated into x

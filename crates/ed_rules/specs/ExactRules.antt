@@ -1,5 +1,5 @@
 -- What the rules know of exact commands.
-use Rattle.std.specs.Prelude.{◌≡◌, ◌≤◌, ◌==◌, ℕ, pos, Bool, true, false, nat_lt, [], ◌∷◌, length, Some, Result, Ok, Err, if◌then◌else◌}
+use Rattle.std.specs.Prelude.{◌≡◌, ◌≤◌, ◌==◌, ℕ, pos, Bool, true, false, nat_lt, List, [], ◌∷◌, length, Some, Result, Ok, Err, if◌then◌else◌}
 use Rattle.ed_base.specs.declared.fault.Fault.{Fault}
 use Rattle.zones.specs.Name.{current_line, last_line}
 use Rattle.zones.specs.Zone.{Numbers}
@@ -59,10 +59,10 @@ LeavesFew _ = Unit {0}
 -- Of an exact command and a state that tells the editor's: a need fails just where the command, each write being done, meets a fault, and
 -- by that fault; else the state after its rule tells what it leaves.
 abbrev pub CommandIsExact : Type 0
-CommandIsExact = (c : Command) (s : State) (e : editor.State) → is_exact c ≡ true → Tells s e →
-    LeavesFew (command e c (Some answer.Done)) → EndAlike LeavesTold (step c s) (command e c (Some answer.Done))
+CommandIsExact = (watched : List (List ℕ)) (c : Command) (s : State) (e : editor.State) → is_exact c ≡ true → Tells s e →
+    LeavesFew (command e c (Some answer.Done)) → EndAlike LeavesTold (step watched c s) (command e c (Some answer.Done))
 
 -- the start with so many lines tells each editor that was just opened over them
 abbrev pub StartIsExact : Type 0
-StartIsExact = (path : Choice) (lines : ℕ) (e : editor.State) → e.name ≡ path → length e.lines ≡ lines → e.current ≡ lines →
-    e.changed ≡ false → lines ≤ most_lines → Tells (start path lines (Some lines)) e
+StartIsExact = (path : Choice) (lines : ℕ) (has : List (List ℕ)) (e : editor.State) → e.name ≡ path → length e.lines ≡ lines → e.current ≡ lines →
+    e.changed ≡ false → lines ≤ most_lines → Tells (start path lines (Some lines) has) e

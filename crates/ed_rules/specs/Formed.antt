@@ -1,7 +1,6 @@
 -- A state that can be written down: its zones speak of the lines and of the letters beside them alone, and each set has a member and
 -- rises.
-use Rattle.std.specs.Prelude.{◌≡◌, ℕ, ◌-◌, ◌<◌, ◌/◌, ◌%◌, ◌==◌, zero, ℤ, pos, Bool, true, false, not, ◌&&◌, ◌||◌, List, [], ◌∷◌, length, get_or, Option, Some, None, is_some, nat_le, nat_lt, All}
-use Rattle.std.specs.Ordering.{is_lt}
+use Rattle.std.specs.Prelude.{◌≡◌, ℕ, ◌-◌, ◌<◌, ◌/◌, ◌%◌, ◌==◌, zero, ℤ, pos, Bool, true, false, not, ◌&&◌, ◌||◌, List, [], map, length, get_or, Option, Some, None, is_some, nat_le, nat_lt, All}
 use Rattle.zones.specs.Name as name
 use Rattle.zones.specs.Name.{last_line}
 use Rattle.zones.specs.Zone.{Bounds, bound}
@@ -10,8 +9,10 @@ use Rattle.ed_syntax.specs.Commands as ed
 use Rattle.ed_syntax.specs.Commands.{Base, Addresses, Without, One, Comma, Semicolon, Verb, Command}
 use Rattle.ed_rules.specs.declared.state.Old.{Old}
 use Rattle.ed_rules.specs.declared.state.State.{State}
-use Rattle.ed_rules.specs.Choices.{Choice, order_of}
+use Rattle.ed_rules.specs.Choices.{Choice}
+pub use Rattle.ed_rules.specs.Choices.{is_rising}
 use Rattle.ed_rules.specs.Marks.{is_sure}
+use Rattle.ed_rules.specs.Texts.{are_rising}
 
 -- a zone says nothing by the bound 0 of a difference of a name with itself
 abbrev pub says_nothing : (x y : ℕ) → ℤ → Bool
@@ -42,17 +43,27 @@ abbrev pub ChoiceIsBytes : Choice → Type 0
 ChoiceIsBytes None = Unit {0}
 ChoiceIsBytes (Some bytes) = All (λ byte. byte < 256) bytes
 
--- each choice stands before those after it, and none stands twice
-abbrev pub is_rising : List Choice → Bool
-is_rising [] = true
-is_rising (c ∷ []) = true
-is_rising (c ∷ d ∷ set) = is_lt (order_of c d) && is_rising (d ∷ set)
-
 -- a set of choices with a member
 pub record SetIsFormed (set : List Choice) : Type 0 where
   pub bytes : All ChoiceIsBytes set
   pub rising : is_rising set ≡ true
   pub some : 0 < length set
+
+-- a set of texts, of bytes, which rise; it may be empty
+pub record TextsAreFormed (set : List (List ℕ)) : Type 0 where
+  pub bytes : All ChoiceIsBytes (map Some set)
+  pub rising : are_rising set ≡ true
+
+-- where undo has no earlier lines, nothing is said of what they match
+abbrev pub IsOfLines : Option Old → (old_has : List (List ℕ)) → Type 0
+IsOfLines None old_has = old_has ≡ []
+IsOfLines (Some old) old_has = Unit {0}
+
+-- what a state says of matches
+pub record MatchesAreFormed (s : State) : Type 0 where
+  pub has : TextsAreFormed s.has
+  pub old_has : TextsAreFormed s.old_has
+  pub of_lines : IsOfLines s.undo.was s.old_has
 
 pub record StateIsFormed (s : State) : Type 0 where
   pub zone : ZoneIsFormed s.marks s.zone

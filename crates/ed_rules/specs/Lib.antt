@@ -1,6 +1,8 @@
 -- what a reader has to believe, in the order of reading
 pub mod Choices
 pub mod Marks
+pub mod Texts
+pub mod Matched
 pub mod States
 pub mod Formed
 pub mod StandsFor
@@ -12,6 +14,7 @@ pub mod Move
 pub mod Substituting
 pub mod Files
 pub mod Undoing
+pub mod Matching
 pub mod Rules
 pub mod Reaching
 pub mod Soundness

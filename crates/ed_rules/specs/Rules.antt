@@ -1,5 +1,5 @@
 -- The rules: the state after a command, or the fault of the first need that fails. They go through the phases of a command.
-use Rattle.std.specs.Prelude.{pos, negsuc, Bool, ◌&&◌, nat_lt, length, Option, Some, None, Result, Ok, Err}
+use Rattle.std.specs.Prelude.{ℕ, pos, negsuc, Bool, ◌&&◌, nat_lt, List, length, Option, Some, None, Result, Ok, Err}
 use Rattle.ed_base.specs.declared.fault.Fault.{Fault}
 use Rattle.ed_base.specs.declared.fault.Fault.TheVariants as fault
 use Rattle.zones.specs.Name as name
@@ -20,6 +20,7 @@ use Rattle.ed_rules.specs.Move.{moved_lines}
 use Rattle.ed_rules.specs.Substituting.{pattern_used, substituted}
 use Rattle.ed_rules.specs.Files.{file_read, whole_or_ranged, file_written, saved, edited, edited_anyway, file_named}
 use Rattle.ed_rules.specs.Undoing.{undone}
+use Rattle.ed_rules.specs.Matching.{with_matches}
 
 -- what a command needs of its lines, by how many it takes
 abbrev pub taken : Taking → (given a : Addresses) → State → Result State Fault
@@ -66,17 +67,17 @@ suffixed None s = Ok s
 suffixed (Some form) s = needing (known s.zone name.zero current_line (negsuc 0)) fault.Address s
 
 -- the phases of a command with these addresses
-abbrev pub step_at : Addresses → Command → State → Result State Fault
-step_at a c s =
+abbrev pub step_at : (watched : List (List ℕ)) → Addresses → Command → State → Result State Fault
+step_at watched a c s =
     addressed a s >> λ t.
     targeted (takes c.verb).target t >> λ p.
     taken (takes c.verb).taking c.addresses a p >> λ u.
     effect c.listed c.addresses c.verb s u >> λ r.
-    suffixed c.suffix (with_zone (ended r.marks r.zone) r)
+    suffixed c.suffix (with_matches watched c.listed c.addresses c.verb s u (with_zone (ended r.marks r.zone) r))
 
--- the state after a command, or the fault of the first need that fails
-abbrev pub step : Command → State → Result State Fault
-step c s = needing (enters_lines c.verb) fault.Syntax s >> step_at (given_or c.addresses (standing (takes c.verb).default)) c
+-- The state after a command, or the fault of the first need that fails. Which patterns are watched makes no difference to its needs.
+abbrev pub step : (watched : List (List ℕ)) → Command → State → Result State Fault
+step watched c s = needing (enters_lines c.verb) fault.Syntax s >> step_at watched (given_or c.addresses (standing (takes c.verb).default)) c
 
 -- the need that fails
 abbrev pub fault_of : Result State Fault → Option Fault

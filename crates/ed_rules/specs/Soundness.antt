@@ -1,6 +1,6 @@
 -- Soundness of one command: what a rule vouches for meets no fault but that of a file, asks to write only what the rule tells, and the
 -- rule's state stands for what the command leaves.
-use Rattle.std.specs.Prelude.{◌≡◌, true, Option, Some, None, Result, Ok, Err, IsFalse}
+use Rattle.std.specs.Prelude.{◌≡◌, ℕ, true, List, Option, Some, None, Result, Ok, Err, IsFalse}
 use Rattle.ed_base.specs.declared.fault.Fault.{Fault}
 use Rattle.ed_base.specs.declared.fault.Fault.TheVariants as fault
 use Rattle.ed_syntax.specs.declared.request.Answer.{Answer}
@@ -37,5 +37,5 @@ IsDone c s t e given (Err f) = IsUnserved c e given f
 -- Of each state of an editor that a state stands for, and each answer: where the needs of a command hold, the command does as its rule
 -- says, and the state of its rule stands for what it leaves.
 abbrev pub CommandIsSound : Type 0
-CommandIsSound = (c : Command) (s t : State) (e : editor.State) (given : Option Answer) → StandsFor s e → step c s ≡ Ok t →
+CommandIsSound = (watched : List (List ℕ)) (c : Command) (s t : State) (e : editor.State) (given : Option Answer) → StandsFor s e → step watched c s ≡ Ok t →
     IsDone c s t e given (command e c given)

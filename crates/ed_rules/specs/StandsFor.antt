@@ -18,6 +18,7 @@ use Rattle.ed_rules.specs.declared.state.Undo.{Undo}
 use Rattle.ed_rules.specs.declared.state.State.{State}
 use Rattle.ed_rules.specs.Choices.{has_choice}
 use Rattle.ed_rules.specs.Marks.{is_sure}
+use Rattle.ed_rules.specs.Matched.{AreMatched}
 
 -- the numbers are those of these lines and this current line: each sure letter marks a line, and its number is that line's
 pub record Reads (marks : List Bool) (lines : List Line) (current : ℕ) (number : Numbers) : Type 0 where
@@ -81,9 +82,15 @@ pub record AreLettered (lines : List Line) : Type 0 where
 abbrev pub KeepsLettered : Past → Type 0
 KeepsLettered past = OfPast AreLettered past
 
+-- what undo keeps has a line that matches each of these patterns
+abbrev pub KeepsMatched : (patterns : List (List ℕ)) → Past → Type 0
+KeepsMatched patterns past = OfPast (AreMatched patterns) past
+
 -- a state stands for an editor's of which all that it says is true, for some numbers of the names that it says nothing of
 pub record StandsFor (s : State) (e : editor.State) : Type 0 where
   pub numbers : Numbers
   pub stands : StandsBy s e numbers
   pub lines : AreLettered e.lines
   pub kept : KeepsLettered e.past
+  pub matched : AreMatched s.has e.lines
+  pub kept_matched : KeepsMatched s.old_has e.past

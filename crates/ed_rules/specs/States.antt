@@ -1,5 +1,5 @@
 -- The start of a run, and what a command surely leaves of flag and undo.
-use Rattle.std.specs.Prelude.{ℕ, pos, neg_ℤ, true, false, [], ◌∷◌, Option, Some, None}
+use Rattle.std.specs.Prelude.{ℕ, pos, neg_ℤ, true, false, List, [], ◌∷◌, Option, Some, None}
 use Rattle.zones.specs.Name as name
 use Rattle.zones.specs.Zone.{Bounds}
 use Rattle.zones.specs.Steps.{any_zone, after_guard, after_set}
@@ -38,9 +38,9 @@ abbrev pub limited : Option ℕ → Bounds → Bounds
 limited None zone = zone
 limited (Some max) zone = after_guard zone name.last_line name.zero (pos max)
 
--- the start of a run: from min to max lines, the last one current, and nothing remembered but a path
-unfoldable pub start : (path : Choice) → (min : ℕ) → (max : Option ℕ) → State
-start path min max = record {
+-- the start of a run: from min to max lines, of which some match these patterns, the last one current, and nothing remembered but a path
+unfoldable pub start : (path : Choice) → (min : ℕ) → (max : Option ℕ) → (has : List (List ℕ)) → State
+start path min max has = record {
   zone = after_set (limited max (after_guard any_zone name.zero name.last_line (neg_ℤ (pos min)))) name.current_line name.last_line (pos 0);
   marks = no_marks;
   patterns = None ∷ [];
@@ -48,4 +48,6 @@ start path min max = record {
   names = path ∷ [];
   changed = unchanged;
   undo = nothing_to_undo;
+  has = has;
+  old_has = [];
 }

@@ -1,5 +1,5 @@
 -- The rule of `s` (XCU ed, "Substitute Command"): what it needs, and what it leaves.
-use Rattle.std.specs.Prelude.{ℕ, pos, negsuc, Bool, true, false, ◌&&◌, not, nat_le, List, Option, Some, None, Result, Ok, Err, if◌then◌else◌}
+use Rattle.std.specs.Prelude.{ℕ, pos, negsuc, Bool, true, false, ◌&&◌, not, nat_eq, List, Option, Some, None, Result, Ok, Err, if◌then◌else◌}
 use Rattle.std.specs.List.{list_all, list_any}
 use Rattle.ed_base.specs.declared.fault.Fault.{Fault}
 use Rattle.ed_base.specs.declared.fault.Fault.TheVariants as fault
@@ -47,7 +47,7 @@ pattern_used own s = possible_patterns own s >> λ patterns. Ok (record s { patt
 -- the first of the matches on a line is replaced, or all
 abbrev pub takes_first : Which → Bool
 takes_first which.First = true
-takes_first (which.Nth number) = nat_le number 1
+takes_first (which.Nth before) = nat_eq before 0
 takes_first which.All = true
 
 -- whatever the lines hold, there is something to be replaced in each

@@ -5,7 +5,7 @@ ghost use Rattle.std.specs.List.{list_all};
 ghost use Rattle.zones.specs.Limits.{clamp};
 ghost use Rattle.zones.specs.Steps.{after_set};
 ghost use Rattle.ed_syntax.specs.PublicTypes.{address_value, addresses_value, default_value};
-ghost use Rattle.ed_rules.specs.Addresses.{is_always, in_buffer, set_from, found, searched, evaluated, addressed, standing, last_given, targeted, ranged};
+ghost use Rattle.ed_rules.specs.Addresses.{is_always, is_found, in_buffer, set_from, found, searched, evaluated, addressed, standing, last_given, targeted, ranged};
 ghost use Rattle.ed_rules.specs.Reaching.{Reaches};
 
 use crate::choices::Choices;
@@ -124,20 +124,56 @@ impl State {
         self.need_in_buffer(x)
     }
 
+    /// Whether some line surely matches a pattern.
+    fn is_found(&self, pattern: &Pattern) -> bool
+        ensures value { result ≡ is_found self.now (Some pattern.now) }
+    {
+        self.has.has(pattern.text())
+            || (self.zone.is_known(Name::ZERO, Name::LAST_LINE, -1) && matches_always(pattern))
+    }
+
+    /// The same of a remembered pattern.
+    fn choice_is_found(&self, choice: &Option<Bytes>) -> Result<bool, AllocError>
+        ensures value { IfOk result (λ found. found ≡ is_found self.now choice.now) }
+    {
+        let Some(text) = choice else {
+            return Ok(false);
+        };
+        if self.has.has(text.as_slice()) {
+            return Ok(true);
+        }
+        if !self.zone.is_known(Name::ZERO, Name::LAST_LINE, -1) {
+            return Ok(false);
+        }
+        choice_matches_always(self.patterns.allocator(), choice)
+    }
+
+    /// Whether some line surely matches each pattern that may be remembered.
+    fn all_are_found(&self) -> Result<bool, AllocError>
+        ensures value { IfOk result (λ found. found ≡ list_all (is_found self.now) self.now.patterns) }
+    {
+        for choice in self.patterns.members() {
+            if !self.choice_is_found(choice)? {
+                return Ok(false);
+            }
+        }
+        Ok(true)
+    }
+
     /// A search for the pattern that is given, or for a remembered one.
     fn search(&mut self, x: Name, pattern: &Option<Pattern>, offset: i128) -> Result<(), Fault>
         ensures exact { Reaches result self.new (searched x pattern.now offset self.old) }
     {
-        let always = match pattern {
-            Some(pattern) => matches_always(pattern),
+        let found = match pattern {
+            Some(pattern) => self.is_found(pattern),
             None => {
                 if self.patterns.has(&None) {
                     return Err(Fault::Pattern);
                 }
-                all_match_always(&self.patterns)?
+                self.all_are_found()?
             }
         };
-        if !self.zone.is_known(Name::ZERO, Name::LAST_LINE, -1) || !always {
+        if !found {
             return Err(Fault::NoMatch);
         }
         if let Some(pattern) = pattern {

@@ -8,6 +8,7 @@ use crate::kept_undo::{KeptUndo, kept_old_covers};
 use crate::marks::Marks;
 use crate::order::allows;
 use crate::state::{Changed, Replacements, State};
+use crate::texts::Texts;
 use std::alloc::AllocError;
 use std::marker::Model;
 use zones::{KeptZone, Zone};
@@ -23,6 +24,8 @@ pub struct KeptState {
     names: Choices,
     changed: Changed,
     undo: KeptUndo,
+    has: Texts,
+    old_has: Texts,
 }
 
 impl Model for KeptState {
@@ -38,6 +41,8 @@ impl Model for KeptState {
       names = kept.names;
       changed = kept.changed;
       undo = kept.undo;
+      has = kept.has;
+      old_has = kept.old_has;
     } };
 }
 
@@ -55,6 +60,8 @@ impl State {
             names: self.names.try_copy()?,
             changed: self.changed,
             undo: KeptUndo::of(&self.undo, alloc)?,
+            has: self.has.try_copy()?,
+            old_has: self.old_has.try_copy()?,
         })
     }
 }
@@ -69,6 +76,8 @@ impl KeptState {
         names: Choices,
         changed: Changed,
         undo: KeptUndo,
+        has: Texts,
+        old_has: Texts,
     ) -> KeptState
         ensures value { result ≡ record {
           zone = zone;
@@ -78,6 +87,8 @@ impl KeptState {
           names = names;
           changed = changed;
           undo = undo;
+          has = has;
+          old_has = old_has;
         } }
     {
         KeptState {
@@ -88,6 +99,8 @@ impl KeptState {
             names,
             changed,
             undo,
+            has,
+            old_has,
         }
     }
 
@@ -103,6 +116,8 @@ impl KeptState {
             names: self.names.try_copy()?,
             changed: self.changed,
             undo: self.undo.undo(),
+            has: self.has.try_copy()?,
+            old_has: self.old_has.try_copy()?,
         })
     }
 
@@ -113,6 +128,8 @@ impl KeptState {
     {
         state.patterns.try_copy_from(&self.patterns)?;
         state.names.try_copy_from(&self.names)?;
+        state.has.try_copy_from(&self.has)?;
+        state.old_has.try_copy_from(&self.old_has)?;
         self.zone.restore(&mut state.zone);
         state.marks = self.marks;
         state.replacements = self.replacements;
@@ -137,6 +154,8 @@ impl KeptState {
             && allows(self.undo.nothing(), other.undo.nothing)
             && allows(self.undo.same(), other.undo.same)
             && kept_old_covers(self.undo.was(), &other.undo.was)
+            && self.has.are_among(&other.has)
+            && (other.undo.was.is_none() || self.old_has.are_among(&other.old_has))
     }
 
     /// The bounds on lines. Like each part that is asked for alone, they take no memory.
@@ -186,6 +205,20 @@ impl KeptState {
         ensures value { result ≡ self.now.changed }
     {
         self.changed
+    }
+
+    /// The patterns that some line surely matches.
+    pub fn has(&self) -> &Texts
+        ensures value { result.now ≡ self.now.has }
+    {
+        &self.has
+    }
+
+    /// The same of an earlier buffer, which undo may bring back.
+    pub fn old_has(&self) -> &Texts
+        ensures value { result.now ≡ self.now.old_has }
+    {
+        &self.old_has
     }
 
     /// What undo may find, as it is kept.

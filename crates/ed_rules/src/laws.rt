@@ -4,16 +4,22 @@ ghost use Rattle.ed_syntax.specs.meaning.States as editor;
 ghost use Rattle.ed_rules.specs.declared.state.State.{State};
 ghost use Rattle.ed_rules.specs.Choices.{Choice};
 ghost use Rattle.ed_rules.specs.States.{start};
-ghost use Rattle.ed_rules.specs.Formed.{ChoiceIsBytes, IsFormed, IsEnded, TextsAreBytes};
+ghost use Rattle.ed_rules.specs.Formed.{ChoiceIsBytes, IsFormed, IsEnded, MatchesAreFormed, TextsAreBytes, TextsAreFormed, VerbIsBytes};
+ghost use Rattle.ed_rules.specs.Matched.{watched};
 ghost use Rattle.ed_rules.specs.Order.{join, widen, Covers};
-ghost use Rattle.ed_rules.specs.Rules.{step};
+ghost use Rattle.ed_rules.specs.Rules.{step, fault_of};
 ghost use Rattle.ed_rules.specs.StandsFor.{StandsFor};
-ghost use Rattle.std.specs.Prelude.{ℕ, Option, IfOk};
-ghost use Rattle.ed_syntax.specs.Commands.{Command, Step};
+ghost use Rattle.std.specs.Prelude.{◌≡◌, ℕ, negsuc, ◌&&◌, List, [], ◌∷◌, All, Option, IfOk};
+ghost use Rattle.std.specs.List.{list_all};
+ghost use Rattle.zones.specs.Known.{known};
+ghost use Rattle.zones.specs.Name as name;
+ghost use Rattle.zones.specs.Name.{last_line};
+ghost use Rattle.ed_rules.specs.Addresses.{is_always, is_found};
+ghost use Rattle.ed_syntax.specs.Commands.{Verb, Command, Step, Script};
 ghost use Rattle.ed_rules.specs.Soundness.{CommandIsSound};
 ghost use Rattle.ed_rules.specs.ExactRules.{CommandIsExact, StartIsExact};
 ghost use Rattle.ed_rules.specs.Globals.{body_entry, loop_end};
-ghost use Rattle.ed_rules.specs.GlobalSoundness.{StartIsSound, TurnIsSound, EndIsSound};
+ghost use Rattle.ed_rules.specs.GlobalSoundness.{StartIsSound, TurnIsSound, EndIsSound, FlagsAreKept, NoFlagsAreKept, TakenHaveFlags};
 
 use ed_syntax::{
     answers_are_asked_for, commands_are_placed, commands_keep_lines, commands_keep_marks,
@@ -31,16 +37,25 @@ pub fn commands_are_sound()
     commands_keep_lines();
 }
 
-/// What the rules of a global command say of its parts: its start, a line that is taken, its end.
+/// What the rules of a global command say of its parts: its start, a line that is taken, its end. Meanwhile lines that have its flag are
+/// some of those that it took, with the bytes that they had; outside lists no line has the flag.
 pub fn globals_are_sound()
     ensures start { StartIsSound }
-    ensures turn { (invariant : State) → TurnIsSound invariant (body_entry invariant) }
+    ensures turn { (verb : Verb) (invariant : State) → TurnIsSound verb invariant (body_entry verb invariant) }
+    ensures flags { FlagsAreKept }
+    ensures no_flags { NoFlagsAreKept }
+    ensures taken { TakenHaveFlags }
     ensures end { (x : Step) (before invariant : State) →
         EndIsSound x before invariant (loop_end x before invariant) }
 {
     commands_are_sound();
     flags_change_no_line();
 }
+
+/// Which patterns are watched makes no difference to the needs of a command.
+pub fn needs_are_the_same_whatever_is_watched()
+    ensures needs { (one other : List (List ℕ)) (c : Command) (s : State) → fault_of (step one c s) ≡ fault_of (step other c s) }
+{}
 
 /// What is joined or widened stands for all that either state stands for, and so does what covers a state.
 pub fn weaker_states_stand_for_more()
@@ -68,14 +83,15 @@ pub fn covering_states_is_an_order()
 
 /// The start is formed, and so is what each rule makes of formed states. At its end it is known that there are at least 0 lines.
 pub fn states_stay_formed()
-    ensures start { (path : Choice) (min : ℕ) (max : Option ℕ) → ChoiceIsBytes path →
-        IsEnded (start path min max) }
-    ensures command { (c : Command) (s : State) → TextsAreBytes c → IsFormed s → IfOk (step c s) IsEnded }
+    ensures start { (path : Choice) (min : ℕ) (max : Option ℕ) (has : List (List ℕ)) → ChoiceIsBytes path →
+        IsEnded (start path min max has) }
+    ensures command { (watched : List (List ℕ)) (c : Command) (s : State) → TextsAreBytes c → IsFormed s →
+        IfOk (step watched c s) IsEnded }
     ensures join { (one other : State) → IsFormed one → IsFormed other → IsFormed (join one other) }
     ensures widen { (old new : State) → IsFormed old → IsFormed new → IsFormed (widen old new) }
 
     // Of a global command: the state in which its list is run, and that after its last line.
-    ensures entry { (invariant : State) → IsFormed invariant → IsEnded (body_entry invariant) }
+    ensures entry { (verb : Verb) (invariant : State) → IsFormed invariant → IsEnded (body_entry verb invariant) }
     ensures end { (x : Step) (before invariant : State) → IsFormed before → IsFormed invariant →
         IsEnded (loop_end x before invariant) }
 {}
@@ -85,4 +101,29 @@ pub fn states_stay_formed()
 pub fn exact_commands_are_exact()
     ensures command { CommandIsExact }
     ensures start { StartIsExact }
+{}
+
+/// What states say of matches is formed too: sets of bytes that rise, of earlier lines only where undo may bring some back.
+pub fn matches_stay_formed()
+    ensures start { (path : Choice) (min : ℕ) (max : Option ℕ) (has : List (List ℕ)) → TextsAreFormed has →
+        MatchesAreFormed (start path min max has) }
+    ensures command { (watched : List (List ℕ)) (c : Command) (s : State) → TextsAreFormed watched → MatchesAreFormed s →
+        IfOk (step watched c s) MatchesAreFormed }
+    ensures join { (one other : State) → MatchesAreFormed one → MatchesAreFormed other → MatchesAreFormed (join one other) }
+    ensures widen { (old new : State) → MatchesAreFormed old → MatchesAreFormed new → MatchesAreFormed (widen old new) }
+    ensures entry { (verb : Verb) (invariant : State) → VerbIsBytes verb → MatchesAreFormed invariant →
+        MatchesAreFormed (body_entry verb invariant) }
+    ensures end { (x : Step) (before invariant : State) → MatchesAreFormed before → MatchesAreFormed invariant →
+        MatchesAreFormed (loop_end x before invariant) }
+
+    // And so are the patterns that are watched in a script.
+    ensures watched { (script : Script) (has : List (List ℕ)) →
+        All (λ (x : Step). TextsAreBytes x.command × All TextsAreBytes x.list) script.steps → TextsAreFormed has →
+        TextsAreFormed (watched script has) }
+{}
+
+/// Where nothing is known of matches, a search needs what it did in certificates that tell nothing of them.
+pub fn searches_are_as_before()
+    ensures need { (s : State) (c : Choice) (set : List Choice) → s.has ≡ [] →
+        list_all (is_found s) (c ∷ set) ≡ (known s.zone name.zero last_line (negsuc 0) && list_all is_always (c ∷ set)) }
 {}

@@ -12,13 +12,16 @@ mod laws;
 mod line_bounds;
 mod lines;
 mod marks;
+mod matching;
 mod moves;
 mod order;
 mod pieces;
 mod rules;
 mod state;
 mod substitution;
+mod texts;
 mod undoing;
+mod watch;
 
 pub use choices::Choices;
 pub use globals::{body_entry, loop_end, loop_start};
@@ -26,9 +29,12 @@ pub use kept::KeptState;
 pub use kept_undo::{KeptOld, KeptUndo};
 pub use laws::{
     commands_are_sound, covering_states_is_an_order, exact_commands_are_exact, globals_are_sound,
+    matches_stay_formed, needs_are_the_same_whatever_is_watched, searches_are_as_before,
     states_stay_formed, weaker_states_stand_for_more,
 };
 pub use line_bounds::LineBounds;
 pub use marks::Marks;
 pub use rules::{after, needs, outcome_into};
 pub use state::{Changed, Old, Replacements, State, Undo};
+pub use texts::Texts;
+pub use watch::Watch;

@@ -1,6 +1,6 @@
 //! The rules: the state after a command, or the need that fails.
 
-ghost use Rattle.std.specs.Prelude.{◌≡◌, true, Ok, Option, None, IfOk, IfErr};
+ghost use Rattle.std.specs.Prelude.{◌≡◌, true, [], Ok, Option, None, IfOk, IfErr};
 ghost use Rattle.ed_syntax.specs.PublicTypes.{addresses_value, verb_value, suffix_value, command_value};
 ghost use Rattle.ed_syntax.specs.meaning.States as editor;
 ghost use Rattle.ed_syntax.specs.meaning.Applied as editing;
@@ -17,6 +17,7 @@ use crate::addresses::standing;
 use crate::laws::commands_are_sound;
 use crate::pieces::{end, lift};
 use crate::state::State;
+use crate::watch::Watch;
 use ed_base::{Fault, Text};
 use ed_syntax::{Addresses, Command, Form, Taking, Verb};
 use std::alloc::AllocError;
@@ -148,34 +149,45 @@ impl State {
     /// Goes over to the state after a command with these addresses.
     fn step_at(
         &mut self,
+        watch: &Watch,
         addresses: &Addresses,
         command: &Command,
         before: &State,
     ) -> Result<(), Fault>
         requires start { before.now ≡ self.old }
         ensures exact { Reaches result self.new
-            (step_at (addresses_value addresses.now) (command_value command.now) self.old) }
+            (step_at watch.now (addresses_value addresses.now) (command_value command.now) self.old) }
     {
         let takes = command.verb.takes();
         self.evaluate_all(addresses)?;
         self.evaluate_target(takes.target)?;
         self.take(takes.taking, &command.addresses, addresses)?;
+        let has = self.matched_after(watch, &command.addresses, &command.verb)?;
+        let old_has = self.old_matched_after(
+            command.listed,
+            &command.addresses,
+            &command.verb,
+            before,
+        )?;
         self.act(command.listed, &command.addresses, &command.verb, before)?;
-        self.finish(&command.suffix)
+        self.finish(&command.suffix)?;
+        self.has = has;
+        self.old_has = old_has;
+        Ok(())
     }
 
     /// Becomes the state after a command in `before`.
-    fn step_from(&mut self, before: &State, command: &Command) -> Result<(), Fault>
-        ensures exact { Reaches result self.new (step (command_value command.now) before.now) }
+    fn step_from(&mut self, watch: &Watch, before: &State, command: &Command) -> Result<(), Fault>
+        ensures exact { Reaches result self.new (step watch.now (command_value command.now) before.now) }
     {
         texts_are_lines(&command.verb);
         self.try_copy_from(before)?;
         match &command.addresses {
             Addresses::Without => {
                 let own = standing(command.verb.takes().default);
-                self.step_at(&own, command, before)
+                self.step_at(watch, &own, command, before)
             }
-            given => self.step_at(given, command, before),
+            given => self.step_at(watch, given, command, before),
         }
     }
 }
@@ -187,10 +199,11 @@ pub fn outcome_into(
     command: &Command,
     before: &State,
     after: &mut State,
+    watch: &Watch,
 ) -> Result<Option<Fault>, AllocError>
-    ensures exact { IfOk result (λ failed. Comes failed after.new (step (command_value command.now) before.now)) }
+    ensures exact { IfOk result (λ failed. Comes failed after.new (step watch.now (command_value command.now) before.now)) }
 {
-    match after.step_from(before, command) {
+    match after.step_from(watch, before, command) {
         Ok(()) => Ok(None),
         Err(Fault::Memory) => Err(AllocError),
         Err(fault) => Ok(Some(fault)),
@@ -199,7 +212,7 @@ pub fn outcome_into(
 
 /// The first need of a command that fails in a state.
 pub fn needs(command: &Command, state: &State) -> Result<Option<Fault>, AllocError>
-    ensures exact { IfOk result (λ need. need ≡ fault_of (step (command_value command.now) state.now)) }
+    ensures exact { IfOk result (λ need. need ≡ fault_of (step [] (command_value command.now) state.now)) }
 
     // Where none fails, the command meets no fault in any editor that the state stands for, but that of a file whose answer
     // doesn't serve what was asked for.
@@ -209,13 +222,14 @@ pub fn needs(command: &Command, state: &State) -> Result<Option<Fault>, AllocErr
 {
     commands_are_sound();
     let mut after = state.try_copy()?;
-    outcome_into(command, state, &mut after)
+    let watch = Watch::none(state.patterns.allocator());
+    outcome_into(command, state, &mut after, &watch)
 }
 
 /// The state after a command whose needs hold.
-pub fn after(command: &Command, state: &State) -> Result<State, AllocError>
-    requires needed { fault_of (step (command_value command.now) state.now) ≡ None }
-    ensures exact { IfOk result (λ after. step (command_value command.now) state.now ≡ Ok after) }
+pub fn after(command: &Command, state: &State, watch: &Watch) -> Result<State, AllocError>
+    requires needed { fault_of (step watch.now (command_value command.now) state.now) ≡ None }
+    ensures exact { IfOk result (λ after. step watch.now (command_value command.now) state.now ≡ Ok after) }
 
     // Of any editor that the state stands for, and whatever it is answered: the command meets no fault but that of a file, it
     // asks to write only what its rule tells, and the result stands for what it leaves.
@@ -224,7 +238,7 @@ pub fn after(command: &Command, state: &State) -> Result<State, AllocError>
 {
     commands_are_sound();
     let mut after = state.try_copy()?;
-    match after.step_from(state, command) {
+    match after.step_from(watch, state, command) {
         Ok(()) => Ok(after),
         Err(_) => Err(AllocError),
     }

@@ -1,11 +1,12 @@
 //! What is known of an editor's state.
 
-ghost use Rattle.std.specs.Prelude.{◌≡◌, IfOk, OnOk};
+ghost use Rattle.std.specs.Prelude.{◌≡◌, [], IfOk, OnOk};
 ghost use Rattle.ed_rules.specs.States.{old_of, unchanged, changed, no_replacement, nothing_to_undo, start};
 ghost use Rattle.ed_rules.specs.declared.state.State.{State};
 
 use crate::choices::Choices;
 use crate::marks::Marks;
+use crate::texts::Texts;
 use ed_base::Bytes;
 use std::alloc::{AllocError, Global};
 use zones::{Name, Zone};
@@ -53,6 +54,10 @@ pub struct State {
     pub names: Choices,
     pub changed: Changed,
     pub undo: Undo,
+    /// The patterns that some line surely matches.
+    pub has: Texts,
+    /// The same of an earlier buffer, which undo may bring back; none where it can't.
+    pub old_has: Texts,
 }
 
 impl Old {
@@ -102,16 +107,17 @@ impl Changed {
 }
 
 impl State {
-    /// The start of a run: a file of `min` to `max` lines, the last one current, and nothing remembered but a path. Without a
-    /// `max` the file has any number of lines.
+    /// The start of a run: a file of `min` to `max` lines, of which some match these patterns, the last one current, and nothing
+    /// remembered but a path. Without a `max` the file has any number of lines.
     #[tactic(auto, unfolding(crate::specs::States::start))]
     pub fn start(
         alloc: Global,
         path: &Option<Bytes>,
         min: u64,
         max: Option<u64>,
+        has: &Texts,
     ) -> Result<State, AllocError>
-        ensures value { IfOk result (λ state. state ≡ start path.now min max) }
+        ensures value { IfOk result (λ state. state ≡ start path.now min max has.now) }
     {
         let mut zone = Zone::any();
         zone.guard_wide(Name::ZERO, Name::LAST_LINE, -i128::from(min));
@@ -135,6 +141,8 @@ impl State {
                 same: false,
                 was: None,
             },
+            has: has.try_copy()?,
+            old_has: Texts::none(alloc),
         })
     }
 
@@ -146,6 +154,14 @@ impl State {
             zone: self.zone,
             marks: self.marks,
         }
+    }
+
+    /// What is known of matches is given up. It takes no memory.
+    pub fn forget_matches(&mut self)
+        ensures value { self.new ≡ record self.old { has = []; old_has = [] } }
+    {
+        self.has = Texts::none(self.has.allocator());
+        self.old_has = Texts::none(self.old_has.allocator());
     }
 
     /// An equal state, made by the same allocator.
@@ -160,6 +176,8 @@ impl State {
             names: self.names.try_copy()?,
             changed: self.changed,
             undo: self.undo,
+            has: self.has.try_copy()?,
+            old_has: self.old_has.try_copy()?,
         })
     }
 
@@ -169,6 +187,8 @@ impl State {
     {
         self.patterns.try_copy_from(&other.patterns)?;
         self.names.try_copy_from(&other.names)?;
+        self.has.try_copy_from(&other.has)?;
+        self.old_has.try_copy_from(&other.old_has)?;
         self.zone.copy_from(&other.zone);
         self.marks = other.marks;
         self.replacements = other.replacements;

@@ -58,7 +58,7 @@ fn takes_first(which: Which) -> bool
 {
     match which {
         Which::First | Which::All => true,
-        Which::Nth(number) => number <= 1,
+        Which::Nth(number) => number.before() == 0,
     }
 }
 

@@ -1,7 +1,15 @@
+use Rattle.ed_rules.proofs.FlagsKept.{flags-kept, no-flags-kept, taken-have-flags}
 use Rattle.ed_rules.proofs.Looping.{Laws, start-sound, turn-sound, end-sound}
 use Rattle.ed_rules.proofs.laws.globals_are_sound.Goals as goal
 
 pub returns : goal.returns
 returns c =
     let flags : Laws = record { marks = c.flags_change_no_line.ensures.marks; bytes = c.flags_change_no_line.ensures.lines } in
-    record { start = start-sound c.commands_are_sound.ensures.sound; turn = turn-sound flags; end = end-sound flags }
+    record {
+      start = start-sound c.commands_are_sound.ensures.sound;
+      turn = turn-sound flags;
+      flags = flags-kept;
+      no_flags = no-flags-kept;
+      taken = taken-have-flags;
+      end = end-sound flags;
+    }

@@ -15,6 +15,6 @@ fault_of-Comes (Some f) t should h = ap fault_of h
 pub returns-clause-sound : goal.returns-clause-sound
 returns-clause-sound c =
     IfOk-weaker c.outcome_into.result _ _
-    (λ failed comes none e given st. needs-met c.commands_are_sound.ensures.sound
+    (λ failed comes none e given st. needs-met c.commands_are_sound.ensures.sound _
     (command_value c.args.command.now) c.args.state.now e given (fault_of-Comes failed _ _ comes ∙ none) st)
     c.outcome_into.ensures.exact

@@ -1,0 +1,13 @@
+use Rattle.ed_rules.proofs.MatchesFormed.{start-matches, command-matches, join-matches, widen-matches, entry-matches, end-matches, watched-formed}
+use Rattle.ed_rules.proofs.laws.matches_stay_formed.Goals as goal
+
+pub returns : goal.returns
+returns c = record {
+  start = start-matches;
+  command = command-matches;
+  join = join-matches;
+  widen = widen-matches;
+  entry = entry-matches;
+  end = end-matches;
+  watched = watched-formed;
+}

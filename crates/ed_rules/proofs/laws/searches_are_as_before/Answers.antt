@@ -1,0 +1,5 @@
+use Rattle.ed_rules.proofs.AsBefore.{searches-as_before}
+use Rattle.ed_rules.proofs.laws.searches_are_as_before.Goals as goal
+
+pub returns : goal.returns
+returns c = record { need = searches-as_before }

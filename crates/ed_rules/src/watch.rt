@@ -1,0 +1,160 @@
+//! The patterns that are watched for: a script's searches look for them, or its start says that some line matches them.
+
+ghost use Rattle.std.specs.Prelude.{◌≡◌, [], map, option_map, IfOk, OnOk};
+ghost use Rattle.std.specs.List.{list_any, flat_map};
+ghost use Rattle.std.specs.Option.{is_some};
+ghost use Rattle.bre_parse.specs.Bre.{bre_tree};
+ghost use Rattle.bre_parse.specs.Match.{match_from};
+ghost use Rattle.ed_syntax.specs.PublicScript.{script_value};
+ghost use Rattle.ed_syntax.specs.PublicTypes.{base_value, address_value, addresses_value, command_value, step_value};
+ghost use Rattle.ed_syntax.specs.meaning.Values.{matches};
+ghost use Rattle.ed_rules.specs.Texts.{with_texts};
+ghost use Rattle.ed_rules.specs.Matched.{gained, sought_at, sought_by, sought_at_target, sought, sought_by_step, watched};
+
+use crate::texts::Texts;
+use bre_parse::Bre;
+use bre_parse::fault::BreFault;
+use ed_base::{Bytes, Text};
+use ed_syntax::{Address, Addresses, Base, Command, Script};
+use std::alloc::{AllocError, Global};
+use std::marker::Model;
+
+/// The watched patterns, by their texts.
+#[derive(Debug, Drop)]
+pub struct Watch {
+    patterns: Texts,
+}
+
+impl Model for Watch {
+    ghost use Rattle.std.specs.Prelude.{ℕ, List};
+
+    ghost Value = { List (List ℕ) };
+
+    ghost view = { λ watch. watch.patterns };
+}
+
+/// Whether a pattern matches one of these lines.
+fn any_matches(alloc: Global, pattern: &Bre, lines: &[Bytes]) -> Result<bool, AllocError>
+    ensures value { IfOk result (λ any. any ≡
+        list_any (λ line. is_some (match_from (bre_tree pattern.now) line 0)) lines.now) }
+{
+    for line in lines {
+        if bre_match::matches(alloc, pattern, line.as_slice())? {
+            return Ok(true);
+        }
+    }
+    Ok(false)
+}
+
+/// Whether the pattern of a text does; a text that is no pattern matches none.
+fn text_matches(alloc: Global, text: &[u8], lines: &[Bytes]) -> Result<bool, AllocError>
+    ensures value { IfOk result (λ any. any ≡ list_any (matches text.now) lines.now) }
+{
+    match Bre::read(alloc, text) {
+        Ok(bre) => any_matches(alloc, &bre, lines),
+        Err(fault) => match fault {
+            BreFault::Memory => Err(AllocError),
+            _ => Ok(false),
+        },
+    }
+}
+
+/// The pattern that a search is given.
+fn add_base(base: &Base, patterns: &mut Texts) -> Result<(), AllocError>
+    ensures value { OnOk result (patterns.new ≡ with_texts (sought_at (base_value base.now)) patterns.old) }
+{
+    match base {
+        Base::Forward(Some(pattern)) => patterns.add(pattern.text()),
+        Base::Backward(Some(pattern)) => patterns.add(pattern.text()),
+        _ => Ok(()),
+    }
+}
+
+fn add_addresses(addresses: &Addresses, patterns: &mut Texts) -> Result<(), AllocError>
+    ensures value { OnOk result (patterns.new ≡ with_texts (sought_by (addresses_value addresses.now)) patterns.old) }
+{
+    match addresses {
+        Addresses::Without => Ok(()),
+        Addresses::One(only) => add_base(&only.base, patterns),
+        Addresses::Comma(first, second) => {
+            add_base(&first.base, patterns)?;
+            add_base(&second.base, patterns)
+        }
+        Addresses::Semicolon(first, None) => add_base(&first.base, patterns),
+        Addresses::Semicolon(first, Some(second)) => {
+            add_base(&first.base, patterns)?;
+            add_base(&second.base, patterns)
+        }
+    }
+}
+
+/// A target is searched for too, where it is given by a search.
+fn add_target(target: Option<&Address>, patterns: &mut Texts) -> Result<(), AllocError>
+    ensures value { OnOk result (patterns.new ≡
+        with_texts (sought_at_target (option_map (λ target. address_value target.now) target.entry)) patterns.old) }
+{
+    match target {
+        Some(target) => add_base(&target.base, patterns),
+        None => Ok(()),
+    }
+}
+
+/// Those given in the searches of a command.
+fn add_command(command: &Command, patterns: &mut Texts) -> Result<(), AllocError>
+    ensures value { OnOk result (patterns.new ≡ with_texts (sought (command_value command.now)) patterns.old) }
+{
+    add_addresses(&command.addresses, patterns)?;
+    add_target(command.verb.takes().target, patterns)
+}
+
+fn add_list(list: &[Command], patterns: &mut Texts) -> Result<(), AllocError>
+    ensures value { OnOk result (patterns.new ≡ with_texts (flat_map sought (map command_value list.now)) patterns.old) }
+{
+    for command in list {
+        add_command(command, patterns)?;
+    }
+    Ok(())
+}
+
+fn add_step(command: &Command, patterns: &mut Texts) -> Result<(), AllocError>
+    ensures value { OnOk result (patterns.new ≡ with_texts (sought_by_step (step_value command.now)) patterns.old) }
+{
+    add_command(command, patterns)?;
+    add_list(command.list(), patterns)
+}
+
+impl Watch {
+    /// The patterns watched in a script, of whose start some lines match these: these, and those given in its searches.
+    pub fn of(script: &Script, has: &Texts) -> Result<Watch, AllocError>
+        ensures value { IfOk result (λ watch. watch ≡ watched (script_value script.now) has.now) }
+    {
+        let mut patterns = has.try_copy()?;
+        for command in script.commands.as_slice() {
+            add_step(command, &mut patterns)?;
+        }
+        Ok(Watch { patterns })
+    }
+
+    /// No pattern.
+    pub fn none(alloc: Global) -> Watch
+        ensures value { result ≡ [] }
+    {
+        Watch {
+            patterns: Texts::none(alloc),
+        }
+    }
+
+    /// The watched patterns that an entered line matches.
+    pub(crate) fn gained(&self, entered: &Text) -> Result<Texts, AllocError>
+        ensures value { IfOk result (λ some. some ≡ gained self.now entered.now) }
+    {
+        let alloc = self.patterns.allocator();
+        let mut some = Vec::new(alloc);
+        for text in self.patterns.members() {
+            if text_matches(alloc, text.as_slice(), entered.as_slice())? {
+                some.push(text.try_copy()?)?;
+            }
+        }
+        Ok(Texts::of(some))
+    }
+}
