@@ -1,6 +1,7 @@
 -- Lemmas on the checks, and on what an accepted certificate means.
 pub mod Checks
 pub mod Quitting
+pub mod Flags
 pub mod Running
 pub mod Turning
 pub mod Stepping

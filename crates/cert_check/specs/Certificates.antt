@@ -2,6 +2,7 @@
 use Rattle.std.specs.Prelude.{ℕ, List, map, Option, option_map}
 use Rattle.std.specs.Global.{Box}
 use Rattle.ed_rules.specs.declared.state.State.{State}
+use Rattle.cert_check.specs.declared.certificate.Version.{Version}
 use Rattle.cert_check.specs.declared.certificate.Looped as looped
 use Rattle.cert_check.specs.declared.certificate.Note as note
 use Rattle.cert_check.specs.declared.certificate.Certificate as public
@@ -16,12 +17,15 @@ pub record Note : Type 0 where
   pub state : State
   pub looped : Option Looped
 
--- The path that the run starts with, and how many lines the start may have; a note for each counted command, of what is known
--- before it; what is known at the end, and how many lines there may be then; the paths that may be written.
+-- The version, which says whether anything is told of what lines match. The path that the run starts with, how many lines the start may
+-- have, and which patterns some of them match. A note for each counted command, of what is known before it. What is known at the end, and
+-- how many lines there may be then. The paths that may be written.
 pub record Certificate : Type 0 where
+  pub version : Version
   pub path : Option (List ℕ)
   pub min : ℕ
   pub max : Option ℕ
+  pub has : List (List ℕ)
   pub notes : List Note
   pub last : State
   pub low : ℕ
@@ -42,9 +46,11 @@ note_value n = record { state = n.state; looped = option_map boxed_value n.loope
 -- what a certificate in memory stands for
 abbrev pub certificate_value : public.Certificate → Certificate
 certificate_value c = record {
+  version = c.version;
   path = c.path;
   min = c.min;
   max = c.max;
+  has = c.has;
   notes = map note_value c.notes.items;
   last = c.last;
   low = c.low;

@@ -1,7 +1,7 @@
 //! What a certificate says of a script.
 
 use ed_base::Bytes;
-use ed_rules::KeptState;
+use ed_rules::{KeptState, Texts};
 
 /// What is known of a global command's list: at its start for each line, and before each of its commands.
 #[derive(Debug, Drop)]
@@ -20,16 +20,28 @@ pub struct Note {
     pub looped: Option<Box<Looped>>,
 }
 
-/// What a certificate says: the file that a run starts with and how long it may be, what is known before each counted command
-/// and at the end, how many lines are left then, and which files may be written.
+/// The version of a certificate: whether it tells anything of what lines match.
+#[derive(Clone, Copy, PartialEq, Eq, Debug)]
+pub enum Version {
+    /// It tells nothing.
+    One,
+    /// It tells of patterns that some line matches.
+    Two,
+}
+
+/// What a certificate says: the file that a run starts with, how long it may be and what some of its lines match, what is known before
+/// each counted command and at the end, how many lines are left then, and which files may be written.
 #[derive(Debug, Drop)]
 pub struct Certificate {
+    pub version: Version,
     /// The path of the start file; with none the buffer is empty.
     pub path: Option<Bytes>,
     /// The fewest lines that the start may have.
     pub min: u64,
     /// The most lines that the start may have; with none there is no limit.
     pub max: Option<u64>,
+    /// The patterns that some line of the start matches; in version 1 they don't count.
+    pub has: Texts,
     /// One for each counted command, in their order.
     pub notes: Vec<Note>,
     /// What is known at the end.

@@ -15,6 +15,7 @@ use crate::certificate::Certificate;
 use crate::checker::passing::{are_shaped, count, ends_well, go_through};
 use crate::checker::verdict::{Place, Verdict};
 use crate::laws::accepted_scripts_cannot_fail;
+use crate::sight::Sight;
 use ed_rules::State;
 use ed_syntax::Script;
 use std::alloc::AllocError;
@@ -66,10 +67,13 @@ fn judge(script: &Script, certificate: &Certificate) -> Result<Verdict, AllocErr
         &certificate.path,
         certificate.min,
         certificate.max,
+        &certificate.has,
     )?;
+    let sight = Sight::of(script, certificate.version, &certificate.has)?;
+    sight.tell(&mut coming);
     let mut before = coming.try_copy()?;
     let writes = certificate.writes.as_slice();
-    let failed = go_through(writes, commands, notes, &mut before, &mut coming)?;
+    let failed = go_through(&sight, writes, commands, notes, &mut before, &mut coming)?;
     let verdict = verdict_after(failed, &coming, counted.quit, script.fault, certificate);
     Ok(verdict)
 }
@@ -79,7 +83,7 @@ pub fn check(script: &Script, certificate: &Certificate) -> Result<Verdict, Allo
     ensures exact { IfOk result (λ answer. answer ≡
         judged (script_value script.now) (certificate_value certificate.now)) }
 
-    // What is accepted can't fail: each run over a start that the bounds allow ends as the certificate says.
+    // What is accepted can't fail: each run over a start that it allows ends as the certificate says.
     ensures sound { IfOk result (λ answer. answer ≡ Verdict.Accepted →
         CannotFail (script_value script.now) (certificate_value certificate.now)) }
 {

@@ -1,11 +1,13 @@
 //! Laws about certificates: contracts of functions that do nothing.
 
 ghost use Rattle.std.specs.List.{list_all};
-ghost use Rattle.std.specs.Prelude.{◌≡◌, ℕ, List, IsTrue, ◌↔◌};
+ghost use Rattle.std.specs.Prelude.{◌≡◌, ℕ, List, length, IsTrue, ◌↔◌};
 ghost use Rattle.ed_syntax.specs.Commands as ed;
 ghost use Rattle.ed_syntax.specs.meaning.Verbs.{is_step};
 ghost use Rattle.ed_rules.specs.declared.state.State.{State};
 ghost use Rattle.ed_rules.specs.Order.{Covers};
+ghost use Rattle.ed_rules.specs.LineBounds.{IsWithin};
+ghost use Rattle.cert_check.specs.declared.certificate.Version.TheVariants as versions;
 ghost use Rattle.cert_check.specs.declared.checker.verdict.Verdict.TheVariants.{Accepted};
 ghost use Rattle.cert_check.specs.Certificates as plain;
 ghost use Rattle.cert_check.specs.checker.Covering.{covers};
@@ -13,10 +15,13 @@ ghost use Rattle.cert_check.specs.checker.Valid.{judged};
 ghost use Rattle.cert_check.specs.text.HasText.{IsText};
 ghost use Rattle.cert_check.specs.text.Faults.{IsVersionFault, IsLineFault, IsSizeFault};
 ghost use Rattle.cert_check.specs.checker.Opening.{StartIsSound};
-ghost use Rattle.cert_check.specs.checker.Sound.{GlobalGoesWell, CannotFail};
+ghost use Rattle.cert_check.specs.checker.Sound.{IsAllowed, GlobalGoesWell, CannotFail, CannotFailInBounds};
 
-use ed_rules::{commands_are_sound, globals_are_sound, weaker_states_stand_for_more};
-use ed_syntax::{commands_are_placed, files_have_lines, lists_note_changes};
+use ed_rules::{
+    commands_are_sound, globals_are_sound, needs_are_the_same_whatever_is_watched,
+    weaker_states_stand_for_more,
+};
+use ed_syntax::{commands_are_placed, files_have_lines, lists_add_no_flags, lists_note_changes};
 use zones::known_bounds_are_true;
 
 /// The test of covering says whether one state covers another.
@@ -24,7 +29,8 @@ pub fn covering_is_decided()
     ensures exact { (weak strong : State) → IsTrue (covers weak strong) ↔ Covers weak strong }
 {}
 
-/// The start of the rules stands for each editor that was opened over a file of as many lines as it allows.
+/// The start of the rules stands for each editor that was opened over a file of as many lines as it allows, some of which match its
+/// patterns.
 pub fn starts_are_sound()
     ensures sound { StartIsSound }
 {
@@ -38,6 +44,8 @@ pub fn checked_globals_go_well()
 {
     commands_are_sound();
     globals_are_sound();
+    needs_are_the_same_whatever_is_watched();
+    lists_add_no_flags();
     lists_note_changes();
     covering_is_decided();
     weaker_states_stand_for_more();
@@ -49,12 +57,25 @@ pub fn accepted_scripts_cannot_fail()
         judged script c ≡ Accepted → CannotFail script c }
 {
     commands_are_sound();
+    globals_are_sound();
+    needs_are_the_same_whatever_is_watched();
     checked_globals_go_well();
     commands_are_placed();
     covering_is_decided();
     starts_are_sound();
     weaker_states_stand_for_more();
     known_bounds_are_true();
+}
+
+/// A certificate of version 1 allows exactly the starts whose number of lines lies in its bounds, so it promises what it did before
+/// there was another version.
+pub fn version_one_is_as_before()
+    ensures start { (c : plain.Certificate) (lines : List (List ℕ)) → c.version ≡ versions.One →
+        (IsAllowed c lines ↔ IsWithin c.min c.max (length lines)) }
+    ensures sound { (script : ed.Script) (c : plain.Certificate) → c.version ≡ versions.One →
+        IsTrue (list_all is_step script.steps) → judged script c ≡ Accepted → CannotFailInBounds script c }
+{
+    accepted_scripts_cannot_fail();
 }
 
 /// No bytes are the text of two certificates.

@@ -4,15 +4,17 @@
 mod certificate;
 mod checker;
 mod laws;
+mod sight;
 mod text;
 
-pub use certificate::{Certificate, Looped, Note};
+pub use certificate::{Certificate, Looped, Note, Version};
 pub use checker::check;
 pub use checker::verdict::{Place, Verdict};
 pub use laws::{
     accepted_scripts_cannot_fail, checked_globals_go_well, covering_is_decided,
-    readings_are_told_apart, starts_are_sound, texts_are_unambiguous,
+    readings_are_told_apart, starts_are_sound, texts_are_unambiguous, version_one_is_as_before,
 };
+pub use sight::Sight;
 pub use text::fault::CertFault;
 pub use text::reading::wanted;
 pub use text::wanted::{LineKind, Wanted};

@@ -12,8 +12,9 @@ use Rattle.cert_check.specs.text.Faults.{Begins, IsWhole, IsVersionFault, IsLine
 use Rattle.cert_check.specs.text.Pieces.{texts, IsReadAs, rest_lines}
 use Rattle.cert_check.proofs.texts.Pieces.{first-of, later-of, bytes_of-append}
 use Rattle.cert_check.proofs.texts.Stated.{after-same}
+use Rattle.cert_check.proofs.texts.OneText.{version-same}
 use Rattle.cert_check.proofs.texts.Certified.{rest-ends}
-use Rattle.cert_check.proofs.texts.Told.{version, no-newline, first-cut, no-bytes, begins-goes, text-is, text-lines}
+use Rattle.cert_check.proofs.texts.Told.{version_text, no-newline, first-cut, no-bytes, begins-goes, text-is, text-lines}
 
 -- lines and lines at the front of the same bytes
 data Compared (a b : List (List ℕ)) (x y : List ℕ) : Type 0 where
@@ -34,7 +35,7 @@ compared (l ∷ a) (m ∷ b) x y h k e =
     ]
 
 abbrev lines_of : Certificate → List (List ℕ)
-lines_of c = version ∷ texts (rest_lines c)
+lines_of c = version_text c.version ∷ texts (rest_lines c)
 
 begins-less : (a later : List (List ℕ)) → Begins (a ++ later) → Begins a
 begins-less a later b = record {
@@ -64,7 +65,7 @@ fault-lines number bytes f = All-append IsLine f.above (f.line ∷ []) f.are_lin
 
 -- no text has a fault
 text-version : (bytes : List ℕ) (c : Certificate) → IsText bytes c → IsVersionFault bytes → ⊥
-text-version bytes c t f = f (bytes_of (texts (rest_lines c))) (sym t.1 ∙ text-is c)
+text-version bytes c t f = f c.version (bytes_of (texts (rest_lines c))) (sym t.1 ∙ text-is c)
 
 text-line : (bytes : List ℕ) (c : Certificate) (number : ℕ) → IsText bytes c → IsLineFault number bytes → ⊥
 text-line bytes c number t f =
@@ -89,7 +90,7 @@ text-more c w later h k e =
           let none = no-rest r [] later (All-nil (λ b. b ≢ newline)) after in
           sym (after ∙ ap (λ (l : List (List ℕ)). bytes_of l ++ later) none)
       | shorter r is before ↦
-          let none : r ≡ [] = rest-ends c w r h k (later-of is) in
+          let none : r ≡ [] = rest-ends c w r (version-same c.version w.version (first-of is)) h k (later-of is) in
           sym (sym (ap (λ (l : List (List ℕ)). bytes_of l ++ []) none) ∙ before)
     ]
 
@@ -118,8 +119,8 @@ first-line-of : (lines : List (List ℕ)) (after : List ℕ) → AreLines lines 
 first-line-of [] after are some b f = some refl
 first-line-of (l ∷ lines) after are some b f =
     let goes = begins-goes (l ∷ lines) b are in
-    let first : version ≡ l = first-of goes.is in
-    f (bytes_of lines ++ after) (append_assoc l (newline ∷ bytes_of lines) after ∙ ap (λ (x : List ℕ). x ++ newline ∷ (bytes_of lines ++ after)) (sym first))
+    let first : version_text b.certificate.version ≡ l = first-of goes.is in
+    f b.certificate.version (bytes_of lines ++ after) (append_assoc l (newline ∷ bytes_of lines) after ∙ ap (λ (x : List ℕ). x ++ newline ∷ (bytes_of lines ++ after)) (sym first))
 
 version-line : (bytes : List ℕ) (number : ℕ) → IsVersionFault bytes → IsLineFault number bytes → ⊥
 version-line bytes number v f =
@@ -131,8 +132,8 @@ version-line bytes number v f =
 
 version-size : (bytes : List ℕ) → IsVersionFault bytes → IsSizeFault bytes → ⊥
 version-size bytes v (more lines later w some) =
-    v (bytes_of (texts (rest_lines w.certificate)) ++ later)
-    (ap (λ (b : List ℕ). b ++ later) (sym w.is.1 ∙ text-is w.certificate) ∙ append_assoc version (newline ∷ bytes_of (texts (rest_lines w.certificate))) later)
+    v w.certificate.version (bytes_of (texts (rest_lines w.certificate)) ++ later)
+    (ap (λ (b : List ℕ). b ++ later) (sym w.is.1 ∙ text-is w.certificate) ∙ append_assoc (version_text w.certificate.version) (newline ∷ bytes_of (texts (rest_lines w.certificate))) later)
 version-size bytes v (less lines last are some begun unfinished is_line) = first-line-of lines last are some begun v
 
 -- the lines above one line fault are no more than those above another
@@ -186,9 +187,9 @@ line-more bytes number f w later h e =
       | longer r is after ↦ line-more-after bytes number f w later r h is after
       | shorter r is before ↦
           let goes = begins-goes f.above f.begun f.are_lines in
+          let whole = goes.is ∙ ap (λ (l : List (List ℕ)). l ++ goes.later) is ∙ append_assoc (lines_of w) r goes.later in
           let none : r ++ goes.later ≡ [] =
-          rest-ends f.begun.certificate w (r ++ goes.later) f.begun.is.0 h
-          (later-of (goes.is ∙ ap (λ (l : List (List ℕ)). l ++ goes.later) is ∙ append_assoc (lines_of w) r goes.later)) in
+          rest-ends f.begun.certificate w (r ++ goes.later) (version-same f.begun.certificate.version w.version (first-of whole)) f.begun.is.0 h (later-of whole) in
           let empty : r ≡ [] = front-empty r goes.later none in
           f.unfinished (record {
             certificate = w;

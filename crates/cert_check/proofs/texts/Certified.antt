@@ -1,40 +1,47 @@
 -- What follows what in the lines of a certificate.
-use Rattle.std.proofs.Common.{◌≡◌, ◌++◌, ◌∷◌, [], ℕ, List, Option, None, refl, ◌∙◌, sym, ap, append_assoc, append-nil}
+use Rattle.std.proofs.Common.{◌≡◌, ◌++◌, ◌∷◌, [], ℕ, List, Option, None, refl, ◌∙◌, sym, ap, subst, append_assoc, append-nil}
 use Rattle.std.specs.Prelude.{codes}
 use Rattle.std.specs.List.{All}
 use Rattle.std.proofs.lemmas.List.Elements.{All-nil}
 use Rattle.ed_rules.specs.declared.state.State.{State}
 use Rattle.ed_rules.specs.Choices.{Choice}
-use Rattle.ed_rules.specs.Formed.{ChoiceIsBytes, StateIsFormed}
+use Rattle.ed_rules.specs.Formed.{ChoiceIsBytes, TextsAreFormed}
+use Rattle.cert_check.specs.declared.certificate.Version.{Version}
 use Rattle.cert_check.specs.Certificates.{Note, Certificate}
-use Rattle.cert_check.specs.text.HasText.{NoteHasText, HasText}
-use Rattle.cert_check.specs.text.Text.{Line, state_lines, path_line, writes_line}
-use Rattle.cert_check.specs.text.Pieces.{Left, Took, texts, IsOf, alone, limits_line, AreLimits, AreStartLimits, ArePaths, notes_lines, rest_lines}
-use Rattle.cert_check.proofs.texts.OneText.{certificate_made}
+use Rattle.cert_check.specs.text.HasText.{IsSaidIn, StateHasText, NoteHasText, HasText}
+use Rattle.cert_check.specs.text.Text.{Line, texts_line, matched_lines, state_lines, path_line}
+use Rattle.cert_check.specs.text.Pieces.{Left, Took, texts, IsOf, alone, limits_line, AreLimits, AreStartLimits, notes_lines, rest_lines, HasTextIn}
+use Rattle.cert_check.proofs.texts.OneText.{certificate_made, IsSaid, said-in}
 use Rattle.cert_check.proofs.texts.Pieces.{later-of, texts-append, took-more}
 use Rattle.cert_check.proofs.texts.Sequence.{followed, AreFormed, Cuts, cuts-line, SoFar, begun, on}
-use Rattle.cert_check.proofs.texts.Plainest.{plain_state, plain-state}
+use Rattle.cert_check.proofs.texts.Plainest.{plain-said, plain_state, plain-state}
+use Rattle.cert_check.proofs.texts.Stated.{cuts-matched}
 use Rattle.cert_check.proofs.texts.Noted.{front-state, front-notes, took-is}
 
 abbrev pub Limits : Type 0
 Limits = ℕ × Option ℕ
 
 -- a certificate of its parts
-abbrev pub certificate_of : Choice → Limits → List Note → State → Limits → List (List ℕ) → Certificate
-certificate_of path start notes last final writes = certificate_made path start.0 start.1 notes last final.0 final.1 writes
+abbrev pub certificate_of : Version → Choice → Limits → List (List ℕ) → List Note → State → Limits → List (List ℕ) → Certificate
+certificate_of version path start has notes last final writes =
+    certificate_made version path start.0 start.1 has notes last final.0 final.1 writes
 
-pub certificate-formed : (path : Choice) (start : Limits) (notes : List Note) (last : State) (final : Limits) (writes : List (List ℕ)) →
-    ChoiceIsBytes path → AreStartLimits start → All NoteHasText notes → StateIsFormed last → AreLimits final → ArePaths writes →
-    HasText (certificate_of path start notes last final writes)
-certificate-formed path start notes last final writes p s n l f w = record {
-  path = p;
-  start = s;
-  notes = n;
-  last = l;
-  final = f;
-  bytes = w.0;
-  rising = w.1;
-}
+pub certificate-formed : (version : Version) (path : Choice) (start : Limits) (has : List (List ℕ)) (notes : List Note) (last : State) (final : Limits) (writes : List (List ℕ)) →
+    ChoiceIsBytes path → AreStartLimits start → IsSaidIn version has → All (NoteHasText version) notes → StateHasText version last → AreLimits final → TextsAreFormed writes →
+    HasTextIn version (certificate_of version path start has notes last final writes)
+certificate-formed version path start has notes last final writes p s t n l f w = (
+  refl,
+  record {
+    path = p;
+    start = s;
+    has = t;
+    notes = n;
+    last = l;
+    final = f;
+    bytes = w.bytes;
+    rising = w.rising;
+  },
+)
 
 abbrev path_texts : Choice → List (List ℕ)
 path_texts path = texts (alone path_line path)
@@ -45,74 +52,62 @@ start_texts limits = texts (alone (limits_line (codes "start")) limits)
 abbrev final_texts : Limits → List (List ℕ)
 final_texts limits = texts (alone (limits_line (codes "final")) limits)
 
+abbrev writes_line : List (List ℕ) → Line
+writes_line writes = texts_line (codes "writes") writes
+
 abbrev writes_texts : List (List ℕ) → List (List ℕ)
 writes_texts writes = texts (alone writes_line writes)
 
--- the lines of a certificate, part by part
-lines-right : (path : Choice) (start : Limits) (notes : List Note) (last : State) (final : Limits) (writes : List (List ℕ)) →
-    texts (rest_lines (certificate_of path start notes last final writes))
-    ≡ path_texts path ++ start_texts start ++ (texts (notes_lines notes) ++ (texts (state_lines last) ++ (final_texts final ++ writes_texts writes)))
-lines-right path start notes last final writes =
-    ap (λ (l : List (List ℕ)). path_texts path ++ start_texts start ++ l) (
-    texts-append (notes_lines notes) (state_lines last ++ limits_line (codes "final") final ∷ writes_line writes ∷ [])
-    ∙ ap (λ (l : List (List ℕ)). texts (notes_lines notes) ++ l) (texts-append (state_lines last) (limits_line (codes "final") final ∷ writes_line writes ∷ [])))
+abbrev has_texts : Version → List (List ℕ) → List (List ℕ)
+has_texts version has = texts (matched_lines version (codes "has") has)
 
-lines-before : (path : Choice) (start : Limits) (notes : List Note) (last : State) (final : Limits) (writes : List (List ℕ)) (back : List (List ℕ)) →
-    texts (rest_lines (certificate_of path start notes last final writes)) ++ back
-    ≡ path_texts path ++ start_texts start ++ (texts (notes_lines notes) ++ (texts (state_lines last) ++ (final_texts final ++ writes_texts writes ++ back)))
-lines-before path start notes last final writes back =
-    ap (λ (l : List (List ℕ)). l ++ back) (lines-right path start notes last final writes)
+-- the lines of a certificate, part by part
+lines-right : (version : Version) (path : Choice) (start : Limits) (has : List (List ℕ)) (notes : List Note) (last : State) (final : Limits) (writes : List (List ℕ)) →
+    texts (rest_lines (certificate_of version path start has notes last final writes))
+    ≡ path_texts path ++ start_texts start ++ (has_texts version has ++ (texts (notes_lines version notes) ++ (texts (state_lines version last) ++ (final_texts final ++ writes_texts writes))))
+lines-right version path start has notes last final writes =
+    ap (λ (l : List (List ℕ)). path_texts path ++ start_texts start ++ l) (
+    texts-append (matched_lines version (codes "has") has) (notes_lines version notes ++ (state_lines version last ++ limits_line (codes "final") final ∷ writes_line writes ∷ []))
+    ∙ ap (λ (l : List (List ℕ)). has_texts version has ++ l) (
+    texts-append (notes_lines version notes) (state_lines version last ++ limits_line (codes "final") final ∷ writes_line writes ∷ [])
+    ∙ ap (λ (l : List (List ℕ)). texts (notes_lines version notes) ++ l) (texts-append (state_lines version last) (limits_line (codes "final") final ∷ writes_line writes ∷ []))))
+
+lines-before : (version : Version) (path : Choice) (start : Limits) (has : List (List ℕ)) (notes : List Note) (last : State) (final : Limits) (writes : List (List ℕ)) (back : List (List ℕ)) →
+    texts (rest_lines (certificate_of version path start has notes last final writes)) ++ back
+    ≡ path_texts path ++ start_texts start ++ (has_texts version has ++ (texts (notes_lines version notes) ++ (texts (state_lines version last) ++ (final_texts final ++ writes_texts writes ++ back))))
+lines-before version path start has notes last final writes back =
+    ap (λ (l : List (List ℕ)). l ++ back) (lines-right version path start has notes last final writes)
     ∙ ap (λ (l : List (List ℕ)). path_texts path ++ start_texts start ++ l) (
-    append_assoc (texts (notes_lines notes)) (texts (state_lines last) ++ (final_texts final ++ writes_texts writes)) back
-    ∙ ap (λ (l : List (List ℕ)). texts (notes_lines notes) ++ l) (append_assoc (texts (state_lines last)) (final_texts final ++ writes_texts writes) back))
+    append_assoc (has_texts version has) (texts (notes_lines version notes) ++ (texts (state_lines version last) ++ (final_texts final ++ writes_texts writes))) back
+    ∙ ap (λ (l : List (List ℕ)). has_texts version has ++ l) (
+    append_assoc (texts (notes_lines version notes)) (texts (state_lines version last) ++ (final_texts final ++ writes_texts writes)) back
+    ∙ ap (λ (l : List (List ℕ)). texts (notes_lines version notes) ++ l) (append_assoc (texts (state_lines version last)) (final_texts final ++ writes_texts writes) back)))
+
+-- the lines of a certificate below the first, in a version
+abbrev lines_at : Version → Certificate → List Line
+lines_at version c =
+    path_line c.path ∷ limits_line (codes "start") (c.min, c.max) ∷ matched_lines version (codes "has") c.has
+    ++ (notes_lines version c.notes ++ (state_lines version c.last ++ limits_line (codes "final") (c.low, c.high) ∷ writes_line c.writes ∷ []))
 
 -- what stands below the first two lines
-below-start : (c : Certificate) (back whole : List (List ℕ)) → texts (rest_lines c) ≡ whole → whole ++ back
-    ≡ path_texts c.path ++ start_texts (c.min, c.max) ++ (texts (notes_lines c.notes) ++ (texts (state_lines c.last) ++ (final_texts (c.low, c.high) ++ writes_texts c.writes ++ back)))
-below-start c back whole e =
-    ap (λ (l : List (List ℕ)). l ++ back) (sym e) ∙ lines-before c.path (c.min, c.max) c.notes c.last (c.low, c.high) c.writes back
+abbrev after_start : Version → Certificate → (back : List (List ℕ)) → List (List ℕ)
+after_start version c back =
+    has_texts version c.has ++ (texts (notes_lines version c.notes) ++ (texts (state_lines version c.last) ++ (final_texts (c.low, c.high) ++ writes_texts c.writes ++ back)))
+
+below-start : (c : Certificate) (back : List (List ℕ)) →
+    texts (rest_lines c) ++ back ≡ path_texts c.path ++ start_texts (c.min, c.max) ++ after_start c.version c back
+below-start c back = lines-before c.version c.path (c.min, c.max) c.has c.notes c.last (c.low, c.high) c.writes back
 
 abbrev plain_limits : Limits
 plain_limits = (0, None)
 
-pub no-paths : ArePaths []
-no-paths = (All-nil ChoiceIsBytes, refl)
+pub no-paths : TextsAreFormed []
+no-paths = record { bytes = All-nil ChoiceIsBytes; rising = refl }
 
--- The lines of a certificate below the first, from a piece on: each piece is followed by those that are named above it.
 abbrev pub FinalValues : Type 0
 FinalValues = Limits × List (List ℕ)
 
-abbrev pub from_final : FinalValues → List Line
-from_final = followed (alone (limits_line (codes "final"))) (alone writes_line)
-
-abbrev pub from_last : State × FinalValues → List Line
-from_last = followed state_lines from_final
-
-abbrev pub from_notes : List Note × (State × FinalValues) → List Line
-from_notes = followed notes_lines from_last
-
-abbrev pub from_start : Limits × (List Note × (State × FinalValues)) → List Line
-from_start = followed (alone (limits_line (codes "start"))) from_notes
-
-abbrev pub from_path : Choice × (Limits × (List Note × (State × FinalValues))) → List Line
-from_path = followed (alone path_line) from_start
-
-abbrev pub FromFinal : FinalValues → Type 0
-FromFinal = AreFormed AreLimits ArePaths
-
-abbrev pub FromLast : State × FinalValues → Type 0
-FromLast = AreFormed StateIsFormed FromFinal
-
-abbrev pub FromNotes : List Note × (State × FinalValues) → Type 0
-FromNotes = AreFormed (All NoteHasText) FromLast
-
-abbrev pub FromStart : Limits × (List Note × (State × FinalValues)) → Type 0
-FromStart = AreFormed AreStartLimits FromNotes
-
-abbrev pub FromPath : Choice × (Limits × (List Note × (State × FinalValues))) → Type 0
-FromPath = AreFormed ChoiceIsBytes FromStart
-
--- the plainest of them
+-- the plainest of what may stand from a piece of a certificate on
 abbrev pub plain_from_final : FinalValues
 plain_from_final = (plain_limits, [])
 
@@ -122,102 +117,150 @@ plain_from_last = (plain_state, plain_from_final)
 abbrev pub plain_from_notes : List Note × (State × FinalValues)
 plain_from_notes = ([], plain_from_last)
 
-abbrev pub plain_from_start : Limits × (List Note × (State × FinalValues))
-plain_from_start = (plain_limits, plain_from_notes)
+abbrev pub plain_from_has : List (List ℕ) × (List Note × (State × FinalValues))
+plain_from_has = ([], plain_from_notes)
 
-pub plain-from_final : FromFinal plain_from_final
-unfolding AreFormed
-plain-from_final = (refl, no-paths)
+abbrev pub plain_from_start : Limits × (List (List ℕ) × (List Note × (State × FinalValues)))
+plain_from_start = (plain_limits, plain_from_has)
 
-pub plain-from_last : FromLast plain_from_last
-unfolding AreFormed
-plain-from_last = (plain-state, plain-from_final)
+module _ (version : Version) where
+  -- The lines of a certificate below the first, from a piece on: each piece is followed by those that are named above it.
+  abbrev pub from_final : FinalValues → List Line
+  from_final = followed (alone (limits_line (codes "final"))) (alone writes_line)
 
-pub plain-from_notes : FromNotes plain_from_notes
-unfolding AreFormed
-plain-from_notes = (All-nil NoteHasText, plain-from_last)
+  abbrev pub from_last : State × FinalValues → List Line
+  from_last = followed (state_lines version) from_final
 
-pub plain-from_start : FromStart plain_from_start
-unfolding AreFormed
-plain-from_start = (refl, plain-from_notes)
+  abbrev pub from_notes : List Note × (State × FinalValues) → List Line
+  from_notes = followed (notes_lines version) from_last
 
--- all of them are the lines of a certificate
-pieces-rest : (lines : List (List ℕ)) → IsOf from_path FromPath lines → IsOf rest_lines HasText lines
-unfolding followed AreFormed
-pieces-rest lines k =
-    let v = k.value in
-    let h = k.has in
-    record {
-      value = certificate_of v.0 v.1.0 v.1.1.0 v.1.1.1.0 v.1.1.1.1.0 v.1.1.1.1.1;
-      has = certificate-formed v.0 v.1.0 v.1.1.0 v.1.1.1.0 v.1.1.1.1.0 v.1.1.1.1.1 h.0 h.1.0 h.1.1.0 h.1.1.1.0 h.1.1.1.1.0 h.1.1.1.1.1;
-      is = k.is;
-    }
+  abbrev pub from_has : List (List ℕ) × (List Note × (State × FinalValues)) → List Line
+  from_has = followed (matched_lines version (codes "has")) from_notes
 
-rest-pieces : (lines : List (List ℕ)) → IsOf rest_lines HasText lines → IsOf from_path FromPath lines
-unfolding followed AreFormed
-rest-pieces lines k =
-    let c = k.value in
-    let h = k.has in
-    record {
-      value = (c.path, ((c.min, c.max), (c.notes, (c.last, ((c.low, c.high), c.writes)))));
-      has = (h.path, (h.start, (h.notes, (h.last, (h.final, (h.bytes, h.rising))))));
-      is = k.is;
-    }
+  abbrev pub from_start : Limits × (List (List ℕ) × (List Note × (State × FinalValues))) → List Line
+  from_start = followed (alone (limits_line (codes "start"))) from_has
 
--- a certificate of which nothing was read below the first line
-pub rest-begun : (old : Left) → SoFar (IsOf rest_lines HasText) (IsOf from_path FromPath) old old
-rest-begun old = begun (IsOf rest_lines HasText) (IsOf from_path FromPath) old pieces-rest rest-pieces
+  abbrev pub from_path : Choice × (Limits × (List (List ℕ) × (List Note × (State × FinalValues)))) → List Line
+  from_path = followed (alone path_line) from_start
 
-pub cuts-notes : Cuts notes_lines (All NoteHasText)
-cuts-notes a b x y h k e = (front-notes a b x y h k e).1
+  abbrev pub FromFinal : FinalValues → Type 0
+  FromFinal = AreFormed AreLimits TextsAreFormed
 
-pub cuts-state : Cuts state_lines StateIsFormed
-cuts-state a b x y h k e = (front-state a b x y h k e).1
+  abbrev pub FromLast : State × FinalValues → Type 0
+  FromLast = AreFormed (StateHasText version) FromFinal
 
--- what may stand after each of its pieces, once that was read
-pub path-read : {old mid : Left} (path : Choice) → ChoiceIsBytes path × Took (path_texts path) old mid → SoFar (IsOf rest_lines HasText) (IsOf from_start FromStart) old mid
-path-read {old} path read = on _ _ _ _ (rest-begun old) (cuts-line path_line ChoiceIsBytes) path read
+  abbrev pub FromNotes : List Note × (State × FinalValues) → Type 0
+  FromNotes = AreFormed (All (NoteHasText version)) FromLast
 
-pub start-read : {old mid new : Left} → SoFar (IsOf rest_lines HasText) (IsOf from_start FromStart) old mid → (value : Limits) → AreStartLimits value × Took (start_texts value) mid new → SoFar (IsOf rest_lines HasText) (IsOf from_notes FromNotes) old new
-start-read so_far value read = on _ _ _ _ so_far (cuts-line (limits_line (codes "start")) AreStartLimits) value read
+  abbrev pub FromHas : List (List ℕ) × (List Note × (State × FinalValues)) → Type 0
+  FromHas = AreFormed (IsSaidIn version) FromNotes
 
-pub notes-read : {old mid new : Left} → SoFar (IsOf rest_lines HasText) (IsOf from_notes FromNotes) old mid → (value : List Note) → All NoteHasText value × Took (texts (notes_lines value)) mid new → SoFar (IsOf rest_lines HasText) (IsOf from_last FromLast) old new
-notes-read so_far value read = on _ _ _ _ so_far cuts-notes value read
+  abbrev pub FromStart : Limits × (List (List ℕ) × (List Note × (State × FinalValues))) → Type 0
+  FromStart = AreFormed AreStartLimits FromHas
 
-pub last-read : {old mid new : Left} → SoFar (IsOf rest_lines HasText) (IsOf from_last FromLast) old mid → (value : State) → StateIsFormed value × Took (texts (state_lines value)) mid new → SoFar (IsOf rest_lines HasText) (IsOf from_final FromFinal) old new
-last-read so_far value read = on _ _ _ _ so_far cuts-state value read
+  abbrev pub FromPath : Choice × (Limits × (List (List ℕ) × (List Note × (State × FinalValues)))) → Type 0
+  FromPath = AreFormed ChoiceIsBytes FromStart
 
-pub final-read : {old mid new : Left} → SoFar (IsOf rest_lines HasText) (IsOf from_final FromFinal) old mid → (value : Limits) → AreLimits value × Took (final_texts value) mid new → SoFar (IsOf rest_lines HasText) (IsOf (alone writes_line) ArePaths) old new
-final-read so_far value read = on _ _ _ _ so_far (cuts-line (limits_line (codes "final")) AreLimits) value read
+  pub plain-from_final : FromFinal plain_from_final
+  unfolding AreFormed
+  plain-from_final = (refl, no-paths)
 
--- what stands below the last state
-below-state : (c : Certificate) (notes : List Note) (last : State) (back after : List (List ℕ)) → HasText c → All NoteHasText notes → StateIsFormed last →
-    texts (notes_lines c.notes) ++ (texts (state_lines c.last) ++ (final_texts (c.low, c.high) ++ writes_texts c.writes ++ back))
-    ≡ texts (notes_lines notes) ++ (texts (state_lines last) ++ after) →
-    final_texts (c.low, c.high) ++ writes_texts c.writes ++ back ≡ after
-below-state c notes last back after h n l e =
-    let both =
-    front-notes c.notes notes (texts (state_lines c.last) ++ (final_texts (c.low, c.high) ++ writes_texts c.writes ++ back)) (texts (state_lines last) ++ after) h.notes n e in
-    let states = front-state c.last last (final_texts (c.low, c.high) ++ writes_texts c.writes ++ back) after h.last l both.1 in
-    states.1
+  pub plain-from_last : FromLast plain_from_last
+  unfolding AreFormed
+  plain-from_last = (plain-state version, plain-from_final)
 
--- all of its lines
-pub rest-taken : {old a b c d e new : Left} (path : Choice) (start : Limits) (notes : List Note) (last : State) (final : Limits) (writes : List (List ℕ)) →
-    Took (path_texts path) old a → Took (start_texts start) a b → Took (texts (notes_lines notes)) b c → Took (texts (state_lines last)) c d → Took (final_texts final) d e →
-    Took (writes_texts writes) e new → Took (texts (rest_lines (certificate_of path start notes last final writes))) old new
-rest-taken {old} {a} {b} {c} {d} {e} {new} path start notes last final writes p s n l f w =
-    took-is (
-    ap (λ (x : List (List ℕ)). path_texts path ++ start_texts start ++ x) (
-    append_assoc (texts (notes_lines notes) ++ texts (state_lines last)) (final_texts final) (writes_texts writes)
-    ∙ append_assoc (texts (notes_lines notes)) (texts (state_lines last)) (final_texts final ++ writes_texts writes))
-    ∙ sym (lines-right path start notes last final writes))
-    (took-more (took-more (took-more (took-more (took-more p s) n) l) f) w)
+  pub plain-from_notes : FromNotes plain_from_notes
+  unfolding AreFormed
+  plain-from_notes = (All-nil (NoteHasText version), plain-from_last)
 
--- the lines of one certificate aren't the front of another's
-pub rest-ends : (c w : Certificate) (more : List (List ℕ)) → HasText c → HasText w → texts (rest_lines c) ≡ texts (rest_lines w) ++ more → more ≡ []
-rest-ends c w more h k e =
-    let lines =
-    later-of (later-of (sym (below-start c [] (texts (rest_lines c)) refl) ∙ append-nil (texts (rest_lines c)) ∙ e ∙ below-start w more (texts (rest_lines w)) refl)) in
+  pub plain-from_has : FromHas plain_from_has
+  unfolding AreFormed
+  plain-from_has = (plain-said version, plain-from_notes)
+
+  pub plain-from_start : FromStart plain_from_start
+  unfolding AreFormed
+  plain-from_start = (refl, plain-from_has)
+
+  -- all of them are the lines of a certificate
+  pieces-rest : (lines : List (List ℕ)) → IsOf from_path FromPath lines → IsOf rest_lines (HasTextIn version) lines
+  unfolding followed AreFormed
+  pieces-rest lines k =
+      let v = k.value in
+      let h = k.has in
+      record {
+        value = certificate_of version v.0 v.1.0 v.1.1.0 v.1.1.1.0 v.1.1.1.1.0 v.1.1.1.1.1.0 v.1.1.1.1.1.1;
+        has =
+            certificate-formed version v.0 v.1.0 v.1.1.0 v.1.1.1.0 v.1.1.1.1.0 v.1.1.1.1.1.0 v.1.1.1.1.1.1 h.0 h.1.0 h.1.1.0 h.1.1.1.0 h.1.1.1.1.0 h.1.1.1.1.1.0 h.1.1.1.1.1.1;
+        is = k.is;
+      }
+
+  rest-pieces : (lines : List (List ℕ)) → IsOf rest_lines (HasTextIn version) lines → IsOf from_path FromPath lines
+  unfolding followed AreFormed
+  rest-pieces lines k =
+      let c = k.value in
+      let h = k.has.1 in
+      let said = said-in version c k.has.0 h in
+      record {
+        value = (c.path, ((c.min, c.max), (c.has, (c.notes, (c.last, ((c.low, c.high), c.writes))))));
+        has = (h.path, (h.start, (said.0, (said.1.0, (said.1.1, (h.final, record { bytes = h.bytes; rising = h.rising }))))));
+        is = subst (λ (v : Version). texts (lines_at v c) ≡ lines) k.has.0 k.is;
+      }
+
+  -- a certificate of which nothing was read below the first line
+  pub rest-begun : (old : Left) → SoFar (IsOf rest_lines (HasTextIn version)) (IsOf from_path FromPath) old old
+  rest-begun old = begun (IsOf rest_lines (HasTextIn version)) (IsOf from_path FromPath) old pieces-rest rest-pieces
+
+  pub cuts-notes : Cuts (notes_lines version) (All (NoteHasText version))
+  cuts-notes a b x y h k e = (front-notes version a b x y h k e).1
+
+  pub cuts-state : Cuts (state_lines version) (StateHasText version)
+  cuts-state a b x y h k e = (front-state version a b x y h k e).1
+
+  -- what may stand after each of its pieces, once that was read
+  pub path-read : {old mid : Left} (path : Choice) → ChoiceIsBytes path × Took (path_texts path) old mid → SoFar (IsOf rest_lines (HasTextIn version)) (IsOf from_start FromStart) old mid
+  path-read {old} path read = on _ _ _ _ (rest-begun old) (cuts-line path_line ChoiceIsBytes) path read
+
+  pub start-read : {old mid new : Left} → SoFar (IsOf rest_lines (HasTextIn version)) (IsOf from_start FromStart) old mid → (value : Limits) → AreStartLimits value × Took (start_texts value) mid new → SoFar (IsOf rest_lines (HasTextIn version)) (IsOf from_has FromHas) old new
+  start-read so_far value read = on _ _ _ _ so_far (cuts-line (limits_line (codes "start")) AreStartLimits) value read
+
+  pub has-read : {old mid new : Left} → SoFar (IsOf rest_lines (HasTextIn version)) (IsOf from_has FromHas) old mid → (value : List (List ℕ)) → IsSaidIn version value × Took (has_texts version value) mid new → SoFar (IsOf rest_lines (HasTextIn version)) (IsOf from_notes FromNotes) old new
+  has-read so_far value read = on _ _ _ _ so_far (cuts-matched version (codes "has")) value read
+
+  pub notes-read : {old mid new : Left} → SoFar (IsOf rest_lines (HasTextIn version)) (IsOf from_notes FromNotes) old mid → (value : List Note) → All (NoteHasText version) value × Took (texts (notes_lines version value)) mid new → SoFar (IsOf rest_lines (HasTextIn version)) (IsOf from_last FromLast) old new
+  notes-read so_far value read = on _ _ _ _ so_far cuts-notes value read
+
+  pub last-read : {old mid new : Left} → SoFar (IsOf rest_lines (HasTextIn version)) (IsOf from_last FromLast) old mid → (value : State) → StateHasText version value × Took (texts (state_lines version value)) mid new → SoFar (IsOf rest_lines (HasTextIn version)) (IsOf from_final FromFinal) old new
+  last-read so_far value read = on _ _ _ _ so_far cuts-state value read
+
+  pub final-read : {old mid new : Left} → SoFar (IsOf rest_lines (HasTextIn version)) (IsOf from_final FromFinal) old mid → (value : Limits) → AreLimits value × Took (final_texts value) mid new → SoFar (IsOf rest_lines (HasTextIn version)) (IsOf (alone writes_line) TextsAreFormed) old new
+  final-read so_far value read = on _ _ _ _ so_far (cuts-line (limits_line (codes "final")) AreLimits) value read
+
+  -- what stands below the last state
+  below-last : (c w : Certificate) (back more : List (List ℕ)) → IsSaid version c → IsSaid version w → after_start version c back ≡ after_start version w more →
+      final_texts (c.low, c.high) ++ writes_texts c.writes ++ back ≡ final_texts (w.low, w.high) ++ writes_texts w.writes ++ more
+  below-last c w back more h k e =
+      cuts-state c.last w.last (final_texts (c.low, c.high) ++ writes_texts c.writes ++ back) (final_texts (w.low, w.high) ++ writes_texts w.writes ++ more) h.1.1 k.1.1
+      (cuts-notes c.notes w.notes _ _ h.1.0 k.1.0 (cuts-matched version (codes "has") c.has w.has _ _ h.0 k.0 e))
+
+  -- all of its lines
+  pub rest-taken : {old a b c d e f new : Left} (path : Choice) (start : Limits) (has : List (List ℕ)) (notes : List Note) (last : State) (final : Limits) (writes : List (List ℕ)) →
+      Took (path_texts path) old a → Took (start_texts start) a b → Took (has_texts version has) b c → Took (texts (notes_lines version notes)) c d → Took (texts (state_lines version last)) d e → Took (final_texts final) e f →
+      Took (writes_texts writes) f new → Took (texts (rest_lines (certificate_of version path start has notes last final writes))) old new
+  rest-taken {old} {a} {b} {c} {d} {e} {f} {new} path start has notes last final writes p s t n l q w =
+      took-is (
+      ap (λ (x : List (List ℕ)). path_texts path ++ start_texts start ++ x) (
+      append_assoc (has_texts version has ++ texts (notes_lines version notes) ++ texts (state_lines version last)) (final_texts final) (writes_texts writes)
+      ∙ append_assoc (has_texts version has ++ texts (notes_lines version notes)) (texts (state_lines version last)) (final_texts final ++ writes_texts writes)
+      ∙ append_assoc (has_texts version has) (texts (notes_lines version notes)) (texts (state_lines version last) ++ (final_texts final ++ writes_texts writes)))
+      ∙ sym (lines-right version path start has notes last final writes))
+      (took-more (took-more (took-more (took-more (took-more (took-more p s) t) n) l) q) w)
+
+-- the lines of one certificate aren't the front of another's of the same version
+pub rest-ends : (c w : Certificate) (more : List (List ℕ)) → c.version ≡ w.version → HasText c → HasText w → texts (rest_lines c) ≡ texts (rest_lines w) ++ more → more ≡ []
+rest-ends c w more same h k e =
+    let below : after_start c.version c [] ≡ after_start w.version w more =
+    later-of (later-of (sym (below-start c []) ∙ append-nil (texts (rest_lines c)) ∙ e ∙ below-start w more)) in
     let ends =
-    below-state c w.notes w.last [] (final_texts (w.low, w.high) ++ writes_texts w.writes ++ more) h k.notes k.last lines in
+    below-last w.version c w [] more (said-in w.version c same h) (said-in w.version w refl k)
+    (subst (λ (v : Version). after_start v c [] ≡ after_start w.version w more) same below) in
     sym (later-of (later-of ends))

@@ -126,7 +126,7 @@ bytes-same (x ∷ a) (y ∷ b) e =
     let first : x ≡ y = both.0 in
     let rest : a ≡ b = bytes-same a b both.1 in cc
 
-two-bytes : (x y : ℕ) → x < y → x ≡ y → ⊥
+pub two-bytes : (x y : ℕ) → x < y → x ≡ y → ⊥
 two-bytes x y l e = omega arith
 
 dash-differs : (bytes : List ℕ) → 45 ∷ [] ≡ 61 ∷ bytes → ⊥
@@ -143,21 +143,28 @@ pub words-are-words : {A : Type 0} (f : A → Word) → ((x : A) → Above 32 (f
 words-are-words f above [] = tt
 words-are-words f above (x ∷ xs) = (above x, words-are-words f above xs)
 
-all-same : {A : Type 0} (f : A → Word) → ((x y : A) → f x ≡ f y → x ≡ y) → (a b : List A) → map f a ≡ map f b → a ≡ b
+all-same : {A B : Type 0} (f : A → B) → ((x y : A) → f x ≡ f y → x ≡ y) → (a b : List A) → map f a ≡ map f b → a ≡ b
 all-same f same [] [] e = refl
 all-same f same [] (y ∷ b) e = absurd cc
 all-same f same (x ∷ a) [] e = absurd cc
 all-same f same (x ∷ a) (y ∷ b) e =
-    let word : f x ≡ f y = cc in
-    let words : map f a ≡ map f b = cc in
-    let first : x ≡ y = same x y word in
-    let rest : a ≡ b = all-same f same a b words in cc
+    let here : f x ≡ f y = cc in
+    let later : map f a ≡ map f b = cc in
+    let first : x ≡ y = same x y here in
+    let rest : a ≡ b = all-same f same a b later in cc
 
 pub choices-same : (a b : List Choice) → map choice_word a ≡ map choice_word b → a ≡ b
 choices-same = all-same choice_word choice-same
 
-pub paths-same : (a b : List (List ℕ)) → map (λ path. choice_word (Some path)) a ≡ map (λ path. choice_word (Some path)) b → a ≡ b
-paths-same = all-same (λ path. choice_word (Some path)) (λ a b e. bytes-same a b (tail-same e))
+pub some-same : (a b : List ℕ) → Some a ≡ Some b → a ≡ b
+some-same a b e = cc
+
+-- texts, as choices that aren't none
+pub somes-same : (a b : List (List ℕ)) → map Some a ≡ map Some b → a ≡ b
+somes-same = all-same Some some-same
+
+pub texts-same : (a b : List (List ℕ)) → map choice_word (map Some a) ≡ map choice_word (map Some b) → a ≡ b
+texts-same a b e = somes-same a b (choices-same (map Some a) (map Some b) e)
 
 -- what is possible, by the words
 possible-words : (b : Bool) (w : Word) → Above 32 w → AreWords (possible b w)

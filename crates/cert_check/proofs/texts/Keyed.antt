@@ -10,7 +10,7 @@ use Rattle.cert_check.specs.declared.text.cursor.Head.TheVariants.{AnotherNote, 
 use Rattle.cert_check.specs.declared.text.lines.Found.{Found}
 use Rattle.cert_check.specs.declared.text.wanted.LineKind.{LineKind}
 use Rattle.cert_check.specs.declared.text.wanted.LineKind.TheVariants as kind
-use Rattle.cert_check.specs.text.Text.{Word, line_text, bounds_words, letter_a, sure_letters, letters_words, choice_word, possible, limit_word, zone_line, marks_line, choices_line, replacements_line, changed_line, path_line, writes_line}
+use Rattle.cert_check.specs.text.Text.{Word, line_text, bounds_words, letter_a, sure_letters, letters_words, choice_word, possible, limit_word, zone_line, marks_line, choices_line, replacements_line, changed_line, path_line, texts_line}
 use Rattle.cert_check.specs.text.Pieces.{limits_line, found_line, either_line, head_line}
 use Rattle.cert_check.specs.text.Wanted.{key, other_keys, HasKey, HasSomeKey, IsOfKind}
 
@@ -30,9 +30,6 @@ start-keyed limits = first kind.Start (decimal limits.0 ∷ limit_word limits.1 
 pub final-keyed : (limits : ℕ × Option ℕ) → IsOfKind kind.Final (line_text (limits_line (codes "final") limits))
 final-keyed limits = first kind.Final (decimal limits.0 ∷ limit_word limits.1 ∷ [])
 
-pub writes-keyed : (writes : List (List ℕ)) → IsOfKind kind.Writes (line_text (writes_line writes))
-writes-keyed writes = first kind.Writes (map (λ (path : List ℕ). choice_word (Some path)) writes)
-
 pub zone-keyed : (kind : LineKind) (zone : Bounds) → IsOfKind kind (line_text (zone_line (key kind) zone))
 zone-keyed kind zone = first kind (bounds_words 0 zone)
 
@@ -41,6 +38,9 @@ marks-keyed kind marks = first kind (letters_words (sure_letters letter_a marks)
 
 pub choices-keyed : (kind : LineKind) (choices : List Choice) → IsOfKind kind (line_text (choices_line (key kind) choices))
 choices-keyed kind choices = first kind (map choice_word choices)
+
+pub texts-keyed : (kind : LineKind) (texts : List (List ℕ)) → IsOfKind kind (line_text (texts_line (key kind) texts))
+texts-keyed kind texts = choices-keyed kind (map Some texts)
 
 pub replacements-keyed : (r : Replacements) → IsOfKind kind.Replacements (line_text (replacements_line r))
 replacements-keyed r = first kind.Replacements (possible r.none (codes "none") ++ possible r.plain (codes "plain") ++ possible r.split (codes "split"))

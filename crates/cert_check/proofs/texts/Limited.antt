@@ -4,7 +4,6 @@ use Rattle.std.specs.List.{All}
 use Rattle.std.proofs.lemmas.List.{take_more, length-map, get_or-map}
 use Rattle.std.proofs.lemmas.List.Elements.{All-nil, All-cons, All-append}
 use Rattle.zones.specs.Zone.{Bounds, bound}
-use Rattle.ed_rules.specs.Choices.{Choice}
 use Rattle.ed_rules.specs.Formed.{may_say, is_rising}
 
 -- the test at a place
@@ -23,14 +22,6 @@ pub past-end : {A : Type 0} (xs : List A) (n : ℕ) → length xs ≤ n → drop
 past-end [] n l = none-left n
 past-end (x ∷ xs) zero l = absurd (omega arith)
 past-end (x ∷ xs) (suc n) l = past-end xs n (omega arith)
-
--- the last choice alone rises
-pub last-rises : (set : List Choice) (next : ℕ) → length set ≤ next → 1 ≤ next → (1 ≤ length set → next ≤ length set) → is_rising (drop (next - 1) set) ≡ true
-last-rises [] next l one most = ap (λ (s : List Choice). is_rising s) (none-left (next - 1))
-last-rises (c ∷ set) next l one most =
-    let high : next ≤ length (c ∷ set) = most (omega arith) in
-    ap (λ (s : List Choice). is_rising s) (drop-cons (c ∷ set) (next - 1) c (omega arith))
-    ∙ ap (λ (s : List Choice). is_rising (get_or (c ∷ set) (next - 1) c ∷ s)) (past-end (c ∷ set) (suc (next - 1)) (omega arith))
 
 -- what holds of each element, one element further
 pub all-more : {X : Type 0} (P : X → Type 0) (xs : List X) (i : ℕ) (x : X) → i < length xs → x ≡ get_or xs i x → All P (take i xs) → P x → All P (take (i + 1) xs)
@@ -52,12 +43,12 @@ all-fails {X} P xs i x h is not_here all = not_here (subst (λ (y : X). P y) (sy
 
 -- the last path alone rises
 pub last-path-rises : (paths : List (List ℕ)) (next : ℕ) → length paths ≤ next → 1 ≤ next → (1 ≤ length paths → next ≤ length paths) →
-    is_rising (map (λ path. Some path) (drop (next - 1) paths)) ≡ true
-last-path-rises [] next l one most = ap (λ (s : List (List ℕ)). is_rising (map (λ path. Some path) s)) (none-left (next - 1))
+    is_rising (map Some (drop (next - 1) paths)) ≡ true
+last-path-rises [] next l one most = ap (λ (s : List (List ℕ)). is_rising (map Some s)) (none-left (next - 1))
 last-path-rises (c ∷ paths) next l one most =
     let high : next ≤ length (c ∷ paths) = most (omega arith) in
-    ap (λ (s : List (List ℕ)). is_rising (map (λ path. Some path) s)) (drop-cons (c ∷ paths) (next - 1) c (omega arith))
-    ∙ ap (λ (s : List (List ℕ)). is_rising (Some (get_or (c ∷ paths) (next - 1) c) ∷ map (λ path. Some path) s)) (past-end (c ∷ paths) (suc (next - 1)) (omega arith))
+    ap (λ (s : List (List ℕ)). is_rising (map Some s)) (drop-cons (c ∷ paths) (next - 1) c (omega arith))
+    ∙ ap (λ (s : List (List ℕ)). is_rising (Some (get_or (c ∷ paths) (next - 1) c) ∷ map Some s)) (past-end (c ∷ paths) (suc (next - 1)) (omega arith))
 
 pub from-map : {X Y : Type 0} (P : X → Type 0) (f : Y → X) (ys : List Y) → All P (map f ys) → All (λ y. P (f y)) ys
 from-map {X} P f ys h k d l =

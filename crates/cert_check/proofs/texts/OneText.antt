@@ -1,5 +1,5 @@
 -- Bytes are the text of one certificate at most.
-use Rattle.std.proofs.Common.{◌≡◌, ◌<◌, ◌^◌, ◌++◌, ◌∷◌, [], ◌+◌, ◌%◌, ℕ, true, ◌&&◌, List, Option, None, Some, arith, refl, ◌∙◌, sym, ap, subst}
+use Rattle.std.proofs.Common.{◌≡◌, ◌<◌, ◌^◌, ◌++◌, ◌∷◌, [], ◌+◌, ◌%◌, ℕ, true, ◌&&◌, List, map, get_or, Option, None, Some, arith, refl, ◌∙◌, sym, ap, subst, append_assoc}
 use Rattle.std.specs.Prelude.{codes, decimal, is_some, All}
 use Rattle.std.specs.List.{flat_map}
 use Rattle.std.proofs.lemmas.Bool.{leb-true}
@@ -8,15 +8,17 @@ use Rattle.std.proofs.lemmas.Fmt.{decimal_injective, decimal_by_steps}
 use Rattle.ed_rules.specs.declared.state.Old.{Old}
 use Rattle.ed_rules.specs.declared.state.State.{State}
 use Rattle.cert_check.specs.Certificates.{Looped, Note, Certificate}
-use Rattle.cert_check.specs.text.Text.{Word, Line, choice_word, limit_word, old_lines, state_lines, headed_lines, looped_lines, note_lines, bounds_line, writes_line, opening_lines, closing_lines, text_of}
+use Rattle.cert_check.specs.text.Text.{Word, Line, line_text, choice_word, limit_word, texts_line, matched_lines, old_lines, state_lines, headed_lines, looped_lines, note_lines, version_line, path_line, bounds_line, opening_lines, closing_lines, text_of}
 use Rattle.ed_rules.specs.Formed.{OldIsFormed, StateIsFormed}
+use Rattle.cert_check.specs.declared.certificate.Version.{Version}
+use Rattle.cert_check.specs.declared.certificate.Version.TheVariants.{One, Two}
 use Rattle.ed_rules.specs.LineBounds.{is_few, is_limit, is_within}
-use Rattle.cert_check.specs.text.HasText.{LoopedHasText, NoteHasText, HasText, IsText}
-use Rattle.cert_check.proofs.texts.Separated.{Above, Above-from_test, AreLinesOfWords, AreLinesOfWords-append, and-both, lines-same}
+use Rattle.cert_check.specs.text.HasText.{IsSaidIn, StateHasText, LoopedHasText, NoteHasText, HasText, IsText}
+use Rattle.cert_check.proofs.texts.Separated.{Above, Above-from_test, IsLineOfWords, AreLinesOfWords, AreLinesOfWords-append, and-both, lines-same}
 use Rattle.cert_check.proofs.texts.Worded.{decimal-above}
 use Rattle.cert_check.proofs.texts.Zoned.{zone-said, bounds-are-words}
-use Rattle.cert_check.proofs.texts.Chosen.{marks-are-words, choice-above, choice-same, words-are-words, paths-same, two-words, three-words}
-use Rattle.cert_check.proofs.texts.Unambiguous.{first-line, later-lines, first-word, later-words, state-same, notes-same}
+use Rattle.cert_check.proofs.texts.Chosen.{marks-are-words, choice-above, choice-same, words-are-words, texts-same, two-bytes, two-words, three-words}
+use Rattle.cert_check.proofs.texts.Unambiguous.{first-line, later-lines, first-word, later-words, matched-same, after_matched, state-same, after_notes, notes-same}
 
 pub few : (n : ℕ) → is_few n ≡ true → n < 2 ^ 64
 few n e = let l = leb-true n 1000000000000 e in omega arith
@@ -47,71 +49,85 @@ limit-same (Some m) None h k e = absurd (not-any m (few m h) (sym e))
 limit-same (Some m) (Some n) h k e = ap (λ (x : ℕ). Some x) (decimal_injective m n (few m h) (few n k) e)
 
 -- a certificate's lines are lines of words
-pub old-words : (o : Option Old) → OldIsFormed o → AreLinesOfWords (old_lines o)
-old-words None h = tt
-old-words (Some o) h = (
-  (Above-from_test 32 (codes "old-zone") refl, bounds-are-words 0 o.zone (zone-said o.marks o.zone h)),
-  ((Above-from_test 32 (codes "old-marks") refl, marks-are-words o.marks), tt),
-)
+pub texts-words : (key : Word) (texts : List (List ℕ)) → Above 32 key → IsLineOfWords (texts_line key texts)
+texts-words key texts h = (h, words-are-words choice_word choice-above (map Some texts))
 
-pub state-words : (s : State) → StateIsFormed s → AreLinesOfWords (state_lines s)
-state-words s h = (
-  (Above-from_test 32 (codes "zone") refl, bounds-are-words 0 s.zone (zone-said s.marks s.zone h.zone)),
-  (
-    (Above-from_test 32 (codes "marks") refl, marks-are-words s.marks),
+pub matched-words : (version : Version) (key : Word) (texts : List (List ℕ)) → Above 32 key → AreLinesOfWords (matched_lines version key texts)
+matched-words One key texts h = tt
+matched-words Two key texts h = (texts-words key texts h, tt)
+
+module _ (version : Version) where
+  pub old-words : (o : Option Old) (has : List (List ℕ)) → OldIsFormed o → AreLinesOfWords (old_lines version o has)
+  old-words None has h = tt
+  old-words (Some o) has h = (
+    (Above-from_test 32 (codes "old-zone") refl, bounds-are-words 0 o.zone (zone-said o.marks o.zone h)),
     (
-      (Above-from_test 32 (codes "patterns") refl, words-are-words choice_word choice-above s.patterns),
+      (Above-from_test 32 (codes "old-marks") refl, marks-are-words o.marks),
+      matched-words version (codes "old-has") has (Above-from_test 32 (codes "old-has") refl),
+    ),
+  )
+
+  -- the lines of a state below what some line matches
+  after-words : (s : State) → StateIsFormed s → AreLinesOfWords (after_matched version s)
+  after-words s h = (
+    (Above-from_test 32 (codes "patterns") refl, words-are-words choice_word choice-above s.patterns),
+    (
       (
+        Above-from_test 32 (codes "replacements") refl,
+        three-words (codes "none") (codes "plain") (codes "split") refl refl refl s.replacements.none s.replacements.plain s.replacements.split,
+      ),
+      (
+        (Above-from_test 32 (codes "names") refl, words-are-words choice_word choice-above s.names),
         (
-          Above-from_test 32 (codes "replacements") refl,
-          three-words (codes "none") (codes "plain") (codes "split") refl refl refl s.replacements.none s.replacements.plain s.replacements.split,
-        ),
-        (
-          (Above-from_test 32 (codes "names") refl, words-are-words choice_word choice-above s.names),
+          (Above-from_test 32 (codes "changed") refl, two-words (codes "no") (codes "yes") refl refl s.changed.no s.changed.yes),
           (
             (
-              Above-from_test 32 (codes "changed") refl,
-              two-words (codes "no") (codes "yes") refl refl s.changed.no s.changed.yes,
+              Above-from_test 32 (codes "undo") refl,
+              three-words (codes "nothing") (codes "same") (codes "was") refl refl refl s.undo.nothing s.undo.same (is_some s.undo.was),
             ),
-            (
-              (
-                Above-from_test 32 (codes "undo") refl,
-                three-words (codes "nothing") (codes "same") (codes "was") refl refl refl s.undo.nothing s.undo.same (is_some s.undo.was),
-              ),
-              old-words s.undo.was h.old,
-            ),
+            old-words s.undo.was s.old_has h.old,
           ),
         ),
       ),
     ),
-  ),
-)
+  )
 
-pub headed-words : (head : Word) (s : State) → Above 32 head → StateIsFormed s → AreLinesOfWords (headed_lines head s)
-headed-words head s a h = ((a, tt), state-words s h)
+  pub state-words : (s : State) → StateHasText version s → AreLinesOfWords (state_lines version s)
+  state-words s said =
+      let h = said.formed in (
+        (Above-from_test 32 (codes "zone") refl, bounds-are-words 0 s.zone (zone-said s.marks s.zone h.zone)),
+        (
+          (Above-from_test 32 (codes "marks") refl, marks-are-words s.marks),
+          AreLinesOfWords-append (matched_lines version (codes "has") s.has) (after_matched version s)
+              (matched-words version (codes "has") s.has (Above-from_test 32 (codes "has") refl)) (after-words s h),
+        ),
+      )
 
-pub inner-words : (states : List State) → All StateIsFormed states → AreLinesOfWords (flat_map (headed_lines (codes "inner")) states)
-inner-words [] h = tt
-inner-words (s ∷ states) h =
-    AreLinesOfWords-append (headed_lines (codes "inner") s) (flat_map (headed_lines (codes "inner")) states)
-    (headed-words (codes "inner") s (Above-from_test 32 (codes "inner") refl) (All-head StateIsFormed s states h)) (inner-words states (All-tail StateIsFormed s states h))
+  pub headed-words : (head : Word) (s : State) → Above 32 head → StateHasText version s → AreLinesOfWords (headed_lines version head s)
+  headed-words head s a h = ((a, tt), state-words s h)
 
-pub looped-words : (l : Option Looped) → LoopedHasText l → AreLinesOfWords (looped_lines l)
-looped-words None h = tt
-looped-words (Some l) h =
-    AreLinesOfWords-append (headed_lines (codes "loop") l.invariant ++ flat_map (headed_lines (codes "inner")) l.inner) ((codes "done" ∷ []) ∷ [])
-    (AreLinesOfWords-append (headed_lines (codes "loop") l.invariant) (flat_map (headed_lines (codes "inner")) l.inner)
-    (headed-words (codes "loop") l.invariant (Above-from_test 32 (codes "loop") refl) h.0) (inner-words l.inner h.1))
-    ((Above-from_test 32 (codes "done") refl, tt), tt)
+  pub inner-words : (states : List State) → All (StateHasText version) states → AreLinesOfWords (flat_map (headed_lines version (codes "inner")) states)
+  inner-words [] h = tt
+  inner-words (s ∷ states) h =
+      AreLinesOfWords-append (headed_lines version (codes "inner") s) (flat_map (headed_lines version (codes "inner")) states)
+      (headed-words (codes "inner") s (Above-from_test 32 (codes "inner") refl) (All-head (StateHasText version) s states h)) (inner-words states (All-tail (StateHasText version) s states h))
 
-pub notes-words : (notes : List Note) → All NoteHasText notes → AreLinesOfWords (flat_map note_lines notes)
-notes-words [] h = tt
-notes-words (n ∷ notes) h =
-    let here = All-head NoteHasText n notes h in
-    AreLinesOfWords-append (note_lines n) (flat_map note_lines notes)
-    (AreLinesOfWords-append (headed_lines (codes "note") n.state) (looped_lines n.looped)
-    (headed-words (codes "note") n.state (Above-from_test 32 (codes "note") refl) here.0) (looped-words n.looped here.1))
-    (notes-words notes (All-tail NoteHasText n notes h))
+  pub looped-words : (l : Option Looped) → LoopedHasText version l → AreLinesOfWords (looped_lines version l)
+  looped-words None h = tt
+  looped-words (Some l) h =
+      AreLinesOfWords-append (headed_lines version (codes "loop") l.invariant ++ flat_map (headed_lines version (codes "inner")) l.inner) ((codes "done" ∷ []) ∷ [])
+      (AreLinesOfWords-append (headed_lines version (codes "loop") l.invariant) (flat_map (headed_lines version (codes "inner")) l.inner)
+      (headed-words (codes "loop") l.invariant (Above-from_test 32 (codes "loop") refl) h.0) (inner-words l.inner h.1))
+      ((Above-from_test 32 (codes "done") refl, tt), tt)
+
+  pub notes-words : (notes : List Note) → All (NoteHasText version) notes → AreLinesOfWords (flat_map (note_lines version) notes)
+  notes-words [] h = tt
+  notes-words (n ∷ notes) h =
+      let here = All-head (NoteHasText version) n notes h in
+      AreLinesOfWords-append (note_lines version n) (flat_map (note_lines version) notes)
+      (AreLinesOfWords-append (headed_lines version (codes "note") n.state) (looped_lines version n.looped)
+      (headed-words (codes "note") n.state (Above-from_test 32 (codes "note") refl) here.0) (looped-words n.looped here.1))
+      (notes-words notes (All-tail (NoteHasText version) n notes h))
 
 -- the parts of what the bounds need
 start-parts : (c : Certificate) → HasText c → (is_few c.min ≡ true) × (is_limit c.max ≡ true)
@@ -120,64 +136,121 @@ start-parts c h = and-both (is_few c.min) (is_limit c.max) (and-both (is_few c.m
 final-parts : (c : Certificate) → HasText c → (is_few c.low ≡ true) × (is_limit c.high ≡ true)
 final-parts c h = and-both (is_few c.low) (is_limit c.high) h.final
 
-pub certificate-words : (c : Certificate) → HasText c → AreLinesOfWords (opening_lines c ++ flat_map note_lines c.notes ++ closing_lines c)
+pub version-words : (version : Version) → IsLineOfWords (version_line version)
+version-words One = (Above-from_test 32 (codes "ed-certificate") refl, (Above-from_test 32 (codes "1") refl, tt))
+version-words Two = (Above-from_test 32 (codes "ed-certificate") refl, (Above-from_test 32 (codes "2") refl, tt))
+
+versions-differ : line_text (version_line One) ≡ line_text (version_line Two) → ⊥
+versions-differ e = two-bytes 49 50 (omega arith) (ap (λ (bytes : List ℕ). get_or bytes 15 0) e)
+
+-- a first line is that of one version
+pub version-same : (a b : Version) → line_text (version_line a) ≡ line_text (version_line b) → a ≡ b
+version-same One One e = refl
+version-same One Two e = absurd (versions-differ e)
+version-same Two One e = absurd (versions-differ (sym e))
+version-same Two Two e = refl
+
+pub certificate-words : (c : Certificate) → HasText c → AreLinesOfWords (opening_lines c ++ flat_map (note_lines c.version) c.notes ++ closing_lines c)
 certificate-words c h =
     let start = start-parts c h in
     let final = final-parts c h in
-    AreLinesOfWords-append (opening_lines c ++ flat_map note_lines c.notes) (closing_lines c)
-    (AreLinesOfWords-append (opening_lines c) (flat_map note_lines c.notes) (
-      (Above-from_test 32 (codes "ed-certificate") refl, (Above-from_test 32 (codes "1") refl, tt)),
+    AreLinesOfWords-append (opening_lines c ++ flat_map (note_lines c.version) c.notes) (closing_lines c)
+    (AreLinesOfWords-append (opening_lines c) (flat_map (note_lines c.version) c.notes) (
+      version-words c.version,
       (
         (Above-from_test 32 (codes "path") refl, (choice-above c.path, tt)),
-        ((Above-from_test 32 (codes "start") refl, (decimal-above c.min (few c.min start.0), (limit-above c.max start.1, tt))), tt),
+        (
+          (Above-from_test 32 (codes "start") refl, (decimal-above c.min (few c.min start.0), (limit-above c.max start.1, tt))),
+          matched-words c.version (codes "has") c.has (Above-from_test 32 (codes "has") refl),
+        ),
       ),
     )
-    (notes-words c.notes h.notes))
-    (AreLinesOfWords-append (headed_lines (codes "end") c.last) (bounds_line (codes "final") c.low c.high ∷ writes_line c.writes ∷ [])
-    (headed-words (codes "end") c.last (Above-from_test 32 (codes "end") refl) h.last) (
+    (notes-words c.version c.notes h.notes))
+    (AreLinesOfWords-append (headed_lines c.version (codes "end") c.last) (bounds_line (codes "final") c.low c.high ∷ texts_line (codes "writes") c.writes ∷ [])
+    (headed-words c.version (codes "end") c.last (Above-from_test 32 (codes "end") refl) h.last) (
       (Above-from_test 32 (codes "final") refl, (decimal-above c.low (few c.low final.0), (limit-above c.high final.1, tt))),
-      ((Above-from_test 32 (codes "writes") refl, words-are-words (λ path. choice_word (Some path)) (λ path. choice-above (Some path)) c.writes), tt),
+      (texts-words (codes "writes") c.writes (Above-from_test 32 (codes "writes") refl), tt),
     ))
 
-abbrev pub certificate_made : Option (List ℕ) → ℕ → Option ℕ → List Note → State → ℕ → Option ℕ → List (List ℕ) → Certificate
-certificate_made path min max notes last low high writes =
-    record { path = path; min = min; max = max; notes = notes; last = last; low = low; high = high; writes = writes }
+abbrev pub certificate_made : Version → Option (List ℕ) → ℕ → Option ℕ → List (List ℕ) → List Note → State → ℕ → Option ℕ → List (List ℕ) → Certificate
+certificate_made version path min max has notes last low high writes = record {
+  version = version;
+  path = path;
+  min = min;
+  max = max;
+  has = has;
+  notes = notes;
+  last = last;
+  low = low;
+  high = high;
+  writes = writes;
+}
 
-certificate-by : (a b : Certificate) → a.path ≡ b.path → a.min ≡ b.min → a.max ≡ b.max → a.notes ≡ b.notes → a.last ≡ b.last → a.low ≡ b.low → a.high ≡ b.high → a.writes ≡ b.writes → a ≡ b
-certificate-by a b p m x n l w h s =
-    ap (λ (v : Option (List ℕ)). certificate_made v a.min a.max a.notes a.last a.low a.high a.writes) p
-    ∙ ap (λ (v : ℕ). certificate_made b.path v a.max a.notes a.last a.low a.high a.writes) m
-    ∙ ap (λ (v : Option ℕ). certificate_made b.path b.min v a.notes a.last a.low a.high a.writes) x
-    ∙ ap (λ (v : List Note). certificate_made b.path b.min b.max v a.last a.low a.high a.writes) n
-    ∙ ap (λ (v : State). certificate_made b.path b.min b.max b.notes v a.low a.high a.writes) l
-    ∙ ap (λ (v : ℕ). certificate_made b.path b.min b.max b.notes b.last v a.high a.writes) w
-    ∙ ap (λ (v : Option ℕ). certificate_made b.path b.min b.max b.notes b.last b.low v a.writes) h
-    ∙ ap (λ (v : List (List ℕ)). certificate_made b.path b.min b.max b.notes b.last b.low b.high v) s
+certificate-by : (a b : Certificate) → a.version ≡ b.version → a.path ≡ b.path → a.min ≡ b.min → a.max ≡ b.max → a.has ≡ b.has → a.notes ≡ b.notes → a.last ≡ b.last → a.low ≡ b.low → a.high ≡ b.high → a.writes ≡ b.writes → a ≡ b
+certificate-by a b v p m x t n l w h s =
+    ap (λ (z : Version). certificate_made z a.path a.min a.max a.has a.notes a.last a.low a.high a.writes) v
+    ∙ ap (λ (z : Option (List ℕ)). certificate_made b.version z a.min a.max a.has a.notes a.last a.low a.high a.writes) p
+    ∙ ap (λ (z : ℕ). certificate_made b.version b.path z a.max a.has a.notes a.last a.low a.high a.writes) m
+    ∙ ap (λ (z : Option ℕ). certificate_made b.version b.path b.min z a.has a.notes a.last a.low a.high a.writes) x
+    ∙ ap (λ (z : List (List ℕ)). certificate_made b.version b.path b.min b.max z a.notes a.last a.low a.high a.writes) t
+    ∙ ap (λ (z : List Note). certificate_made b.version b.path b.min b.max b.has z a.last a.low a.high a.writes) n
+    ∙ ap (λ (z : State). certificate_made b.version b.path b.min b.max b.has b.notes z a.low a.high a.writes) l
+    ∙ ap (λ (z : ℕ). certificate_made b.version b.path b.min b.max b.has b.notes b.last z a.high a.writes) w
+    ∙ ap (λ (z : Option ℕ). certificate_made b.version b.path b.min b.max b.has b.notes b.last b.low z a.writes) h
+    ∙ ap (λ (z : List (List ℕ)). certificate_made b.version b.path b.min b.max b.has b.notes b.last b.low b.high z) s
 
-lines-of-same : (a b : Certificate) → HasText a → HasText b →
-    opening_lines a ++ flat_map note_lines a.notes ++ closing_lines a ≡ opening_lines b ++ flat_map note_lines b.notes ++ closing_lines b → a ≡ b
-lines-of-same a b h k e =
-    let path = later-lines e in
+-- the lines of a certificate below the first, in a version
+abbrev pub lines_in : Version → Certificate → List Line
+lines_in version c =
+    path_line c.path ∷ bounds_line (codes "start") c.min c.max ∷ matched_lines version (codes "has") c.has
+    ++ after_notes version c.notes (state_lines version c.last ++ bounds_line (codes "final") c.low c.high ∷ texts_line (codes "writes") c.writes ∷ [])
+
+pub whole-lines : (c : Certificate) → opening_lines c ++ flat_map (note_lines c.version) c.notes ++ closing_lines c ≡ version_line c.version ∷ lines_in c.version c
+whole-lines c =
+    ap (λ (l : List Line). version_line c.version ∷ path_line c.path ∷ bounds_line (codes "start") c.min c.max ∷ l)
+    (append_assoc (matched_lines c.version (codes "has") c.has) (flat_map (note_lines c.version) c.notes) (closing_lines c))
+
+-- what is said of states, in a version
+abbrev pub IsSaid : Version → Certificate → Type 0
+IsSaid version c = IsSaidIn version c.has × (All (NoteHasText version) c.notes × StateHasText version c.last)
+
+pub said-in : (version : Version) (c : Certificate) → c.version ≡ version → HasText c → IsSaid version c
+said-in version c same h = subst (λ (v : Version). IsSaid v c) same (h.has, (h.notes, h.last))
+
+lines-in-same : (version : Version) (a b : Certificate) → a.version ≡ b.version → HasText a → HasText b → IsSaid version a → IsSaid version b →
+    lines_in version a ≡ lines_in version b → a ≡ b
+lines-in-same version a b v h k i j path =
+    let closing_a : List Line = bounds_line (codes "final") a.low a.high ∷ texts_line (codes "writes") a.writes ∷ [] in
+    let closing_b : List Line = bounds_line (codes "final") b.low b.high ∷ texts_line (codes "writes") b.writes ∷ [] in
+    let after_a : List Line = state_lines version a.last ++ closing_a in
+    let after_b : List Line = state_lines version b.last ++ closing_b in
     let start = later-lines path in
-    let notes = later-lines start in
-    let closing_a : List Line = bounds_line (codes "final") a.low a.high ∷ writes_line a.writes ∷ [] in
-    let closing_b : List Line = bounds_line (codes "final") b.low b.high ∷ writes_line b.writes ∷ [] in
-    let noted = notes-same a.notes b.notes (state_lines a.last ++ closing_a) (state_lines b.last ++ closing_b) h.notes k.notes notes in
-    let ended = state-same a.last b.last closing_a closing_b h.last k.last noted.1 in
+    let has = matched-same version (codes "has") a.has b.has (after_notes version a.notes after_a) (after_notes version b.notes after_b) i.0 j.0 (later-lines start) in
+    let noted = notes-same version a.notes b.notes after_a after_b i.1.0 j.1.0 has.1 in
+    let ended = state-same version a.last b.last closing_a closing_b i.1.1 j.1.1 noted.1 in
     let start_words = later-words (first-line start) in
     let final_words = later-words (first-line ended.1) in
-    certificate-by a b
+    certificate-by a b v
     (choice-same a.path b.path (first-word (later-words (first-line path))))
     (decimal_injective a.min b.min (few a.min (start-parts a h).0) (few b.min (start-parts b k).0) (first-word start_words))
     (limit-same a.max b.max (start-parts a h).1 (start-parts b k).1 (first-word (later-words start_words)))
-    noted.0 ended.0
+    has.0 noted.0 ended.0
     (decimal_injective a.low b.low (few a.low (final-parts a h).0) (few b.low (final-parts b k).0) (first-word final_words))
     (limit-same a.high b.high (final-parts a h).1 (final-parts b k).1 (first-word (later-words final_words)))
-    (paths-same a.writes b.writes (later-words (first-line (later-lines ended.1))))
+    (texts-same a.writes b.writes (later-words (first-line (later-lines ended.1))))
+
+lines-of-same : (a b : Certificate) → HasText a → HasText b → version_line a.version ∷ lines_in a.version a ≡ version_line b.version ∷ lines_in b.version b → a ≡ b
+lines-of-same a b h k e =
+    let same = version-same a.version b.version (ap (λ (l : Line). line_text l) (first-line e)) in
+    lines-in-same b.version a b same h k
+    (said-in b.version a same h) (said-in b.version b refl k)
+    (subst (λ (v : Version). lines_in v a ≡ lines_in b.version b) same (later-lines e))
 
 pub one-text : (bytes : List ℕ) (a b : Certificate) → IsText bytes a → IsText bytes b → a ≡ b
 unfolding text_of
 one-text bytes a b h k =
-    lines-of-same a b h.0 k.0
-    (lines-same (opening_lines a ++ flat_map note_lines a.notes ++ closing_lines a) (opening_lines b ++ flat_map note_lines b.notes ++ closing_lines b)
-    (certificate-words a h.0) (certificate-words b k.0) (h.1 ∙ sym k.1))
+    lines-of-same a b h.0 k.0 (
+    sym (whole-lines a)
+    ∙ lines-same (opening_lines a ++ flat_map (note_lines a.version) a.notes ++ closing_lines a) (opening_lines b ++ flat_map (note_lines b.version) b.notes ++ closing_lines b)
+    (certificate-words a h.0) (certificate-words b k.0) (h.1 ∙ sym k.1)
+    ∙ whole-lines b)

@@ -11,8 +11,11 @@ use Rattle.ed_rules.specs.declared.state.Changed.{Changed}
 use Rattle.ed_rules.specs.declared.state.Undo.{Undo}
 use Rattle.ed_rules.specs.declared.state.State.{State}
 use Rattle.ed_rules.specs.Choices.{Choice}
-use Rattle.ed_rules.specs.Formed.{ChoiceIsBytes, SetIsFormed, ZoneIsFormed, StateIsFormed, has_name, may_say}
+use Rattle.ed_rules.specs.Formed.{ChoiceIsBytes, SetIsFormed, ZoneIsFormed, has_name, may_say}
+use Rattle.cert_check.specs.declared.certificate.Version.{Version}
+use Rattle.cert_check.specs.declared.certificate.Version.TheVariants.{One, Two}
 use Rattle.cert_check.specs.declared.text.lines.Found.{Found}
+use Rattle.cert_check.specs.text.HasText.{IsSaidIn, StateHasText}
 use Rattle.cert_check.specs.text.Pieces.{UndoIsFormed, MarkedIsFormed, IsSomeReplacement, IsSomeChange}
 use Rattle.cert_check.specs.text.Reading.{all_marks}
 use Rattle.cert_check.proofs.texts.Limited.{at-place}
@@ -55,31 +58,45 @@ plain_replacements = record { none = true; plain = false; split = false }
 abbrev pub plain_change : Changed
 plain_change = record { no = true; yes = false }
 
-abbrev pub plain_undo : Undo
-plain_undo = record { nothing = true; same = false; was = None }
+pub plain-said : (version : Version) → IsSaidIn version []
+plain-said One = refl
+plain-said Two = record { bytes = All-nil ChoiceIsBytes; rising = refl }
+
+abbrev pub plain_undo : Undo × List (List ℕ)
+plain_undo = (record { nothing = true; same = false; was = None }, [])
+
+pub plain-undo : (version : Version) → UndoIsFormed version plain_undo
+plain-undo version = (refl, (tt, refl))
 
 abbrev pub plain_found : Found
 plain_found = record { nothing = true; same = false; was = false }
 
--- a state of its parts
-abbrev pub state_of : Old → List Choice → Replacements → List Choice → Changed → Undo → State
-state_of old patterns replacements names changed undo = state_made old.zone old.marks patterns replacements names changed undo
+-- a state of its parts, the last of them with what some line of an earlier buffer matches
+abbrev pub state_of : Old → List (List ℕ) → List Choice → Replacements → List Choice → Changed → Undo × List (List ℕ) → State
+state_of old has patterns replacements names changed found =
+    state_made old.zone old.marks patterns replacements names changed found.0 has found.1
 
-pub state-formed : (old : Old) (patterns : List Choice) (r : Replacements) (names : List Choice) (c : Changed) (u : Undo) →
-    MarkedIsFormed old → SetIsFormed patterns → IsSomeReplacement r → SetIsFormed names → IsSomeChange c → UndoIsFormed u →
-    StateIsFormed (state_of old patterns r names c u)
-state-formed old patterns r names c u h p i n j k = record {
-  zone = h;
-  patterns = p;
-  replacements = i;
-  names = n;
-  changed = j;
-  undo = k.0;
-  old = k.1;
+pub state-formed : (version : Version) (old : Old) (has : List (List ℕ)) (patterns : List Choice) (r : Replacements) (names : List Choice) (c : Changed) (found : Undo × List (List ℕ)) →
+    MarkedIsFormed old → IsSaidIn version has → SetIsFormed patterns → IsSomeReplacement r → SetIsFormed names → IsSomeChange c → UndoIsFormed version found →
+    StateHasText version (state_of old has patterns r names c found)
+state-formed version old has patterns r names c found h s p i n j k = record {
+  formed = record {
+    zone = h;
+    patterns = p;
+    replacements = i;
+    names = n;
+    changed = j;
+    undo = k.0;
+    old = k.1.0;
+  };
+  has = s;
+  old_has = k.1.1;
 }
 
 abbrev pub plain_state : State
-plain_state = state_of plain_old plain_set plain_replacements plain_set plain_change plain_undo
+plain_state = state_of plain_old [] plain_set plain_replacements plain_set plain_change plain_undo
 
-pub plain-state : StateIsFormed plain_state
-plain-state = state-formed plain_old plain_set plain_replacements plain_set plain_change plain_undo plain-old plain-set refl plain-set refl (refl, tt)
+pub plain-state : (version : Version) → StateHasText version plain_state
+plain-state version =
+    state-formed version plain_old [] plain_set plain_replacements plain_set plain_change plain_undo plain-old (plain-said version) plain-set refl plain-set refl
+    (plain-undo version)

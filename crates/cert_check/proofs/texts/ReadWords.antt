@@ -1,6 +1,7 @@
 -- What the readers of words rest on.
-use Rattle.std.proofs.Common.{◌≡◌, ◌≢◌, ◌<◌, ◌^◌, ◌==◌, ◌++◌, ◌∷◌, [], ℕ, ℤ, false, List, length, take, drop, arith, refl, ◌∙◌, sym, ap, subst}
+use Rattle.std.proofs.Common.{◌≡◌, ◌≢◌, ◌<◌, ◌^◌, ◌==◌, ◌++◌, ◌∷◌, [], ℕ, ℤ, true, false, List, length, take, drop, arith, refl, ◌∙◌, sym, ap, subst}
 use Rattle.std.specs.Prelude.{decimal}
+use Rattle.std.proofs.lemmas.Bool.{eqb-true}
 use Rattle.std.specs.Fmt.{signed_decimal}
 use Rattle.std.specs.List.{flat_map, prefix_len, All}
 use Rattle.std.specs.Str.{IsUtf8}
@@ -72,3 +73,7 @@ some-left (b ∷ left) e = omega arith
 pub not-nothing : (left : List ℕ) → false ≡ (length left == 0) → [] ≡ left → ⊥
 not-nothing [] h e = absurd cc
 not-nothing (b ∷ left) h e = absurd cc
+
+pub nothing-left : (left : List ℕ) → true ≡ (length left == 0) → left ≡ []
+nothing-left [] h = refl
+nothing-left (b ∷ left) h = let none : length (b ∷ left) ≡ 0 = eqb-true (length (b ∷ left)) 0 (sym h) in absurd (omega arith)

@@ -1,7 +1,8 @@
 -- Worked lines of a certificate's text.
 use Rattle.std.specs.Prelude.{◌≡◌, refl, [], ◌∷◌, ◌++◌, map, pos, negsuc, true, false, Some, None, codes}
 use Rattle.std.specs.Fmt.{digits}
-use Rattle.cert_check.specs.text.Text.{line_text, bound_words, bounds_words, letters_words, sure_letters, choices_line, replacements_line, changed_line, undo_line, bounds_line, version_line, path_line, writes_line}
+use Rattle.cert_check.specs.declared.certificate.Version.TheVariants.{One, Two}
+use Rattle.cert_check.specs.text.Text.{line_text, bound_words, bounds_words, letters_words, sure_letters, choices_line, replacements_line, changed_line, undo_line, bounds_line, version_line, path_line, texts_line, matched_lines}
 
 -- a bound, by the places of its names; none is left out, and so is 0 of a name with itself
 a-bound : bound_words 0 1 (Some (negsuc 0)) ∷ bound_words 31 2 (Some (pos 12)) ∷ bound_words 6 6 (Some (negsuc 2)) ∷ bound_words 6 6 (Some (pos 0)) ∷ bound_words 1 0 None ∷ []
@@ -29,8 +30,14 @@ the-possible : map line_text (
     ≡ codes "replacements none split" ∷ codes "changed yes" ∷ codes "undo nothing same" ∷ codes "undo was" ∷ []
 the-possible = refl
 
-the-rest : map line_text (version_line ∷ path_line (Some (codes "F")) ∷ path_line None ∷ bounds_line (codes "start") 1 (Some 3) ∷ bounds_line (codes "final") 0 None
-    ∷ writes_line (codes "F" ∷ codes "G" ∷ []) ∷ writes_line [] ∷ [])
-    ≡ codes "ed-certificate 1" ∷ codes "path =F" ∷ codes "path -" ∷ codes "start 1 3" ∷ codes "final 0 any" ∷ codes "writes =F =G" ∷ codes "writes" ∷ []
+the-rest : map line_text (version_line One ∷ version_line Two ∷ path_line (Some (codes "F")) ∷ path_line None ∷ bounds_line (codes "start") 1 (Some 3) ∷ bounds_line (codes "final") 0 None
+    ∷ texts_line (codes "writes") (codes "F" ∷ codes "G" ∷ []) ∷ texts_line (codes "writes") [] ∷ [])
+    ≡ codes "ed-certificate 1" ∷ codes "ed-certificate 2" ∷ codes "path =F" ∷ codes "path -" ∷ codes "start 1 3" ∷ codes "final 0 any" ∷ codes "writes =F =G" ∷ codes "writes" ∷ []
 unfolding digits
 the-rest = refl
+
+-- what some line matches; none at all is the key alone
+the-matched : map line_text (
+    matched_lines One (codes "has") [] ++ matched_lines Two (codes "has") (codes "fo o" ∷ codes "foo" ∷ []) ++ matched_lines Two (codes "old-has") [])
+    ≡ codes "has =fo%20o =foo" ∷ codes "old-has" ∷ []
+the-matched = refl

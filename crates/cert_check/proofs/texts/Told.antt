@@ -1,10 +1,11 @@
 -- Why bytes are not the text of a certificate, from what their lines begin.
-use Rattle.std.proofs.Common.{◌≡◌, ◌≢◌, ◌++◌, ◌∷◌, [], ℕ, Bool, true, false, not, nat_eq, List, Result, Ok, Err, arith, refl, ◌∙◌, sym, ap, subst, append_assoc, append-nil}
+use Rattle.std.proofs.Common.{◌≡◌, ◌≢◌, ◌++◌, ◌∷◌, [], ℕ, Bool, true, false, List, Result, Ok, Err, arith, refl, ◌∙◌, sym, ap, subst, append_assoc, append-nil}
 use Rattle.std.specs.Prelude.{codes, IsTrue, ◌↔◌, IsErrAnd}
-use Rattle.std.specs.Cmp.Lexicographic.{pointwise, bytes_decides}
 use Rattle.std.specs.List.{flat_map}
 use Rattle.std.proofs.lemmas.List.Elements.{All-nil, All-cons, All-head, All-tail, All-append}
 use Rattle.ed_base.specs.Lines.{newline, IsLine, AreLines, bytes_of}
+use Rattle.cert_check.specs.declared.certificate.Version as versions
+use Rattle.cert_check.specs.declared.certificate.Version.TheVariants.{One, Two}
 use Rattle.cert_check.specs.declared.certificate.Certificate as public
 use Rattle.cert_check.specs.declared.text.fault.CertFault.{CertFault}
 use Rattle.cert_check.specs.declared.text.fault.Unread.{Unread}
@@ -12,18 +13,19 @@ use Rattle.cert_check.specs.declared.text.fault.Unread.TheVariants.{Version, Lin
 use Rattle.cert_check.specs.declared.text.wanted.Wanted.{Wanted}
 use Rattle.cert_check.specs.Certificates.{Certificate}
 use Rattle.cert_check.specs.text.Text as text
-use Rattle.cert_check.specs.text.Text.{line_text, version_line, opening_lines, closing_lines, note_lines, state_lines, path_line, bounds_line, writes_line, text_of}
+use Rattle.cert_check.specs.text.Text.{line_text, version_line, opening_lines, closing_lines, note_lines, matched_lines, state_lines, path_line, bounds_line, texts_line, text_of}
 use Rattle.cert_check.specs.text.HasText.{HasText, IsText}
 use Rattle.cert_check.specs.text.Faults.{Begins, IsWhole, IsVersionFault, IsLineFault, IsSizeFault, more, less, IsReading}
-use Rattle.cert_check.specs.text.Pieces.{Left, Took, texts, IsOf, IsStrange, IsShort, IsFault, fault_of, IsReadAs, rest_lines}
+use Rattle.cert_check.specs.text.Pieces.{Left, Took, texts, IsOf, IsStrange, IsShort, IsFault, fault_of, IsReadAs, rest_lines, HasTextIn}
 use Rattle.cert_check.specs.text.Wanted.{IsWanted}
 use Rattle.cert_check.proofs.texts.Separated.{head-same, tail-same, Above, Above-line, AreLinesOfWords}
-use Rattle.cert_check.proofs.texts.OneText.{certificate-words}
-use Rattle.cert_check.proofs.texts.Stated.{was-true}
-use Rattle.cert_check.proofs.texts.Pieces.{later-of, bytes_of-append}
+use Rattle.cert_check.proofs.texts.OneText as one_text
+use Rattle.cert_check.proofs.texts.OneText.{version-same, certificate-words}
+use Rattle.cert_check.proofs.texts.Pieces.{first-of, later-of, bytes_of-append}
+use Rattle.cert_check.proofs.texts.Noted.{notes-assoc}
 
-abbrev pub version : List ℕ
-version = line_text version_line
+abbrev pub version_text : versions.Version → List ℕ
+version_text version = line_text (version_line version)
 
 -- a line has no newline
 pub no-newline : (a rest : List ℕ) → IsLine (a ++ newline ∷ rest) → ⊥
@@ -85,44 +87,51 @@ lines-above [] h = All-nil IsLine
 lines-above (l ∷ lines) h = All-cons IsLine (line_text l) (texts lines) (line-above (line_text l) (Above-line l h.0)) (lines-above lines h.1)
 
 -- the first line of a certificate, and the others
-whole-lines : (c : Certificate) → opening_lines c ++ flat_map note_lines c.notes ++ closing_lines c ≡ version_line ∷ rest_lines c
+whole-lines : (c : Certificate) → opening_lines c ++ flat_map (note_lines c.version) c.notes ++ closing_lines c ≡ version_line c.version ∷ rest_lines c
 whole-lines c =
-    ap (λ (l : List text.Line). version_line ∷ path_line c.path ∷ bounds_line (codes "start") c.min c.max ∷ l)
-    (sym (append_assoc (flat_map note_lines c.notes) ((codes "end" ∷ []) ∷ []) (state_lines c.last ++ bounds_line (codes "final") c.low c.high ∷ writes_line c.writes ∷ [])))
+    one_text.whole-lines c
+    ∙ ap (λ (l : List text.Line). version_line c.version ∷ path_line c.path ∷ bounds_line (codes "start") c.min c.max ∷ (matched_lines c.version (codes "has") c.has ++ l))
+    (sym (notes-assoc c.version c.notes (state_lines c.version c.last ++ bounds_line (codes "final") c.low c.high ∷ texts_line (codes "writes") c.writes ∷ [])))
 
-pub text-is : (c : Certificate) → text_of c ≡ bytes_of (version ∷ texts (rest_lines c))
+pub text-is : (c : Certificate) → text_of c ≡ bytes_of (version_text c.version ∷ texts (rest_lines c))
 unfolding text_of
 text-is c = ap (λ (l : List text.Line). bytes_of (texts l)) (whole-lines c)
 
-pub text-lines : (c : Certificate) → HasText c → AreLines (version ∷ texts (rest_lines c))
-text-lines c h = lines-above (version_line ∷ rest_lines c) (subst (λ (l : List text.Line). AreLinesOfWords l) (whole-lines c) (certificate-words c h))
+pub text-lines : (c : Certificate) → HasText c → AreLines (version_text c.version ∷ texts (rest_lines c))
+text-lines c h = lines-above (version_line c.version ∷ rest_lines c) (subst (λ (l : List text.Line). AreLinesOfWords l) (whole-lines c) (certificate-words c h))
 
 -- lines below the first that begin those of a certificate
-begins-from : (lines later : List (List ℕ)) → IsOf rest_lines HasText (lines ++ later) → Begins (version ∷ lines)
-begins-from lines later k = record {
+begins-from : (version : versions.Version) (lines later : List (List ℕ)) → IsOf rest_lines (HasTextIn version) (lines ++ later) → Begins (version_text version ∷ lines)
+begins-from version lines later k = record {
   certificate = k.value;
   more = later;
-  is = (k.has, text-is k.value ∙ ap (λ (l : List (List ℕ)). bytes_of (version ∷ l)) k.is);
+  is = (
+    k.has.1,
+    text-is k.value ∙ ap (λ (l : List (List ℕ)). bytes_of (version_text k.value.version ∷ l)) k.is
+        ∙ ap (λ (v : versions.Version). bytes_of (version_text v ∷ (lines ++ later))) k.has.0,
+  );
 }
 
-begun-lines : (lines later : List (List ℕ)) → IsOf rest_lines HasText (lines ++ later) → AreLines (version ∷ lines)
-begun-lines lines later k =
-    front-lines (version ∷ lines) later (subst (λ (l : List (List ℕ)). AreLines (version ∷ l)) k.is (text-lines k.value k.has))
+begun-lines : (version : versions.Version) (lines later : List (List ℕ)) → IsOf rest_lines (HasTextIn version) (lines ++ later) → AreLines (version_text version ∷ lines)
+begun-lines version lines later k =
+    front-lines (version_text version ∷ lines) later
+    (subst (λ (v : versions.Version). AreLines (version_text v ∷ (lines ++ later))) k.has.0
+    (subst (λ (l : List (List ℕ)). AreLines (version_text k.value.version ∷ l)) k.is (text-lines k.value k.has.1)))
 
 -- lines that begin a text are the front of a certificate's
-pub begins-goes : (lines : List (List ℕ)) (b : Begins lines) → AreLines lines → Goes (version ∷ texts (rest_lines b.certificate)) lines
+pub begins-goes : (lines : List (List ℕ)) (b : Begins lines) → AreLines lines → Goes (version_text b.certificate.version ∷ texts (rest_lines b.certificate)) lines
 begins-goes lines b h =
-    lines-front (version ∷ texts (rest_lines b.certificate)) lines (bytes_of b.more) (text-lines b.certificate b.is.0) h
+    lines-front (version_text b.certificate.version ∷ texts (rest_lines b.certificate)) lines (bytes_of b.more) (text-lines b.certificate b.is.0) h
     (sym (text-is b.certificate) ∙ b.is.1 ∙ bytes_of-append lines b.more)
 
-pub whole-is : (lines : List (List ℕ)) (w : IsWhole lines) → AreLines lines → version ∷ texts (rest_lines w.certificate) ≡ lines
+pub whole-is : (lines : List (List ℕ)) (w : IsWhole lines) → AreLines lines → version_text w.certificate.version ∷ texts (rest_lines w.certificate) ≡ lines
 whole-is lines w h =
-    lines-equal (version ∷ texts (rest_lines w.certificate)) lines (text-lines w.certificate w.is.0) h (sym (text-is w.certificate) ∙ w.is.1)
+    lines-equal (version_text w.certificate.version ∷ texts (rest_lines w.certificate)) lines (text-lines w.certificate w.is.0) h (sym (text-is w.certificate) ∙ w.is.1)
 
 -- all bytes: the first line, lines below it and what is left
-parted-after : (bytes rest after : List ℕ) (lines : List (List ℕ)) → bytes ≡ version ++ newline ∷ rest → rest ≡ bytes_of lines ++ after → bytes ≡ bytes_of (version ∷ lines) ++ after
-parted-after bytes rest after lines e f =
-    e ∙ ap (λ (r : List ℕ). version ++ newline ∷ r) f ∙ sym (append_assoc version (newline ∷ bytes_of lines) after)
+parted-after : (version : versions.Version) (bytes rest after : List ℕ) (lines : List (List ℕ)) → bytes ≡ version_text version ++ newline ∷ rest → rest ≡ bytes_of lines ++ after → bytes ≡ bytes_of (version_text version ∷ lines) ++ after
+parted-after version bytes rest after lines e f =
+    e ∙ ap (λ (r : List ℕ). version_text version ++ newline ∷ r) f ∙ sym (append_assoc (version_text version) (newline ∷ bytes_of lines) after)
 
 one-line-more : (above : List (List ℕ)) (line after : List ℕ) → bytes_of above ++ (line ++ newline ∷ after) ≡ bytes_of (above ++ line ∷ []) ++ after
 one-line-more above line after =
@@ -130,112 +139,103 @@ one-line-more above line after =
     ∙ sym (append_assoc (bytes_of above) (line ++ newline ∷ []) after)
     ∙ ap (λ (r : List ℕ). r ++ after) (sym (bytes_of-append above (line ∷ [])))
 
-strange-line : (bytes : List ℕ) (mid : Left) (wanted : Wanted) → bytes ≡ version ++ newline ∷ mid.bytes → mid.above ≡ 1 → IsStrange (IsOf rest_lines HasText) mid wanted →
+strange-line : (version : versions.Version) (bytes : List ℕ) (mid : Left) (wanted : Wanted) → bytes ≡ version_text version ++ newline ∷ mid.bytes → mid.above ≡ 1 → IsStrange (IsOf rest_lines (HasTextIn version)) mid wanted →
     IsLineFault wanted.line bytes
-strange-line bytes mid wanted e one f =
-    let are = begun-lines f.above f.more f.begun in
+strange-line version bytes mid wanted e one f =
+    let are = begun-lines version f.above f.more f.begun in
     let counted = f.number_is in
     record {
-      above = version ∷ f.above;
+      above = version_text version ∷ f.above;
       line = f.line;
       after = f.after;
-      parted = parted-after bytes mid.bytes f.after (f.above ++ f.line ∷ []) e (f.parted ∙ one-line-more f.above f.line f.after);
+      parted = parted-after version bytes mid.bytes f.after (f.above ++ f.line ∷ []) e (f.parted ∙ one-line-more f.above f.line f.after);
       are_lines = are;
       is_line = f.is_line;
       some = λ none. absurd cc;
       number_is = omega arith;
-      begun = begins-from f.above f.more f.begun;
+      begun = begins-from version f.above f.more f.begun;
       unfinished = λ w.
-          let is = later-of (whole-is (version ∷ f.above) w are) in
-          f.stuck (texts (rest_lines w.certificate)) (f.line ∷ []) [] (record { value = w.certificate; has = w.is.0; is = refl })
-          (ap (λ (l : List (List ℕ)). l ++ f.line ∷ []) is);
+          let is = whole-is (version_text version ∷ f.above) w are in
+          f.stuck (texts (rest_lines w.certificate)) (f.line ∷ []) [] (record { value = w.certificate; has = (version-same w.certificate.version version (first-of is), w.is.0); is = refl })
+          (ap (λ (l : List (List ℕ)). l ++ f.line ∷ []) (later-of is));
       refused = λ b.
-          let goes = begins-goes (version ∷ f.above ++ f.line ∷ []) b (All-append IsLine (version ∷ f.above) (f.line ∷ []) are (All-cons IsLine f.line [] f.is_line (All-nil IsLine))) in
-          f.stuck (texts (rest_lines b.certificate)) [] goes.later (record { value = b.certificate; has = b.is.0; is = refl })
+          let goes = begins-goes (version_text version ∷ f.above ++ f.line ∷ []) b (All-append IsLine (version_text version ∷ f.above) (f.line ∷ []) are (All-cons IsLine f.line [] f.is_line (All-nil IsLine))) in
+          f.stuck (texts (rest_lines b.certificate)) [] goes.later (record { value = b.certificate; has = (version-same b.certificate.version version (first-of goes.is), b.is.0); is = refl })
           (append-nil (texts (rest_lines b.certificate)) ∙ later-of goes.is ∙ append_assoc f.above (f.line ∷ []) goes.later);
     }
 
-strange-wanted : (bytes : List ℕ) (mid : Left) (wanted : Wanted) → bytes ≡ version ++ newline ∷ mid.bytes → mid.above ≡ 1 → IsStrange (IsOf rest_lines HasText) mid wanted →
+strange-wanted : (version : versions.Version) (bytes : List ℕ) (mid : Left) (wanted : Wanted) → bytes ≡ version_text version ++ newline ∷ mid.bytes → mid.above ≡ 1 → IsStrange (IsOf rest_lines (HasTextIn version)) mid wanted →
     IsWanted wanted bytes
 unfolding strange-line
-strange-wanted bytes mid wanted e one f =
-    let are = begun-lines f.above f.more f.begun in
+strange-wanted version bytes mid wanted e one f =
+    let are = begun-lines version f.above f.more f.begun in
     record {
-      fault = strange-line bytes mid wanted e one f;
+      fault = strange-line version bytes mid wanted e one f;
       kind = λ line is_line b.
-          let goes = begins-goes (version ∷ f.above ++ line ∷ []) b (All-append IsLine (version ∷ f.above) (line ∷ []) are (All-cons IsLine line [] is_line (All-nil IsLine))) in
-          f.other (texts (rest_lines b.certificate)) [] goes.later line (record { value = b.certificate; has = b.is.0; is = refl })
+          let goes = begins-goes (version_text version ∷ f.above ++ line ∷ []) b (All-append IsLine (version_text version ∷ f.above) (line ∷ []) are (All-cons IsLine line [] is_line (All-nil IsLine))) in
+          f.other (texts (rest_lines b.certificate)) [] goes.later line (record { value = b.certificate; has = (version-same b.certificate.version version (first-of goes.is), b.is.0); is = refl })
           (append-nil (texts (rest_lines b.certificate)) ∙ later-of goes.is ∙ append_assoc f.above (line ∷ []) goes.later);
     }
 
-short-lines : (bytes : List ℕ) (mid : Left) → bytes ≡ version ++ newline ∷ mid.bytes → IsShort (IsOf rest_lines HasText) mid → IsSizeFault bytes
-short-lines bytes mid e f =
-    let are = begun-lines f.above f.more f.begun in
-    subst IsSizeFault (sym (parted-after bytes mid.bytes f.last f.above e f.parted))
-    (less (version ∷ f.above) f.last are (λ none. absurd cc) (begins-from f.above f.more f.begun)
+short-lines : (version : versions.Version) (bytes : List ℕ) (mid : Left) → bytes ≡ version_text version ++ newline ∷ mid.bytes → IsShort (IsOf rest_lines (HasTextIn version)) mid → IsSizeFault bytes
+short-lines version bytes mid e f =
+    let are = begun-lines version f.above f.more f.begun in
+    subst IsSizeFault (sym (parted-after version bytes mid.bytes f.last f.above e f.parted))
+    (less (version_text version ∷ f.above) f.last are (λ none. absurd cc) (begins-from version f.above f.more f.begun)
     (λ w.
-    let is = later-of (whole-is (version ∷ f.above) w are) in
-    f.stuck (texts (rest_lines w.certificate)) [] (record { value = w.certificate; has = w.is.0; is = refl }) (append-nil (texts (rest_lines w.certificate)) ∙ is))
+    let is = whole-is (version_text version ∷ f.above) w are in
+    f.stuck (texts (rest_lines w.certificate)) [] (record { value = w.certificate; has = (version-same w.certificate.version version (first-of is), w.is.0); is = refl }) (append-nil (texts (rest_lines w.certificate)) ∙ later-of is))
     f.is_line)
 
 -- the fault of the lines below the first is that of the bytes
-pub told : (bytes : List ℕ) (mid : Left) (fault : Unread) → bytes ≡ version ++ newline ∷ mid.bytes → mid.above ≡ 1 → IsFault (IsOf rest_lines HasText) mid fault →
+pub told : (version : versions.Version) (bytes : List ℕ) (mid : Left) (fault : Unread) → bytes ≡ version_text version ++ newline ∷ mid.bytes → mid.above ≡ 1 → IsFault (IsOf rest_lines (HasTextIn version)) mid fault →
     IsReadAs bytes (Err fault)
-told bytes mid Version e one f = absurd f
-told bytes mid (Line wanted) e one f = strange-wanted bytes mid wanted e one f
-told bytes mid Size e one f = short-lines bytes mid e f
-told bytes mid Memory e one f = tt
+told version bytes mid Version e one f = absurd f
+told version bytes mid (Line wanted) e one f = strange-wanted version bytes mid wanted e one f
+told version bytes mid Size e one f = short-lines version bytes mid e f
+told version bytes mid Memory e one f = tt
 
-pub told-exit : (bytes : List ℕ) (mid : Left) (r : Result public.Certificate Unread) (given fault : Unread) → r ≡ Err given → given ≡ fault →
-    bytes ≡ version ++ newline ∷ mid.bytes → mid.above ≡ 1 → IsFault (IsOf rest_lines HasText) mid fault → IsReadAs bytes r
-told-exit bytes mid r given fault is same e one f =
-    subst (λ (q : Result public.Certificate Unread). IsReadAs bytes q) (sym (is ∙ ap (λ (x : Unread). Err x) same)) (told bytes mid fault e one f)
+pub told-exit : (version : versions.Version) (bytes : List ℕ) (mid : Left) (r : Result public.Certificate Unread) (given fault : Unread) → r ≡ Err given → given ≡ fault →
+    bytes ≡ version_text version ++ newline ∷ mid.bytes → mid.above ≡ 1 → IsFault (IsOf rest_lines (HasTextIn version)) mid fault → IsReadAs bytes r
+told-exit version bytes mid r given fault is same e one f =
+    subst (λ (q : Result public.Certificate Unread). IsReadAs bytes q) (sym (is ∙ ap (λ (x : Unread). Err x) same)) (told version bytes mid fault e one f)
 
--- the first line isn't that of each text
+-- the first line is that of no version
 pub no-version-line : (bytes : List ℕ) → IsLine bytes → IsVersionFault bytes
-no-version-line bytes h rest e = no-newline version rest (subst (λ (b : List ℕ). IsLine b) e h)
+no-version-line bytes h version rest e = no-newline (version_text version) rest (subst (λ (b : List ℕ). IsLine b) e h)
 
-version-lines : IsLine version
-version-lines = line-above version (omega arith)
+version-lines : (version : versions.Version) → IsLine (version_text version)
+version-lines One = line-above (version_text One) (omega arith)
+version-lines Two = line-above (version_text Two) (omega arith)
 
-pub other-version : (bytes line after : List ℕ) → IsLine line → bytes ≡ line ++ newline ∷ after → line ≢ version → IsVersionFault bytes
-other-version bytes line after h is other rest e =
-    let cut = first-cut line version after rest h version-lines (sym is ∙ e) in
-    other cut.0
+pub other-version : (bytes line after : List ℕ) → IsLine line → bytes ≡ line ++ newline ∷ after → ((version : versions.Version) → Unit {0} → version_text version ≢ line) → IsVersionFault bytes
+other-version bytes line after h is other version rest e =
+    let cut = first-cut line (version_text version) after rest h (version-lines version) (sym is ∙ e) in
+    other version tt (sym cut.0)
 
 -- the lines of a certificate, and all else
-pub text-read : (bytes : List ℕ) (mid new : Left) (c : Certificate) → bytes ≡ version ++ newline ∷ mid.bytes → Took (texts (rest_lines c)) mid new →
-    bytes ≡ text_of c ++ new.bytes
-text-read bytes mid new c e t =
-    parted-after bytes mid.bytes new.bytes (texts (rest_lines c)) e t.parted ∙ ap (λ (b : List ℕ). b ++ new.bytes) (sym (text-is c))
+text-read : (version : versions.Version) (bytes : List ℕ) (mid new : Left) (c : Certificate) → bytes ≡ version_text version ++ newline ∷ mid.bytes → Took (texts (rest_lines c)) mid new →
+    c.version ≡ version → bytes ≡ text_of c ++ new.bytes
+text-read version bytes mid new c e t same =
+    parted-after version bytes mid.bytes new.bytes (texts (rest_lines c)) e t.parted
+    ∙ ap (λ (v : versions.Version). bytes_of (version_text v ∷ texts (rest_lines c)) ++ new.bytes) (sym same)
+    ∙ ap (λ (b : List ℕ). b ++ new.bytes) (sym (text-is c))
 
-pub whole-read : (bytes : List ℕ) (mid new : Left) (c : Certificate) → bytes ≡ version ++ newline ∷ mid.bytes → Took (texts (rest_lines c)) mid new → HasText c → new.bytes ≡ [] →
-    IsText bytes c
-whole-read bytes mid new c e t h none =
-    (h, sym (text-read bytes mid new c e t ∙ ap (λ (b : List ℕ). text_of c ++ b) none ∙ append-nil (text_of c)))
+pub whole-read : (version : versions.Version) (bytes : List ℕ) (mid new : Left) (c : Certificate) → bytes ≡ version_text version ++ newline ∷ mid.bytes → Took (texts (rest_lines c)) mid new →
+    HasTextIn version c → new.bytes ≡ [] → IsText bytes c
+whole-read version bytes mid new c e t h none =
+    (h.1, sym (text-read version bytes mid new c e t h.0 ∙ ap (λ (b : List ℕ). text_of c ++ b) none ∙ append-nil (text_of c)))
 
-pub more-left : (bytes : List ℕ) (mid new : Left) (c : Certificate) → bytes ≡ version ++ newline ∷ mid.bytes → Took (texts (rest_lines c)) mid new → HasText c → new.bytes ≢ [] →
-    IsSizeFault bytes
-more-left bytes mid new c e t h some =
-    subst IsSizeFault (sym (parted-after bytes mid.bytes new.bytes (texts (rest_lines c)) e t.parted))
-    (more (version ∷ texts (rest_lines c)) new.bytes (record { certificate = c; is = (h, text-is c) }) some)
-
-pub not-true : (b : Bool) → not b ≡ true → b ≡ false
-not-true true e = absurd cc
-not-true false e = refl
+pub more-left : (version : versions.Version) (bytes : List ℕ) (mid new : Left) (c : Certificate) → bytes ≡ version_text version ++ newline ∷ mid.bytes → Took (texts (rest_lines c)) mid new →
+    HasTextIn version c → new.bytes ≢ [] → IsSizeFault bytes
+more-left version bytes mid new c e t h some =
+    subst IsSizeFault (sym (text-read version bytes mid new c e t h.0 ∙ ap (λ (b : List ℕ). b ++ new.bytes) (text-is c)))
+    (more (version_text c.version ∷ texts (rest_lines c)) new.bytes (record { certificate = c; is = (h.1, text-is c) }) some)
 
 -- the first line was read
-pub version-read : (bytes start line slice rest : List ℕ) → start ≡ bytes → slice ≡ version → not (pointwise nat_eq line slice) ≡ false → start ≡ line ++ newline ∷ rest →
-    bytes ≡ version ++ newline ∷ rest
-version-read bytes start line slice rest is same test parted =
-    let equal : line ≡ slice = (bytes_decides line slice).0 (was-true (pointwise nat_eq line slice) test) in
-    sym is ∙ parted ∙ ap (λ (l : List ℕ). l ++ newline ∷ rest) (equal ∙ same)
-
-pub version-other : (line slice : List ℕ) → slice ≡ version → not (pointwise nat_eq line slice) ≡ true → line ≢ version
-version-other line slice same test e =
-    let equal : pointwise nat_eq line slice ≡ true = (bytes_decides line slice).1 (e ∙ sym same) in
-    let both : true ≡ false = sym equal ∙ not-true (pointwise nat_eq line slice) test in
-    absurd cc
+pub version-read : (version : versions.Version) (bytes start line rest : List ℕ) → start ≡ bytes → version_text version ≡ line → start ≡ line ++ newline ∷ rest →
+    bytes ≡ version_text version ++ newline ∷ rest
+version-read version bytes start line rest is same parted = sym is ∙ parted ∙ ap (λ (l : List ℕ). l ++ newline ∷ rest) (sym same)
 
 pub at-end : (b : Bool) (bytes : List ℕ) → IsTrue b ↔ (bytes ≡ []) → b ≡ true → bytes ≡ []
 at-end true bytes tells e = tells.0 refl

@@ -11,12 +11,14 @@ use Rattle.ed_rules.specs.declared.state.Undo.{Undo}
 use Rattle.ed_rules.specs.declared.state.State.{State}
 use Rattle.ed_rules.specs.Choices.{Choice}
 use Rattle.cert_check.specs.Certificates.{Looped, Note}
-use Rattle.cert_check.specs.text.Text.{Word, Line, letters_words, sure_letters, bounds_words, old_lines, state_lines, headed_lines, looped_lines, note_lines}
-use Rattle.ed_rules.specs.Formed.{ZoneIsFormed, OldIsFormed, StateIsFormed}
-use Rattle.cert_check.specs.text.HasText.{LoopedHasText, NoteHasText}
+use Rattle.cert_check.specs.text.Text.{Word, Line, letters_words, sure_letters, bounds_words, choices_line, replacements_line, changed_line, undo_line, matched_lines, old_lines, state_lines, headed_lines, looped_lines, note_lines}
+use Rattle.ed_rules.specs.Formed.{ZoneIsFormed, OldIsFormed}
+use Rattle.cert_check.specs.declared.certificate.Version.{Version}
+use Rattle.cert_check.specs.declared.certificate.Version.TheVariants.{One, Two}
+use Rattle.cert_check.specs.text.HasText.{IsSaidIn, OldIsSaidIn, StateHasText, LoopedHasText, NoteHasText}
 use Rattle.cert_check.proofs.texts.Separated.{head-same}
 use Rattle.cert_check.proofs.texts.Zoned.{zone-said, bounds-same}
-use Rattle.cert_check.proofs.texts.Chosen.{marks-same, choices-same, Same, two-same, three-same}
+use Rattle.cert_check.proofs.texts.Chosen.{marks-same, choices-same, texts-same, Same, two-same, three-same}
 
 pub first-line : {a b : Line} {r s : List Line} → a ∷ r ≡ b ∷ s → a ≡ b
 first-line e = cc
@@ -43,16 +45,6 @@ old_made zone marks = record { zone = zone; marks = marks }
 pub old-by : (a b : Old) → a.zone ≡ b.zone → a.marks ≡ b.marks → a ≡ b
 old-by a b z m = ap (λ (x : Bounds). old_made x a.marks) z ∙ ap (λ (x : List Bool). old_made b.zone x) m
 
-pub old-same : (a b : Option Old) (r s : List Line) → is_some a ≡ is_some b → OldIsFormed a → OldIsFormed b → old_lines a ++ r ≡ old_lines b ++ s → (a ≡ b) × (r ≡ s)
-old-same None None r s i h k e = (refl, e)
-old-same None (Some b) r s i h k e = absurd cc
-old-same (Some a) None r s i h k e = absurd cc
-old-same (Some a) (Some b) r s i h k e =
-    let zones = zone-same a.marks b.marks a.zone b.zone h k (later-words (first-line e)) in
-    let rest = later-lines e in
-    let marks = letters-same a.marks b.marks a.zone b.zone h k (later-words (first-line rest)) in
-    (ap (λ (o : Old). Some o) (old-by a b zones marks), later-lines rest)
-
 abbrev replacements_made : (none plain split : Bool) → Replacements
 replacements_made none plain split = record { none = none; plain = plain; split = split }
 
@@ -74,65 +66,34 @@ pub undo-by : (a b : Undo) → a.nothing ≡ b.nothing → a.same ≡ b.same →
 undo-by a b x y z =
     ap (λ (n : Bool). undo_made n a.same a.was) x ∙ ap (λ (n : Bool). undo_made b.nothing n a.was) y ∙ ap (λ (n : Option Old). undo_made b.nothing b.same n) z
 
-abbrev pub state_made : Bounds → List Bool → List Choice → Replacements → List Choice → Changed → Undo → State
-state_made zone marks patterns replacements names changed undo =
-    record { zone = zone; marks = marks; patterns = patterns; replacements = replacements; names = names; changed = changed; undo = undo }
+abbrev pub state_made : Bounds → List Bool → List Choice → Replacements → List Choice → Changed → Undo → List (List ℕ) → List (List ℕ) → State
+state_made zone marks patterns replacements names changed undo has old_has = record {
+  zone = zone;
+  marks = marks;
+  patterns = patterns;
+  replacements = replacements;
+  names = names;
+  changed = changed;
+  undo = undo;
+  has = has;
+  old_has = old_has;
+}
 
-state-by : (a b : State) → a.zone ≡ b.zone → a.marks ≡ b.marks → a.patterns ≡ b.patterns → a.replacements ≡ b.replacements → a.names ≡ b.names → a.changed ≡ b.changed → a.undo ≡ b.undo → a ≡ b
-state-by a b z m p r n c u =
-    ap (λ (x : Bounds). state_made x a.marks a.patterns a.replacements a.names a.changed a.undo) z
-    ∙ ap (λ (x : List Bool). state_made b.zone x a.patterns a.replacements a.names a.changed a.undo) m
-    ∙ ap (λ (x : List Choice). state_made b.zone b.marks x a.replacements a.names a.changed a.undo) p
-    ∙ ap (λ (x : Replacements). state_made b.zone b.marks b.patterns x a.names a.changed a.undo) r
-    ∙ ap (λ (x : List Choice). state_made b.zone b.marks b.patterns b.replacements x a.changed a.undo) n
-    ∙ ap (λ (x : Changed). state_made b.zone b.marks b.patterns b.replacements b.names x a.undo) c
-    ∙ ap (λ (x : Undo). state_made b.zone b.marks b.patterns b.replacements b.names b.changed x) u
-
-pub state-same : (a b : State) (r s : List Line) → StateIsFormed a → StateIsFormed b → state_lines a ++ r ≡ state_lines b ++ s → (a ≡ b) × (r ≡ s)
-state-same a b r s h k zone =
-    let marks = later-lines zone in
-    let patterns = later-lines marks in
-    let replacements = later-lines patterns in
-    let names = later-lines replacements in
-    let changed = later-lines names in
-    let undo = later-lines changed in
-    let old = later-lines undo in
-    let kinds = three-same (codes "none") (codes "plain") (codes "split") refl refl refl a.replacements.none a.replacements.plain a.replacements.split b.replacements.none b.replacements.plain b.replacements.split (later-words (first-line replacements)) in
-    let sides = two-same (codes "no") (codes "yes") refl a.changed.no a.changed.yes b.changed.no b.changed.yes (later-words (first-line changed)) in
-    let undone = three-same (codes "nothing") (codes "same") (codes "was") refl refl refl a.undo.nothing a.undo.same (is_some a.undo.was) b.undo.nothing b.undo.same (is_some b.undo.was) (later-words (first-line undo)) in
-    let was = old-same a.undo.was b.undo.was r s undone.third h.old k.old old in (
-      state-by a b
-          (zone-same a.marks b.marks a.zone b.zone h.zone k.zone (later-words (first-line zone)))
-          (letters-same a.marks b.marks a.zone b.zone h.zone k.zone (later-words (first-line marks)))
-          (choices-same a.patterns b.patterns (later-words (first-line patterns)))
-          (replacements-by a.replacements b.replacements kinds)
-          (choices-same a.names b.names (later-words (first-line names)))
-          (changed-by a.changed b.changed sides.0 sides.1)
-          (undo-by a.undo b.undo undone.first undone.second was.0),
-      was.1,
-    )
-
--- what follows a note: another, or the end
-abbrev pub after_notes : List Note → List Line → List Line
-after_notes notes r = flat_map note_lines notes ++ (codes "end" ∷ []) ∷ r
-
-abbrev pub after_inner : List State → List Line → List Line
-after_inner states r = flat_map (headed_lines (codes "inner")) states ++ (codes "done" ∷ []) ∷ r
+state-by : (a b : State) → a.zone ≡ b.zone → a.marks ≡ b.marks → a.patterns ≡ b.patterns → a.replacements ≡ b.replacements → a.names ≡ b.names → a.changed ≡ b.changed → a.undo ≡ b.undo → a.has ≡ b.has → a.old_has ≡ b.old_has → a ≡ b
+state-by a b z m p r n c u h o =
+    ap (λ (x : Bounds). state_made x a.marks a.patterns a.replacements a.names a.changed a.undo a.has a.old_has) z
+    ∙ ap (λ (x : List Bool). state_made b.zone x a.patterns a.replacements a.names a.changed a.undo a.has a.old_has) m
+    ∙ ap (λ (x : List Choice). state_made b.zone b.marks x a.replacements a.names a.changed a.undo a.has a.old_has) p
+    ∙ ap (λ (x : Replacements). state_made b.zone b.marks b.patterns x a.names a.changed a.undo a.has a.old_has) r
+    ∙ ap (λ (x : List Choice). state_made b.zone b.marks b.patterns b.replacements x a.changed a.undo a.has a.old_has) n
+    ∙ ap (λ (x : Changed). state_made b.zone b.marks b.patterns b.replacements b.names x a.undo a.has a.old_has) c
+    ∙ ap (λ (x : Undo). state_made b.zone b.marks b.patterns b.replacements b.names b.changed x a.has a.old_has) u
+    ∙ ap (λ (x : List (List ℕ)). state_made b.zone b.marks b.patterns b.replacements b.names b.changed b.undo x a.old_has) h
+    ∙ ap (λ (x : List (List ℕ)). state_made b.zone b.marks b.patterns b.replacements b.names b.changed b.undo b.has x) o
 
 -- lines that begin with different letters
 pub letter-differs : {x y : ℕ} {v w : Word} {vs ws : Line} {r s : List Line} → x < y → ((x ∷ v) ∷ vs) ∷ r ≡ ((y ∷ w) ∷ ws) ∷ s → ⊥
 letter-differs {x} {y} l e = let same : x ≡ y = head-same (first-word (first-line e)) in omega arith
-
-pub inner-same : (a b : List State) (r s : List Line) → All StateIsFormed a → All StateIsFormed b → after_inner a r ≡ after_inner b s → (a ≡ b) × (r ≡ s)
-inner-same [] [] r s h k e = (refl, later-lines e)
-inner-same [] (y ∷ b) r s h k e = absurd (letter-differs (omega arith) e)
-inner-same (x ∷ a) [] r s h k e = absurd (letter-differs (omega arith) (sym e))
-inner-same (x ∷ a) (y ∷ b) r s h k e =
-    let rests = sym (append_assoc (state_lines x) (flat_map (headed_lines (codes "inner")) a) ((codes "done" ∷ []) ∷ r)) ∙ later-lines e
-    ∙ append_assoc (state_lines y) (flat_map (headed_lines (codes "inner")) b) ((codes "done" ∷ []) ∷ s) in
-    let here = state-same x y (after_inner a r) (after_inner b s) (All-head StateIsFormed x a h) (All-head StateIsFormed y b k) rests in
-    let rest = inner-same a b r s (All-tail StateIsFormed x a h) (All-tail StateIsFormed y b k) here.1 in
-    (ap (λ (z : State). z ∷ a) here.0 ∙ ap (λ (l : List State). y ∷ l) rest.0, rest.1)
 
 abbrev pub looped_made : State → List State → Looped
 looped_made invariant inner = record { invariant = invariant; inner = inner }
@@ -140,49 +101,131 @@ looped_made invariant inner = record { invariant = invariant; inner = inner }
 pub looped-by : (a b : Looped) → a.invariant ≡ b.invariant → a.inner ≡ b.inner → a ≡ b
 looped-by a b i n = ap (λ (x : State). looped_made x a.inner) i ∙ ap (λ (x : List State). looped_made b.invariant x) n
 
--- no list begins where another note or the end does
-no-list : (notes : List Note) (r : List Line) (s : State) (rest : List Line) → after_notes notes r ≡ (codes "loop" ∷ []) ∷ rest → ⊥
-no-list [] r s rest e = letter-differs (omega arith) e
-no-list (n ∷ notes) r s rest e = letter-differs (omega arith) (sym e)
-
-looped-same : (a b : Option Looped) (p q : List Note) (r s : List Line) → LoopedHasText a → LoopedHasText b →
-    looped_lines a ++ after_notes p r ≡ looped_lines b ++ after_notes q s → (a ≡ b) × (after_notes p r ≡ after_notes q s)
-looped-same None None p q r s h k e = (refl, e)
-looped-same None (Some b) p q r s h k e = absurd (no-list p r b.invariant _ e)
-looped-same (Some a) None p q r s h k e = absurd (no-list q s a.invariant _ (sym e))
-looped-same (Some a) (Some b) p q r s h k e =
-    let inner_a : List Line = flat_map (headed_lines (codes "inner")) a.inner in
-    let inner_b : List Line = flat_map (headed_lines (codes "inner")) b.inner in
-    let done : List Line = (codes "done" ∷ []) ∷ [] in
-    let split_a : state_lines a.invariant ++ inner_a ++ done ++ after_notes p r ≡ state_lines a.invariant ++ after_inner a.inner (after_notes p r) =
-    append_assoc (state_lines a.invariant ++ inner_a) done (after_notes p r) ∙ append_assoc (state_lines a.invariant) inner_a (done ++ after_notes p r) in
-    let split_b : state_lines b.invariant ++ inner_b ++ done ++ after_notes q s ≡ state_lines b.invariant ++ after_inner b.inner (after_notes q s) =
-    append_assoc (state_lines b.invariant ++ inner_b) done (after_notes q s) ∙ append_assoc (state_lines b.invariant) inner_b (done ++ after_notes q s) in
-    let here = state-same a.invariant b.invariant (after_inner a.inner (after_notes p r)) (after_inner b.inner (after_notes q s)) h.0 k.0 (sym split_a ∙ later-lines e ∙ split_b) in
-    let rest = inner-same a.inner b.inner (after_notes p r) (after_notes q s) h.1 k.1 here.1 in
-    (ap (λ (l : Looped). Some l) (looped-by a b here.0 rest.0), rest.1)
-
 abbrev pub note_made : State → Option Looped → Note
 note_made state looped = record { state = state; looped = looped }
 
 pub note-by : (a b : Note) → a.state ≡ b.state → a.looped ≡ b.looped → a ≡ b
 note-by a b i n = ap (λ (x : State). note_made x a.looped) i ∙ ap (λ (x : Option Looped). note_made b.state x) n
 
-note-split : (n : Note) (notes : List Note) (r : List Line) →
-    after_notes (n ∷ notes) r ≡ (codes "note" ∷ []) ∷ (state_lines n.state ++ (looped_lines n.looped ++ after_notes notes r))
-note-split n notes r =
-    append_assoc (note_lines n) (flat_map note_lines notes) ((codes "end" ∷ []) ∷ r)
-    ∙ append_assoc (headed_lines (codes "note") n.state) (looped_lines n.looped) (after_notes notes r)
+-- what some line matches, before other lines
+pub matched-same : (version : Version) (key : Word) (m n : List (List ℕ)) (r s : List Line) → IsSaidIn version m → IsSaidIn version n →
+    matched_lines version key m ++ r ≡ matched_lines version key n ++ s → (m ≡ n) × (r ≡ s)
+matched-same One key m n r s h k e = (h ∙ sym k, e)
+matched-same Two key m n r s h k e = (texts-same m n (later-words (first-line e)), later-lines e)
 
-pub notes-same : (a b : List Note) (r s : List Line) → All NoteHasText a → All NoteHasText b → after_notes a r ≡ after_notes b s → (a ≡ b) × (r ≡ s)
-notes-same [] [] r s h k e = (refl, later-lines e)
-notes-same [] (y ∷ b) r s h k e = absurd (letter-differs (omega arith) e)
-notes-same (x ∷ a) [] r s h k e = absurd (letter-differs (omega arith) (sym e))
-notes-same (x ∷ a) (y ∷ b) r s h k e =
-    let hx = All-head NoteHasText x a h in
-    let ky = All-head NoteHasText y b k in
-    let rests = later-lines (sym (note-split x a r) ∙ e ∙ note-split y b s) in
-    let here = state-same x.state y.state (looped_lines x.looped ++ after_notes a r) (looped_lines y.looped ++ after_notes b s) hx.0 ky.0 rests in
-    let list = looped-same x.looped y.looped a b r s hx.1 ky.1 here.1 in
-    let rest = notes-same a b r s (All-tail NoteHasText x a h) (All-tail NoteHasText y b k) list.1 in
-    (ap (λ (z : Note). z ∷ a) (note-by x y here.0 list.0) ∙ ap (λ (l : List Note). y ∷ l) rest.0, rest.1)
+-- an earlier buffer, and what some of its lines match, before other lines
+pub record SameOld (a b : Option Old) (m n : List (List ℕ)) (r s : List Line) : Type 0 where
+  pub was : a ≡ b
+  pub has : m ≡ n
+  pub later : r ≡ s
+
+module _ (version : Version) where
+  -- an earlier buffer, a state, notes, before other lines
+
+  old-same : (a b : Option Old) (m n : List (List ℕ)) (r s : List Line) → is_some a ≡ is_some b → OldIsFormed a → OldIsFormed b → OldIsSaidIn version a m → OldIsSaidIn version b n →
+      old_lines version a m ++ r ≡ old_lines version b n ++ s → SameOld a b m n r s
+  old-same None None m n r s i h k p q e = record { was = refl; has = p ∙ sym q; later = e }
+  old-same None (Some b) m n r s i h k p q e = absurd cc
+  old-same (Some a) None m n r s i h k p q e = absurd cc
+  old-same (Some a) (Some b) m n r s i h k p q e =
+      let zones = zone-same a.marks b.marks a.zone b.zone h k (later-words (first-line e)) in
+      let rest = later-lines e in
+      let marks = letters-same a.marks b.marks a.zone b.zone h k (later-words (first-line rest)) in
+      let matched = matched-same version (codes "old-has") m n r s p q (later-lines rest) in
+      record { was = ap (λ (o : Old). Some o) (old-by a b zones marks); has = matched.0; later = matched.1 }
+
+  -- the lines of a state below what some line matches
+  abbrev pub after_matched : State → List Line
+  after_matched s =
+      choices_line (codes "patterns") s.patterns ∷ replacements_line s.replacements ∷ choices_line (codes "names") s.names
+      ∷ changed_line s.changed ∷ undo_line s.undo ∷ old_lines version s.undo.was s.old_has
+
+  pub state-same : (a b : State) (r s : List Line) → StateHasText version a → StateHasText version b → state_lines version a ++ r ≡ state_lines version b ++ s → (a ≡ b) × (r ≡ s)
+  state-same a b r s said other zone =
+      let h = said.formed in
+      let k = other.formed in
+      let marks = later-lines zone in
+      let matched = matched-same version (codes "has") a.has b.has (after_matched a ++ r) (after_matched b ++ s) said.has other.has (
+      sym (append_assoc (matched_lines version (codes "has") a.has) (after_matched a) r) ∙ later-lines marks
+      ∙ append_assoc (matched_lines version (codes "has") b.has) (after_matched b) s) in
+      let patterns = matched.1 in
+      let replacements = later-lines patterns in
+      let names = later-lines replacements in
+      let changed = later-lines names in
+      let undo = later-lines changed in
+      let old = later-lines undo in
+      let kinds = three-same (codes "none") (codes "plain") (codes "split") refl refl refl a.replacements.none a.replacements.plain a.replacements.split b.replacements.none b.replacements.plain b.replacements.split (later-words (first-line replacements)) in
+      let sides = two-same (codes "no") (codes "yes") refl a.changed.no a.changed.yes b.changed.no b.changed.yes (later-words (first-line changed)) in
+      let undone = three-same (codes "nothing") (codes "same") (codes "was") refl refl refl a.undo.nothing a.undo.same (is_some a.undo.was) b.undo.nothing b.undo.same (is_some b.undo.was) (later-words (first-line undo)) in
+      let was = old-same a.undo.was b.undo.was a.old_has b.old_has r s undone.third h.old k.old said.old_has other.old_has old in (
+        state-by a b
+            (zone-same a.marks b.marks a.zone b.zone h.zone k.zone (later-words (first-line zone)))
+            (letters-same a.marks b.marks a.zone b.zone h.zone k.zone (later-words (first-line marks)))
+            (choices-same a.patterns b.patterns (later-words (first-line patterns)))
+            (replacements-by a.replacements b.replacements kinds)
+            (choices-same a.names b.names (later-words (first-line names)))
+            (changed-by a.changed b.changed sides.0 sides.1)
+            (undo-by a.undo b.undo undone.first undone.second was.was)
+            matched.0
+            was.has,
+        was.later,
+      )
+
+  -- what follows a note: another, or the end
+  abbrev pub after_notes : List Note → List Line → List Line
+  after_notes notes r = flat_map (note_lines version) notes ++ (codes "end" ∷ []) ∷ r
+
+  abbrev pub after_inner : List State → List Line → List Line
+  after_inner states r = flat_map (headed_lines version (codes "inner")) states ++ (codes "done" ∷ []) ∷ r
+
+  pub inner-same : (a b : List State) (r s : List Line) → All (StateHasText version) a → All (StateHasText version) b → after_inner a r ≡ after_inner b s → (a ≡ b) × (r ≡ s)
+  inner-same [] [] r s h k e = (refl, later-lines e)
+  inner-same [] (y ∷ b) r s h k e = absurd (letter-differs (omega arith) e)
+  inner-same (x ∷ a) [] r s h k e = absurd (letter-differs (omega arith) (sym e))
+  inner-same (x ∷ a) (y ∷ b) r s h k e =
+      let rests = sym (append_assoc (state_lines version x) (flat_map (headed_lines version (codes "inner")) a) ((codes "done" ∷ []) ∷ r)) ∙ later-lines e
+      ∙ append_assoc (state_lines version y) (flat_map (headed_lines version (codes "inner")) b) ((codes "done" ∷ []) ∷ s) in
+      let here = state-same x y (after_inner a r) (after_inner b s) (All-head (StateHasText version) x a h) (All-head (StateHasText version) y b k) rests in
+      let rest = inner-same a b r s (All-tail (StateHasText version) x a h) (All-tail (StateHasText version) y b k) here.1 in
+      (ap (λ (z : State). z ∷ a) here.0 ∙ ap (λ (l : List State). y ∷ l) rest.0, rest.1)
+
+  -- no list begins where another note or the end does
+  no-list : (notes : List Note) (r : List Line) (s : State) (rest : List Line) → after_notes notes r ≡ (codes "loop" ∷ []) ∷ rest → ⊥
+  no-list [] r s rest e = letter-differs (omega arith) e
+  no-list (n ∷ notes) r s rest e = letter-differs (omega arith) (sym e)
+
+  looped-same : (a b : Option Looped) (p q : List Note) (r s : List Line) → LoopedHasText version a → LoopedHasText version b →
+      looped_lines version a ++ after_notes p r ≡ looped_lines version b ++ after_notes q s → (a ≡ b) × (after_notes p r ≡ after_notes q s)
+  looped-same None None p q r s h k e = (refl, e)
+  looped-same None (Some b) p q r s h k e = absurd (no-list p r b.invariant _ e)
+  looped-same (Some a) None p q r s h k e = absurd (no-list q s a.invariant _ (sym e))
+  looped-same (Some a) (Some b) p q r s h k e =
+      let inner_a : List Line = flat_map (headed_lines version (codes "inner")) a.inner in
+      let inner_b : List Line = flat_map (headed_lines version (codes "inner")) b.inner in
+      let done : List Line = (codes "done" ∷ []) ∷ [] in
+      let split_a : state_lines version a.invariant ++ inner_a ++ done ++ after_notes p r ≡ state_lines version a.invariant ++ after_inner a.inner (after_notes p r) =
+      append_assoc (state_lines version a.invariant ++ inner_a) done (after_notes p r) ∙ append_assoc (state_lines version a.invariant) inner_a (done ++ after_notes p r) in
+      let split_b : state_lines version b.invariant ++ inner_b ++ done ++ after_notes q s ≡ state_lines version b.invariant ++ after_inner b.inner (after_notes q s) =
+      append_assoc (state_lines version b.invariant ++ inner_b) done (after_notes q s) ∙ append_assoc (state_lines version b.invariant) inner_b (done ++ after_notes q s) in
+      let here = state-same a.invariant b.invariant (after_inner a.inner (after_notes p r)) (after_inner b.inner (after_notes q s)) h.0 k.0 (sym split_a ∙ later-lines e ∙ split_b) in
+      let rest = inner-same a.inner b.inner (after_notes p r) (after_notes q s) h.1 k.1 here.1 in
+      (ap (λ (l : Looped). Some l) (looped-by a b here.0 rest.0), rest.1)
+
+  note-split : (n : Note) (notes : List Note) (r : List Line) →
+      after_notes (n ∷ notes) r ≡ (codes "note" ∷ []) ∷ (state_lines version n.state ++ (looped_lines version n.looped ++ after_notes notes r))
+  note-split n notes r =
+      append_assoc (note_lines version n) (flat_map (note_lines version) notes) ((codes "end" ∷ []) ∷ r)
+      ∙ append_assoc (headed_lines version (codes "note") n.state) (looped_lines version n.looped) (after_notes notes r)
+
+  pub notes-same : (a b : List Note) (r s : List Line) → All (NoteHasText version) a → All (NoteHasText version) b → after_notes a r ≡ after_notes b s → (a ≡ b) × (r ≡ s)
+  notes-same [] [] r s h k e = (refl, later-lines e)
+  notes-same [] (y ∷ b) r s h k e = absurd (letter-differs (omega arith) e)
+  notes-same (x ∷ a) [] r s h k e = absurd (letter-differs (omega arith) (sym e))
+  notes-same (x ∷ a) (y ∷ b) r s h k e =
+      let hx = All-head (NoteHasText version) x a h in
+      let ky = All-head (NoteHasText version) y b k in
+      let rests = later-lines (sym (note-split x a r) ∙ e ∙ note-split y b s) in
+      let here = state-same x.state y.state (looped_lines version x.looped ++ after_notes a r) (looped_lines version y.looped ++ after_notes b s) hx.0 ky.0 rests in
+      let list = looped-same x.looped y.looped a b r s hx.1 ky.1 here.1 in
+      let rest = notes-same a b r s (All-tail (NoteHasText version) x a h) (All-tail (NoteHasText version) y b k) list.1 in
+      (ap (λ (z : Note). z ∷ a) (note-by x y here.0 list.0) ∙ ap (λ (l : List Note). y ∷ l) rest.0, rest.1)

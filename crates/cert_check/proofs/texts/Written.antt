@@ -8,7 +8,8 @@ use Rattle.ed_base.specs.Lines.{newline}
 use Rattle.ed_rules.specs.declared.state.Old.{Old}
 use Rattle.ed_rules.specs.declared.state.Replacements.{Replacements}
 use Rattle.ed_rules.specs.declared.state.State.{State}
-use Rattle.cert_check.specs.text.Text.{Word, Line, space, spaced, line_text, lines_text, possible, zone_line, marks_line, choices_line, replacements_line, changed_line, undo_line, old_lines, state_lines, headed_lines, looped_lines, note_lines, version_line, path_line, bounds_line, writes_line, opening_lines, closing_lines, text_of}
+use Rattle.cert_check.specs.declared.certificate.Version.{Version}
+use Rattle.cert_check.specs.text.Text.{Word, Line, space, spaced, line_text, lines_text, possible, zone_line, marks_line, choices_line, texts_line, matched_lines, replacements_line, changed_line, undo_line, old_lines, state_lines, headed_lines, looped_lines, note_lines, version_line, path_line, bounds_line, opening_lines, closing_lines, text_of}
 use Rattle.cert_check.specs.Certificates.{Looped, Note, Certificate}
 
 -- lines after lines
@@ -48,31 +49,6 @@ replacements-written o p a b c q r is_p is_a is_b is_c is_q =
 pub same-written : {A : Type 0} (f : A → List Line) (o n : List ℕ) (x y : A) → x ≡ y → n ≡ o ++ lines_text (f x) → n ≡ o ++ lines_text (f y)
 same-written {A} f o n x y same is = is ∙ ap (λ (v : A). o ++ lines_text (f v)) same
 
-pub state-written : (o a b c d e f g h : List ℕ) (s : State) →
-    a ≡ o ++ lines_text (zone_line (codes "zone") s.zone ∷ []) → b ≡ a ++ lines_text (marks_line (codes "marks") s.marks ∷ []) →
-    c ≡ b ++ lines_text (choices_line (codes "patterns") s.patterns ∷ []) → d ≡ c ++ lines_text (replacements_line s.replacements ∷ []) →
-    e ≡ d ++ lines_text (choices_line (codes "names") s.names ∷ []) → f ≡ e ++ lines_text (changed_line s.changed ∷ []) →
-    g ≡ f ++ lines_text (undo_line s.undo ∷ []) → h ≡ g ++ lines_text (old_lines s.undo.was) → h ≡ o ++ lines_text (state_lines s)
-state-written o a b c d e f g h s is_a is_b is_c is_d is_e is_f is_g is_h =
-    let zone : Line = zone_line (codes "zone") s.zone in
-    let marks : Line = marks_line (codes "marks") s.marks in
-    let patterns : Line = choices_line (codes "patterns") s.patterns in
-    let replacements : Line = replacements_line s.replacements in
-    let names : Line = choices_line (codes "names") s.names in
-    let changed : Line = changed_line s.changed in
-    then-lines o g h (zone ∷ marks ∷ patterns ∷ replacements ∷ names ∷ changed ∷ undo_line s.undo ∷ []) (old_lines s.undo.was) (
-    then-lines o f g (zone ∷ marks ∷ patterns ∷ replacements ∷ names ∷ changed ∷ []) (undo_line s.undo ∷ []) (
-    then-lines o e f (zone ∷ marks ∷ patterns ∷ replacements ∷ names ∷ []) (changed ∷ []) (
-    then-lines o d e (zone ∷ marks ∷ patterns ∷ replacements ∷ []) (names ∷ []) (
-    then-lines o c d (zone ∷ marks ∷ patterns ∷ []) (replacements ∷ []) (
-    then-lines o b c (zone ∷ marks ∷ []) (patterns ∷ []) (then-lines o a b (zone ∷ []) (marks ∷ []) is_a is_b) is_c) is_d) is_e) is_f) is_g) is_h
-
-pub old-written : (o a b : List ℕ) (old : Old) (was : Option Old) → was ≡ Some old → a ≡ o ++ lines_text (zone_line (codes "old-zone") old.zone ∷ []) →
-    b ≡ a ++ lines_text (marks_line (codes "old-marks") old.marks ∷ []) → b ≡ o ++ lines_text (old_lines was)
-old-written o a b old was is is_a is_b =
-    then-lines o a b (zone_line (codes "old-zone") old.zone ∷ []) (marks_line (codes "old-marks") old.marks ∷ []) is_a is_b
-    ∙ ap (λ (w : Option Old). o ++ lines_text (old_lines w)) (sym is)
-
 -- the lines of one more
 pub one-more : {X : Type 0} (f : X → List Line) (xs : List X) (i : ℕ) (x : X) (o p q : List ℕ) → i < length xs → x ≡ get_or xs i x →
     p ≡ o ++ lines_text (flat_map f (take i xs)) → q ≡ p ++ lines_text (f x) → q ≡ o ++ lines_text (flat_map f (take (i + 1) xs))
@@ -84,33 +60,64 @@ one-more {X} f xs i x o p q h is is_p is_q =
     ∙ ap (λ (ls : List Line). flat_map f (take i xs) ++ ls) (append-nil (f x))) in
     then-lines o p q (flat_map f (take i xs)) (f x) is_p is_q ∙ ap (λ (ls : List Line). o ++ lines_text ls) now
 
-pub looped-written : (o a b c : List ℕ) (l : Looped) → a ≡ o ++ lines_text (headed_lines (codes "loop") l.invariant) →
-    b ≡ a ++ lines_text (flat_map (headed_lines (codes "inner")) l.inner) → c ≡ b ++ (codes "done" ++ newline ∷ []) → c ≡ o ++ lines_text (looped_lines (Some l))
-looped-written o a b c l is_a is_b is_c =
-    let first : List Line = headed_lines (codes "loop") l.invariant in
-    let inner : List Line = flat_map (headed_lines (codes "inner")) l.inner in
-    then-lines o b c (first ++ inner) ((codes "done" ∷ []) ∷ []) (then-lines o a b first inner is_a is_b) is_c
+module _ (version : Version) where
+  pub state-written : (o a b m c d e f g h : List ℕ) (s : State) →
+      a ≡ o ++ lines_text (zone_line (codes "zone") s.zone ∷ []) → b ≡ a ++ lines_text (marks_line (codes "marks") s.marks ∷ []) →
+      m ≡ b ++ lines_text (matched_lines version (codes "has") s.has) →
+      c ≡ m ++ lines_text (choices_line (codes "patterns") s.patterns ∷ []) → d ≡ c ++ lines_text (replacements_line s.replacements ∷ []) →
+      e ≡ d ++ lines_text (choices_line (codes "names") s.names ∷ []) → f ≡ e ++ lines_text (changed_line s.changed ∷ []) →
+      g ≡ f ++ lines_text (undo_line s.undo ∷ []) → h ≡ g ++ lines_text (old_lines version s.undo.was s.old_has) → h ≡ o ++ lines_text (state_lines version s)
+  state-written o a b m c d e f g h s is_a is_b is_m is_c is_d is_e is_f is_g is_h =
+      let zone : Line = zone_line (codes "zone") s.zone in
+      let marks : Line = marks_line (codes "marks") s.marks in
+      let patterns : Line = choices_line (codes "patterns") s.patterns in
+      let replacements : Line = replacements_line s.replacements in
+      let names : Line = choices_line (codes "names") s.names in
+      let changed : Line = changed_line s.changed in
+      let above : List Line = zone ∷ marks ∷ matched_lines version (codes "has") s.has in
+      then-lines o m h above (patterns ∷ replacements ∷ names ∷ changed ∷ undo_line s.undo ∷ old_lines version s.undo.was s.old_has)
+      (then-lines o b m (zone ∷ marks ∷ []) (matched_lines version (codes "has") s.has) (then-lines o a b (zone ∷ []) (marks ∷ []) is_a is_b) is_m) (
+      then-lines m g h (patterns ∷ replacements ∷ names ∷ changed ∷ undo_line s.undo ∷ []) (old_lines version s.undo.was s.old_has) (
+      then-lines m f g (patterns ∷ replacements ∷ names ∷ changed ∷ []) (undo_line s.undo ∷ []) (
+      then-lines m e f (patterns ∷ replacements ∷ names ∷ []) (changed ∷ []) (
+      then-lines m d e (patterns ∷ replacements ∷ []) (names ∷ []) (then-lines m c d (patterns ∷ []) (replacements ∷ []) is_c is_d) is_e) is_f) is_g) is_h)
 
-pub note-written : (o a b : List ℕ) (n : Note) → a ≡ o ++ lines_text (headed_lines (codes "note") n.state) → b ≡ a ++ lines_text (looped_lines n.looped) →
-    b ≡ o ++ lines_text (note_lines n)
-note-written o a b n is_a is_b = then-lines o a b (headed_lines (codes "note") n.state) (looped_lines n.looped) is_a is_b
+  pub old-written : (o a b m : List ℕ) (old : Old) (has : List (List ℕ)) (was : Option Old) → was ≡ Some old →
+      a ≡ o ++ lines_text (zone_line (codes "old-zone") old.zone ∷ []) → b ≡ a ++ lines_text (marks_line (codes "old-marks") old.marks ∷ []) →
+      m ≡ b ++ lines_text (matched_lines version (codes "old-has") has) → m ≡ o ++ lines_text (old_lines version was has)
+  old-written o a b m old has was is is_a is_b is_m =
+      then-lines o b m (zone_line (codes "old-zone") old.zone ∷ marks_line (codes "old-marks") old.marks ∷ []) (matched_lines version (codes "old-has") has)
+      (then-lines o a b (zone_line (codes "old-zone") old.zone ∷ []) (marks_line (codes "old-marks") old.marks ∷ []) is_a is_b) is_m
+      ∙ ap (λ (w : Option Old). o ++ lines_text (old_lines version w has)) (sym is)
 
-pub opening-written : (o a b c : List ℕ) (x : Certificate) → a ≡ o ++ lines_text (version_line ∷ []) → b ≡ a ++ lines_text (path_line x.path ∷ []) →
-    c ≡ b ++ lines_text (bounds_line (codes "start") x.min x.max ∷ []) → c ≡ o ++ lines_text (opening_lines x)
-opening-written o a b c x is_a is_b is_c =
-    then-lines o b c (version_line ∷ path_line x.path ∷ []) (bounds_line (codes "start") x.min x.max ∷ [])
-    (then-lines o a b (version_line ∷ []) (path_line x.path ∷ []) is_a is_b) is_c
+  pub looped-written : (o a b c : List ℕ) (l : Looped) → a ≡ o ++ lines_text (headed_lines version (codes "loop") l.invariant) →
+      b ≡ a ++ lines_text (flat_map (headed_lines version (codes "inner")) l.inner) → c ≡ b ++ (codes "done" ++ newline ∷ []) → c ≡ o ++ lines_text (looped_lines version (Some l))
+  looped-written o a b c l is_a is_b is_c =
+      let first : List Line = headed_lines version (codes "loop") l.invariant in
+      let inner : List Line = flat_map (headed_lines version (codes "inner")) l.inner in
+      then-lines o b c (first ++ inner) ((codes "done" ∷ []) ∷ []) (then-lines o a b first inner is_a is_b) is_c
 
-pub closing-written : (o a b c : List ℕ) (x : Certificate) → a ≡ o ++ lines_text (headed_lines (codes "end") x.last) →
-    b ≡ a ++ lines_text (bounds_line (codes "final") x.low x.high ∷ []) → c ≡ b ++ lines_text (writes_line x.writes ∷ []) →
+  pub note-written : (o a b : List ℕ) (n : Note) → a ≡ o ++ lines_text (headed_lines version (codes "note") n.state) → b ≡ a ++ lines_text (looped_lines version n.looped) →
+      b ≡ o ++ lines_text (note_lines version n)
+  note-written o a b n is_a is_b = then-lines o a b (headed_lines version (codes "note") n.state) (looped_lines version n.looped) is_a is_b
+
+pub opening-written : (o a b c d : List ℕ) (x : Certificate) → a ≡ o ++ lines_text (version_line x.version ∷ []) → b ≡ a ++ lines_text (path_line x.path ∷ []) →
+    c ≡ b ++ lines_text (bounds_line (codes "start") x.min x.max ∷ []) → d ≡ c ++ lines_text (matched_lines x.version (codes "has") x.has) → d ≡ o ++ lines_text (opening_lines x)
+opening-written o a b c d x is_a is_b is_c is_d =
+    then-lines o c d (version_line x.version ∷ path_line x.path ∷ bounds_line (codes "start") x.min x.max ∷ []) (matched_lines x.version (codes "has") x.has)
+    (then-lines o b c (version_line x.version ∷ path_line x.path ∷ []) (bounds_line (codes "start") x.min x.max ∷ [])
+    (then-lines o a b (version_line x.version ∷ []) (path_line x.path ∷ []) is_a is_b) is_c) is_d
+
+pub closing-written : (o a b c : List ℕ) (x : Certificate) → a ≡ o ++ lines_text (headed_lines x.version (codes "end") x.last) →
+    b ≡ a ++ lines_text (bounds_line (codes "final") x.low x.high ∷ []) → c ≡ b ++ lines_text (texts_line (codes "writes") x.writes ∷ []) →
     c ≡ o ++ lines_text (closing_lines x)
 closing-written o a b c x is_a is_b is_c =
-    then-lines o a c (headed_lines (codes "end") x.last) (bounds_line (codes "final") x.low x.high ∷ writes_line x.writes ∷ []) is_a
-    (then-lines a b c (bounds_line (codes "final") x.low x.high ∷ []) (writes_line x.writes ∷ []) is_b is_c)
+    then-lines o a c (headed_lines x.version (codes "end") x.last) (bounds_line (codes "final") x.low x.high ∷ texts_line (codes "writes") x.writes ∷ []) is_a
+    (then-lines a b c (bounds_line (codes "final") x.low x.high ∷ []) (texts_line (codes "writes") x.writes ∷ []) is_b is_c)
 
-pub certificate-written : (o a b c : List ℕ) (x : Certificate) → a ≡ o ++ lines_text (opening_lines x) → b ≡ a ++ lines_text (flat_map note_lines x.notes) →
+pub certificate-written : (o a b c : List ℕ) (x : Certificate) → a ≡ o ++ lines_text (opening_lines x) → b ≡ a ++ lines_text (flat_map (note_lines x.version) x.notes) →
     c ≡ b ++ lines_text (closing_lines x) → c ≡ o ++ text_of x
 unfolding text_of
 certificate-written o a b c x is_a is_b is_c =
-    let notes : List Line = flat_map note_lines x.notes in
+    let notes : List Line = flat_map (note_lines x.version) x.notes in
     then-lines o b c (opening_lines x ++ notes) (closing_lines x) (then-lines o a b (opening_lines x) notes is_a is_b) is_c

@@ -1,16 +1,17 @@
 -- What an accepted row of checks says, one check after another.
-use Rattle.std.proofs.Common.{◌≡◌, ℕ, Bool, true, false, not, ◌&&◌, ◌||◌, Option, None, Some, is_none, is_some, cond, Result, Ok, Err, refl, ap}
+use Rattle.std.proofs.Common.{◌≡◌, ℕ, Bool, true, false, not, ◌&&◌, ◌||◌, ◌∙◌, List, [], Option, None, Some, is_none, is_some, cond, Result, Ok, Err, refl, ap}
 use Rattle.ed_base.specs.declared.fault.Fault.{Fault}
 use Rattle.ed_syntax.specs.Commands.{Command}
 use Rattle.ed_rules.specs.declared.state.State.{State}
 use Rattle.cert_check.specs.checker.Covering.{covers}
 use Rattle.ed_rules.specs.Rules.{step, fault_of}
+use Rattle.cert_check.specs.declared.sight.Sight.{Sight}
 use Rattle.ed_rules.specs.Reaching.{Comes}
 use Rattle.cert_check.specs.declared.checker.verdict.Place.{Place}
 use Rattle.cert_check.specs.declared.checker.verdict.Verdict.{Verdict}
 use Rattle.cert_check.specs.declared.checker.verdict.Verdict.TheVariants.{Accepted, Refused}
 use Rattle.cert_check.specs.Certificates.{Certificate}
-use Rattle.cert_check.specs.checker.Valid.{verdict_of, are_met, left_by, knows_least, knows_most, end_checks}
+use Rattle.cert_check.specs.checker.Valid.{verdict_of, told, are_met, left_by, knows_least, knows_most, end_checks}
 use Rattle.cert_check.specs.checker.Passing.{Passes, left_where_met}
 
 pub and-first : (a b : Bool) → a && b ≡ true → a ≡ true
@@ -49,29 +50,37 @@ value-by : (r : Result State Fault) (s : State) → is_none (fault_of r) ≡ tru
 value-by (Ok t) s h = refl
 value-by (Err f) s h = absurd cc
 
--- where the needs hold, the rule gives the state that is left
-pub met-gives : (c : Command) (s : State) → are_met c s ≡ true → step c s ≡ Ok (left_by c s)
-unfolding are_met left_by
-met-gives c s h = value-by (step c s) s h
+-- the needs of a command are the same whatever is watched
+abbrev pub NeedsAreTheSame : Type 0
+NeedsAreTheSame = (one other : List (List ℕ)) (c : Command) (s : State) → fault_of (step one c s) ≡ fault_of (step other c s)
 
-met-by : (r : Result State Fault) (s t : State) → r ≡ Ok t → cond (is_none (fault_of r)) (Some (elim r as (λ _. State) [ Ok u ↦ u | Err f ↦ s ])) None ≡ Some t
-met-by (Ok u) s t e = cc
-met-by (Err f) s t e = absurd cc
+-- the rule's own result
+abbrev pub plainly_left : Sight → Command → State → State
+plainly_left w c s = elim (step w.watch c s) as (λ _. State) [ Ok t ↦ t | Err f ↦ s ]
 
-unmet-by : (r : Result State Fault) (s : State) → is_some (fault_of r) ≡ true → cond (is_none (fault_of r)) (Some (elim r as (λ _. State) [ Ok u ↦ u | Err f ↦ s ])) None ≡ None
-unmet-by (Ok u) s e = absurd cc
-unmet-by (Err f) s e = refl
+-- where the needs hold, the rule gives it
+pub met-gives : NeedsAreTheSame → (w : Sight) (c : Command) (s : State) → are_met c s ≡ true → step w.watch c s ≡ Ok (plainly_left w c s)
+unfolding are_met
+met-gives same w c s h = value-by (step w.watch c s) s (ap is_none (same w.watch [] c s) ∙ h)
+
+met-by : (w : Sight) (r : Result State Fault) (s t : State) (b : Bool) → b ≡ is_none (fault_of r) → r ≡ Ok t → cond b (Some (told w (elim r as (λ _. State) [ Ok u ↦ u | Err f ↦ s ]))) None ≡ Some (told w t)
+met-by w (Ok u) s t b is e = cc
+met-by w (Err f) s t b is e = absurd cc
+
+unmet-by : (w : Sight) (r : Result State Fault) (s : State) (b : Bool) → b ≡ is_none (fault_of r) → is_some (fault_of r) ≡ true → cond b (Some (told w (elim r as (λ _. State) [ Ok u ↦ u | Err f ↦ s ]))) None ≡ None
+unmet-by w (Ok u) s b is e = absurd cc
+unmet-by w (Err f) s b is e = cc
 
 -- the rule's state is left where there is one
-met-left : (c : Command) (s t : State) → step c s ≡ Ok t → left_where_met c s ≡ Some t
+met-left : NeedsAreTheSame → (w : Sight) (c : Command) (s t : State) → step w.watch c s ≡ Ok t → left_where_met w c s ≡ Some (told w t)
 unfolding are_met left_by
-met-left c s t e = met-by (step c s) s t e
+met-left same w c s t e = met-by w (step w.watch c s) s t (is_none (fault_of (step [] c s))) (ap is_none (same [] w.watch c s)) e
 
-unmet-none : (c : Command) (s : State) (f : Fault) → step c s ≡ Err f → left_where_met c s ≡ None
+unmet-none : NeedsAreTheSame → (w : Sight) (c : Command) (s : State) (f : Fault) → step w.watch c s ≡ Err f → left_where_met w c s ≡ None
 unfolding are_met left_by
-unmet-none c s f e = unmet-by (step c s) s (ap (λ (r : Result State Fault). is_some (fault_of r)) e)
+unmet-none same w c s f e = unmet-by w (step w.watch c s) s (is_none (fault_of (step [] c s))) (ap is_none (same [] w.watch c s)) (ap (λ (r : Result State Fault). is_some (fault_of r)) e)
 
 -- what a command comes to is left where its needs hold
-pub comes-left : (c : Command) (s t : State) (failed : Option Fault) → Comes failed t (step c s) → Passes (is_none failed) t (left_where_met c s)
-comes-left c s t None h = met-left c s t h
-comes-left c s t (Some f) h = unmet-none c s f h
+pub comes-left : NeedsAreTheSame → (w : Sight) (c : Command) (s t : State) (failed : Option Fault) → Comes failed t (step w.watch c s) → Passes (is_none failed) (told w t) (left_where_met w c s)
+comes-left same w c s t None h = met-left same w c s t h
+comes-left same w c s t (Some f) h = unmet-none same w c s f h

@@ -11,8 +11,8 @@ use Rattle.zones.proofs.Order.{Covers-each, each-Covers}
 use Rattle.ed_rules.specs.declared.state.Old.{Old}
 use Rattle.ed_rules.specs.declared.state.State.{State}
 use Rattle.ed_rules.specs.Marks.{AreAmong}
-use Rattle.ed_rules.specs.Order.{Allows, CoversOld, Covers}
-use Rattle.cert_check.specs.checker.Covering.{zone_covers, allows, are_among, old_covers, covers}
+use Rattle.ed_rules.specs.Order.{CoversOldHas, Allows, CoversOld, Covers}
+use Rattle.cert_check.specs.checker.Covering.{old_has_covers, zone_covers, allows, are_among, old_covers, covers}
 use Rattle.ed_rules.proofs.Basics.{and-both}
 
 -- a test of each number below n
@@ -73,6 +73,14 @@ says-old None (Some strong) h = absurd h
 says-old (Some weak) (Some strong) h =
     both-and (zone_covers weak.zone strong.zone) (are_among weak.marks strong.marks) (says-zone weak.zone strong.zone h.0) (says-among weak.marks strong.marks h.1)
 
+old_has-says : (was : Option Old) (weak strong : List (List ℕ)) → old_has_covers was weak strong ≡ true → CoversOldHas was weak strong
+old_has-says None weak strong h = tt
+old_has-says (Some old) weak strong h = h
+
+says-old_has : (was : Option Old) (weak strong : List (List ℕ)) → CoversOldHas was weak strong → old_has_covers was weak strong ≡ true
+says-old_has None weak strong h = refl
+says-old_has (Some old) weak strong h = h
+
 pub covers-says : (weak strong : State) → covers weak strong ≡ true → Covers weak strong
 unfolding covers
 covers-says weak strong h =
@@ -85,8 +93,10 @@ covers-says weak strong h =
     let names = and-both _ _ replacements.1 in
     let changed = and-both _ _ names.1 in
     let flags = and-both _ _ changed.0 in
-    let nothing = and-both _ _ changed.1 in
+    let undo = and-both _ _ changed.1 in
+    let nothing = and-both _ _ undo.0 in
     let same = and-both _ _ nothing.1 in
+    let matched = and-both _ _ undo.1 in
     record {
       zone = zone-says weak.zone strong.zone zone.0;
       marks = among-says weak.marks strong.marks marks.0;
@@ -100,6 +110,8 @@ covers-says weak strong h =
       nothing = allows-says weak.undo.nothing strong.undo.nothing nothing.0;
       same = allows-says weak.undo.same strong.undo.same same.0;
       was = old-says weak.undo.was strong.undo.was same.1;
+      matched = matched.0;
+      old_matched = old_has-says strong.undo.was weak.old_has strong.old_has matched.1;
     }
 
 pub says-covers : (weak strong : State) → Covers weak strong → covers weak strong ≡ true
@@ -112,5 +124,6 @@ says-covers weak strong h =
     (both-and _ _ (says-allows weak.replacements.plain strong.replacements.plain h.plain_replacement) (says-allows weak.replacements.split strong.replacements.split h.split_replacement))) (
     both-and _ _ h.names (
     both-and _ _ (both-and _ _ (says-allows weak.changed.no strong.changed.no h.unchanged) (says-allows weak.changed.yes strong.changed.yes h.changed))
-    (both-and _ _ (says-allows weak.undo.nothing strong.undo.nothing h.nothing)
-    (both-and _ _ (says-allows weak.undo.same strong.undo.same h.same) (says-old weak.undo.was strong.undo.was h.was))))))))
+    (both-and _ _ (both-and _ _ (says-allows weak.undo.nothing strong.undo.nothing h.nothing)
+    (both-and _ _ (says-allows weak.undo.same strong.undo.same h.same) (says-old weak.undo.was strong.undo.was h.was)))
+    (both-and _ _ h.matched (says-old_has strong.undo.was weak.old_has strong.old_has h.old_matched))))))))

@@ -12,8 +12,11 @@ use Rattle.cert_check.specs.declared.checker.verdict.Place.{Place}
 use Rattle.cert_check.specs.declared.checker.verdict.Verdict.{Verdict}
 use Rattle.cert_check.specs.declared.checker.verdict.Verdict.TheVariants.{Accepted, Refused}
 use Rattle.cert_check.specs.Certificates.{Note, note_value, Certificate}
-use Rattle.cert_check.specs.checker.Valid.{Check, at_place, command_at, inner_at, at, verdict_of, counted, has_quit, are_met, left_by, are_listed, knows_least, knows_most, end_checks, command_checks, list_checks, left_after, checks_from, fits, are_shaped, judged}
-use Rattle.cert_check.specs.checker.Passing.{verdict_at, passed, ends_well, StepGoesTo, GoesTo, verdict_after}
+use Rattle.cert_check.specs.declared.sight.Sight.{Sight}
+use Rattle.cert_check.specs.checker.Valid.{seen_by, told, Check, at_place, command_at, inner_at, at, verdict_of, counted, has_quit, are_met, left_by, are_listed, knows_least, knows_most, end_checks, command_checks, list_checks, left_after, checks_from, fits, are_shaped, judged}
+use Rattle.ed_rules.specs.Globals.{body_entry}
+use Rattle.cert_check.specs.Certificates.{Looped}
+use Rattle.cert_check.specs.checker.Passing.{verdict_at, passed, ends_well, ListGoesTo, LoopGoesTo, StepGoesTo, GoesTo, verdict_after}
 use Rattle.cert_check.specs.checker.Sound.{CannotFail}
 use Rattle.ed_syntax.specs.meaning.Verbs.{is_step}
 use Rattle.std.specs.List.{list_all}
@@ -84,18 +87,28 @@ none-if true true false u e = refl
 none-if true false l u e = refl
 none-if false b l u e = refl
 
+-- what the list of a global command leaves isn't covered by its invariant
+pub loop-off : (w : Sight) (number : ℕ) (writes : List (List ℕ)) (x : Step) (l : Looped) (known start t u : State) → covers l.invariant start ≡ true →
+    ListGoesTo w number writes x.list l.inner (told w (body_entry x.command.verb l.invariant)) None t → covers l.invariant t ≡ false →
+    LoopGoesTo w number writes x l known start (Some (inner_at number (length x.list + 1))) u
+loop-off w number writes x l known start t u first goes again = λ later.
+    let turned : ℕ → State → List Check = λ inner s. at_place (inner_at number inner) (covers l.invariant s) ∷ later in
+    holds-at (covers l.invariant start) (command_at number) (list_checks w number 1 writes (told w (body_entry x.command.verb l.invariant)) x.list l.inner turned) first
+    ∙ goes turned
+    ∙ fails-at (covers l.invariant t) (inner_at number (length x.list + 1)) later again
+
 -- where all checks of a command hold, those after it are left
-pub command-on : (p : Place) (writes : List (List ℕ)) (c : Command) (known coming t : State) → passed writes c known coming ≡ Some t →
-    ((later : List Check) → verdict_of (command_checks p writes c known coming later) ≡ verdict_of later) × (left_by c known ≡ t)
-command-on p writes c known coming t e =
-    let all = some-if (covers known coming) (are_met c known) (are_listed writes c known) (left_by c known) t e in
+pub command-on : (w : Sight) (p : Place) (writes : List (List ℕ)) (c : Command) (known coming t : State) → passed w writes c known coming ≡ Some t →
+    ((later : List Check) → verdict_of (command_checks p writes c known coming later) ≡ verdict_of later) × (left_by w c known ≡ t)
+command-on w p writes c known coming t e =
+    let all = some-if (covers known coming) (are_met c known) (are_listed writes c known) (left_by w c known) t e in
     (λ later. three-hold (covers known coming) (are_met c known) (are_listed writes c known) p (verdict_of later) all.0, all.1)
 
-pub command-off : (p : Place) (writes : List (List ℕ)) (c : Command) (known coming : State) (later : List Check) → passed writes c known coming ≡ None →
+pub command-off : (w : Sight) (p : Place) (writes : List (List ℕ)) (c : Command) (known coming : State) (later : List Check) → passed w writes c known coming ≡ None →
     verdict_of (command_checks p writes c known coming later) ≡ Refused p
-command-off p writes c known coming later e =
+command-off w p writes c known coming later e =
     three-fail (covers known coming) (are_met c known) (are_listed writes c known) p (verdict_of later)
-    (none-if (covers known coming) (are_met c known) (are_listed writes c known) (left_by c known) e)
+    (none-if (covers known coming) (are_met c known) (are_listed writes c known) (left_by w c known) e)
 
 -- A LIST
 
@@ -117,51 +130,51 @@ none-left [] = refl
 none-left (x ∷ xs) = none-left xs
 
 -- the commands of a list and what is known before them, from a place on
-abbrev pub list_from : (number : ℕ) → (writes : List (List ℕ)) → List public_command.Command → List State → (turned : ℕ → State → List Check) → (index : ℕ) → State → Verdict
-list_from number writes list states turned index coming =
-    verdict_of (list_checks number (index + 1) writes coming (drop index (map command_value list)) (drop index states) turned)
+abbrev pub list_from : Sight → (number : ℕ) → (writes : List (List ℕ)) → List public_command.Command → List State → (turned : ℕ → State → List Check) → (index : ℕ) → State → Verdict
+list_from w number writes list states turned index coming =
+    verdict_of (list_checks w number (index + 1) writes coming (drop index (map command_value list)) (drop index states) turned)
 
-module _ (number : ℕ) (writes : List (List ℕ)) (list : List public_command.Command) (states : List State) (turned : ℕ → State → List Check) where
+module _ (w : Sight) (number : ℕ) (writes : List (List ℕ)) (list : List public_command.Command) (states : List State) (turned : ℕ → State → List Check) where
   list-here : (index : ℕ) (d : public_command.Command) (known coming : State) → index < length states → length states ≡ length list → d ≡ get_or list index d → known ≡ get_or states index known →
-      list_from number writes list states turned index coming
+      list_from w number writes list states turned index coming
       ≡ verdict_of (command_checks (inner_at number (index + 1)) writes (command_value d) known coming
-      (list_checks number (index + 1 + 1) writes (left_by (command_value d) known) (drop (index + 1) (map command_value list)) (drop (index + 1) states) turned))
+      (list_checks w number (index + 1 + 1) writes (left_by w (command_value d) known) (drop (index + 1) (map command_value list)) (drop (index + 1) states) turned))
   list-here index d known coming h size is_d is_known =
       let commands : drop index (map command_value list) ≡ command_value d ∷ drop (index + 1) (map command_value list) = mapped-here command_value list index d (omega arith) is_d in
       let knowns : drop index states ≡ known ∷ drop (index + 1) states = here states index known h is_known in
-      ap (λ (cs : List Command). verdict_of (list_checks number (index + 1) writes coming cs (drop index states) turned)) commands
-      ∙ ap (λ (ss : List State). verdict_of (list_checks number (index + 1) writes coming (command_value d ∷ drop (index + 1) (map command_value list)) ss turned)) knowns
+      ap (λ (cs : List Command). verdict_of (list_checks w number (index + 1) writes coming cs (drop index states) turned)) commands
+      ∙ ap (λ (ss : List State). verdict_of (list_checks w number (index + 1) writes coming (command_value d ∷ drop (index + 1) (map command_value list)) ss turned)) knowns
 
   pub list-on : (index : ℕ) (d : public_command.Command) (known coming t : State) → index < length states → length states ≡ length list → d ≡ get_or list index d → known ≡ get_or states index known →
-      passed writes (command_value d) known coming ≡ Some t → list_from number writes list states turned index coming ≡ list_from number writes list states turned (index + 1) t
+      passed w writes (command_value d) known coming ≡ Some t → list_from w number writes list states turned index coming ≡ list_from w number writes list states turned (index + 1) t
   list-on index d known coming t h size is_d is_known is =
-      let on = command-on (inner_at number (index + 1)) writes (command_value d) known coming t is in
+      let on = command-on w (inner_at number (index + 1)) writes (command_value d) known coming t is in
       list-here index d known coming h size is_d is_known
-      ∙ on.0 (list_checks number (index + 1 + 1) writes (left_by (command_value d) known) (drop (index + 1) (map command_value list)) (drop (index + 1) states) turned)
-      ∙ ap (λ (u : State). verdict_of (list_checks number (index + 1 + 1) writes u (drop (index + 1) (map command_value list)) (drop (index + 1) states) turned)) on.1
+      ∙ on.0 (list_checks w number (index + 1 + 1) writes (left_by w (command_value d) known) (drop (index + 1) (map command_value list)) (drop (index + 1) states) turned)
+      ∙ ap (λ (u : State). verdict_of (list_checks w number (index + 1 + 1) writes u (drop (index + 1) (map command_value list)) (drop (index + 1) states) turned)) on.1
 
   pub list-off : (index : ℕ) (d : public_command.Command) (known coming : State) → index < length states → length states ≡ length list → d ≡ get_or list index d → known ≡ get_or states index known →
-      passed writes (command_value d) known coming ≡ None → list_from number writes list states turned index coming ≡ Refused (inner_at number (index + 1))
+      passed w writes (command_value d) known coming ≡ None → list_from w number writes list states turned index coming ≡ Refused (inner_at number (index + 1))
   list-off index d known coming h size is_d is_known is =
       list-here index d known coming h size is_d is_known
-      ∙ command-off (inner_at number (index + 1)) writes (command_value d) known coming
-      (list_checks number (index + 1 + 1) writes (left_by (command_value d) known) (drop (index + 1) (map command_value list)) (drop (index + 1) states) turned) is
+      ∙ command-off w (inner_at number (index + 1)) writes (command_value d) known coming
+      (list_checks w number (index + 1 + 1) writes (left_by w (command_value d) known) (drop (index + 1) (map command_value list)) (drop (index + 1) states) turned) is
 
   pub list-over : (index : ℕ) (coming : State) → index ≡ length states → length states ≡ length list →
-      list_from number writes list states turned index coming ≡ verdict_of (turned (length (map command_value list) + 1) coming)
+      list_from w number writes list states turned index coming ≡ verdict_of (turned (length (map command_value list) + 1) coming)
   list-over index coming at_end size =
       let counts : length (map command_value list) ≡ length list = length-map list command_value in
       let last : index ≡ length (map command_value list) = at_end ∙ size ∙ sym counts in
       let none : drop index (map command_value list) ≡ [] = ap (λ n. drop n (map command_value list)) last ∙ none-left (map command_value list) in
-      ap (λ (cs : List Command). verdict_of (list_checks number (index + 1) writes coming cs (drop index states) turned)) none
+      ap (λ (cs : List Command). verdict_of (list_checks w number (index + 1) writes coming cs (drop index states) turned)) none
       ∙ ap (λ n. verdict_of (turned (n + 1) coming)) last
 
 -- THE STEPS
 
 -- the commands and notes from a place on
-abbrev pub verdict_from : (writes : List (List ℕ)) → (ℕ → State → List Check) → List public_command.Command → List public.Note → (index : ℕ) → State → Verdict
-verdict_from writes end commands notes index s =
-    verdict_of (checks_from writes end (index + 1) s (drop index (counted (steps_value commands))) (drop index (map note_value notes)))
+abbrev pub verdict_from : Sight → (writes : List (List ℕ)) → (ℕ → State → List Check) → List public_command.Command → List public.Note → (index : ℕ) → State → Verdict
+verdict_from w writes end commands notes index s =
+    verdict_of (checks_from w writes end (index + 1) s (drop index (counted (steps_value commands))) (drop index (map note_value notes)))
 
 -- the command and the note at a place, and those after it
 steps-here : (commands : List public_command.Command) (index : ℕ) (d : public_command.Command) → index < length (counted (steps_value commands)) → d ≡ get_or commands index d →
@@ -170,43 +183,43 @@ steps-here commands index d h is_d =
     let xs : List Step = counted (steps_value commands) in
     counted-next commands index d h ∙ ap (λ (e : public_command.Command). step_value e ∷ drop (suc index) xs) (sym is_d) ∙ ap (λ k. step_value d ∷ drop k xs) (sym (add-one index))
 
-module _ (writes : List (List ℕ)) (end : ℕ → State → List Check) (commands : List public_command.Command) (notes : List public.Note) where
+module _ (w : Sight) (writes : List (List ℕ)) (end : ℕ → State → List Check) (commands : List public_command.Command) (notes : List public.Note) where
   from-here : (index : ℕ) (d : public_command.Command) (n : public.Note) (s : State) → index < length notes →
       length notes ≡ length (counted (steps_value commands)) → d ≡ get_or commands index d → n ≡ get_or notes index n →
-      verdict_from writes end commands notes index s
-      ≡ verdict_of (checks_from writes end (index + 1) s (step_value d ∷ drop (index + 1) (counted (steps_value commands))) (note_value n ∷ drop (index + 1) (map note_value notes)))
+      verdict_from w writes end commands notes index s
+      ≡ verdict_of (checks_from w writes end (index + 1) s (step_value d ∷ drop (index + 1) (counted (steps_value commands))) (note_value n ∷ drop (index + 1) (map note_value notes)))
   from-here index d n s h size is_d is_n =
       let xs : List Step = counted (steps_value commands) in
-      ap (λ (ys : List Step). verdict_of (checks_from writes end (index + 1) s ys (drop index (map note_value notes)))) (steps-here commands index d (omega arith) is_d)
-      ∙ ap (λ (ns : List Note). verdict_of (checks_from writes end (index + 1) s (step_value d ∷ drop (index + 1) xs) ns)) (mapped-here note_value notes index n h is_n)
+      ap (λ (ys : List Step). verdict_of (checks_from w writes end (index + 1) s ys (drop index (map note_value notes)))) (steps-here commands index d (omega arith) is_d)
+      ∙ ap (λ (ns : List Note). verdict_of (checks_from w writes end (index + 1) s (step_value d ∷ drop (index + 1) xs) ns)) (mapped-here note_value notes index n h is_n)
 
   -- the checks after this step
   abbrev later_checks : ℕ → public_command.Command → public.Note → List Check
   later_checks index d n =
-      checks_from writes end (index + 1 + 1) (left_after (note_value n).looped (step_value d) n.state) (drop (index + 1) (counted (steps_value commands))) (drop (index + 1) (map note_value notes))
+      checks_from w writes end (index + 1 + 1) (left_after w (note_value n).looped (step_value d) n.state) (drop (index + 1) (counted (steps_value commands))) (drop (index + 1) (map note_value notes))
 
   pub go-on : (index : ℕ) (d : public_command.Command) (n : public.Note) (s t : State) → index < length notes →
       length notes ≡ length (counted (steps_value commands)) → d ≡ get_or commands index d → n ≡ get_or notes index n →
-      StepGoesTo (index + 1) writes (step_value d) (note_value n) s None t →
-      verdict_from writes end commands notes index s ≡ verdict_from writes end commands notes (index + 1) t
+      StepGoesTo w (index + 1) writes (step_value d) (note_value n) s None t →
+      verdict_from w writes end commands notes index s ≡ verdict_from w writes end commands notes (index + 1) t
   go-on index d n s t h size is_d is_n goes =
       from-here index d n s h size is_d is_n
       ∙ goes.1 (later_checks index d n)
-      ∙ ap (λ (u : State). verdict_of (checks_from writes end (index + 1 + 1) u (drop (index + 1) (counted (steps_value commands))) (drop (index + 1) (map note_value notes)))) (sym goes.0)
+      ∙ ap (λ (u : State). verdict_of (checks_from w writes end (index + 1 + 1) u (drop (index + 1) (counted (steps_value commands))) (drop (index + 1) (map note_value notes)))) (sym goes.0)
 
   pub stop-here : (index : ℕ) (d : public_command.Command) (n : public.Note) (s t : State) (place : Place) → index < length notes →
       length notes ≡ length (counted (steps_value commands)) → d ≡ get_or commands index d → n ≡ get_or notes index n →
-      StepGoesTo (index + 1) writes (step_value d) (note_value n) s (Some place) t → verdict_from writes end commands notes index s ≡ Refused place
+      StepGoesTo w (index + 1) writes (step_value d) (note_value n) s (Some place) t → verdict_from w writes end commands notes index s ≡ Refused place
   stop-here index d n s t place h size is_d is_n goes = from-here index d n s h size is_d is_n ∙ goes (later_checks index d n)
 
   -- after the last note come the checks of the end
   pub gone-through : (index : ℕ) (s : State) → index ≡ length notes →
-      length notes ≡ length (counted (steps_value commands)) → verdict_from writes end commands notes index s ≡ verdict_of (end (length (map note_value notes) + 1) s)
+      length notes ≡ length (counted (steps_value commands)) → verdict_from w writes end commands notes index s ≡ verdict_of (end (length (map note_value notes) + 1) s)
   gone-through index s at_end size =
       let xs : List Step = counted (steps_value commands) in
       let counts : length (map note_value notes) ≡ length notes = length-map notes note_value in
       let steps : drop index xs ≡ [] = ap (λ n. drop n xs) (at_end ∙ size) ∙ none-left xs in
-      ap (λ (ys : List Step). verdict_of (checks_from writes end (index + 1) s ys (drop index (map note_value notes)))) steps
+      ap (λ (ys : List Step). verdict_of (checks_from w writes end (index + 1) s ys (drop index (map note_value notes)))) steps
       ∙ ap (λ n. verdict_of (end (n + 1) s)) (at_end ∙ sym counts)
 
 -- THE SHAPE
@@ -278,40 +291,43 @@ sound-by (Err f) script c law stands is = tt
 -- the verdict by what the checker finds: notes in another shape, a command's check that fails, or the end
 judged-shape : (script : Script) (c : Certificate) → are_shaped (counted script.steps) c.notes ≡ false → judged script c ≡ verdict_at 0 false
 judged-shape script c e =
+    let w : Sight = seen_by script c in
     fails-at (are_shaped (counted script.steps) c.notes) (command_at 0)
-    (checks_from c.writes (end_checks (has_quit script.steps) script.fault c) 1 (start c.path c.min c.max) (counted script.steps) c.notes) e
+    (checks_from w c.writes (end_checks (has_quit script.steps) script.fault c) 1 (told w (start c.path c.min c.max c.has)) (counted script.steps) c.notes) e
 
 judged-fails : (script : Script) (c : Certificate) (place : Place) (t : State) → are_shaped (counted script.steps) c.notes ≡ true →
-    GoesTo c.writes (counted script.steps) c.notes (start c.path c.min c.max) (Some place) t → judged script c ≡ Refused place
+    GoesTo (seen_by script c) c.writes (counted script.steps) c.notes (told (seen_by script c) (start c.path c.min c.max c.has)) (Some place) t → judged script c ≡ Refused place
 judged-fails script c place t shaped goes =
+    let w : Sight = seen_by script c in
     let end : ℕ → State → List Check = end_checks (has_quit script.steps) script.fault c in
-    holds-at (are_shaped (counted script.steps) c.notes) (command_at 0) (checks_from c.writes end 1 (start c.path c.min c.max) (counted script.steps) c.notes) shaped
+    holds-at (are_shaped (counted script.steps) c.notes) (command_at 0) (checks_from w c.writes end 1 (told w (start c.path c.min c.max c.has)) (counted script.steps) c.notes) shaped
     ∙ goes end
 
 judged-left : (script : Script) (c : Certificate) (t : State) → are_shaped (counted script.steps) c.notes ≡ true →
-    GoesTo c.writes (counted script.steps) c.notes (start c.path c.min c.max) None t →
+    GoesTo (seen_by script c) c.writes (counted script.steps) c.notes (told (seen_by script c) (start c.path c.min c.max c.has)) None t →
     judged script c ≡ verdict_at (length c.notes + 1) (ends_well (has_quit script.steps) script.fault c t)
 judged-left script c t shaped goes =
+    let w : Sight = seen_by script c in
     let end : ℕ → State → List Check = end_checks (has_quit script.steps) script.fault c in
-    holds-at (are_shaped (counted script.steps) c.notes) (command_at 0) (checks_from c.writes end 1 (start c.path c.min c.max) (counted script.steps) c.notes) shaped
+    holds-at (are_shaped (counted script.steps) c.notes) (command_at 0) (checks_from w c.writes end 1 (told w (start c.path c.min c.max c.has)) (counted script.steps) c.notes) shaped
     ∙ goes end ∙ end-verdict (has_quit script.steps) script.fault c (length c.notes + 1) t
 
 judged-passage : (script : Script) (c : Certificate) (failed : Option Place) (t : State) → are_shaped (counted script.steps) c.notes ≡ true →
-    GoesTo c.writes (counted script.steps) c.notes (start c.path c.min c.max) failed t → judged script c ≡ verdict_after failed t (has_quit script.steps) script.fault c
+    GoesTo (seen_by script c) c.writes (counted script.steps) c.notes (told (seen_by script c) (start c.path c.min c.max c.has)) failed t → judged script c ≡ verdict_after failed t (has_quit script.steps) script.fault c
 judged-passage script c None t shaped goes = judged-left script c t shaped goes
 judged-passage script c (Some place) t shaped goes = judged-fails script c place t shaped goes
 
-pub judged-by : (script : Script) (c : Certificate) (writes : List (List ℕ)) (xs : List Step) (notes : List Note) (s : State) (quit : Bool) (failed : Option Place) (t : State) → writes ≡ c.writes → xs ≡ counted script.steps →
-    notes ≡ c.notes → s ≡ start c.path c.min c.max → quit ≡ has_quit script.steps → are_shaped xs notes ≡ true → GoesTo writes xs notes s failed t →
+pub judged-by : (script : Script) (c : Certificate) (w : Sight) (writes : List (List ℕ)) (xs : List Step) (notes : List Note) (s : State) (quit : Bool) (failed : Option Place) (t : State) → w ≡ seen_by script c → writes ≡ c.writes → xs ≡ counted script.steps →
+    notes ≡ c.notes → s ≡ told w (start c.path c.min c.max c.has) → quit ≡ has_quit script.steps → are_shaped xs notes ≡ true → GoesTo w writes xs notes s failed t →
     verdict_after failed t quit script.fault c ≡ judged script c
-judged-by script c writes xs notes s quit failed t same_writes same_steps same_notes same_start same_quit shaped goes =
+judged-by script c w writes xs notes s quit failed t same_sight same_writes same_steps same_notes same_start same_quit shaped goes =
     let shape : are_shaped (counted script.steps) c.notes ≡ true =
     subst (λ (ns : List Note). are_shaped (counted script.steps) ns ≡ true) same_notes (subst (λ (ys : List Step). are_shaped ys notes ≡ true) same_steps shaped) in
-    let by_writes = subst (λ (ws : List (List ℕ)). GoesTo ws xs notes s failed t) same_writes goes in
-    let by_steps = subst (λ (ys : List Step). GoesTo c.writes ys notes s failed t) same_steps by_writes in
-    let by_notes = subst (λ (ns : List Note). GoesTo c.writes (counted script.steps) ns s failed t) same_notes by_steps in
-    let by_start = subst (λ (u : State). GoesTo c.writes (counted script.steps) c.notes u failed t) same_start by_notes in
-    ap (λ (q : Bool). verdict_after failed t q script.fault c) same_quit ∙ sym (judged-passage script c failed t shape by_start)
+    let by_writes = subst (λ (ws : List (List ℕ)). GoesTo w ws xs notes s failed t) same_writes goes in
+    let by_steps = subst (λ (ys : List Step). GoesTo w c.writes ys notes s failed t) same_steps by_writes in
+    let by_notes = subst (λ (ns : List Note). GoesTo w c.writes (counted script.steps) ns s failed t) same_notes by_steps in
+    let by_start = subst (λ (u : State). GoesTo w c.writes (counted script.steps) c.notes u failed t) same_start by_notes in
+    ap (λ (q : Bool). verdict_after failed t q script.fault c) same_quit ∙ sym (judged-passage script c failed t shape (subst (λ (v : Sight). GoesTo v c.writes (counted script.steps) c.notes (told v (start c.path c.min c.max c.has)) failed t) same_sight by_start))
 
 pub judged-by_shape : (script : Script) (c : Certificate) (xs : List Step) (notes : List Note) → xs ≡ counted script.steps → notes ≡ c.notes →
     are_shaped xs notes ≡ false → judged script c ≡ verdict_at 0 false

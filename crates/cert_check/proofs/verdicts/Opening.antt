@@ -1,5 +1,6 @@
 -- The start stands for an editor that was just opened.
-use Rattle.std.proofs.Common.{◌≡◌, ◌≤◌, ℕ, pos, neg_ℤ, true, false, List, map, length, Option, None, Some, arith, ◌∙◌, refl, sym, subst}
+use Rattle.std.proofs.Common.{◌≡◌, ◌≤◌, ℕ, pos, neg_ℤ, Bool, true, false, ◌&&◌, ◌||◌, List, [], ◌∷◌, map, length, Option, None, Some, arith, ◌∙◌, refl, sym, ap, subst}
+use Rattle.std.specs.List.{list_all, list_any}
 use Rattle.std.proofs.lemmas.Int.{ints}
 use Rattle.std.proofs.lemmas.List.{length-map}
 use Rattle.ed_base.specs.Buffer.{Line, plain_line}
@@ -9,9 +10,11 @@ use Rattle.zones.specs.Steps.{any_zone, after_guard}
 use Rattle.zones.proofs.Known.{updated-other}
 use Rattle.zones.proofs.Soundness.{Holds-any_zone, Holds-after_guard, Holds-after_set}
 use Rattle.ed_syntax.specs.meaning.CommandLaws.{FilesAreWellMarked, FilesAreWhole}
+use Rattle.ed_syntax.specs.meaning.Values.{matches}
+use Rattle.ed_rules.specs.Matched.{is_matched, AreMatched}
 use Rattle.ed_rules.specs.States.{limited, start}
 use Rattle.ed_rules.specs.LineBounds.{IsAtMost}
-use Rattle.cert_check.specs.checker.Opening.{StartIsSound}
+use Rattle.cert_check.specs.checker.Opening.{Match, StartIsSound}
 use Rattle.ed_rules.proofs.Choosing.{has_choice-only}
 use Rattle.ed_rules.proofs.LettersInLines.{no_letter}
 use Rattle.ed_rules.proofs.Lettered.{lettered}
@@ -20,9 +23,23 @@ limited-holds : (max : Option ℕ) (zone : Bounds) (count : ℕ) (v : Numbers) �
 limited-holds None zone count v h zero_is last_is holds = holds
 limited-holds (Some max) zone count v h zero_is last_is holds = Holds-after_guard zone 2 0 (pos max) v (omega arith) (omega arith) holds (omega (arith, ints))
 
+-- a text is matched just where the line that is made of it is
+entered-same : (pattern : List ℕ) (texts : List (List ℕ)) → list_any (matches pattern) texts ≡ is_matched (map plain_line texts) pattern
+entered-same pattern [] = refl
+entered-same pattern (text ∷ texts) = ap (λ b. matches pattern text || b) (entered-same pattern texts)
+
+matched-same : (patterns texts : List (List ℕ)) → list_all (λ pattern. list_any (matches pattern) texts) patterns ≡ list_all (is_matched (map plain_line texts)) patterns
+matched-same [] texts = refl
+matched-same (pattern ∷ patterns) texts =
+    ap (λ b. b && list_all (λ other. list_any (matches other) texts) patterns) (entered-same pattern texts)
+    ∙ ap (λ b. is_matched (map plain_line texts) pattern && b) (matched-same patterns texts)
+
+lines-match : (patterns texts : List (List ℕ)) → Match patterns texts → AreMatched patterns (map plain_line texts)
+lines-match patterns texts h = sym (matched-same patterns texts) ∙ h
+
 pub start-sound : FilesAreWellMarked → FilesAreWhole → StartIsSound
 unfolding start
-start-sound marked whole path min max bytes within =
+start-sound marked whole path min max has bytes within matched =
     let texts : List (List ℕ) = lines_of bytes in
     let lines : List Line = map plain_line texts in
     let count : ℕ = length lines in
@@ -49,4 +66,6 @@ start-sound marked whole path min max bytes within =
       };
       lines = lettered lines (marked bytes) (whole bytes);
       kept = tt;
+      matched = lines-match has texts matched;
+      kept_matched = tt;
     }

@@ -26,19 +26,25 @@ use Rattle.ed_rules.specs.Soundness.{MayAskFor, IsDone, CommandIsSound}
 use Rattle.ed_rules.specs.Files.{written_paths}
 use Rattle.ed_syntax.specs.meaning.CommandLaws.{CommandsArePlaced}
 use Rattle.ed_syntax.specs.meaning.Verbs.{is_global, ends_run}
+use Rattle.ed_syntax.specs.meaning.States.{Past, Nothing, Same, Was}
+use Rattle.ed_rules.specs.GlobalSoundness.{NoFlagsAreKept, HasNoFlags}
 use Rattle.ed_rules.proofs.Choosing.{or-cases, has_choice-all}
-use Rattle.ed_rules.specs.StandsFor.{StandsFor, allows_change}
+use Rattle.ed_rules.specs.StandsFor.{KeepsMatched, StandsFor, allows_change}
 use Rattle.ed_rules.specs.LineBounds.{IsAtMost, IsWithin}
 use Rattle.cert_check.specs.checker.Opening.{StartIsSound}
 use Rattle.cert_check.specs.Certificates.{Certificate}
-use Rattle.cert_check.specs.checker.Valid.{counted, are_met, left_by, is_listed, are_listed, knows_least, knows_most}
-use Rattle.cert_check.specs.checker.Sound.{MayAsk, RunsWell, GlobalGoesWell}
-use Rattle.cert_check.proofs.verdicts.Checks.{EndsSo, met-gives}
+use Rattle.cert_check.specs.declared.certificate.Version.{Version}
+use Rattle.cert_check.specs.declared.certificate.Version.TheVariants as version
+use Rattle.cert_check.specs.declared.sight.Sight.{Sight}
+use Rattle.cert_check.specs.checker.Valid.{told_by, told, counted, are_met, left_by, is_listed, are_listed, knows_least, knows_most}
+use Rattle.cert_check.specs.checker.Sound.{MayAsk, RunsWell, IsUnflagged, GlobalGoesWell}
+use Rattle.cert_check.proofs.verdicts.Checks.{EndsSo, NeedsAreTheSame, plainly_left, met-gives}
 use Rattle.cert_check.proofs.verdicts.Quitting.{SameMade, SavedMade, quit-leaves, saved-leaves}
 
 -- the laws on one command and on what covers a state
 pub record Laws : Type 0 where
   pub command : CommandIsSound
+  pub needs : NeedsAreTheSame
   pub decided : (weak strong : State) → IsTrue (covers weak strong) ↔ Covers weak strong
   pub weaker : (weak strong : State) (e : editor.State) → Covers weak strong → StandsFor strong e → StandsFor weak e
 
@@ -47,8 +53,33 @@ pub record RunLaws : Type 0 where
   pub single : Laws
   pub global : GlobalGoesWell
   pub placed : CommandsArePlaced
+  pub no_flags : NoFlagsAreKept
   pub started : StartIsSound
   pub known : (zone : Bounds) (number : Numbers) (x y : ℕ) (c : ℤ) → known zone x y c ≡ true → x < 32 → y < 32 → Holds zone number → (number x -ℤ number y) ≤ℤ c
+
+-- what is told of a state stands for all that it stands for
+kept-nothing : (past : Past) → KeepsMatched [] past
+kept-nothing Nothing = tt
+kept-nothing Same = tt
+kept-nothing (Was kept) = refl
+
+pub told-stands-by : (v : Version) (s : State) (e : editor.State) → StandsFor s e → StandsFor (told_by v s) e
+told-stands-by version.One s e st = record {
+  numbers = st.numbers;
+  stands = record { buffer = st.stands.buffer; remembered = st.stands.remembered; changed = st.stands.changed; past = st.stands.past };
+  lines = st.lines;
+  kept = st.kept;
+  matched = refl;
+  kept_matched = kept-nothing e.past;
+}
+told-stands-by version.Two s e st = st
+
+pub told-stands : (w : Sight) (s : State) (e : editor.State) → StandsFor s e → StandsFor (told w s) e
+told-stands w s e st = told-stands-by w.version s e st
+
+pub left-stands : (w : Sight) (c : Command) (s : State) (e : editor.State) → StandsFor (plainly_left w c s) e → StandsFor (left_by w c s) e
+unfolding left_by
+left-stands w c s e st = told-stands w (plainly_left w c s) e st
 
 -- what covers a state stands for all that it stands for
 pub covers-stands : Laws → (weak strong : State) (e : editor.State) → covers weak strong ≡ true → StandsFor strong e → StandsFor weak e
@@ -145,16 +176,16 @@ turned-state ed.HelpMode m = refl
 turned-state ed.PromptMode m = refl
 turned-state _ m = refl
 
-pub one-well : Laws → (c : Certificate) (x : Command) (s : State) (m : Present) (go : Further) (answers : List Answer) → are_met x s ≡ true → are_listed c.writes x s ≡ true → StandsFor s m.state →
-    ((q : Present) (more : List Answer) → Leads x m.state q.state → StandsFor (left_by x s) q.state → RunsWell c (go q more)) → RunsWell c (one x m go answers)
-one-well k c x s m go answers met l st h =
-    let t : State = left_by x s in
-    let step = met-gives x s met in
+pub one-well : Laws → (w : Sight) (c : Certificate) (x : Command) (s : State) (m : Present) (go : Further) (answers : List Answer) → are_met x s ≡ true → are_listed c.writes x s ≡ true → StandsFor s m.state →
+    ((q : Present) (more : List Answer) → Leads x m.state q.state → StandsFor (left_by w x s) q.state → RunsWell c (go q more)) → RunsWell c (one x m go answers)
+one-well k w c x s m go answers met l st h =
+    let t : State = plainly_left w x s in
+    let gives = met-gives k.needs w x s met in
     asking-well c x s t m (command m.state x None) (λ q. go (turned x.verb q)) answers l refl
-    (k.command x s t m.state None st step) (λ a. k.command x s t m.state (Some a) st step)
+    (k.command w.watch x s t m.state None st gives) (λ a. k.command w.watch x s t m.state (Some a) st gives)
     (λ e more leads stands.
     let same = sym (turned-state x.verb (with_state e m)) in
-    h (turned x.verb (with_state e m)) more (subst (λ (u : editor.State). Leads x m.state u) same leads) (subst (λ (u : editor.State). StandsFor t u) same stands))
+    h (turned x.verb (with_state e m)) more (subst (λ (u : editor.State). Leads x m.state u) same leads) (left-stands w x s (turned x.verb (with_state e m)).state (subst (λ (u : editor.State). StandsFor t u) same stands)))
 
 -- a command that doesn't end the run
 pub going-on : (v : Verb) (x : Step) (m : Present) (go : Further) (answers : List Answer) → ends_run v ≡ false → not (is_global v) ≡ true → step_by v x m go answers ≡ one x.command m go answers
@@ -179,34 +210,35 @@ saved-made : (x : Command) (s t : State) (e : editor.State) (y : Result Effect F
 saved-made x s t e (Err f) a made = absurd a
 saved-made x s t e (Ok f) a made = made
 
-quit-well : RunLaws → (quit : Bool) (bad : Option ℕ) (c : Certificate) (x : Command) (s : State) (m : Present) →
+quit-well : RunLaws → (w : Sight) (quit : Bool) (bad : Option ℕ) (c : Certificate) (x : Command) (s : State) (m : Present) →
     IfOk (command m.state x None) (SameMade m.state) → are_met x s ≡ true → StandsFor s m.state →
-    EndsSo quit bad c (left_by x s) → RunsWell c (ending m)
-quit-well k quit bad c x s m same met st h =
-    let t : State = left_by x s in
+    EndsSo quit bad c (left_by w x s) → RunsWell c (ending m)
+quit-well k w quit bad c x s m same met st h =
+    let t : State = plainly_left w x s in
     ending-well c m
-    (quit-within c x s t m.state (command m.state x None) (k.single.command x s t m.state None st (met-gives x s met)) same
-    (λ u stands. within-end k quit bad c t u h stands))
+    (quit-within c x s t m.state (command m.state x None) (k.single.command w.watch x s t m.state None st (met-gives k.single.needs w x s met)) same
+    (λ u stands. within-end k quit bad c (left_by w x s) u h (left-stands w x s u stands)))
 
 quitting-saved : (m : Present) → m.state.changed ≡ false → quitting m ≡ ending m
 quitting-saved m e = ap (λ (b : Bool). elim b as (λ _. Progress) [ true ↦ failing m fault.Unsaved | false ↦ ending m ]) e
 
 -- a command that ends it
-pub ended-well : RunLaws → (quit : Bool) (bad : Option ℕ) (c : Certificate) (x : Step) (s : State) (m : Present) (go : Further) (answers : List Answer) (v : Verb) → x.command.verb ≡ v → ends_run v ≡ true →
-    are_met x.command s ≡ true → StandsFor s m.state → EndsSo quit bad c (left_by x.command s) → RunsWell c (step_by v x m go answers)
-ended-well k quit bad c x s m go answers ed.QuitAnyway is e met st h =
+pub ended-well : RunLaws → (w : Sight) (quit : Bool) (bad : Option ℕ) (c : Certificate) (x : Step) (s : State) (m : Present) (go : Further) (answers : List Answer) (v : Verb) → x.command.verb ≡ v → ends_run v ≡ true →
+    are_met x.command s ≡ true → StandsFor s m.state → EndsSo quit bad c (left_by w x.command s) → RunsWell c (step_by v x m go answers)
+ended-well k w quit bad c x s m go answers ed.QuitAnyway is e met st h =
     let d : Command = x.command in
-    quit-well k quit bad c d s m
+    quit-well k w quit bad c d s m
     (subst (λ (v : Verb).
     IfOk (command m.state (record { addresses = d.addresses; verb = v; suffix = d.suffix; listed = d.listed }) None) (SameMade m.state))
     (sym is)
     (quit-leaves k.placed d.addresses d.suffix d.listed m.state None)) met st h
-ended-well k quit bad c x s m go answers ed.Quit is e met st h =
+ended-well k w quit bad c x s m go answers ed.Quit is e met st h =
     let d : Command = x.command in
-    let made = saved-made d s (left_by d s) m.state (command m.state d None) (k.single.command d s (left_by d s) m.state None st (met-gives d s met))
+    let t : State = plainly_left w d s in
+    let made = saved-made d s t m.state (command m.state d None) (k.single.command w.watch d s t m.state None st (met-gives k.single.needs w d s met))
     (subst (λ (v : Verb).
     IfOk (command m.state (record { addresses = d.addresses; verb = v; suffix = d.suffix; listed = d.listed }) None) (SavedMade m.state))
     (sym is)
     (saved-leaves k.placed d.addresses d.suffix d.listed m.state None)) in
-    subst (λ (p : Progress). RunsWell c p) (sym (quitting-saved m made.1)) (quit-well k quit bad c d s m made.0 met st h)
-ended-well k quit bad c x s m go answers _ is e met st h = absurd cc
+    subst (λ (p : Progress). RunsWell c p) (sym (quitting-saved m made.1)) (quit-well k w quit bad c d s m made.0 met st h)
+ended-well k w quit bad c x s m go answers _ is e met st h = absurd cc

@@ -12,27 +12,32 @@ use Rattle.ed_syntax.specs.meaning.Files.{loaded}
 use Rattle.ed_syntax.specs.meaning.Progress.{Present}
 use Rattle.ed_syntax.specs.meaning.Runs as runs
 use Rattle.ed_syntax.specs.meaning.Runs.{Further, steps, present}
+use Rattle.ed_rules.specs.declared.state.State.{State}
 use Rattle.ed_rules.specs.StandsFor.{StandsFor}
 use Rattle.ed_rules.specs.States.{start}
 use Rattle.ed_rules.specs.LineBounds.{IsWithin}
-use Rattle.cert_check.specs.checker.Opening.{opened}
+use Rattle.cert_check.specs.checker.Opening.{opened, Match, StartIsSound}
+use Rattle.cert_check.specs.declared.certificate.Version.{Version}
+use Rattle.cert_check.specs.declared.certificate.Version.TheVariants as version
 use Rattle.cert_check.specs.declared.checker.verdict.Verdict.TheVariants.{Accepted}
+use Rattle.cert_check.specs.declared.sight.Sight.{Sight}
 use Rattle.cert_check.specs.Certificates.{Certificate}
-use Rattle.cert_check.specs.checker.Valid.{counted, has_quit, are_shaped, judged}
-use Rattle.cert_check.specs.checker.Sound.{start_lines, MayAsk, RunsWell, CannotFail}
+use Rattle.cert_check.specs.checker.Valid.{sight_of, seen_by, told_by, told, counted, has_quit, are_shaped, judged}
+use Rattle.cert_check.specs.checker.Sound.{start_lines, stated, IsAllowed, MayAsk, RunsWell, IsUnflagged, CannotFail, CannotFailInBounds}
 use Rattle.cert_check.proofs.verdicts.Checks.{first-holds}
-use Rattle.cert_check.proofs.verdicts.Running.{RunLaws}
+use Rattle.cert_check.proofs.verdicts.Flags.{opened-unflagged}
+use Rattle.cert_check.proofs.verdicts.Running.{RunLaws, told-stands-by}
 use Rattle.cert_check.proofs.verdicts.Stepping.{steps-well}
 use Rattle.ed_syntax.specs.meaning.Verbs.{is_step}
 use Rattle.std.specs.List.{list_all}
 
--- what is left runs well from each editor that was opened within the bounds
+-- what is left runs well from each editor that was opened over lines that the certificate allows
 abbrev OpensWell : Certificate → (path : Option (List ℕ)) → Further → Type 0
-OpensWell c path go = (bytes : List ℕ) → IsWithin c.min c.max (length (lines_of bytes)) → (m : Present) → m.state ≡ opened path bytes → (answers : List Answer) →
+OpensWell c path go = (bytes : List ℕ) → IsAllowed c (lines_of bytes) → (m : Present) → m.state ≡ opened path bytes → (answers : List Answer) →
     RunsWell c (go m answers)
 
 start-well : (c : Certificate) (path : Option (List ℕ)) (m : Present) (go : Further) (answers : List Answer) → m.state ≡ opening →
-    IfSome (start_lines path answers) (IsWithin c.min c.max) → OpensWell c path go → RunsWell c (runs.start path m go answers)
+    IfSome (start_lines path answers) (IsAllowed c) → OpensWell c path go → RunsWell c (runs.start path m go answers)
 start-well c None m go answers new within h = h [] within m new answers
 start-well c (Some path) m go [] new within h = (All-nil (MayAsk c), tt)
 start-well c (Some path) m go (answer.Bytes bytes ∷ later) new within h =
@@ -46,11 +51,45 @@ start-well c (Some path) m go (answer.Missing ∷ later) new within h =
 start-well c (Some path) m go (answer.Refused ∷ later) new within h = (All-cons (MayAsk c) (request.Read path) [] tt (All-nil (MayAsk c)), refl)
 start-well c (Some path) m go (answer.Done ∷ later) new within h = (All-cons (MayAsk c) (request.Read path) [] tt (All-nil (MayAsk c)), refl)
 
+-- what the version tells of the start stands for such an editor
+started : StartIsSound → (v : Version) (path : Option (List ℕ)) (min : ℕ) (max : Option ℕ) (has : List (List ℕ)) (bytes : List ℕ) → IsWithin min max (length (lines_of bytes)) →
+    Match (elim v as (λ _. List (List ℕ)) [ version.One ↦ [] | version.Two ↦ has ]) (lines_of bytes) → StandsFor (told_by v (start path min max has)) (opened path bytes)
+unfolding start
+started k version.One path min max has bytes within matched = told-stands-by version.One (start path min max []) (opened path bytes) (k path min max [] bytes within refl)
+started k version.Two path min max has bytes within matched = k path min max has bytes within matched
+
+seen-version : (script : Script) (v : Version) (has : List (List ℕ)) → (sight_of script v has).version ≡ v
+seen-version script version.One has = refl
+seen-version script version.Two has = refl
+
 pub accepted-safe : RunLaws → (script : Script) (c : Certificate) → IsTrue (list_all is_step script.steps) → judged script c ≡ Accepted → CannotFail script c
-accepted-safe k script c stands h o answers same within =
+accepted-safe k script c stands h o answers same allowed =
+    let w : Sight = seen_by script c in
     let go : Further = steps script.steps script.fault in
+    let first : State = told w (start c.path c.min c.max c.has) in
     let shape = first-holds (are_shaped (counted script.steps) c.notes) _ _ h in
-    let goes : OpensWell c c.path go = λ bytes bounds m new more.
-    steps-well k c script.fault (has_quit script.steps) script.steps 1 (start c.path c.min c.max) c.notes refl stands shape.0 shape.1 m
-    (subst (λ (e : editor.State). StandsFor (start c.path c.min c.max) e) (sym new) (k.started c.path c.min c.max bytes bounds)) more in
-    subst (λ (p : Option (List ℕ)). RunsWell c (runs.start p (present o) go answers)) (sym same) (start-well c c.path (present o) go answers refl within goes)
+    let goes : OpensWell c c.path go = λ bytes within m new more.
+    let begun : StandsFor first (opened c.path bytes) =
+    subst (λ (v : Version). StandsFor (told_by v (start c.path c.min c.max c.has)) (opened c.path bytes)) (sym (seen-version script c.version c.has))
+    (started k.started c.version c.path c.min c.max c.has bytes within.0 within.1) in
+    steps-well k w c script.fault (has_quit script.steps) script.steps 1 first c.notes refl stands shape.0 shape.1 m
+    (subst (λ (e : editor.State). StandsFor first e) (sym new) begun)
+    (subst (λ (e : editor.State). IsUnflagged w.version e) (sym new) (opened-unflagged w.version c.path bytes)) more in
+    subst (λ (p : Option (List ℕ)). RunsWell c (runs.start p (present o) go answers)) (sym same) (start-well c c.path (present o) go answers refl allowed goes)
+
+-- VERSION 1
+
+matched-nothing : (v : Version) (has lines : List (List ℕ)) → v ≡ version.One → Match (elim v as (λ _. List (List ℕ)) [ version.One ↦ [] | version.Two ↦ has ]) lines
+matched-nothing version.One has lines is = refl
+matched-nothing version.Two has lines is = absurd cc
+
+-- a start is allowed where its number of lines lies in the bounds
+pub within-allowed : (c : Certificate) (lines : List (List ℕ)) → c.version ≡ version.One → IsWithin c.min c.max (length lines) → IsAllowed c lines
+within-allowed c lines one within = (within, matched-nothing c.version c.has lines one)
+
+some-allowed : (c : Certificate) (lines : Option (List (List ℕ))) → c.version ≡ version.One → IfSome lines (λ found. IsWithin c.min c.max (length found)) → IfSome lines (IsAllowed c)
+some-allowed c None one within = tt
+some-allowed c (Some lines) one within = within-allowed c lines one within
+
+pub safe-in-bounds : (script : Script) (c : Certificate) → c.version ≡ version.One → CannotFail script c → CannotFailInBounds script c
+safe-in-bounds script c one safe o answers same within = safe o answers same (some-allowed c (start_lines c.path answers) one within)

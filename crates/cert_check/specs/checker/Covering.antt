@@ -1,5 +1,5 @@
 -- Covering as a test: what the checker asks of two states, and what certificates are judged by.
-use Rattle.std.specs.Prelude.{Bool, true, false, not, ◌&&◌, ◌||◌, List, get_or, Option, Some, None}
+use Rattle.std.specs.Prelude.{ℕ, Bool, true, false, not, ◌&&◌, ◌||◌, List, get_or, Option, Some, None}
 use Rattle.std.specs.List.{list_all, range_with_len}
 use Rattle.zones.specs.Bound.{covers_bound}
 use Rattle.zones.specs.Zone.{Bounds}
@@ -10,6 +10,7 @@ use Rattle.ed_rules.specs.declared.state.Undo.{Undo}
 use Rattle.ed_rules.specs.declared.state.State.{State}
 use Rattle.ed_rules.specs.Choices.{are_choices}
 use Rattle.ed_rules.specs.Marks.{is_sure}
+use Rattle.ed_rules.specs.Texts.{are_members}
 
 -- no bound of the weak zone is less than the strong one's
 unfoldable pub zone_covers : (weak strong : Bounds) → Bool
@@ -37,9 +38,15 @@ old_covers (Some weak) (Some strong) = zone_covers weak.zone strong.zone && are_
 abbrev pub undo_covers : (weak strong : Undo) → Bool
 undo_covers weak strong = allows weak.nothing strong.nothing && (allows weak.same strong.same && old_covers weak.was strong.was)
 
+-- where the strong state has an earlier buffer, what some of its lines match by the weak one they match by the strong one
+abbrev pub old_has_covers : {A : Type 0} → Option A → (weak strong : List (List ℕ)) → Bool
+old_has_covers None weak strong = true
+old_has_covers (Some old) weak strong = are_members weak strong
+
 -- one state covers another: all that it says the other says too
 unfoldable pub covers : (weak strong : State) → Bool
 covers weak strong =
     zone_covers weak.zone strong.zone && (are_among weak.marks strong.marks && (are_choices strong.patterns weak.patterns && (
     replacements_cover weak.replacements strong.replacements && (are_choices strong.names weak.names && (
-    changed_covers weak.changed strong.changed && undo_covers weak.undo strong.undo)))))
+    changed_covers weak.changed strong.changed && (undo_covers weak.undo strong.undo && (
+    are_members weak.has strong.has && old_has_covers strong.undo.was weak.old_has strong.old_has)))))))

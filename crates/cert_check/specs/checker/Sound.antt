@@ -1,5 +1,5 @@
 -- The soundness of the checker: a script that is accepted can't fail, whatever the files hold.
-use Rattle.std.specs.Prelude.{◌≡◌, ℕ, List, ◌∷◌, length, Option, Some, None, IfSome, IsTrue, Ok, Err}
+use Rattle.std.specs.Prelude.{◌≡◌, ℕ, List, [], ◌∷◌, length, Option, Some, None, IfSome, IsTrue, Ok, Err}
 use Rattle.std.specs.List.{All, Contains}
 use Rattle.ed_base.specs.Lines.{lines_of}
 use Rattle.ed_base.specs.declared.fault.Fault.TheVariants as fault
@@ -9,22 +9,36 @@ use Rattle.ed_syntax.specs.declared.request.Answer.TheVariants as answer
 use Rattle.ed_syntax.specs.declared.request.Request.{Request}
 use Rattle.ed_syntax.specs.declared.request.Request.TheVariants as request
 use Rattle.ed_syntax.specs.Commands.{Step, Script}
+use Rattle.ed_syntax.specs.meaning.States as editor
 use Rattle.ed_syntax.specs.meaning.Progress.{Present, Progress, Stop, Waits, Ends, asked_of, stop_of}
 use Rattle.ed_syntax.specs.meaning.Runs.{Further, step, run}
 use Rattle.ed_syntax.specs.meaning.Verbs.{is_global, is_step}
 use Rattle.ed_rules.specs.declared.state.State.{State}
+use Rattle.ed_rules.specs.GlobalSoundness.{HasNoFlags}
 use Rattle.ed_rules.specs.LineBounds.{IsWithin}
 use Rattle.ed_rules.specs.StandsFor.{StandsFor}
+use Rattle.cert_check.specs.declared.certificate.Version.{Version}
+use Rattle.cert_check.specs.declared.certificate.Version.TheVariants as version
 use Rattle.cert_check.specs.declared.checker.verdict.Verdict.TheVariants.{Accepted}
+use Rattle.cert_check.specs.declared.sight.Sight.{Sight}
 use Rattle.cert_check.specs.Certificates.{Note, Certificate}
+use Rattle.cert_check.specs.checker.Opening.{Match}
 use Rattle.cert_check.specs.checker.Valid.{Check, verdict_of, left_after, step_checks, fits}
 
--- the number of lines of the start, where there is one: without a path, or where its file is missing, there are none
-abbrev pub start_lines : (path : Option (List ℕ)) → List Answer → Option ℕ
-start_lines None answers = Some 0
-start_lines (Some path) (answer.Bytes bytes ∷ later) = Some (length (lines_of bytes))
-start_lines (Some path) (answer.Missing ∷ later) = Some 0
+-- the lines of the start, where there is one: without a path, or where its file is missing, there are none
+abbrev pub start_lines : (path : Option (List ℕ)) → List Answer → Option (List (List ℕ))
+start_lines None answers = Some []
+start_lines (Some path) (answer.Bytes bytes ∷ later) = Some (lines_of bytes)
+start_lines (Some path) (answer.Missing ∷ later) = Some []
 start_lines (Some path) _ = None
+
+-- the patterns that a certificate states of its start; in version 1 there are none
+abbrev pub stated : Certificate → List (List ℕ)
+stated c = elim c.version [ version.One ↦ [] | version.Two ↦ c.has ]
+
+-- a start that a certificate allows: as many lines as its bounds say, and for each pattern that it states one that matches
+abbrev pub IsAllowed : Certificate → (lines : List (List ℕ)) → Type 0
+IsAllowed c lines = IsWithin c.min c.max (length lines) × Match (stated c) lines
 
 -- any file may be read, and a listed one written
 abbrev pub MayAsk : Certificate → Request → Type 0
@@ -41,19 +55,29 @@ StopsWell c (Ends (Err f)) = f ≡ fault.File
 abbrev pub RunsWell : Certificate → Progress → Type 0
 RunsWell c p = All (MayAsk c) (asked_of p) × StopsWell c (stop_of p)
 
+-- In version 2 no line has the flag of a global command when a step begins, as is so in each run: by its flag it is known of a line that
+-- `g` took it, so that it matches its pattern.
+abbrev pub IsUnflagged : Version → editor.State → Type 0
+IsUnflagged version.One e = Unit {0}
+IsUnflagged version.Two e = HasNoFlags e
+
 -- what a run goes on with runs well from each editor that a state stands for
-abbrev pub GoesWell : Certificate → State → Further → Type 0
-GoesWell c s go = (m : Present) → StandsFor s m.state → (answers : List Answer) → RunsWell c (go m answers)
+abbrev pub GoesWell : Certificate → Sight → State → Further → Type 0
+GoesWell c w s go = (m : Present) → StandsFor s m.state → IsUnflagged w.version m.state → (answers : List Answer) → RunsWell c (go m answers)
 
 -- One global command, with its list, whatever comes after it: all its checks hold, of a state that comes in. Then from each editor
--- that this state stands for its run stops well, or goes on with an editor that the state after it stands for (`loop_end` of what is
--- known before it and of the invariant): it runs well with all that goes well from there.
+-- that this state stands for its run stops well, or goes on with an editor that the state after it stands for (what the version tells of
+-- `loop_end` of what is known before it and of the invariant): it runs well with all that goes well from there.
 abbrev pub GlobalGoesWell : Type 0
-GlobalGoesWell = (c : Certificate) (number : ℕ) (x : Step) (n : Note) (coming : State) (later : List Check) (go : Further) →
-    IsTrue (is_step x) → IsTrue (is_global x.command.verb) → IsTrue (fits x n) → verdict_of (step_checks number c.writes x n coming later) ≡ Accepted →
-    GoesWell c (left_after n.looped x n.state) go → GoesWell c coming (λ m. step x m go)
+GlobalGoesWell = (w : Sight) (c : Certificate) (number : ℕ) (x : Step) (n : Note) (coming : State) (later : List Check) (go : Further) →
+    IsTrue (is_step x) → IsTrue (is_global x.command.verb) → IsTrue (fits x n) → verdict_of (step_checks w number c.writes x n coming later) ≡ Accepted →
+    GoesWell c w (left_after w n.looped x n.state) go → GoesWell c w coming (λ m. step x m go)
 
--- each run with the certificate's path, over each start that its bounds allow, stops well, and asks for nothing else
+-- each run with the certificate's path, over each start that it allows, stops well, and asks for nothing else
 abbrev pub CannotFail : Script → Certificate → Type 0
-CannotFail script c = (o : Options) (answers : List Answer) → o.path ≡ c.path → IfSome (start_lines c.path answers) (IsWithin c.min c.max) →
+CannotFail script c = (o : Options) (answers : List Answer) → o.path ≡ c.path → IfSome (start_lines c.path answers) (IsAllowed c) → RunsWell c (run script o answers)
+
+-- the same over each start whose number of lines lies in its bounds, as a certificate of version 1 promises
+abbrev pub CannotFailInBounds : Script → Certificate → Type 0
+CannotFailInBounds script c = (o : Options) (answers : List Answer) → o.path ≡ c.path → IfSome (start_lines c.path answers) (λ lines. IsWithin c.min c.max (length lines)) →
     RunsWell c (run script o answers)

@@ -12,12 +12,16 @@ use Rattle.ed_rules.specs.declared.state.State.{State}
 use Rattle.ed_rules.specs.Choices.{Choice}
 use Rattle.ed_rules.specs.States.{start}
 use Rattle.ed_rules.specs.Files.{written_paths}
+use Rattle.ed_rules.specs.Matched.{watched}
 use Rattle.cert_check.specs.checker.Covering.{covers}
 use Rattle.ed_rules.specs.Rules.{step, fault_of}
 use Rattle.ed_rules.specs.Globals.{body_entry, loop_end}
 use Rattle.cert_check.specs.declared.checker.verdict.Place.{Place}
 use Rattle.cert_check.specs.declared.checker.verdict.Verdict.{Verdict}
 use Rattle.cert_check.specs.declared.checker.verdict.Verdict.TheVariants.{Accepted, Refused}
+use Rattle.cert_check.specs.declared.certificate.Version.{Version}
+use Rattle.cert_check.specs.declared.certificate.Version.TheVariants as version
+use Rattle.cert_check.specs.declared.sight.Sight.{Sight}
 use Rattle.cert_check.specs.Certificates.{Looped, Note, Certificate}
 
 -- a check: where it stands, and whether it holds
@@ -53,13 +57,30 @@ abbrev pub counted : List Step → List Step
 counted [] = []
 counted (x ∷ xs) = x ∷ (elim (ends_run x.command.verb) [ true ↦ [] | false ↦ counted xs ])
 
--- all needs of a command hold
+-- What a script is judged by, beside what is known: the version of its certificate, and the patterns that are watched for, of which the
+-- certificate states some of its start. Version 1 watches for none.
+abbrev pub sight_of : Script → Version → (has : List (List ℕ)) → Sight
+sight_of script version.One has = record { version = version.One; watch = [] }
+sight_of script version.Two has = record { version = version.Two; watch = watched script has }
+
+abbrev pub seen_by : Script → Certificate → Sight
+seen_by script c = sight_of script c.version c.has
+
+-- A state that a rule gives, as far as the version tells of it. What version 1 tells is emptied of matches.
+abbrev pub told_by : Version → State → State
+told_by version.One s = record s { has = []; old_has = [] }
+told_by version.Two s = s
+
+abbrev pub told : Sight → State → State
+told w s = told_by w.version s
+
+-- All needs of a command hold. Which patterns are watched makes no difference to them.
 unfoldable pub are_met : Command → State → Bool
-are_met c s = is_none (fault_of (step c s))
+are_met c s = is_none (fault_of (step [] c s))
 
 -- the state after a command; where a need fails it doesn't matter
-unfoldable pub left_by : Command → State → State
-left_by c s = elim (step c s) [ Ok t ↦ t | Err f ↦ s ]
+unfoldable pub left_by : Sight → Command → State → State
+left_by w c s = told w (elim (step w.watch c s) [ Ok t ↦ t | Err f ↦ s ])
 
 -- a path that may be written is among those that are listed; where there is none, nothing is written
 abbrev pub is_listed : (writes : List (List ℕ)) → Choice → Bool
@@ -93,40 +114,40 @@ command_checks place writes c known coming later =
     at_place place (covers known coming) ∷ at_place place (are_met c known) ∷ at_place place (are_listed writes c known) ∷ later
 
 -- the checks of the commands of a list from one on, of which a state comes in, and those of what the list leaves
-abbrev pub list_checks : (number inner : ℕ) → (writes : List (List ℕ)) → (coming : State) → List Command → List State → (turned : ℕ → State → List Check) → List Check
-list_checks number inner writes coming [] states turned = turned inner coming
-list_checks number inner writes coming (c ∷ cs) [] turned = turned inner coming
-list_checks number inner writes coming (c ∷ cs) (s ∷ states) turned =
-    command_checks (inner_at number inner) writes c s coming (list_checks number (inner + 1) writes (left_by c s) cs states turned)
+abbrev pub list_checks : Sight → (number inner : ℕ) → (writes : List (List ℕ)) → (coming : State) → List Command → List State → (turned : ℕ → State → List Check) → List Check
+list_checks w number inner writes coming [] states turned = turned inner coming
+list_checks w number inner writes coming (c ∷ cs) [] turned = turned inner coming
+list_checks w number inner writes coming (c ∷ cs) (s ∷ states) turned =
+    command_checks (inner_at number inner) writes c s coming (list_checks w number (inner + 1) writes (left_by w c s) cs states turned)
 
 -- The checks of what is known of a list, and those after it: the invariant says no more than the state before the first line is taken,
 -- and no more than what the list leaves of the state in which it is run for a line.
-abbrev pub loop_checks : (number : ℕ) → (writes : List (List ℕ)) → List Command → Looped → (start : State) → (later : List Check) → List Check
-loop_checks number writes list l start later =
+abbrev pub loop_checks : Sight → (number : ℕ) → (writes : List (List ℕ)) → Step → Looped → (start : State) → (later : List Check) → List Check
+loop_checks w number writes x l start later =
     at number (covers l.invariant start)
-    ∷ list_checks number 1 writes (body_entry l.invariant) list l.inner (λ inner turned. at_place (inner_at number inner) (covers l.invariant turned) ∷ later)
+    ∷ list_checks w number 1 writes (told w (body_entry x.command.verb l.invariant)) x.list l.inner (λ inner turned. at_place (inner_at number inner) (covers l.invariant turned) ∷ later)
 
 -- a global command has a list, of which something is known; all others have none
-abbrev pub looped_checks : Option Looped → (number : ℕ) → (writes : List (List ℕ)) → Step → (known : State) → (later : List Check) → List Check
-looped_checks None number writes x known later = later
-looped_checks (Some l) number writes x known later = loop_checks number writes x.list l (left_by x.command known) later
+abbrev pub looped_checks : Sight → Option Looped → (number : ℕ) → (writes : List (List ℕ)) → Step → (known : State) → (later : List Check) → List Check
+looped_checks w None number writes x known later = later
+looped_checks w (Some l) number writes x known later = loop_checks w number writes x l (left_by w x.command known) later
 
 -- the state after a step
-abbrev pub left_after : Option Looped → Step → (known : State) → State
-left_after None x known = left_by x.command known
-left_after (Some l) x known = loop_end x known l.invariant
+abbrev pub left_after : Sight → Option Looped → Step → (known : State) → State
+left_after w None x known = left_by w x.command known
+left_after w (Some l) x known = told w (loop_end x known l.invariant)
 
 -- the checks of a step with its note, of which a state comes in, and those after it
-abbrev pub step_checks : (number : ℕ) → (writes : List (List ℕ)) → Step → Note → (coming : State) → (later : List Check) → List Check
-step_checks number writes x n coming later =
-    command_checks (command_at number) writes x.command n.state coming (looped_checks n.looped number writes x n.state later)
+abbrev pub step_checks : Sight → (number : ℕ) → (writes : List (List ℕ)) → Step → Note → (coming : State) → (later : List Check) → List Check
+step_checks w number writes x n coming later =
+    command_checks (command_at number) writes x.command n.state coming (looped_checks w n.looped number writes x n.state later)
 
 -- the checks of the steps from one on, of which a state comes in, and those of the end
-abbrev pub checks_from : (writes : List (List ℕ)) → (end : ℕ → State → List Check) → (number : ℕ) → (coming : State) → List Step → List Note → List Check
-checks_from writes end number coming [] notes = end number coming
-checks_from writes end number coming (x ∷ xs) [] = end number coming
-checks_from writes end number coming (x ∷ xs) (n ∷ notes) =
-    step_checks number writes x n coming (checks_from writes end (number + 1) (left_after n.looped x n.state) xs notes)
+abbrev pub checks_from : Sight → (writes : List (List ℕ)) → (end : ℕ → State → List Check) → (number : ℕ) → (coming : State) → List Step → List Note → List Check
+checks_from w writes end number coming [] notes = end number coming
+checks_from w writes end number coming (x ∷ xs) [] = end number coming
+checks_from w writes end number coming (x ∷ xs) (n ∷ notes) =
+    step_checks w number writes x n coming (checks_from w writes end (number + 1) (left_after w n.looped x n.state) xs notes)
 
 -- something is known of a list just where a command is global, and before each command of it
 abbrev pub fits_list : (global : Bool) → List Command → Option Looped → Bool
@@ -146,8 +167,9 @@ are_shaped (x ∷ xs) (n ∷ notes) = fits x n && are_shaped xs notes
 -- all checks of a certificate: the shape of its notes, and what follows from the start
 abbrev pub checks : Script → Certificate → List Check
 checks script c =
+    let w = seen_by script c in
     at 0 (are_shaped (counted script.steps) c.notes)
-    ∷ checks_from c.writes (end_checks (has_quit script.steps) script.fault c) 1 (start c.path c.min c.max) (counted script.steps) c.notes
+    ∷ checks_from w c.writes (end_checks (has_quit script.steps) script.fault c) 1 (told w (start c.path c.min c.max c.has)) (counted script.steps) c.notes
 
 -- the verdict on a certificate
 abbrev pub judged : Script → Certificate → Verdict

@@ -1,6 +1,7 @@
 -- Why bytes are not the text of a certificate, and what they are read as.
 use Rattle.std.specs.Prelude.{◌≡◌, ◌≢◌, ℕ, suc, List, [], ◌∷◌, ◌++◌, length, Result, Ok, Err}
 use Rattle.ed_base.specs.Lines.{newline, IsLine, AreLines, bytes_of}
+use Rattle.cert_check.specs.declared.certificate.Version as versions
 use Rattle.cert_check.specs.declared.certificate.Certificate as public
 use Rattle.cert_check.specs.declared.text.fault.CertFault.{CertFault}
 use Rattle.cert_check.specs.declared.text.fault.CertFault.TheVariants.{Version, Line, Size, Memory}
@@ -19,9 +20,9 @@ pub record IsWhole (lines : List (List ℕ)) : Type 0 where
   pub certificate : Certificate
   pub is : IsText (bytes_of lines) certificate
 
--- Version: the bytes don't begin with the first line of each text and its newline.
+-- Version: the bytes begin with the first line of no version and its newline.
 abbrev pub IsVersionFault : (bytes : List ℕ) → Type 0
-IsVersionFault bytes = (rest : List ℕ) → bytes ≢ line_text version_line ++ newline ∷ rest
+IsVersionFault bytes = (version : versions.Version) (rest : List ℕ) → bytes ≢ line_text (version_line version) ++ newline ∷ rest
 
 -- Line(number): the whole lines above that one, at least one, begin a text that goes on after them, and none begins with that line too.
 pub record IsLineFault (number : ℕ) (bytes : List ℕ) : Type 0 where

@@ -1,23 +1,44 @@
 -- Which certificates have a text, and which bytes are the text of one.
-use Rattle.std.specs.Prelude.{◌≡◌, ℕ, true, ◌&&◌, List, map, Option, Some, None, All}
-use Rattle.ed_rules.specs.Formed.{ChoiceIsBytes, is_rising, StateIsFormed}
+use Rattle.std.specs.Prelude.{◌≡◌, ℕ, true, ◌&&◌, List, [], map, Option, Some, None, All}
+use Rattle.ed_rules.specs.declared.state.Old.{Old}
+use Rattle.ed_rules.specs.declared.state.State.{State}
+use Rattle.ed_rules.specs.Formed.{ChoiceIsBytes, is_rising, TextsAreFormed, StateIsFormed}
 use Rattle.ed_rules.specs.LineBounds.{is_few, is_limit, is_within}
+use Rattle.cert_check.specs.declared.certificate.Version.{Version}
+use Rattle.cert_check.specs.declared.certificate.Version.TheVariants.{One, Two}
 use Rattle.cert_check.specs.Certificates.{Looped, Note, Certificate}
 use Rattle.cert_check.specs.text.Text.{text_of}
 
-abbrev pub LoopedHasText : Option Looped → Type 0
-LoopedHasText None = Unit {0}
-LoopedHasText (Some l) = StateIsFormed l.invariant × All StateIsFormed l.inner
+-- what some line matches, where the version says it: nothing in version 1
+abbrev pub IsSaidIn : Version → (has : List (List ℕ)) → Type 0
+IsSaidIn One has = has ≡ []
+IsSaidIn Two has = TextsAreFormed has
 
-abbrev pub NoteHasText : Note → Type 0
-NoteHasText n = StateIsFormed n.state × LoopedHasText n.looped
+-- the same of an earlier buffer, where undo may bring one back
+abbrev pub OldIsSaidIn : Version → Option Old → (old_has : List (List ℕ)) → Type 0
+OldIsSaidIn version None old_has = old_has ≡ []
+OldIsSaidIn version (Some old) old_has = IsSaidIn version old_has
+
+-- a state that has a text
+pub record StateHasText (version : Version) (s : State) : Type 0 where
+  pub formed : StateIsFormed s
+  pub has : IsSaidIn version s.has
+  pub old_has : OldIsSaidIn version s.undo.was s.old_has
+
+abbrev pub LoopedHasText : Version → Option Looped → Type 0
+LoopedHasText version None = Unit {0}
+LoopedHasText version (Some l) = StateHasText version l.invariant × All (StateHasText version) l.inner
+
+abbrev pub NoteHasText : Version → Note → Type 0
+NoteHasText version n = StateHasText version n.state × LoopedHasText version n.looped
 
 -- a certificate that has a text
 pub record HasText (c : Certificate) : Type 0 where
   pub path : ChoiceIsBytes c.path
   pub start : (is_few c.min && is_limit c.max && is_within c.min c.max) ≡ true
-  pub notes : All NoteHasText c.notes
-  pub last : StateIsFormed c.last
+  pub has : IsSaidIn c.version c.has
+  pub notes : All (NoteHasText c.version) c.notes
+  pub last : StateHasText c.version c.last
   pub final : (is_few c.low && is_limit c.high) ≡ true
   pub bytes : All ChoiceIsBytes (map (λ path. Some path) c.writes)
   pub rising : is_rising (map (λ path. Some path) c.writes) ≡ true

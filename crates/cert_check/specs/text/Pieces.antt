@@ -7,7 +7,7 @@ use Rattle.ed_rules.specs.declared.state.Undo.{Undo}
 use Rattle.ed_rules.specs.declared.state.Changed.{Changed}
 use Rattle.ed_rules.specs.declared.state.Replacements.{Replacements}
 use Rattle.ed_rules.specs.declared.state.State.{State}
-use Rattle.ed_rules.specs.Formed.{ZoneIsFormed, OldIsFormed, ChoiceIsBytes, is_rising, StateIsFormed}
+use Rattle.ed_rules.specs.Formed.{ZoneIsFormed, OldIsFormed}
 use Rattle.ed_rules.specs.LineBounds.{is_few, is_limit, is_within}
 use Rattle.cert_check.specs.declared.text.cursor.Head.{Head}
 use Rattle.cert_check.specs.declared.text.cursor.Head.TheVariants.{AnotherNote, Loop, End}
@@ -18,13 +18,14 @@ use Rattle.cert_check.specs.declared.text.fault.Unread.TheVariants.{Version, Lin
 use Rattle.cert_check.specs.declared.text.lines.Found.{Found}
 use Rattle.cert_check.specs.declared.text.states.Marked.{Marked}
 use Rattle.cert_check.specs.declared.text.wanted.Wanted.{Wanted}
+use Rattle.cert_check.specs.declared.certificate.Version as versions
 use Rattle.cert_check.specs.declared.certificate.Certificate as public
 use Rattle.cert_check.specs.declared.certificate.Note as note
 use Rattle.cert_check.specs.Certificates.{Looped, Note, Certificate, note_value, certificate_value}
 use Rattle.cert_check.specs.text.Text as text
-use Rattle.cert_check.specs.text.Text.{Word, line_text, zone_line, marks_line, undo_line, old_lines, state_lines, headed_lines, looped_lines, note_lines, path_line, bounds_line, writes_line}
+use Rattle.cert_check.specs.text.Text.{Word, line_text, zone_line, marks_line, undo_line, texts_line, matched_lines, old_lines, state_lines, headed_lines, looped_lines, note_lines, path_line, bounds_line}
 use Rattle.cert_check.specs.text.Reading.{undo_words_line}
-use Rattle.cert_check.specs.text.HasText.{NoteHasText, IsText}
+use Rattle.cert_check.specs.text.HasText.{OldIsSaidIn, StateHasText, NoteHasText, HasText, IsText}
 use Rattle.cert_check.specs.text.Faults.{IsVersionFault, IsSizeFault}
 use Rattle.cert_check.specs.text.Wanted.{IsOfKind, IsWanted}
 
@@ -122,10 +123,6 @@ AreLimits limits = (is_few limits.0 && is_limit limits.1) ≡ true
 abbrev pub AreStartLimits : ℕ × Option ℕ → Type 0
 AreStartLimits limits = (is_few limits.0 && is_limit limits.1 && is_within limits.0 limits.1) ≡ true
 
--- paths that may be written
-abbrev pub ArePaths : List (List ℕ) → Type 0
-ArePaths writes = All ChoiceIsBytes (map (λ path. Some path) writes) × (is_rising (map (λ path. Some path) writes) ≡ true)
-
 -- some replacement, some side of a change, and something that undo may find
 abbrev pub IsSomeReplacement : Replacements → Type 0
 IsSomeReplacement r = (r.none || r.plain || r.split) ≡ true
@@ -162,34 +159,36 @@ marked_value m = record { zone = m.zone; marks = m.marks }
 abbrev pub MarkedIsFormed : Old → Type 0
 MarkedIsFormed old = ZoneIsFormed old.marks old.zone
 
--- what undo may find
-abbrev pub undo_lines : Undo → List text.Line
-undo_lines u = undo_line u ∷ old_lines u.was
+-- what undo may find, and what some line of an earlier buffer matches
+abbrev pub undo_lines : versions.Version → Undo × List (List ℕ) → List text.Line
+undo_lines version found = undo_line found.0 ∷ old_lines version found.0.was found.1
 
-abbrev pub UndoIsFormed : Undo → Type 0
-UndoIsFormed u = ((u.nothing || u.same || is_some u.was) ≡ true) × OldIsFormed u.was
+abbrev pub UndoIsFormed : versions.Version → Undo × List (List ℕ) → Type 0
+UndoIsFormed version found =
+    ((found.0.nothing || found.0.same || is_some found.0.was) ≡ true) × (OldIsFormed found.0.was × OldIsSaidIn version found.0.was found.1)
 
 -- the states of a list's commands, and the end of the list
-abbrev pub inner_lines : List State → List text.Line
-inner_lines states = flat_map (headed_lines (codes "inner")) states ++ (codes "done" ∷ []) ∷ []
+abbrev pub inner_lines : versions.Version → List State → List text.Line
+inner_lines version states = flat_map (headed_lines version (codes "inner")) states ++ (codes "done" ∷ []) ∷ []
 
 -- the rest of what is known of a list
-abbrev pub list_lines : Looped → List text.Line
-list_lines l = state_lines l.invariant ++ inner_lines l.inner
+abbrev pub list_lines : versions.Version → Looped → List text.Line
+list_lines version l = state_lines version l.invariant ++ inner_lines version l.inner
 
 -- the rest of a note, and the head of the next one or of the end
-abbrev pub noted_lines : Note × Bool → List text.Line
-noted_lines noted = (state_lines noted.0.state ++ looped_lines noted.0.looped) ++ either_line (codes "note") (codes "end") noted.1 ∷ []
+abbrev pub noted_lines : versions.Version → Note × Bool → List text.Line
+noted_lines version noted =
+    (state_lines version noted.0.state ++ looped_lines version noted.0.looped) ++ either_line (codes "note") (codes "end") noted.1 ∷ []
 
 -- notes, and the head of the end
-abbrev pub notes_lines : List Note → List text.Line
-notes_lines notes = flat_map note_lines notes ++ (codes "end" ∷ []) ∷ []
+abbrev pub notes_lines : versions.Version → List Note → List text.Line
+notes_lines version notes = flat_map (note_lines version) notes ++ (codes "end" ∷ []) ∷ []
 
-abbrev pub ListIsFormed : Looped → Type 0
-ListIsFormed l = StateIsFormed l.invariant × All StateIsFormed l.inner
+abbrev pub ListIsFormed : versions.Version → Looped → Type 0
+ListIsFormed version l = StateHasText version l.invariant × All (StateHasText version) l.inner
 
-abbrev pub NotedIsFormed : Note × Bool → Type 0
-NotedIsFormed noted = NoteHasText noted.0
+abbrev pub NotedIsFormed : versions.Version → Note × Bool → Type 0
+NotedIsFormed version noted = NoteHasText version noted.0
 
 -- what a note in memory stands for, and whether another follows
 abbrev pub noted_value : note.Note × Bool → Note × Bool
@@ -198,5 +197,9 @@ noted_value noted = (note_value noted.0, noted.1)
 -- the lines of a certificate below the first
 abbrev pub rest_lines : Certificate → List text.Line
 rest_lines c =
-    path_line c.path ∷ bounds_line (codes "start") c.min c.max
-    ∷ (notes_lines c.notes ++ (state_lines c.last ++ bounds_line (codes "final") c.low c.high ∷ writes_line c.writes ∷ []))
+    path_line c.path ∷ bounds_line (codes "start") c.min c.max ∷ matched_lines c.version (codes "has") c.has
+    ++ (notes_lines c.version c.notes ++ (state_lines c.version c.last ++ bounds_line (codes "final") c.low c.high ∷ texts_line (codes "writes") c.writes ∷ []))
+
+-- a certificate of this version that has a text
+abbrev pub HasTextIn : versions.Version → Certificate → Type 0
+HasTextIn version c = (c.version ≡ version) × HasText c

@@ -13,6 +13,8 @@ use Rattle.ed_rules.specs.declared.state.Undo.{Undo}
 use Rattle.ed_rules.specs.declared.state.State.{State}
 use Rattle.ed_rules.specs.Choices.{Choice}
 use Rattle.ed_rules.specs.Formed.{says_nothing}
+use Rattle.cert_check.specs.declared.certificate.Version.{Version}
+use Rattle.cert_check.specs.declared.certificate.Version.TheVariants.{One, Two}
 use Rattle.cert_check.specs.Certificates.{Looped, Note, Certificate}
 
 -- A word is some bytes, and a line its words. Those of a certificate have no space or newline in them.
@@ -118,29 +120,43 @@ changed_line c = codes "changed" ∷ possible c.no (codes "no") ++ possible c.ye
 abbrev pub undo_line : Undo → Line
 undo_line u = codes "undo" ∷ possible u.nothing (codes "nothing") ++ possible u.same (codes "same") ++ possible (is_some u.was) (codes "was")
 
-abbrev pub old_lines : Option Old → List Line
-old_lines None = []
-old_lines (Some old) = zone_line (codes "old-zone") old.zone ∷ marks_line (codes "old-marks") old.marks ∷ []
+-- a set of texts, as choices that aren't none
+abbrev pub texts_line : (key : Word) → List (List ℕ) → Line
+texts_line key texts = choices_line key (map Some texts)
+
+-- what some line matches is said in version 2 alone
+abbrev pub matched_lines : Version → (key : Word) → List (List ℕ) → List Line
+matched_lines One key texts = []
+matched_lines Two key texts = texts_line key texts ∷ []
+
+-- an earlier buffer that undo may bring back, where there is one
+abbrev pub old_lines : Version → Option Old → (old_has : List (List ℕ)) → List Line
+old_lines version None old_has = []
+old_lines version (Some old) old_has =
+    zone_line (codes "old-zone") old.zone ∷ marks_line (codes "old-marks") old.marks ∷ matched_lines version (codes "old-has") old_has
 
 -- what is known at one point of a script
-abbrev pub state_lines : State → List Line
-state_lines s =
-    zone_line (codes "zone") s.zone ∷ marks_line (codes "marks") s.marks ∷ choices_line (codes "patterns") s.patterns
-    ∷ replacements_line s.replacements ∷ choices_line (codes "names") s.names ∷ changed_line s.changed ∷ undo_line s.undo ∷ old_lines s.undo.was
+abbrev pub state_lines : Version → State → List Line
+state_lines version s =
+    zone_line (codes "zone") s.zone ∷ marks_line (codes "marks") s.marks ∷ matched_lines version (codes "has") s.has
+    ++ choices_line (codes "patterns") s.patterns ∷ replacements_line s.replacements ∷ choices_line (codes "names") s.names
+    ∷ changed_line s.changed ∷ undo_line s.undo ∷ old_lines version s.undo.was s.old_has
 
 -- the same after a line of one word
-abbrev pub headed_lines : (head : Word) → State → List Line
-headed_lines head s = (head ∷ []) ∷ state_lines s
+abbrev pub headed_lines : Version → (head : Word) → State → List Line
+headed_lines version head s = (head ∷ []) ∷ state_lines version s
 
-abbrev pub looped_lines : Option Looped → List Line
-looped_lines None = []
-looped_lines (Some l) = headed_lines (codes "loop") l.invariant ++ flat_map (headed_lines (codes "inner")) l.inner ++ (codes "done" ∷ []) ∷ []
+abbrev pub looped_lines : Version → Option Looped → List Line
+looped_lines version None = []
+looped_lines version (Some l) =
+    headed_lines version (codes "loop") l.invariant ++ flat_map (headed_lines version (codes "inner")) l.inner ++ (codes "done" ∷ []) ∷ []
 
-abbrev pub note_lines : Note → List Line
-note_lines n = headed_lines (codes "note") n.state ++ looped_lines n.looped
+abbrev pub note_lines : Version → Note → List Line
+note_lines version n = headed_lines version (codes "note") n.state ++ looped_lines version n.looped
 
-abbrev pub version_line : Line
-version_line = codes "ed-certificate" ∷ codes "1" ∷ []
+abbrev pub version_line : Version → Line
+version_line One = codes "ed-certificate" ∷ codes "1" ∷ []
+version_line Two = codes "ed-certificate" ∷ codes "2" ∷ []
 
 abbrev pub path_line : Choice → Line
 path_line path = codes "path" ∷ choice_word path ∷ []
@@ -148,16 +164,15 @@ path_line path = codes "path" ∷ choice_word path ∷ []
 abbrev pub bounds_line : (key : Word) → (low : ℕ) → (high : Option ℕ) → Line
 bounds_line key low high = key ∷ decimal low ∷ limit_word high ∷ []
 
-abbrev pub writes_line : List (List ℕ) → Line
-writes_line writes = codes "writes" ∷ map (λ path. choice_word (Some path)) writes
-
 -- the lines before and after the notes
 abbrev pub opening_lines : Certificate → List Line
-opening_lines c = version_line ∷ path_line c.path ∷ bounds_line (codes "start") c.min c.max ∷ []
+opening_lines c =
+    version_line c.version ∷ path_line c.path ∷ bounds_line (codes "start") c.min c.max ∷ matched_lines c.version (codes "has") c.has
 
 abbrev pub closing_lines : Certificate → List Line
-closing_lines c = headed_lines (codes "end") c.last ++ bounds_line (codes "final") c.low c.high ∷ writes_line c.writes ∷ []
+closing_lines c =
+    headed_lines c.version (codes "end") c.last ++ bounds_line (codes "final") c.low c.high ∷ texts_line (codes "writes") c.writes ∷ []
 
 -- the text of a certificate
 unfoldable pub text_of : Certificate → List ℕ
-text_of c = lines_text (opening_lines c ++ flat_map note_lines c.notes ++ closing_lines c)
+text_of c = lines_text (opening_lines c ++ flat_map (note_lines c.version) c.notes ++ closing_lines c)

@@ -9,6 +9,7 @@ ghost use Rattle.cert_check.specs.checker.Passing.{ListGoesTo, LoopGoesTo};
 use crate::certificate::Looped;
 use crate::checker::passing::{is_covered, passes};
 use crate::checker::verdict::Place;
+use crate::sight::Sight;
 use ed_base::Bytes;
 use ed_rules::{KeptState, State, body_entry, loop_end};
 use ed_syntax::Command;
@@ -17,6 +18,7 @@ use std::alloc::AllocError;
 /// Goes through the commands of a list, with what is known before each, from the state in which the list is run for a line. The
 /// global command has this number. Where no check fails, `coming` becomes what the list leaves.
 fn go_through_list(
+    sight: &Sight,
     number: usize,
     writes: &[Bytes],
     list: &[Command],
@@ -25,10 +27,10 @@ fn go_through_list(
     coming: &mut State,
 ) -> Result<Option<Place>, AllocError>
     requires shape { length states.now ≡ length list.now }
-    ensures value { IfOk result (λ failed. ListGoesTo number writes.now (map command_value list.now) states.now coming.old failed coming.new) }
+    ensures value { IfOk result (λ failed. ListGoesTo sight.now number writes.now (map command_value list.now) states.now coming.old failed coming.new) }
 {
     for (index, known) in states.iter().enumerate() {
-        let holds = passes(writes, &list[index], known, before, coming)?;
+        let holds = passes(sight, writes, &list[index], known, before, coming)?;
         if !holds {
             return Ok(Some(Place {
                 command: number,
@@ -42,6 +44,7 @@ fn go_through_list(
 /// Goes through the list of a global command, of which `known` is known before it. From the state before its first line, `coming`
 /// becomes the state after the command, where no check fails.
 pub(crate) fn pass_loop(
+    sight: &Sight,
     number: usize,
     writes: &[Bytes],
     command: &Command,
@@ -51,7 +54,7 @@ pub(crate) fn pass_loop(
 ) -> Result<Option<Place>, AllocError>
     requires global { is_global (command_value command.now).verb ≡ true }
     requires shape { length looped.now.inner.items ≡ length (step_value command.now).list }
-    ensures value { IfOk result (λ failed. LoopGoesTo number writes.now (step_value command.now) (looped_value looped.now) known.now coming.old failed coming.new) }
+    ensures value { IfOk result (λ failed. LoopGoesTo sight.now number writes.now (step_value command.now) (looped_value looped.now) known.now coming.old failed coming.new) }
 {
     let holds_at_first = is_covered(&looped.invariant, coming);
     if !holds_at_first {
@@ -62,10 +65,12 @@ pub(crate) fn pass_loop(
     }
     let list = command.list();
     let mut before = looped.invariant.state()?;
-    *coming = body_entry(&before)?;
+    *coming = body_entry(command, &before)?;
+    sight.tell(coming);
     let inner = looped.inner.as_slice();
-    if let Some(place) = go_through_list(number, writes, list, inner, &mut before, coming)? {
-        return Ok(Some(place));
+    match go_through_list(sight, number, writes, list, inner, &mut before, coming)? {
+        None => {}
+        Some(place) => return Ok(Some(place)),
     }
     let holds_again = is_covered(&looped.invariant, coming);
     if !holds_again {
@@ -76,5 +81,6 @@ pub(crate) fn pass_loop(
     }
     looped.invariant.restore(&mut before)?;
     *coming = loop_end(command, known, &before)?;
+    sight.tell(coming);
     Ok(None)
 }

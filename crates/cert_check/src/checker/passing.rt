@@ -13,8 +13,9 @@ use crate::certificate::{Certificate, Note};
 use crate::checker::loops::pass_loop;
 use crate::checker::verdict::Place;
 use crate::laws::covering_is_decided;
+use crate::sight::Sight;
 use ed_base::Bytes;
-use ed_rules::{KeptState, State, outcome_into};
+use ed_rules::{KeptState, State, needs_are_the_same_whatever_is_watched, outcome_into};
 use ed_syntax::{Command, Verb};
 use std::alloc::AllocError;
 use zones::{Name, Zone};
@@ -53,12 +54,21 @@ pub(crate) fn is_covered(known: &KeptState, strong: &State) -> bool
 }
 
 /// Goes over to the state after a command, where all its needs hold, and says whether they do.
-fn leave(command: &Command, known: &State, coming: &mut State) -> Result<bool, AllocError>
+fn leave(
+    sight: &Sight,
+    command: &Command,
+    known: &State,
+    coming: &mut State,
+) -> Result<bool, AllocError>
     ensures value { IfOk result (λ holds.
-        Passes holds coming.new (left_where_met (command_value command.now) known.now)) }
+        Passes holds coming.new (left_where_met sight.now (command_value command.now) known.now)) }
 {
-    match outcome_into(command, known, coming)? {
-        None => Ok(true),
+    needs_are_the_same_whatever_is_watched();
+    match outcome_into(command, known, coming, sight.watch())? {
+        None => {
+            sight.tell(coming);
+            Ok(true)
+        }
         Some(_) => Ok(false),
     }
 }
@@ -101,6 +111,7 @@ fn are_listed(writes: &[Bytes], command: &Command, known: &KeptState) -> bool
 /// Whether all checks of a command hold: what is known before it says no more than what comes in, its needs hold, and the paths
 /// that it may write are listed. Then `before` becomes what is known, and `coming` the state after the command.
 pub(crate) fn passes(
+    sight: &Sight,
     writes: &[Bytes],
     command: &Command,
     known: &KeptState,
@@ -108,14 +119,14 @@ pub(crate) fn passes(
     coming: &mut State,
 ) -> Result<bool, AllocError>
     ensures value { IfOk result (λ holds. Passes holds coming.new
-        (passed writes.now (command_value command.now) known.now coming.old)) }
+        (passed sight.now writes.now (command_value command.now) known.now coming.old)) }
     ensures before { IfOk result (λ holds. holds ≡ true → before.new ≡ known.now) }
 {
     if !is_covered(known, coming) || !are_listed(writes, command, known) {
         return Ok(false);
     }
     known.restore(before)?;
-    leave(command, before, coming)
+    leave(sight, command, before, coming)
 }
 
 /// Something is known of a list just where the command is global, and before each command of it.
@@ -149,6 +160,7 @@ pub(crate) fn are_shaped(commands: &[Command], number: usize, notes: &[Note]) ->
 /// The checks of one command with its note: the place of the first that fails. Where none does, `coming` becomes the state after
 /// the command. `before` is used again for each state that is known.
 fn pass(
+    sight: &Sight,
     number: usize,
     writes: &[Bytes],
     command: &Command,
@@ -157,10 +169,10 @@ fn pass(
     coming: &mut State,
 ) -> Result<Option<Place>, AllocError>
     requires shape { fits (step_value command.now) (note_value note.now) ≡ true }
-    ensures value { IfOk result (λ failed. StepGoesTo number writes.now (step_value command.now)
+    ensures value { IfOk result (λ failed. StepGoesTo sight.now number writes.now (step_value command.now)
         (note_value note.now) coming.old failed coming.new) }
 {
-    let holds = passes(writes, command, &note.state, before, coming)?;
+    let holds = passes(sight, writes, command, &note.state, before, coming)?;
     if !holds {
         return Ok(Some(Place {
             command: number,
@@ -169,13 +181,14 @@ fn pass(
     }
     match &note.looped {
         None => Ok(None),
-        Some(looped) => pass_loop(number, writes, command, before, coming, looped),
+        Some(looped) => pass_loop(sight, number, writes, command, before, coming, looped),
     }
 }
 
 /// Goes through the counted commands with their notes, from the state at the start on: the place of the first check that fails.
 /// Where none does, `coming` becomes the state after the last command.
 pub(crate) fn go_through(
+    sight: &Sight,
     writes: &[Bytes],
     commands: &[Command],
     notes: &[Note],
@@ -183,11 +196,19 @@ pub(crate) fn go_through(
     coming: &mut State,
 ) -> Result<Option<Place>, AllocError>
     requires shape { are_shaped (counted (steps_value commands.now)) (map note_value notes.now) ≡ true }
-    ensures value { IfOk result (λ failed. GoesTo writes.now (counted (steps_value commands.now))
+    ensures value { IfOk result (λ failed. GoesTo sight.now writes.now (counted (steps_value commands.now))
         (map note_value notes.now) coming.old failed coming.new) }
 {
     for (index, note) in notes.iter().enumerate() {
-        match pass(index + 1, writes, &commands[index], note, before, coming)? {
+        match pass(
+            sight,
+            index + 1,
+            writes,
+            &commands[index],
+            note,
+            before,
+            coming,
+        )? {
             None => {}
             Some(place) => return Ok(Some(place)),
         }

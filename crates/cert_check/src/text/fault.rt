@@ -11,7 +11,7 @@ use thiserror::Error;
 /// Why bytes are not the text of a certificate.
 #[derive(Debug, Drop, Error, Clone, Copy, PartialEq, Eq)]
 pub enum CertFault {
-    /// The first line isn't the one that each text begins with.
+    /// The first line is that of no version.
     #[error("certificate: version")]
     Version,
     /// The line of this number, counted from 1, may not stand after the lines above it.

@@ -6,12 +6,14 @@ ghost use Rattle.zones.specs.Limits.{IsZone};
 ghost use Rattle.ed_rules.specs.Choices.{order_of};
 ghost use Rattle.cert_check.specs.Certificates.{boxed_value, note_value, certificate_value};
 ghost use Rattle.ed_rules.specs.Formed.{has_name, may_say, ZoneIsFormed, OldIsFormed, ChoiceIsBytes, is_rising, SetIsFormed, StateIsFormed};
-ghost use Rattle.cert_check.specs.text.HasText.{LoopedHasText, NoteHasText, HasText};
+ghost use Rattle.cert_check.specs.text.HasText.{IsSaidIn, OldIsSaidIn, StateHasText, LoopedHasText, NoteHasText, HasText};
 ghost use Rattle.ed_rules.specs.Formed.{says_nothing};
 
-use crate::certificate::{Certificate, Looped, Note};
+use crate::certificate::{Certificate, Looped, Note, Version};
 use ed_base::{Bytes, Letter};
-use ed_rules::{Changed, KeptOld, KeptState, KeptUndo, LineBounds, Marks, Replacements};
+use ed_rules::{
+    Changed, Choices, KeptOld, KeptState, KeptUndo, LineBounds, Marks, Replacements, Texts,
+};
 use std::cmp::Ordering;
 use zones::{KeptZone, Name};
 
@@ -69,28 +71,6 @@ fn old_has_text(old: &Option<KeptOld>) -> bool
     }
 }
 
-fn is_before(one: &Option<Bytes>, other: &Option<Bytes>) -> bool
-    ensures value { result ≡ is_lt (order_of one.now other.now) }
-{
-    match (one, other) {
-        (None, None) => false,
-        (None, Some(_)) => true,
-        (Some(_), None) => false,
-        (Some(one), Some(other)) => one.as_slice().cmp(&other.as_slice()) == Ordering::Less,
-    }
-}
-
-fn is_rising(set: &[Option<Bytes>]) -> bool
-    ensures value { result ≡ is_rising set.now }
-{
-    for next in 1..set.len() {
-        if !is_before(&set[next - 1], &set[next]) {
-            return false;
-        }
-    }
-    true
-}
-
 /// Items of a slice of bytes are bytes.
 pub(crate) fn are_bytes(bytes: &[u8])
     ensures bytes { All (λ byte. byte < 256) bytes.now }
@@ -115,12 +95,19 @@ pub(crate) fn choices_are_bytes(set: &[Option<Bytes>])
     }
 }
 
-/// A set with a member, in order.
-pub(crate) fn set_has_text(set: &[Option<Bytes>]) -> bool
-    ensures exact { IsTrue result ↔ SetIsFormed set.now }
+pub(crate) fn texts_are_bytes(texts: &[Bytes])
+    ensures bytes { All ChoiceIsBytes (map Some texts.now) }
 {
-    choices_are_bytes(set);
-    !set.is_empty() && is_rising(set)
+    for text in texts {
+        are_bytes(text.as_slice());
+    }
+}
+
+/// Sets of choices have a member and rise.
+fn set_is_formed(set: &Choices)
+    ensures formed { SetIsFormed set.now }
+{
+    choices_are_bytes(set.members());
 }
 
 pub(crate) fn some_replacement(replacements: Replacements) -> bool
@@ -141,19 +128,15 @@ pub(crate) fn some_changed(changed: Changed) -> bool
     changed.no || changed.yes
 }
 
-fn state_has_text(state: &KeptState) -> bool
+fn is_formed(state: &KeptState) -> bool
     ensures exact { IsTrue result ↔ StateIsFormed state.now }
 {
+    set_is_formed(state.patterns());
+    set_is_formed(state.names());
     if !zone_has_text(state.marks(), state.kept_zone()) {
         return false;
     }
-    if !set_has_text(state.patterns().members()) {
-        return false;
-    }
     if !some_replacement(state.replacements()) {
-        return false;
-    }
-    if !set_has_text(state.names().members()) {
         return false;
     }
     if !some_changed(state.changed()) {
@@ -166,55 +149,77 @@ fn state_has_text(state: &KeptState) -> bool
     old_has_text(undo.was())
 }
 
-fn inner_have_text(states: &[KeptState]) -> bool
-    ensures exact { IsTrue result ↔ All StateIsFormed states.now }
+/// Whether a version can say what is in a set: version 1 says nothing.
+fn is_said(version: Version, set: &Texts) -> bool
+    ensures exact { IsTrue result ↔ IsSaidIn version set.now }
+{
+    let members = set.members();
+    texts_are_bytes(members);
+    match version {
+        Version::One => members.is_empty(),
+        Version::Two => true,
+    }
+}
+
+/// The same of an earlier buffer, of which nothing is said where undo can't bring it back.
+fn old_is_said(version: Version, old: &Option<KeptOld>, set: &Texts) -> bool
+    ensures exact { IsTrue result ↔ OldIsSaidIn version old.now set.now }
+{
+    match old {
+        Some(_) => is_said(version, set),
+        None => set.members().is_empty(),
+    }
+}
+
+fn state_has_text(version: Version, state: &KeptState) -> bool
+    ensures exact { IsTrue result ↔ StateHasText version state.now }
+{
+    is_formed(state)
+        && is_said(version, state.has())
+        && old_is_said(version, state.kept_undo().was(), state.old_has())
+}
+
+fn inner_have_text(version: Version, states: &[KeptState]) -> bool
+    ensures exact { IsTrue result ↔ All (StateHasText version) states.now }
 {
     for state in states {
-        if !state_has_text(state) {
+        if !state_has_text(version, state) {
             return false;
         }
     }
     true
 }
 
-fn looped_has_text(looped: &Option<Box<Looped>>) -> bool
-    ensures exact { IsTrue result ↔ LoopedHasText (option_map boxed_value looped.now) }
+fn looped_has_text(version: Version, looped: &Option<Box<Looped>>) -> bool
+    ensures exact { IsTrue result ↔ LoopedHasText version (option_map boxed_value looped.now) }
 {
     match looped {
         Some(looped) => {
-            let invariant = state_has_text(&looped.invariant);
-            let inner = inner_have_text(looped.inner.as_slice());
+            let invariant = state_has_text(version, &looped.invariant);
+            let inner = inner_have_text(version, looped.inner.as_slice());
             invariant && inner
         }
         None => true,
     }
 }
 
-fn note_has_text(note: &Note) -> bool
-    ensures exact { IsTrue result ↔ NoteHasText (note_value note.now) }
+fn note_has_text(version: Version, note: &Note) -> bool
+    ensures exact { IsTrue result ↔ NoteHasText version (note_value note.now) }
 {
-    let state = state_has_text(&note.state);
-    let looped = looped_has_text(&note.looped);
+    let state = state_has_text(version, &note.state);
+    let looped = looped_has_text(version, &note.looped);
     state && looped
 }
 
-fn notes_have_text(notes: &[Note]) -> bool
-    ensures exact { IsTrue result ↔ All NoteHasText (map note_value notes.now) }
+fn notes_have_text(version: Version, notes: &[Note]) -> bool
+    ensures exact { IsTrue result ↔ All (NoteHasText version) (map note_value notes.now) }
 {
     for note in notes {
-        if !note_has_text(note) {
+        if !note_has_text(version, note) {
             return false;
         }
     }
     true
-}
-
-pub(crate) fn paths_are_bytes(paths: &[Bytes])
-    ensures bytes { All ChoiceIsBytes (map (λ path. Some path) paths.now) }
-{
-    for path in paths {
-        are_bytes(path.as_slice());
-    }
 }
 
 fn path_is_before(one: &Bytes, other: &Bytes) -> bool
@@ -224,7 +229,7 @@ fn path_is_before(one: &Bytes, other: &Bytes) -> bool
 }
 
 pub(crate) fn paths_rise(paths: &[Bytes]) -> bool
-    ensures value { result ≡ is_rising (map (λ path. Some path) paths.now) }
+    ensures value { result ≡ is_rising (map Some paths.now) }
 {
     for next in 1..paths.len() {
         if !path_is_before(&paths[next - 1], &paths[next]) {
@@ -236,12 +241,13 @@ pub(crate) fn paths_rise(paths: &[Bytes]) -> bool
 
 impl Certificate {
     /// Whether the certificate has a text: its start has at least as few lines as it has many, no bound on lines is above
-    /// 10^12, each zone speaks of the letters beside it only, and each set has a member and rises.
+    /// 10^12, each zone speaks of the letters beside it only, the paths that may be written rise, and nothing is said
+    /// of what some line matches where the version doesn't, or where undo has no earlier buffer.
     pub fn has_text(&self) -> bool
         ensures exact { IsTrue result ↔ HasText (certificate_value self.now) }
     {
         choice_is_bytes(&self.path);
-        paths_are_bytes(self.writes.as_slice());
+        texts_are_bytes(self.writes.as_slice());
         let start = LineBounds {
             min: self.min,
             max: self.max,
@@ -249,10 +255,13 @@ impl Certificate {
         if !(start.are_few() && start.in_order()) {
             return false;
         }
-        if !notes_have_text(self.notes.as_slice()) {
+        if !is_said(self.version, &self.has) {
             return false;
         }
-        if !state_has_text(&self.last) {
+        if !notes_have_text(self.version, self.notes.as_slice()) {
+            return false;
+        }
+        if !state_has_text(self.version, &self.last) {
             return false;
         }
         let end = LineBounds {

@@ -1,19 +1,19 @@
 //! The lines of a certificate's text, as they are read.
 
 ghost use Rattle.std.specs.Prelude.{◌≡◌, ◌&&◌, ◌||◌, true, Some, All, map, option_map, IfOk, codes};
-ghost use Rattle.ed_rules.specs.Formed.{ChoiceIsBytes, SetIsFormed, is_rising};
+ghost use Rattle.ed_rules.specs.Formed.{ChoiceIsBytes, SetIsFormed, TextsAreFormed};
 ghost use Rattle.ed_rules.specs.LineBounds.{is_few, is_limit, is_within};
-ghost use Rattle.cert_check.specs.text.Text.{spaced, choice_word, replacements_line, changed_line, bounds_line, path_line, choices_line, writes_line};
+ghost use Rattle.cert_check.specs.text.Text.{spaced, choice_word, replacements_line, changed_line, bounds_line, path_line, choices_line, texts_line};
 ghost use Rattle.cert_check.specs.text.Reading.{ReadsAs, WordReadsAs, undo_words_line};
 
 use crate::text::has_text::{
-    choices_are_bytes, paths_are_bytes, paths_rise, set_has_text, some_changed, some_replacement,
+    choices_are_bytes, paths_rise, some_changed, some_replacement, texts_are_bytes,
 };
 use crate::text::words_in::{
     after_key, choice_in, limit_in, next_word, number_in, path_word_in, possible_in,
 };
 use ed_base::Bytes;
-use ed_rules::{Changed, Choices, LineBounds, Replacements};
+use ed_rules::{Changed, Choices, LineBounds, Replacements, Texts};
 use std::alloc::{AllocError, Global};
 
 /// What undo may find: nothing, the buffer as it is, an earlier one.
@@ -195,47 +195,61 @@ pub(crate) fn choices_in(
     let Some(members) = members_in(alloc, left)? else {
         return Ok(None);
     };
-    if !set_has_text(members.as_slice()) {
-        return Ok(None);
-    }
-    Ok(Some(Choices::from_rising(members)))
+    Ok(Choices::from_rising(members))
 }
 
-/// The paths that stand in a text, each after a space.
-fn paths_in(alloc: Global, text: &[u8]) -> Result<Option<Vec<Bytes>>, AllocError>
-    ensures exact { IfOk result (λ paths. WordReadsAs (λ paths. spaced (map (λ path. choice_word (Some path)) paths))
-        (λ paths. All ChoiceIsBytes (map (λ path. Some path) paths)) text.now (option_map (λ paths. paths.items) paths)) }
+/// The texts or paths that stand in a text, each after a space.
+fn texts_in(alloc: Global, text: &[u8]) -> Result<Option<Vec<Bytes>>, AllocError>
+    ensures exact { IfOk result (λ texts. WordReadsAs (λ texts. spaced (map choice_word (map Some texts)))
+        (λ texts. All ChoiceIsBytes (map Some texts)) text.now (option_map (λ texts. texts.items) texts)) }
 {
-    let mut paths = Vec::new(alloc);
+    let mut texts = Vec::new(alloc);
     let mut left = text;
     while let Some((word, later)) = next_word(left) {
-        let Some(path) = path_word_in(alloc, word)? else {
+        let Some(member) = path_word_in(alloc, word)? else {
             return Ok(None);
         };
-        paths.push(path)?;
+        texts.push(member)?;
         left = later;
     }
     if !left.is_empty() {
         return Ok(None);
     }
-    paths_are_bytes(paths.as_slice());
-    Ok(Some(paths))
+    texts_are_bytes(texts.as_slice());
+    Ok(Some(texts))
+}
+
+/// The texts or paths of a line, in whatever order they stand there.
+fn texts_of(alloc: Global, key: &[u8], line: &[u8]) -> Result<Option<Vec<Bytes>>, AllocError>
+    ensures exact { IfOk result (λ texts. ReadsAs (texts_line key.now) (λ texts. All ChoiceIsBytes (map Some texts))
+        line.now (option_map (λ texts. texts.items) texts)) }
+{
+    let Some(left) = after_key(key, line) else {
+        return Ok(None);
+    };
+    texts_in(alloc, left)
 }
 
 /// The paths that the script may write.
 pub(crate) fn writes_in(alloc: Global, line: &[u8]) -> Result<Option<Vec<Bytes>>, AllocError>
-    ensures exact { IfOk result (λ writes. ReadsAs writes_line
-        (λ writes. All ChoiceIsBytes (map (λ path. Some path) writes) × (is_rising (map (λ path. Some path) writes) ≡ true))
+    ensures exact { IfOk result (λ writes. ReadsAs (texts_line (codes "writes")) TextsAreFormed
         line.now (option_map (λ writes. writes.items) writes)) }
 {
-    let Some(left) = after_key(b"writes", line) else {
-        return Ok(None);
-    };
-    let Some(paths) = paths_in(alloc, left)? else {
+    let Some(paths) = texts_of(alloc, b"writes", line)? else {
         return Ok(None);
     };
     if !paths_rise(paths.as_slice()) {
         return Ok(None);
     }
     Ok(Some(paths))
+}
+
+/// A set of texts.
+pub(crate) fn set_in(alloc: Global, key: &[u8], line: &[u8]) -> Result<Option<Texts>, AllocError>
+    ensures exact { IfOk result (λ set. ReadsAs (texts_line key.now) TextsAreFormed line.now set) }
+{
+    let Some(texts) = texts_of(alloc, key, line)? else {
+        return Ok(None);
+    };
+    Ok(Texts::from_rising(texts))
 }

@@ -1,21 +1,24 @@
 //! Reads the lines of a certificate, each at its place.
 
 ghost use Rattle.std.specs.Prelude.{◌≡◌, ◌∷◌, [], codes};
-ghost use Rattle.ed_rules.specs.Formed.{ChoiceIsBytes, SetIsFormed, ZoneIsFormed};
-ghost use Rattle.cert_check.specs.text.Pieces.{Reads, same, alone, limits_line, AreLimits, AreStartLimits, ArePaths, IsSomeReplacement, IsSomeChange, IsFound, either_line, found_line, head_line};
+ghost use Rattle.ed_rules.specs.Formed.{ChoiceIsBytes, SetIsFormed, TextsAreFormed, ZoneIsFormed};
+ghost use Rattle.cert_check.specs.text.HasText.{IsSaidIn};
+ghost use Rattle.cert_check.specs.text.Pieces.{Reads, same, alone, limits_line, AreLimits, AreStartLimits, IsSomeReplacement, IsSomeChange, IsFound, either_line, found_line, head_line};
 ghost use Rattle.cert_check.specs.text.Reading.{ReadsAs, all_marks};
 ghost use Rattle.cert_check.specs.text.Wanted.{key, other_keys};
-ghost use Rattle.cert_check.specs.text.Text.{path_line, writes_line, zone_line, marks_line, choices_line, replacements_line, changed_line};
+ghost use Rattle.cert_check.specs.text.Text.{path_line, texts_line, matched_lines, zone_line, marks_line, choices_line, replacements_line, changed_line};
 
+use crate::certificate::Version;
 use crate::text::cursor::{Cursor, Head};
 use crate::text::fault::Unread;
 use crate::text::lines::{
-    Found, changed_in, choices_in, final_in, path_in, replacements_in, start_in, undo_in, writes_in,
+    Found, changed_in, choices_in, final_in, path_in, replacements_in, set_in, start_in, undo_in,
+    writes_in,
 };
 use crate::text::wanted::LineKind;
 use crate::text::zone_lines::{marks_in, zone_in};
 use ed_base::Bytes;
-use ed_rules::{Changed, Choices, Marks, Replacements};
+use ed_rules::{Changed, Choices, Marks, Replacements, Texts};
 use std::alloc::Global;
 use zones::KeptZone;
 
@@ -45,10 +48,32 @@ pub(crate) fn read_final(cursor: &mut Cursor<'_>) -> Result<(u64, Option<u64>), 
 
 /// The paths that may be written.
 pub(crate) fn read_writes(alloc: Global, cursor: &mut Cursor<'_>) -> Result<Vec<Bytes>, Unread>
-    ensures exact { Reads (λ v. v.items) (alone writes_line) ArePaths cursor.old cursor.new result }
+    ensures exact { Reads (λ v. v.items) (alone (texts_line (codes "writes"))) TextsAreFormed cursor.old cursor.new result }
 {
     let line = cursor.line()?;
     cursor.read_as(LineKind::Writes, writes_in(alloc, line)?)
+}
+
+fn read_set(alloc: Global, kind: LineKind, cursor: &mut Cursor<'_>) -> Result<Texts, Unread>
+    ensures exact { Reads same (alone (texts_line (key kind))) TextsAreFormed cursor.old cursor.new result }
+{
+    let line = cursor.line()?;
+    cursor.read_as(kind, set_in(alloc, kind.key(), line)?)
+}
+
+/// The patterns that some line matches, where the version has a line of them.
+pub(crate) fn read_matched(
+    alloc: Global,
+    version: Version,
+    kind: LineKind,
+    cursor: &mut Cursor<'_>,
+) -> Result<Texts, Unread>
+    ensures exact { Reads same (matched_lines version (key kind)) (IsSaidIn version) cursor.old cursor.new result }
+{
+    match version {
+        Version::One => Ok(Texts::none(alloc)),
+        Version::Two => read_set(alloc, kind, cursor),
+    }
 }
 
 /// A zone, which may speak of each letter.

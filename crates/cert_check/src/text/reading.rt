@@ -3,33 +3,54 @@
 ghost use Rattle.cert_check.specs.Certificates.{certificate_value};
 ghost use Rattle.std.specs.Prelude.{◌≡◌, ℕ, MatchOption, IfOk};
 ghost use Rattle.cert_check.specs.text.Faults.{IsLineFault, IsReading};
-ghost use Rattle.cert_check.specs.text.HasText.{HasText};
-ghost use Rattle.cert_check.specs.text.Pieces.{Reads, IsReadAs, rest_lines};
+ghost use Rattle.cert_check.specs.text.Pieces.{Reads, IsReadAs, rest_lines, HasTextIn};
+ghost use Rattle.cert_check.specs.text.Reading.{ReadsAs};
+ghost use Rattle.cert_check.specs.text.Text.{version_line};
 ghost use Rattle.cert_check.specs.text.Wanted.{IsWanted};
 
-use crate::certificate::Certificate;
+use crate::certificate::{Certificate, Version};
 use crate::text::cursor::Cursor;
 use crate::text::fault::{CertFault, Unread};
 use crate::text::notes::read_notes;
-use crate::text::readers::{read_final, read_path, read_start, read_writes};
+use crate::text::readers::{read_final, read_matched, read_path, read_start, read_writes};
 use crate::text::states::read_state;
-use crate::text::wanted::Wanted;
+use crate::text::wanted::{LineKind, Wanted};
 use std::alloc::{AllocError, Global};
 
-/// A certificate, from its second line to its last.
-fn read_rest(alloc: Global, cursor: &mut Cursor<'_>) -> Result<Certificate, Unread>
-    ensures exact { Reads certificate_value rest_lines HasText cursor.old cursor.new result }
+/// The version that a first line says.
+fn version_in(line: &[u8]) -> Option<Version>
+    ensures exact { ReadsAs version_line (λ _. Unit {0}) line.now result }
+{
+    if line == b"ed-certificate 1".as_slice() {
+        return Some(Version::One);
+    }
+    if line == b"ed-certificate 2".as_slice() {
+        return Some(Version::Two);
+    }
+    None
+}
+
+/// A certificate of a version, from its second line to its last.
+fn read_rest(
+    alloc: Global,
+    version: Version,
+    cursor: &mut Cursor<'_>,
+) -> Result<Certificate, Unread>
+    ensures exact { Reads certificate_value rest_lines (HasTextIn version) cursor.old cursor.new result }
 {
     let path = read_path(alloc, cursor)?;
     let (min, max) = read_start(cursor)?;
-    let notes = read_notes(alloc, cursor)?;
-    let last = read_state(alloc, cursor)?;
+    let has = read_matched(alloc, version, LineKind::Has, cursor)?;
+    let notes = read_notes(alloc, version, cursor)?;
+    let last = read_state(alloc, version, cursor)?;
     let (low, high) = read_final(cursor)?;
     let writes = read_writes(alloc, cursor)?;
     Ok(Certificate {
+        version,
         path,
         min,
         max,
+        has,
         notes,
         last,
         low,
@@ -46,10 +67,10 @@ fn read_all(alloc: Global, bytes: &[u8]) -> Result<Certificate, Unread>
     let Some(line) = cursor.next() else {
         return Err(Unread::Version);
     };
-    if line != b"ed-certificate 1".as_slice() {
+    let Some(version) = version_in(line) else {
         return Err(Unread::Version);
-    }
-    let certificate = read_rest(alloc, &mut cursor)?;
+    };
+    let certificate = read_rest(alloc, version, &mut cursor)?;
     if !cursor.is_at_end() {
         return Err(Unread::Size);
     }

@@ -1,17 +1,18 @@
 //! Reads what is known at one point of a script.
 
-ghost use Rattle.ed_rules.specs.Formed.{StateIsFormed};
+ghost use Rattle.cert_check.specs.text.HasText.{StateHasText};
 ghost use Rattle.cert_check.specs.text.Pieces.{Reads, same, marked_lines, marked_value, MarkedIsFormed, undo_lines, UndoIsFormed};
 ghost use Rattle.cert_check.specs.text.Text.{state_lines};
 ghost use Rattle.cert_check.specs.text.Wanted.{key};
 
+use crate::certificate::Version;
 use crate::text::cursor::Cursor;
 use crate::text::fault::Unread;
 use crate::text::readers::{
-    read_changed, read_choices, read_found, read_marks, read_replacements, read_zone,
+    read_changed, read_choices, read_found, read_marks, read_matched, read_replacements, read_zone,
 };
 use crate::text::wanted::LineKind;
-use ed_rules::{KeptOld, KeptState, KeptUndo, Marks};
+use ed_rules::{KeptOld, KeptState, KeptUndo, Marks, Texts};
 use std::alloc::Global;
 use zones::KeptZone;
 
@@ -35,29 +36,41 @@ fn read_marked(
     Ok(Marked { zone, marks })
 }
 
-/// What undo may find, with what an earlier buffer was.
-fn read_undo(alloc: Global, cursor: &mut Cursor<'_>) -> Result<KeptUndo, Unread>
-    ensures exact { Reads same undo_lines UndoIsFormed cursor.old cursor.new result }
+/// What undo may find, with what an earlier buffer was and what some line of it matches.
+fn read_undo(
+    alloc: Global,
+    version: Version,
+    cursor: &mut Cursor<'_>,
+) -> Result<(KeptUndo, Texts), Unread>
+    ensures exact { Reads same (undo_lines version) (UndoIsFormed version) cursor.old cursor.new result }
 {
     let found = read_found(cursor)?;
     if !found.was {
-        return Ok(KeptUndo::new(found.nothing, found.same, None));
+        let undo = KeptUndo::new(found.nothing, found.same, None);
+        return Ok((undo, Texts::none(alloc)));
     }
     let old = read_marked(alloc, LineKind::OldZone, LineKind::OldMarks, cursor)?;
+    let old_has = read_matched(alloc, version, LineKind::OldHas, cursor)?;
     let was = KeptOld::new(old.zone, old.marks);
-    Ok(KeptUndo::new(found.nothing, found.same, Some(was)))
+    let undo = KeptUndo::new(found.nothing, found.same, Some(was));
+    Ok((undo, old_has))
 }
 
 /// What is known at one point of a script.
-pub(crate) fn read_state(alloc: Global, cursor: &mut Cursor<'_>) -> Result<KeptState, Unread>
-    ensures exact { Reads same state_lines StateIsFormed cursor.old cursor.new result }
+pub(crate) fn read_state(
+    alloc: Global,
+    version: Version,
+    cursor: &mut Cursor<'_>,
+) -> Result<KeptState, Unread>
+    ensures exact { Reads same (state_lines version) (StateHasText version) cursor.old cursor.new result }
 {
     let marked = read_marked(alloc, LineKind::Zone, LineKind::Marks, cursor)?;
+    let has = read_matched(alloc, version, LineKind::Has, cursor)?;
     let patterns = read_choices(alloc, LineKind::Patterns, cursor)?;
     let replacements = read_replacements(cursor)?;
     let names = read_choices(alloc, LineKind::Names, cursor)?;
     let changed = read_changed(cursor)?;
-    let undo = read_undo(alloc, cursor)?;
+    let (undo, old_has) = read_undo(alloc, version, cursor)?;
     Ok(KeptState::new(
         marked.zone,
         marked.marks,
@@ -66,5 +79,7 @@ pub(crate) fn read_state(alloc: Global, cursor: &mut Cursor<'_>) -> Result<KeptS
         names,
         changed,
         undo,
+        has,
+        old_has,
     ))
 }

@@ -8,6 +8,8 @@ ghost use Rattle.cert_check.specs.text.Wanted.{key, keys, told_words};
 pub enum LineKind {
     Path,
     Start,
+    /// The patterns that some line matches, of the start or of a state.
+    Has,
     /// A first note, or the end.
     NoteOrEnd,
     Zone,
@@ -19,6 +21,7 @@ pub enum LineKind {
     Undo,
     OldZone,
     OldMarks,
+    OldHas,
     /// After the state of a note another one, what is known of its list, or the end.
     NoteLoopOrEnd,
     /// The state before one more command of a list, or the end of the list.
@@ -35,6 +38,7 @@ impl LineKind {
         match self {
             LineKind::Path => b"path",
             LineKind::Start => b"start",
+            LineKind::Has => b"has",
             LineKind::NoteOrEnd => b"note",
             LineKind::Zone => b"zone",
             LineKind::Marks => b"marks",
@@ -45,6 +49,7 @@ impl LineKind {
             LineKind::Undo => b"undo",
             LineKind::OldZone => b"old-zone",
             LineKind::OldMarks => b"old-marks",
+            LineKind::OldHas => b"old-has",
             LineKind::NoteLoopOrEnd => b"note",
             LineKind::InnerOrDone => b"inner",
             LineKind::Final => b"final",
@@ -59,6 +64,7 @@ impl LineKind {
         match self {
             LineKind::Path => b"path",
             LineKind::Start => b"start",
+            LineKind::Has => b"has",
             LineKind::NoteOrEnd => b"note or end",
             LineKind::Zone => b"zone",
             LineKind::Marks => b"marks",
@@ -69,6 +75,7 @@ impl LineKind {
             LineKind::Undo => b"undo",
             LineKind::OldZone => b"old-zone",
             LineKind::OldMarks => b"old-marks",
+            LineKind::OldHas => b"old-has",
             LineKind::NoteLoopOrEnd => b"note, loop or end",
             LineKind::InnerOrDone => b"inner or done",
             LineKind::Final => b"final",

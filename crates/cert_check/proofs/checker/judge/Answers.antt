@@ -2,7 +2,7 @@ use Rattle.std.proofs.Common.{◌∙◌, map, ap, sym}
 use Rattle.ed_syntax.specs.PublicTypes.{steps_value}
 use Rattle.ed_syntax.specs.PublicScript.{script_value}
 use Rattle.cert_check.specs.Certificates.{note_value, certificate_value}
-use Rattle.cert_check.specs.checker.Valid.{counted, has_quit}
+use Rattle.cert_check.specs.checker.Valid.{told, counted, has_quit}
 use Rattle.cert_check.proofs.verdicts.Judging.{judged-by, judged-by_shape}
 use Rattle.cert_check.proofs.checker.judge.Goals as goal
 
@@ -19,8 +19,8 @@ pub returns : goal.returns
 returns c = record {
   exact =
       c.verdict_after-verdict.ensures.value
-      ∙ judged-by (script_value c.args.script.now) (certificate_value c.args.certificate.now) c.as_slice-writes.result.now (counted (steps_value c.as_slice-commands.result.now)) (map note_value c.as_slice-notes.result.now)
-      c.in_ok-coming.coming c.count-counted.result.quit c.in_ok-failed.failed c.go_through.new.coming
-      c.as_slice-writes.ensures.value (ap (λ l. counted (steps_value l)) c.as_slice-commands.ensures.value) (ap (λ l. map note_value l) c.as_slice-notes.ensures.value) c.in_ok-coming.ensures.value
+      ∙ judged-by (script_value c.args.script.now) (certificate_value c.args.certificate.now) c.in_ok-sight.sight c.as_slice-writes.result.now (counted (steps_value c.as_slice-commands.result.now)) (map note_value c.as_slice-notes.result.now)
+      c.tell.new.state c.count-counted.result.quit c.in_ok-failed.failed c.go_through.new.coming
+      c.in_ok-sight.ensures.value c.as_slice-writes.ensures.value (ap (λ l. counted (steps_value l)) c.as_slice-commands.ensures.value) (ap (λ l. map note_value l) c.as_slice-notes.ensures.value) (c.tell.ensures.value ∙ ap (λ s. told c.in_ok-sight.sight s) c.in_ok-coming.ensures.value)
       (c.count-counted.ensures.quit ∙ ap (λ l. has_quit (steps_value l)) c.as_slice-commands.ensures.value) (sym c.are_shaped.ensures.value ∙ c.if-not-are_shaped.false) c.in_ok-failed.ensures.value;
 }

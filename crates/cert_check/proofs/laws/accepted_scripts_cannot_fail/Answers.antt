@@ -6,6 +6,7 @@ pub returns : goal.returns
 returns c =
     let single : Laws = record {
       command = c.commands_are_sound.ensures.sound;
+      needs = c.needs_are_the_same_whatever_is_watched.ensures.needs;
       decided = c.covering_is_decided.ensures.exact;
       weaker = c.weaker_states_stand_for_more.ensures.covers;
     } in
@@ -13,6 +14,7 @@ returns c =
       single = single;
       global = c.checked_globals_go_well.ensures.sound;
       placed = c.commands_are_placed.ensures.placed;
+      no_flags = c.globals_are_sound.ensures.no_flags;
       started = c.starts_are_sound.ensures.sound;
       known = c.known_bounds_are_true.ensures.known;
     } in

@@ -6,13 +6,17 @@ pub returns : goal.returns
 returns c =
     let single : Laws = record {
       command = c.commands_are_sound.ensures.sound;
+      needs = c.needs_are_the_same_whatever_is_watched.ensures.needs;
       decided = c.covering_is_decided.ensures.exact;
       weaker = c.weaker_states_stand_for_more.ensures.covers;
     } in
     let laws : ListLaws = record {
       single = single;
       changes = c.lists_note_changes.ensures.notes;
+      counts = c.lists_add_no_flags.ensures.flags;
       begun = c.globals_are_sound.ensures.start;
+      flags = c.globals_are_sound.ensures.flags;
+      taken = c.globals_are_sound.ensures.taken;
       turn = c.globals_are_sound.ensures.turn;
       over = c.globals_are_sound.ensures.end;
     } in

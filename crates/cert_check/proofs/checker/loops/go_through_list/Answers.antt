@@ -8,14 +8,14 @@ loop-index-init c = λ turned. refl
 pub loop-index-preserved : goal.loop-index-preserved
 loop-index-preserved c = λ turned.
     c.loop-index.invariant turned
-    ∙ list-on c.args.number c.args.writes.now c.args.list.now c.args.states.now turned c.loop-index.index c.index-list-index.result c.index-states-index.result c.loop-index.coming c.passes.new.coming
+    ∙ list-on c.args.sight.now c.args.number c.args.writes.now c.args.list.now c.args.states.now turned c.loop-index.index c.index-list-index.result c.index-states-index.result c.loop-index.coming c.passes.new.coming
     (omega arith) c.requires.shape c.index-list-index.is c.index-states-index.is (rw c.if-not-holds.false at c.in_ok-holds.ensures.value)
 
 pub returns-then-not-holds : goal.returns-then-not-holds
 returns-then-not-holds c = record {
   value = λ turned.
       c.loop-index.invariant turned
-      ∙ list-off c.args.number c.args.writes.now c.args.list.now c.args.states.now turned c.loop-index.index c.index-list-index.result c.index-states-index.result c.loop-index.coming
+      ∙ list-off c.args.sight.now c.args.number c.args.writes.now c.args.list.now c.args.states.now turned c.loop-index.index c.index-list-index.result c.index-states-index.result c.loop-index.coming
       (omega arith) c.requires.shape c.index-list-index.is c.index-states-index.is (rw c.if-not-holds.true at c.in_ok-holds.ensures.value);
 }
 
@@ -23,5 +23,5 @@ pub returns : goal.returns
 returns c = record {
   value = λ turned.
       c.loop-index.invariant turned
-      ∙ list-over c.args.number c.args.writes.now c.args.list.now c.args.states.now turned c.loop-index.index c.loop-index.coming (omega arith) c.requires.shape;
+      ∙ list-over c.args.sight.now c.args.number c.args.writes.now c.args.list.now c.args.states.now turned c.loop-index.index c.loop-index.coming (omega arith) c.requires.shape;
 }

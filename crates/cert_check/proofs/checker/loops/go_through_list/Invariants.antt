@@ -8,4 +8,4 @@ use Rattle.cert_check.proofs.checker.loops.go_through_list.Given as goal
 -- the checks before this command hold
 abbrev pub invariant-loop-index : goal.invariant-loop-index
 invariant-loop-index l = (turned : ℕ → State → List Check) →
-    verdict_of (list_checks l.number 1 l.writes l.fn.coming (map command_value l.list) l.states turned) ≡ list_from l.number l.writes l.list l.states turned l.index l.coming
+    verdict_of (list_checks l.sight l.number 1 l.writes l.fn.coming (map command_value l.list) l.states turned) ≡ list_from l.sight l.number l.writes l.list l.states turned l.index l.coming

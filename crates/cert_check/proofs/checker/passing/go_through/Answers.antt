@@ -32,7 +32,7 @@ loop-index-preserved c =
           ∙ c.loop-index.invariant.shape;
       checks = λ end.
           c.loop-index.invariant.checks end
-          ∙ go-on c.args.writes.now end c.args.commands.now c.args.notes.now c.loop-index.index c.index-commands-index.result c.index-notes-index.result c.loop-index.coming c.pass.new.coming
+          ∙ go-on c.args.sight.now c.args.writes.now end c.args.commands.now c.args.notes.now c.loop-index.index c.index-commands-index.result c.index-notes-index.result c.loop-index.coming c.pass.new.coming
           (omega arith) size c.index-commands-index.is c.index-notes-index.is goes;
     }
 
@@ -43,7 +43,7 @@ returns-in-Some c =
     record {
       value = λ end.
           c.loop-index.invariant.checks end
-          ∙ stop-here c.args.writes.now end c.args.commands.now c.args.notes.now c.loop-index.index c.index-commands-index.result c.index-notes-index.result c.loop-index.coming c.pass.new.coming c.in-Some.place
+          ∙ stop-here c.args.sight.now c.args.writes.now end c.args.commands.now c.args.notes.now c.loop-index.index c.index-commands-index.result c.index-notes-index.result c.loop-index.coming c.pass.new.coming c.in-Some.place
           (omega arith) size c.index-commands-index.is c.index-notes-index.is goes;
     }
 
@@ -51,6 +51,6 @@ pub returns : goal.returns
 returns c = record {
   value = λ end.
       c.loop-index.invariant.checks end
-      ∙ gone-through c.args.writes.now end c.args.commands.now c.args.notes.now c.loop-index.index c.loop-index.coming (omega arith)
+      ∙ gone-through c.args.sight.now c.args.writes.now end c.args.commands.now c.args.notes.now c.loop-index.index c.loop-index.coming (omega arith)
       (noted-length c.args.commands.now c.args.notes.now c.requires.shape);
 }

@@ -11,5 +11,5 @@ abbrev pub invariant-loop-index : goal.invariant-loop-index
 invariant-loop-index l = record {
   shape : shape_from l.commands l.notes l.index ≡ true;
   checks : (end : ℕ → State → List Check) →
-      verdict_of (checks_from l.writes end 1 l.fn.coming (counted (steps_value l.commands)) (map note_value l.notes)) ≡ verdict_from l.writes end l.commands l.notes l.index l.coming;
+      verdict_of (checks_from l.sight l.writes end 1 l.fn.coming (counted (steps_value l.commands)) (map note_value l.notes)) ≡ verdict_from l.sight l.writes end l.commands l.notes l.index l.coming;
 }

@@ -1,7 +1,7 @@
 use Rattle.std.proofs.Common.{take}
 use Rattle.std.specs.List.{All}
-use Rattle.ed_rules.specs.Formed.{StateIsFormed}
+use Rattle.cert_check.specs.text.HasText.{StateHasText}
 use Rattle.cert_check.proofs.text.has_text.inner_have_text.Given as goal
 
 abbrev pub invariant-loop-state : goal.invariant-loop-state
-invariant-loop-state l = All StateIsFormed (take l.state-index l.states)
+invariant-loop-state l = All (StateHasText l.version) (take l.state-index l.states)

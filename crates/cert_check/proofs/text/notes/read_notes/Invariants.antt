@@ -8,7 +8,7 @@ use Rattle.cert_check.proofs.text.notes.read_notes.Given as goal
 
 abbrev pub invariant-notes : goal.invariant-notes
 invariant-notes l =
-    All NoteHasText (map note_value l.notes.items) × Took (note_texts (map note_value l.notes.items) ++ texts (alone note_head l.another)) l.fn.cursor l.cursor
+    All (NoteHasText l.fn.version) (map note_value l.notes.items) × Took (note_texts l.fn.version (map note_value l.notes.items) ++ texts (alone note_head l.another)) l.fn.cursor l.cursor
 
 abbrev pub decreases-notes : goal.decreases-notes
 decreases-notes l = length l.cursor.bytes

@@ -12,6 +12,6 @@ returns c = record {
       certificate-written c.args.out.now c.push_opening.new.out c.push_notes.new.out c.push_closing.new.out (certificate_value c.args.certificate.now)
       c.in_ok-push_opening.ensures.appended
       (c.in_ok-push_notes.ensures.appended
-      ∙ ap (λ (ns : List Note). c.push_opening.new.out ++ lines_text (flat_map note_lines (map note_value ns))) c.as_slice.ensures.value)
+      ∙ ap (λ (ns : List Note). c.push_opening.new.out ++ lines_text (flat_map (note_lines c.args.certificate.now.version) (map note_value ns))) c.as_slice.ensures.value)
       c.in_ok-push_closing.ensures.appended;
 }

@@ -1,14 +1,15 @@
 use Rattle.std.proofs.Common.{◌∙◌, ◌++◌, ◌∷◌, [], ℕ, List, ap}
+use Rattle.std.specs.Prelude.{codes}
 use Rattle.cert_check.specs.Certificates.{certificate_value}
-use Rattle.cert_check.specs.text.Text.{lines_text, writes_line}
+use Rattle.cert_check.specs.text.Text.{lines_text, texts_line}
 use Rattle.cert_check.proofs.texts.Written.{closing-written}
 use Rattle.cert_check.proofs.text.writing.push_closing.Goals as goal
 
 pub returns : goal.returns
 returns c = record {
   appended =
-      closing-written c.args.out.now c.push_headed.new.out c.push_bounds_line.new.out c.push_writes_line.new.out (certificate_value c.args.certificate.now)
+      closing-written c.args.out.now c.push_headed.new.out c.push_bounds_line.new.out c.push_texts_line.new.out (certificate_value c.args.certificate.now)
       c.in_ok-push_headed.ensures.appended c.in_ok-push_bounds_line.ensures.appended
-      (c.in_ok-push_writes_line.ensures.appended
-      ∙ ap (λ (ws : List (List ℕ)). c.push_bounds_line.new.out ++ lines_text (writes_line ws ∷ [])) c.as_slice.ensures.value);
+      (c.in_ok-push_texts_line.ensures.appended
+      ∙ ap (λ (ws : List (List ℕ)). c.push_bounds_line.new.out ++ lines_text (texts_line (codes "writes") ws ∷ [])) c.as_slice.ensures.value);
 }

@@ -10,9 +10,9 @@ use Rattle.cert_check.proofs.text.writing.push_list.Goals as goal
 pub returns : goal.returns
 returns c = record {
   appended =
-      looped-written c.args.out.now c.push_headed.new.out c.push_inner.new.out c.extend_from_slice.new.self (looped_value c.args.looped.now)
+      looped-written c.args.version c.args.out.now c.push_headed.new.out c.push_inner.new.out c.extend_from_slice.new.self (looped_value c.args.looped.now)
       c.in_ok-push_headed.ensures.appended
       (c.in_ok-push_inner.ensures.appended
-      ∙ ap (λ (l : List State). c.push_headed.new.out ++ lines_text (flat_map (headed_lines (codes "inner")) l)) c.as_slice.ensures.value)
+      ∙ ap (λ (l : List State). c.push_headed.new.out ++ lines_text (flat_map (headed_lines c.args.version (codes "inner")) l)) c.as_slice.ensures.value)
       c.in_ok-extend_from_slice.ensures.appended;
 }

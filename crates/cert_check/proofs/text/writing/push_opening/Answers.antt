@@ -5,6 +5,7 @@ use Rattle.cert_check.proofs.text.writing.push_opening.Goals as goal
 pub returns : goal.returns
 returns c = record {
   appended =
-      opening-written c.args.out.now c.extend_from_slice.new.self c.push_path_line.new.out c.push_bounds_line.new.out (certificate_value c.args.certificate.now)
-      c.in_ok-extend_from_slice.ensures.appended c.in_ok-push_path_line.ensures.appended c.in_ok-push_bounds_line.ensures.appended;
+      opening-written c.args.out.now c.push_version_line.new.out c.push_path_line.new.out c.push_bounds_line.new.out c.push_matched.new.out (certificate_value c.args.certificate.now)
+      c.in_ok-push_version_line.ensures.appended c.in_ok-push_path_line.ensures.appended c.in_ok-push_bounds_line.ensures.appended
+      c.in_ok-push_matched.ensures.appended;
 }

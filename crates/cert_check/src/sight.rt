@@ -1,0 +1,49 @@
+//! What a script is judged by, beside the states of its certificate.
+
+ghost use Rattle.std.specs.Prelude.{◌≡◌, IfOk};
+ghost use Rattle.ed_syntax.specs.PublicScript.{script_value};
+ghost use Rattle.cert_check.specs.checker.Valid.{sight_of, told};
+
+use crate::certificate::Version;
+use ed_rules::{State, Texts, Watch};
+use ed_syntax::Script;
+use std::alloc::AllocError;
+
+/// The version of a certificate, and the patterns that are watched for; version 1 watches for none.
+#[derive(Debug, Drop)]
+pub struct Sight {
+    version: Version,
+    watch: Watch,
+}
+
+impl Sight {
+    /// That of a script with a certificate of this version, which states these patterns of its start. In version 1 they don't
+    /// count. It takes no memory then.
+    pub fn of(script: &Script, version: Version, has: &Texts) -> Result<Sight, AllocError>
+        ensures value { IfOk result (λ sight. sight ≡ sight_of (script_value script.now) version has.now) }
+    {
+        let watch = match version {
+            Version::One => Watch::none(*script.commands.allocator()),
+            Version::Two => Watch::of(script, has)?,
+        };
+        Ok(Sight { version, watch })
+    }
+
+    /// The patterns that are watched for.
+    pub fn watch(&self) -> &Watch
+        ensures value { result.now ≡ self.now.watch }
+    {
+        &self.watch
+    }
+
+    /// Leaves of a state that a rule gave what the version tells of it: in version 1 it forgets what lines match. It takes no
+    /// memory.
+    pub fn tell(&self, state: &mut State)
+        ensures value { state.new ≡ told self.now state.old }
+    {
+        match self.version {
+            Version::One => state.forget_matches(),
+            Version::Two => {}
+        }
+    }
+}
