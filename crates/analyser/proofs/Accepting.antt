@@ -9,18 +9,20 @@ use Rattle.ed_syntax.specs.meaning.Verbs.{is_global}
 use Rattle.ed_rules.specs.declared.state.State.{State}
 use Rattle.ed_rules.specs.States as states
 use Rattle.ed_rules.specs.Formed.{IsCounted}
-use Rattle.ed_rules.specs.Globals.{body_entry}
+use Rattle.cert_check.specs.declared.sight.Sight.{Sight}
 use Rattle.cert_check.specs.checker.Covering.{covers}
 use Rattle.cert_check.specs.declared.checker.verdict.Verdict.TheVariants.{Accepted}
 use Rattle.cert_check.specs.Certificates.{Looped, Note, Certificate}
-use Rattle.cert_check.specs.checker.Valid.{Check, at, verdict_of, counted, has_quit, left_after, is_listed, knows_least, knows_most, end_checks, checks_from, fits_list, are_shaped, judged}
+use Rattle.cert_check.specs.checker.Valid.{Check, at, seen_by, sight_of, told, told_by, verdict_of, counted, has_quit, left_after, is_listed, knows_least, knows_most, end_checks, checks_from, fits_list, are_shaped, judged}
 use Rattle.analyser.specs.declared.analysis.Start.{Start}
-use Rattle.analyser.specs.Following.{IsKnownOfList, AreNotes, result_from, paths_from, end_fault, begun}
+use Rattle.analyser.specs.Rounds.{entered}
+use Rattle.analyser.specs.Following.{IsKnownOfList, AreNotes, result_from, paths_from, version_of, stated_of, sight_over, end_fault, begun}
 use Rattle.analyser.specs.Analysis.{low_of, high_of, IsCertificate}
 use Rattle.analyser.proofs.Checking.{Laws, covers-same, both-and, notes-hold}
 use Rattle.analyser.proofs.Listing.{listed-each}
 use Rattle.analyser.proofs.ToldBounds.{knows-low, knows-high}
 use Rattle.analyser.proofs.Rounding.{inner-length}
+use Rattle.analyser.proofs.Telling.{sight-version}
 
 -- CHECKS
 
@@ -36,23 +38,23 @@ holds-at b number later e rest = All-cons Holds (at number b) later e rest
 
 -- THE SHAPE AND THE END
 
-pub length-notes : (xs : List Step) (s : State) (ns : List Note) → AreNotes xs s ns → length ns ≡ length xs
-length-notes [] s [] h = refl
-length-notes [] s (n ∷ ns) h = absurd h
-length-notes (x ∷ xs) s [] h = absurd h
-length-notes (x ∷ xs) s (n ∷ ns) h = let q = length-notes xs (left_after n.looped x s) ns h.1 in omega arith
+pub length-notes : (w : Sight) (xs : List Step) (s : State) (ns : List Note) → AreNotes w xs s ns → length ns ≡ length xs
+length-notes w [] s [] h = refl
+length-notes w [] s (n ∷ ns) h = absurd h
+length-notes w (x ∷ xs) s [] h = absurd h
+length-notes w (x ∷ xs) s (n ∷ ns) h = let q = length-notes w xs (left_after w n.looped x s) ns h.1 in omega arith
 
-fits-known : (global : Bool) (x : Step) (s : State) (l : Option Looped) → IsKnownOfList global x s l → fits_list global x.list l ≡ true
-fits-known false x s None h = refl
-fits-known false x s (Some l) h = absurd h
-fits-known true x s None h = absurd h
-fits-known true x s (Some l) h = eq-eqb (length l.inner) (length x.list) (inner-length x.list (body_entry l.invariant) l.inner h.1)
+fits-known : (w : Sight) (global : Bool) (x : Step) (s : State) (l : Option Looped) → IsKnownOfList w global x s l → fits_list global x.list l ≡ true
+fits-known w false x s None h = refl
+fits-known w false x s (Some l) h = absurd h
+fits-known w true x s None h = absurd h
+fits-known w true x s (Some l) h = eq-eqb (length l.inner) (length x.list) (inner-length w x.list (entered w x l.invariant) l.inner h.1)
 
-shaped : (xs : List Step) (s : State) (ns : List Note) → AreNotes xs s ns → are_shaped xs ns ≡ true
-shaped [] s [] h = refl
-shaped [] s (n ∷ ns) h = absurd h
-shaped (x ∷ xs) s [] h = absurd h
-shaped (x ∷ xs) s (n ∷ ns) h = both-and _ _ (fits-known (is_global x.command.verb) x s n.looped h.0.list) (shaped xs (left_after n.looped x s) ns h.1)
+shaped : (w : Sight) (xs : List Step) (s : State) (ns : List Note) → AreNotes w xs s ns → are_shaped xs ns ≡ true
+shaped w [] s [] h = refl
+shaped w [] s (n ∷ ns) h = absurd h
+shaped w (x ∷ xs) s [] h = absurd h
+shaped w (x ∷ xs) s (n ∷ ns) h = both-and _ _ (fits-known w (is_global x.command.verb) x s n.looped h.0.list) (shaped w xs (left_after w n.looped x s) ns h.1)
 
 readable : (quit : Bool) (bad : Option ℕ) (s : State) → end_fault quit bad s ≡ None → quit || is_none bad ≡ true
 readable true bad s e = refl
@@ -78,16 +80,36 @@ end-holds k quit bad c number s last e least most =
 
 -- THE CERTIFICATE
 
+-- what is told of the start is what is known there
+told-start : (path : Option (List ℕ)) (min : ℕ) (max : Option ℕ) (has : Option (List (List ℕ))) →
+    told_by (version_of has) (states.start path min max (stated_of has)) ≡ states.start path min max (stated_of has)
+unfolding states.start
+told-start path min max None = refl
+told-start path min max (Some has) = refl
+
+-- what the checker judges by is what was asked for
+sight-asked : (script : Script) (start : Start) (c : Certificate) → IsCertificate script start c → seen_by script c ≡ sight_over script start
+sight-asked script start c is =
+    ap (λ version. sight_of script version c.has) is.version ∙ ap (λ has. sight_of script (version_of start.has) has) is.has
+
+begins-as : (script : Script) (start : Start) (c : Certificate) → IsCertificate script start c → told (sight_over script start) (states.start c.path c.min c.max c.has) ≡ begun start
+begins-as script start c is =
+    ap (λ version. told_by version (states.start c.path c.min c.max c.has)) (sight-version script start.has)
+    ∙ ap (λ path. told_by (version_of start.has) (states.start path c.min c.max c.has)) is.path
+    ∙ ap (λ min. told_by (version_of start.has) (states.start start.path min c.max c.has)) is.min
+    ∙ ap (λ max. told_by (version_of start.has) (states.start start.path start.min max c.has)) is.max
+    ∙ ap (λ has. told_by (version_of start.has) (states.start start.path start.min start.max has)) is.has
+    ∙ told-start start.path start.min start.max start.has
+
 -- where it is known at the end that there are at least 0 lines
 pub accepted : Laws → (script : Script) (start : Start) (c : Certificate) → IsCertificate script start c →
-    IsCounted (result_from (counted script.steps) (begun start) c.notes).zone → judged script c ≡ Accepted
+    IsCounted (result_from (sight_over script start) (counted script.steps) (begun start) c.notes).zone → judged script c ≡ Accepted
 accepted k script start c is counts =
+    let w : Sight = sight_over script start in
     let xs : List Step = counted script.steps in
     let s : State = begun start in
-    let t : State = result_from xs s c.notes in
+    let t : State = result_from w xs s c.notes in
     let quit : Bool = has_quit script.steps in
-    let begins : states.start c.path c.min c.max ≡ s =
-    ap (λ path. states.start path c.min c.max) is.path ∙ ap (λ min. states.start start.path min c.max) is.min ∙ ap (λ max. states.start start.path start.min max) is.max in
     let fewest : knows_least t.zone c.low ≡ true =
     subst (λ (n : ℕ). knows_least t.zone n ≡ true) (sym (is.low ∙ ap (λ (u : State). low_of (least u.zone 2 0)) is.last))
     (knows-low t counts) in
@@ -95,8 +117,12 @@ accepted k script start c is counts =
     subst (λ (n : Option ℕ). knows_most t.zone n ≡ true) (sym (is.high ∙ ap (λ (u : State). high_of (greatest u.zone 2 0)) is.last)) (knows-high t) in
     let paths : list_all (is_listed c.writes) (paths_from xs c.notes) ≡ true = listed-each c.writes (paths_from xs c.notes) (λ path h. (is.writes.just path).1 h) in
     let end : ℕ → State → List Check = end_checks quit script.fault c in
-    all-accepted (at 0 (are_shaped xs c.notes) ∷ checks_from c.writes end 1 (states.start c.path c.min c.max) xs c.notes)
-    (holds-at (are_shaped xs c.notes) 0 (checks_from c.writes end 1 (states.start c.path c.min c.max) xs c.notes) (shaped xs s c.notes is.notes)
-    (subst (λ (u : State). All Holds (checks_from c.writes end 1 u xs c.notes)) (sym begins)
-    (notes-hold k Holds (λ check e. e) c.writes end 1 s xs c.notes is.notes paths
-    (end-holds k quit script.fault c (1 + length xs) t is.last (subst (λ (u : State). end_fault quit script.fault u ≡ None) is.last is.end) fewest most))))
+    let all : All Holds (checks_from w c.writes end 1 s xs c.notes) =
+    notes-hold k w Holds (λ check e. e) c.writes end 1 s xs c.notes is.notes paths
+    (end-holds k quit script.fault c (1 + length xs) t is.last (subst (λ (u : State). end_fault quit script.fault u ≡ None) is.last is.end) fewest most) in
+    let begins : All Holds (checks_from w c.writes end 1 (told w (states.start c.path c.min c.max c.has)) xs c.notes) =
+    subst (λ (u : State). All Holds (checks_from w c.writes end 1 u xs c.notes)) (sym (begins-as script start c is)) all in
+    let seen : All Holds (checks_from (seen_by script c) c.writes end 1 (told (seen_by script c) (states.start c.path c.min c.max c.has)) xs c.notes) =
+    subst (λ (v : Sight). All Holds (checks_from v c.writes end 1 (told v (states.start c.path c.min c.max c.has)) xs c.notes)) (sym (sight-asked script start c is)) begins in
+    all-accepted (at 0 (are_shaped xs c.notes) ∷ checks_from (seen_by script c) c.writes end 1 (told (seen_by script c) (states.start c.path c.min c.max c.has)) xs c.notes)
+    (holds-at (are_shaped xs c.notes) 0 (checks_from (seen_by script c) c.writes end 1 (told (seen_by script c) (states.start c.path c.min c.max c.has)) xs c.notes) (shaped w xs s c.notes is.notes) seen)

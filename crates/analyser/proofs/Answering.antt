@@ -10,7 +10,7 @@ use Rattle.cert_check.specs.declared.checker.verdict.Place.{Place}
 use Rattle.cert_check.specs.Certificates.{note_value}
 use Rattle.cert_check.specs.checker.Valid.{counted, has_quit}
 use Rattle.analyser.specs.declared.analysis.Start.{Start}
-use Rattle.analyser.specs.Following.{AreNotes, NotesFail, result_from, end_fault, begun}
+use Rattle.analyser.specs.Following.{AreNotes, NotesFail, result_from, sight_over, end_fault, begun}
 use Rattle.analyser.specs.Analysis.{CommandFails, EndFails}
 
 -- the fault of the end, by what the walk came to
@@ -20,12 +20,12 @@ end-is script quit last left o q l e = sym (e ∙ ap (λ (b : Bool). end_fault b
 
 -- a fault of a command
 pub stops-at : (script : Script) (start : Start) (notes : List public.Note) (place : Place) (why : Fault) → place.command ≡ length notes →
-    NotesFail place.inner why (counted script.steps) (begun start) (map note_value notes) → CommandFails script start place why (map note_value notes)
+    NotesFail (sight_over script start) place.inner why (counted script.steps) (begun start) (map note_value notes) → CommandFails script start place why (map note_value notes)
 stops-at script start notes place why number fails = record { number = number ∙ sym (length-map notes note_value); fails = fails }
 
 -- a fault at the end, with all notes
-pub stops-at_end : (script : Script) (start : Start) (notes : List public.Note) (place : Place) (why : Fault) → AreNotes (counted script.steps) (begun start) (map note_value notes) →
-    end_fault (has_quit script.steps) script.fault (result_from (counted script.steps) (begun start) (map note_value notes)) ≡ Some why → place ≡ record { command = length notes + 1; inner = None } →
+pub stops-at_end : (script : Script) (start : Start) (notes : List public.Note) (place : Place) (why : Fault) → AreNotes (sight_over script start) (counted script.steps) (begun start) (map note_value notes) →
+    end_fault (has_quit script.steps) script.fault (result_from (sight_over script start) (counted script.steps) (begun start) (map note_value notes)) ≡ Some why → place ≡ record { command = length notes + 1; inner = None } →
     EndFails script start place why (map note_value notes)
 stops-at_end script start notes place why noted ends at = record {
   at_end = at ∙ ap (λ n. let p : Place = record { command = n + 1; inner = None } in p) (sym (length-map notes note_value));

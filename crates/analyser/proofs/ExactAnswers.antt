@@ -1,5 +1,5 @@
 -- The answer on an exact script foretells each run.
-use Rattle.std.proofs.Common.{◌≡◌, ◌≤◌, ℕ, ℤ, pos, true, false, List, [], ◌∷◌, length, Option, None, Some, Result, Ok, Err, refl, sym, ap, ◌∙◌, subst, arith}
+use Rattle.std.proofs.Common.{◌≡◌, ◌≤◌, ℕ, ℤ, pos, true, false, List, [], ◌∷◌, length, Option, None, Some, option_map, Result, Ok, Err, refl, sym, ap, ◌∙◌, subst, arith}
 use Rattle.std.proofs.lemmas.Int.{ints}
 use Rattle.std.proofs.lemmas.Bool.{le-ltb}
 use Rattle.std.proofs.lemmas.List.{length-map}
@@ -25,12 +25,13 @@ use Rattle.ed_rules.specs.States as states
 use Rattle.ed_rules.specs.Exact.{are_exact}
 use Rattle.ed_rules.specs.LineBounds.{most_lines}
 use Rattle.ed_rules.specs.ExactRules.{Tells, StartIsExact}
+use Rattle.cert_check.specs.declared.sight.Sight.{Sight}
 use Rattle.cert_check.specs.Certificates.{certificate_value}
 use Rattle.cert_check.specs.checker.Sound.{start_lines}
 use Rattle.analyser.specs.declared.analysis.Start.{Start}
 use Rattle.analyser.specs.declared.analysis.Analysis.{Analysis}
 use Rattle.analyser.specs.declared.analysis.Analysis.TheVariants.{Vouched, Cannot}
-use Rattle.analyser.specs.Following.{begun}
+use Rattle.analyser.specs.Following.{stated_of, sight_over, begun}
 use Rattle.analyser.specs.Analysis.{low_of, high_of, IsAnswer}
 use Rattle.analyser.specs.Exactness.{to_commands, IsExactRun, Foretells, IsExactAnswer}
 use Rattle.analyser.proofs.ExactWalks.{walked, certified-walk, failed-walk}
@@ -56,21 +57,21 @@ high-is n h = rw (le-ltb most_lines n h) refl
 -- THE START
 
 -- each run of what is left, from an editor that was just opened
-module _ (k : Laws) (begins : StartIsExact) (xs : List Step) (bad : Option ℕ) (exact : are_exact xs ≡ true) where
+module _ (k : Laws) (begins : StartIsExact) (w : Sight) (has : List (List ℕ)) (xs : List Step) (bad : Option ℕ) (exact : are_exact xs ≡ true) where
   from-state : (path : Option (List ℕ)) (n : ℕ) (m : Present) (answers : List Answer) → m.state.name ≡ path → length m.state.lines ≡ n →
       m.state.current ≡ n → m.state.changed ≡ false →
       AreDone answers → length xs ≤ length answers → StaysFew xs m answers →
-      Decided (walked xs bad (states.start path n (Some n))) (stop_of (steps xs bad m answers))
+      Decided (walked w xs bad (states.start path n (Some n) has)) (stop_of (steps xs bad m answers))
   from-state path n m answers name lines current flag done enough few =
       let much : length m.state.lines ≤ most_lines = few 0 (record { lines = length m.state.lines }) (prompted-stop m (ending m)) in
-      decided k xs bad (states.start path n (Some n)) m answers exact
-      (begins path n m.state name lines current flag (omega arith)) done enough few
+      decided k w xs bad (states.start path n (Some n) has) m answers exact
+      (begins path n has m.state name lines current flag (omega arith)) done enough few
 
-  from-start : (path : Option (List ℕ)) (n : ℕ) (o : Options) (answers : List Answer) → start_lines path answers ≡ Some n →
+  from-start : (path : Option (List ℕ)) (n : ℕ) (o : Options) (answers : List Answer) → option_map length (start_lines path answers) ≡ Some n →
       AreDone (to_commands path answers) → length xs ≤ length (to_commands path answers) →
       ((i : ℕ) (e : Ending) → stop_of (runs.start path (present o) (steps (front_of i xs) None) answers) ≡ Ends (Ok e) →
       e.lines ≤ most_lines) →
-      Decided (walked xs bad (states.start path n (Some n))) (stop_of (runs.start path (present o) (steps xs bad) answers))
+      Decided (walked w xs bad (states.start path n (Some n) has)) (stop_of (runs.start path (present o) (steps xs bad) answers))
   from-start None n o answers lines done enough few =
       let none : 0 ≡ n = cc in
       from-state None n (present o) answers refl none none refl done enough few
@@ -109,31 +110,31 @@ refused f (Ends (Err g)) d = ap (λ (h : Fault). Ends (Err h)) (sym d)
 
 run-decided : Laws → StartIsExact → (script : Script) (start : Start) (o : Options) (answers : List Answer) →
     IsExactRun script start o answers →
-    Decided (walked script.steps script.fault (begun start)) (stop_of (run script o answers))
+    Decided (walked (sight_over script start) script.steps script.fault (begun start)) (stop_of (run script o answers))
 run-decided k begins script start o answers h =
     let go : (path : Option (List ℕ)) → o.path ≡ path →
     ((i : ℕ) (e : Ending) → stop_of (runs.start path (present o) (steps (front_of i script.steps) None) answers) ≡ Ends (Ok e) →
     e.lines ≤ most_lines) =
     λ (path : Option (List ℕ)) (is : o.path ≡ path). subst (λ (p : Option (List ℕ)). (i : ℕ) (e : Ending) → stop_of
     (runs.start p (present o) (steps (front_of i script.steps) None) answers) ≡ Ends (Ok e) → e.lines ≤ most_lines) is h.few in
-    let from : Decided (walked script.steps script.fault (states.start start.path start.min (Some start.min)))
+    let from : Decided (walked (sight_over script start) script.steps script.fault (states.start start.path start.min (Some start.min) (stated_of start.has)))
     (stop_of (runs.start start.path (present o) (steps script.steps script.fault) answers)) =
-    from-start k begins script.steps script.fault h.exact start.path start.min o answers h.lines h.done h.enough (go start.path h.path) in
-    let same : Decided (walked script.steps script.fault (begun start))
+    from-start k begins (sight_over script start) (stated_of start.has) script.steps script.fault h.exact start.path start.min o answers h.lines h.done h.enough (go start.path h.path) in
+    let same : Decided (walked (sight_over script start) script.steps script.fault (begun start))
     (stop_of (runs.start start.path (present o) (steps script.steps script.fault) answers)) =
-    subst (λ (most : Option ℕ). Decided (walked script.steps script.fault (states.start start.path start.min most))
+    subst (λ (most : Option ℕ). Decided (walked (sight_over script start) script.steps script.fault (states.start start.path start.min most (stated_of start.has)))
     (stop_of (runs.start start.path (present o) (steps script.steps script.fault) answers))) (sym h.one) from in
-    subst (λ (p : Option (List ℕ)). Decided (walked script.steps script.fault (begun start))
+    subst (λ (p : Option (List ℕ)). Decided (walked (sight_over script start) script.steps script.fault (begun start))
     (stop_of (runs.start p (present o) (steps script.steps script.fault) answers))) (sym h.path) same
 
 pub foretold : Laws → StartIsExact → (script : Script) (start : Start) (answer : Analysis) → IsAnswer script start answer →
     IsExactAnswer script start answer
 foretold k begins script start (Vouched c) is o answers h =
     let d = subst (λ (r : Result State Fault). Decided r (stop_of (run script o answers)))
-    (certified-walk script start (certificate_value c) h.exact is) (run-decided k begins script start o answers h) in
+    (certified-walk k.needs script start (certificate_value c) h.exact is) (run-decided k begins script start o answers h) in
     let v = vouched c.low c.high (certificate_value c).last (stop_of (run script o answers)) is.low is.high d in
     subst (λ (z : Stop). Foretells (Vouched c) z) (sym v.1) (v.2, v.3)
 foretold k begins script start (Cannot place why notes) is o answers h =
-    let d = subst (λ (r : Result State Fault). Decided r (stop_of (run script o answers))) (failed-walk script start place why _ h.exact is)
+    let d = subst (λ (r : Result State Fault). Decided r (stop_of (run script o answers))) (failed-walk k.needs script start place why _ h.exact is)
     (run-decided k begins script start o answers h) in
     subst (λ (z : Stop). Foretells (Cannot place why notes) z) (sym (refused why (stop_of (run script o answers)) d)) refl

@@ -30,7 +30,7 @@ script = record {
 }
 
 abbrev start : Start
-start = record { path = Some (codes "F"); min = 3; max = Some 3 }
+start = record { path = Some (codes "F"); min = 3; max = Some 3; has = None }
 
 abbrev options : Options
 options = record { silent = false; prompt = None; path = Some (codes "F") }

@@ -25,6 +25,11 @@ use Rattle.ed_rules.specs.Rules.{step}
 use Rattle.ed_rules.specs.Exact.{are_by_number, is_exact_verb, is_exact, are_exact}
 use Rattle.ed_rules.specs.LineBounds.{most_lines}
 use Rattle.ed_rules.specs.ExactRules.{flag_of, Tells, EndAlike, LeavesTold, LeavesFew, CommandIsExact}
+use Rattle.cert_check.specs.declared.certificate.Version.{Version}
+use Rattle.cert_check.specs.declared.certificate.Version.TheVariants as version
+use Rattle.cert_check.specs.declared.sight.Sight.{Sight}
+use Rattle.cert_check.specs.checker.Valid.{told_by, told}
+use Rattle.cert_check.proofs.verdicts.Checks.{NeedsAreTheSame}
 use Rattle.ed_rules.proofs.Basics.{and-both}
 use Rattle.analyser.specs.Exactness.{quit_anyway}
 use Rattle.analyser.proofs.ExactWalks.{ended, walked, goes_on, exact-verb, exact-both}
@@ -32,6 +37,7 @@ use Rattle.analyser.proofs.ExactWalks.{ended, walked, goes_on, exact-verb, exact
 -- the laws of the crates below
 pub record Laws : Type 0 where
   pub command : CommandIsExact
+  pub needs : NeedsAreTheSame
   pub unasked : UnaskedAnswersDoNothing
   pub once : NothingIsAskedTwice
 
@@ -120,6 +126,15 @@ module _ (k : Laws) (c : Command) (m : Present) where
 
   pub comes-by : (answers : List Answer) → AreDone answers → 1 ≤ length answers → Fails c m answers ⊎ Goes c m answers
   comes-by answers all some = by-effect answers all some (command m.state c None) refl
+
+-- WHAT IS TOLD of a state tells as much of the editor
+
+tells-told_by : (v : Version) (s : State) (e : editor.State) → Tells s e → Tells (told_by v s) e
+tells-told_by version.One s e h = record { zone = h.zone; marks = h.marks; names = h.names; changed = h.changed; inside = h.inside; few = h.few }
+tells-told_by version.Two s e h = h
+
+tells-told : (w : Sight) (s : State) (e : editor.State) → Tells s e → Tells (told w s) e
+tells-told w s e h = tells-told_by w.version s e h
 
 -- THE STEPS
 
@@ -217,29 +232,29 @@ quit-few : (is_changed : Bool) (e : editor.State) → length e.lines ≤ most_li
 quit-few true e few = tt
 quit-few false e few = few
 
-quit-decided-by : (is_changed : Bool) (m : Present) (r : Result State Fault) → EndAlike LeavesTold r (quit_effect is_changed m.state) →
-    Decided (r >> λ t. Ok t) (stop_of (quits_by is_changed m))
-quit-decided-by true m (Ok t) h = absurd h
-quit-decided-by true m (Err f) h = h
-quit-decided-by false m (Ok t) h = (m.state, h, refl)
-quit-decided-by false m (Err f) h = absurd h
+quit-decided-by : (w : Sight) (is_changed : Bool) (m : Present) (r : Result State Fault) → EndAlike LeavesTold r (quit_effect is_changed m.state) →
+    Decided (r >> λ t. Ok (told w t)) (stop_of (quits_by is_changed m))
+quit-decided-by w true m (Ok t) h = absurd h
+quit-decided-by w true m (Err f) h = h
+quit-decided-by w false m (Ok t) h = (m.state, tells-told w t m.state h, refl)
+quit-decided-by w false m (Err f) h = absurd h
 
-end-decided-by : (m : Present) (r : Result State Fault) →
-    EndAlike LeavesTold r (Ok (Makes (record { state = m.state; output = []; alters = false }))) → Decided (r >> λ t. Ok t)
+end-decided-by : (w : Sight) (m : Present) (r : Result State Fault) →
+    EndAlike LeavesTold r (Ok (Makes (record { state = m.state; output = []; alters = false }))) → Decided (r >> λ t. Ok (told w t))
     (stop_of (ending m))
-end-decided-by m (Ok t) h = (m.state, h, refl)
-end-decided-by m (Err f) h = absurd h
+end-decided-by w m (Ok t) h = (m.state, tells-told w t m.state h, refl)
+end-decided-by w m (Err f) h = absurd h
 
-walked-quits : (x : Step) (xs : List Step) (bad : Option ℕ) (s : State) → ends_run x.command.verb ≡ true →
-    walked (x ∷ xs) bad s ≡ step x.command s >> λ t. Ok t
-walked-quits x xs bad s q =
-    ap (λ (b : Bool). step x.command s >> λ t. goes_on b xs bad t) q
+walked-quits : (w : Sight) (x : Step) (xs : List Step) (bad : Option ℕ) (s : State) → ends_run x.command.verb ≡ true →
+    walked w (x ∷ xs) bad s ≡ step w.watch x.command s >> λ t. Ok (told w t)
+walked-quits w x xs bad s q =
+    ap (λ (b : Bool). step w.watch x.command s >> λ t. goes_on w b xs bad (told w t)) q
 
-walked-goes : (x : Step) (xs : List Step) (bad : Option ℕ) (s t : State) → ends_run x.command.verb ≡ false → step x.command s ≡ Ok t →
-    walked (x ∷ xs) bad s ≡ walked xs bad t
-walked-goes x xs bad s t q is =
-    ap (λ (b : Bool). step x.command s >> λ u. goes_on b xs bad u) q
-    ∙ ap (λ (r : Result State Fault). r >> λ u. walked xs bad u) is
+walked-goes : (w : Sight) (x : Step) (xs : List Step) (bad : Option ℕ) (s t : State) → ends_run x.command.verb ≡ false → step w.watch x.command s ≡ Ok t →
+    walked w (x ∷ xs) bad s ≡ walked w xs bad (told w t)
+walked-goes w x xs bad s t q is =
+    ap (λ (b : Bool). step w.watch x.command s >> λ u. goes_on w b xs bad (told w u)) q
+    ∙ ap (λ (r : Result State Fault). r >> λ u. walked w xs bad (told w u)) is
 
 quits-cases : (verb : Verb) → ends_run verb ≡ true → (verb ≡ ed.Quit) ⊎ (verb ≡ ed.QuitAnyway)
 quits-cases ed.Quit q = inl refl
@@ -261,10 +276,10 @@ made-told : (r : Result State Fault) (o : Outcome) → EndAlike LeavesTold r (Ok
 made-told (Ok t) o h = (t, refl, h)
 made-told (Err f) o h = absurd h
 
-module _ (k : Laws) where
+module _ (k : Laws) (w : Sight) where
   quitting-decided : (x : Step) (xs : List Step) (bad : Option ℕ) (s : State) (m : Present) (answers : List Answer) →
       is_exact x.command ≡ true → Tells s m.state → x.command.verb ≡ ed.Quit →
-      Decided (walked (x ∷ xs) bad s) (stop_of (steps (x ∷ xs) bad m answers))
+      Decided (walked w (x ∷ xs) bad s) (stop_of (steps (x ∷ xs) bad m answers))
   quitting-decided x xs bad s m answers e h is =
       let c : Command = x.command in
       let does : command m.state c (Some answer.Done) ≡ quit_effect m.state.changed m.state =
@@ -272,36 +287,36 @@ module _ (k : Laws) where
       ∙ quit-command c.listed m.state m.state.changed refl in
       let few : LeavesFew (command m.state c (Some answer.Done)) =
       subst (λ (y : Result Effect Fault). LeavesFew y) (sym does) (quit-few m.state.changed m.state h.few) in
-      let told : EndAlike LeavesTold (step c s) (quit_effect m.state.changed m.state) =
-      subst (λ (y : Result Effect Fault). EndAlike LeavesTold (step c s) y) does (k.command c s m.state e h few) in
-      subst (λ (z : Stop). Decided (walked (x ∷ xs) bad s) z) (sym (steps-quit x xs bad m answers ed.Quit is))
+      let tells : EndAlike LeavesTold (step w.watch c s) (quit_effect m.state.changed m.state) =
+      subst (λ (y : Result Effect Fault). EndAlike LeavesTold (step w.watch c s) y) does (k.command w.watch c s m.state e h few) in
+      subst (λ (z : Stop). Decided (walked w (x ∷ xs) bad s) z) (sym (steps-quit x xs bad m answers ed.Quit is))
       (subst (λ (r : Result State Fault). Decided r (stop_of (quits_by m.state.changed m)))
-      (sym (walked-quits x xs bad s (ap (λ (v : Verb). ends_run v) is)))
-      (quit-decided-by m.state.changed m (step c s) told))
+      (sym (walked-quits w x xs bad s (ap (λ (v : Verb). ends_run v) is)))
+      (quit-decided-by w m.state.changed m (step w.watch c s) tells))
 
   ending-decided : (x : Step) (xs : List Step) (bad : Option ℕ) (s : State) (m : Present) (answers : List Answer) →
       is_exact x.command ≡ true → Tells s m.state → x.command.verb ≡ ed.QuitAnyway →
-      Decided (walked (x ∷ xs) bad s) (stop_of (steps (x ∷ xs) bad m answers))
+      Decided (walked w (x ∷ xs) bad s) (stop_of (steps (x ∷ xs) bad m answers))
   ending-decided x xs bad s m answers e h is =
       let c : Command = x.command in
       let y : Result Effect Fault = Ok (Makes (record { state = m.state; output = []; alters = false })) in
       let does : command m.state c (Some answer.Done) ≡ y =
       ap (λ (d : Command). command m.state d (Some answer.Done)) (bare-by c ed.QuitAnyway e is refl refl) in
       let few : LeavesFew (command m.state c (Some answer.Done)) = subst (λ (z : Result Effect Fault). LeavesFew z) (sym does) h.few in
-      let told : EndAlike LeavesTold (step c s) y =
-      subst (λ (z : Result Effect Fault). EndAlike LeavesTold (step c s) z) does (k.command c s m.state e h few) in
-      subst (λ (z : Stop). Decided (walked (x ∷ xs) bad s) z) (sym (steps-quit x xs bad m answers ed.QuitAnyway is))
-      (subst (λ (r : Result State Fault). Decided r (stop_of (ending m))) (sym (walked-quits x xs bad s (ap (λ (v : Verb). ends_run v) is)))
-      (end-decided-by m (step c s) told))
+      let tells : EndAlike LeavesTold (step w.watch c s) y =
+      subst (λ (z : Result Effect Fault). EndAlike LeavesTold (step w.watch c s) z) does (k.command w.watch c s m.state e h few) in
+      subst (λ (z : Stop). Decided (walked w (x ∷ xs) bad s) z) (sym (steps-quit x xs bad m answers ed.QuitAnyway is))
+      (subst (λ (r : Result State Fault). Decided r (stop_of (ending m))) (sym (walked-quits w x xs bad s (ap (λ (v : Verb). ends_run v) is)))
+      (end-decided-by w m (step w.watch c s) tells))
 
   pub decided : (xs : List Step) (bad : Option ℕ) (s : State) (m : Present) (answers : List Answer) → are_exact xs ≡ true →
       Tells s m.state → AreDone answers → length xs ≤ length answers → StaysFew xs m answers →
-      Decided (walked xs bad s) (stop_of (steps xs bad m answers))
+      Decided (walked w xs bad s) (stop_of (steps xs bad m answers))
   decided [] bad s m answers e h done enough few =
       subst (λ (z : Stop). Decided (ended bad s) z) (sym (prompted-stop m (at_end bad m))) (end-decided bad s m h)
   decided (x ∷ xs) bad s m answers e h done enough few =
       let both = exact-both x xs e in
-      (elim (ends_run x.command.verb) as (λ q. ends_run x.command.verb ≡ q → Decided (walked (x ∷ xs) bad s)
+      (elim (ends_run x.command.verb) as (λ q. ends_run x.command.verb ≡ q → Decided (walked w (x ∷ xs) bad s)
       (stop_of (steps (x ∷ xs) bad m answers))) [
         | true ↦ λ q. elim (quits-cases x.command.verb q) [
           | inl is ↦ quitting-decided x xs bad s m answers both.0 h is
@@ -309,13 +324,13 @@ module _ (k : Laws) where
         ]
         | false ↦ λ q. elim (comes-by k x.command m answers done (omega arith)) [
           | inl f ↦
-              let told : EndAlike LeavesTold (step x.command s) (Err f.fault) =
-              subst (λ (y : Result Effect Fault). EndAlike LeavesTold (step x.command s) y) f.comes
-              (k.command x.command s m.state both.0 h (subst (λ (y : Result Effect Fault). LeavesFew y) (sym f.comes) tt)) in
-              subst (λ (z : Stop). Decided (walked (x ∷ xs) bad s) z)
+              let tells : EndAlike LeavesTold (step w.watch x.command s) (Err f.fault) =
+              subst (λ (y : Result Effect Fault). EndAlike LeavesTold (step w.watch x.command s) y) f.comes
+              (k.command w.watch x.command s m.state both.0 h (subst (λ (y : Result Effect Fault). LeavesFew y) (sym f.comes) tt)) in
+              subst (λ (z : Stop). Decided (walked w (x ∷ xs) bad s) z)
               (sym (steps-is x xs bad m answers (exact-verb x.command both.0) q ∙ f.stops (λ t more. steps xs bad t more)))
-              (fail-decided (step x.command s) f.fault
-              (λ t. goes_on (ends_run x.command.verb) xs bad t) told)
+              (fail-decided (step w.watch x.command s) f.fault
+              (λ t. goes_on w (ends_run x.command.verb) xs bad (told w t)) tells)
           | inr g ↦
               let n : Present = turned x.command.verb (reached g.outcome m) in
               let same : n.state ≡ g.outcome.state = turned-state x.command.verb (reached g.outcome m) in
@@ -324,15 +339,15 @@ module _ (k : Laws) where
               (λ t more. steps ys b t more) in
               let much : length n.state.lines ≤ most_lines =
               few 1 (record { lines = length n.state.lines }) (on (front_of 0 xs) None ∙ prompted-stop n (ending n)) in
-              let told = made-told (step x.command s) g.outcome
-              (subst (λ (y : Result Effect Fault). EndAlike LeavesTold (step x.command s) y) g.comes
-              (k.command x.command s m.state both.0 h
+              let made = made-told (step w.watch x.command s) g.outcome
+              (subst (λ (y : Result Effect Fault). EndAlike LeavesTold (step w.watch x.command s) y) g.comes
+              (k.command w.watch x.command s m.state both.0 h
               (subst (λ (y : Result Effect Fault). LeavesFew y) (sym g.comes)
               (subst (λ (f : editor.State). length f.lines ≤ most_lines) same much)))) in
-              let t : State = told.0 in
-              subst (λ (z : Stop). Decided (walked (x ∷ xs) bad s) z) (sym (on xs bad))
-              (subst (λ (r : Result State Fault). Decided r (stop_of (steps xs bad n g.later))) (sym (walked-goes x xs bad s t q told.1))
-              (decided xs bad t n g.later both.1 (subst (λ (f : editor.State). Tells t f) (sym same) told.2) g.done
+              let t : State = made.0 in
+              subst (λ (z : Stop). Decided (walked w (x ∷ xs) bad s) z) (sym (on xs bad))
+              (subst (λ (r : Result State Fault). Decided r (stop_of (steps xs bad n g.later))) (sym (walked-goes w x xs bad s t q made.1))
+              (decided xs bad (told w t) n g.later both.1 (subst (λ (f : editor.State). Tells (told w t) f) (sym same) (tells-told w t g.outcome.state made.2)) g.done
               (let some = g.enough in omega arith)
               (λ i e stop. few (suc i) e (on (front_of i xs) None ∙ stop))))
         ]

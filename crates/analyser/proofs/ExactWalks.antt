@@ -11,12 +11,13 @@ use Rattle.ed_rules.specs.Exact.{are_by_number, is_exact_verb, is_exact, are_exa
 use Rattle.ed_syntax.specs.spelling.Readable.{is_readable}
 use Rattle.ed_syntax.specs.meaning.Verbs.{is_global, ends_run}
 use Rattle.ed_rules.proofs.Basics.{and-both}
+use Rattle.cert_check.specs.declared.sight.Sight.{Sight}
 use Rattle.cert_check.specs.declared.checker.verdict.Place.{Place}
 use Rattle.cert_check.specs.Certificates.{Looped, Note, Certificate}
-use Rattle.cert_check.specs.checker.Valid.{counted, has_quit, are_met, left_by, left_after}
-use Rattle.cert_check.proofs.verdicts.Checks.{met-gives}
+use Rattle.cert_check.specs.checker.Valid.{counted, has_quit, told, are_met, left_by, left_after}
+use Rattle.cert_check.proofs.verdicts.Checks.{NeedsAreTheSame, plainly_left, met-gives}
 use Rattle.analyser.specs.declared.analysis.Start.{Start}
-use Rattle.analyser.specs.Following.{IsKnownOfList, IsNote, NeedFails, AreNotes, NotesFail, result_from, end_fault, begun}
+use Rattle.analyser.specs.Following.{IsKnownOfList, IsNote, NeedFails, AreNotes, NotesFail, result_from, sight_over, end_fault, begun}
 use Rattle.analyser.specs.Analysis.{IsCertificate, IsFailure}
 
 -- the end of a script that doesn't quit
@@ -28,14 +29,14 @@ ended None s = elim s.changed.yes [ true ↦ Err fault.Unsaved | false ↦ Ok s 
 abbrev closes : (quit : Bool) → (bad : Option ℕ) → State → Result State Fault
 closes quit bad s = elim quit [ true ↦ Ok s | false ↦ ended bad s ]
 
--- the rules of commands without lists, up to the end
-abbrev pub walked : List Step → (bad : Option ℕ) → State → Result State Fault
-walked [] bad s = ended bad s
-walked (x ∷ xs) bad s = step x.command s >> λ t. elim (ends_run x.command.verb) [ true ↦ Ok t | false ↦ walked xs bad t ]
+-- the rules of commands without lists, up to the end; of each result as much comes in at the next one as is told
+abbrev pub walked : Sight → List Step → (bad : Option ℕ) → State → Result State Fault
+walked w [] bad s = ended bad s
+walked w (x ∷ xs) bad s = step w.watch x.command s >> λ t. elim (ends_run x.command.verb) [ true ↦ Ok (told w t) | false ↦ walked w xs bad (told w t) ]
 
 -- what comes after a step: the end where it quits, else the steps that are left
-abbrev pub goes_on : (quit : Bool) → List Step → (bad : Option ℕ) → State → Result State Fault
-goes_on quit xs bad s = elim quit [ true ↦ Ok s | false ↦ walked xs bad s ]
+abbrev pub goes_on : Sight → (quit : Bool) → List Step → (bad : Option ℕ) → State → Result State Fault
+goes_on w quit xs bad s = elim quit [ true ↦ Ok s | false ↦ walked w xs bad s ]
 
 not-global : (verb : Verb) → is_exact_verb verb ≡ true → is_global verb ≡ false
 not-global (ed.Global sense pattern) h = absurd cc
@@ -46,16 +47,17 @@ exact-verb c h =
     let both = and-both (are_by_number c.addresses && is_exact_verb c.verb) (is_readable c) h in
     (and-both (are_by_number c.addresses) (is_exact_verb c.verb) both.0).1
 
-no-list : (x : Step) (s : State) (l : Option Looped) → is_global x.command.verb ≡ false → IsKnownOfList (is_global x.command.verb) x s l →
+no-list : (w : Sight) (x : Step) (s : State) (l : Option Looped) → is_global x.command.verb ≡ false → IsKnownOfList w (is_global x.command.verb) x s l →
     l ≡ None
-no-list x s None g h = refl
-no-list x s (Some l) g h = absurd (let P : Bool → Type 0 = λ (b : Bool). IsKnownOfList b x s (Some l) in subst P g h)
+no-list w x s None g h = refl
+no-list w x s (Some l) g h = absurd (let P : Bool → Type 0 = λ (b : Bool). IsKnownOfList w b x s (Some l) in subst P g h)
 
-note-leaves : (x : Step) (s : State) (n : Note) → is_exact x.command ≡ true → IsNote x s n →
-    (step x.command s ≡ Ok (left_after n.looped x s))
-note-leaves x s n e h =
-    let none : n.looped ≡ None = no-list x s n.looped (not-global x.command.verb (exact-verb x.command e)) h.list in
-    met-gives x.command s h.met ∙ ap (λ (l : Option Looped). Ok (left_after l x s)) (sym none)
+note-leaves : NeedsAreTheSame → (w : Sight) (x : Step) (s : State) (n : Note) → is_exact x.command ≡ true → IsNote w x s n →
+    (step w.watch x.command s ≡ Ok (plainly_left w x.command s)) × (told w (plainly_left w x.command s) ≡ left_after w n.looped x s)
+unfolding left_by
+note-leaves same w x s n e h =
+    let none : n.looped ≡ None = no-list w x s n.looped (not-global x.command.verb (exact-verb x.command e)) h.list in
+    (met-gives same w x.command s h.met, ap (λ (l : Option Looped). left_after w l x s) (sym none))
 
 -- THE END
 
@@ -81,15 +83,15 @@ ended-some None s why h =
     ]) h
 
 -- one step of the walk
-walked-step : (x : Step) (xs : List Step) (bad : Option ℕ) (s t : State) → step x.command s ≡ Ok t →
-    walked (x ∷ xs) bad s ≡ goes_on (ends_run x.command.verb) xs bad t
-walked-step x xs bad s t is =
-    ap (λ (r : Result State Fault). r >> λ u. goes_on (ends_run x.command.verb) xs bad u) is
+walked-step : (w : Sight) (x : Step) (xs : List Step) (bad : Option ℕ) (s t : State) → step w.watch x.command s ≡ Ok t →
+    walked w (x ∷ xs) bad s ≡ goes_on w (ends_run x.command.verb) xs bad (told w t)
+walked-step w x xs bad s t is =
+    ap (λ (r : Result State Fault). r >> λ u. goes_on w (ends_run x.command.verb) xs bad (told w u)) is
 
-walked-fails : (x : Step) (xs : List Step) (bad : Option ℕ) (s : State) (f : Fault) → step x.command s ≡ Err f →
-    walked (x ∷ xs) bad s ≡ Err f
-walked-fails x xs bad s f is =
-    ap (λ (r : Result State Fault). r >> λ u. goes_on (ends_run x.command.verb) xs bad u) is
+walked-fails : (w : Sight) (x : Step) (xs : List Step) (bad : Option ℕ) (s : State) (f : Fault) → step w.watch x.command s ≡ Err f →
+    walked w (x ∷ xs) bad s ≡ Err f
+walked-fails w x xs bad s f is =
+    ap (λ (r : Result State Fault). r >> λ u. goes_on w (ends_run x.command.verb) xs bad (told w u)) is
 
 pub exact-both : (x : Step) (xs : List Step) → are_exact (x ∷ xs) ≡ true → (is_exact x.command ≡ true) × (are_exact xs ≡ true)
 exact-both x xs h = and-both (is_exact x.command) (are_exact xs) h
@@ -100,27 +102,34 @@ counted_by quit xs = elim quit [ true ↦ [] | false ↦ counted xs ]
 
 -- NOTES OF ALL COMMANDS
 
-noted-comes : (xs : List Step) (bad : Option ℕ) (s : State) (ns : List Note) → are_exact xs ≡ true → AreNotes (counted xs) s ns →
-    walked xs bad s ≡ closes (has_quit xs) bad (result_from (counted xs) s ns)
-noted-comes [] bad s [] e h = refl
-noted-comes [] bad s (n ∷ ns) e h = absurd h
-noted-comes (x ∷ xs) bad s [] e h = absurd h
-noted-comes (x ∷ xs) bad s (n ∷ ns) e h =
+-- what an exact command that is noted leaves comes in at the next one
+note-walked : NeedsAreTheSame → (w : Sight) (x : Step) (xs : List Step) (bad : Option ℕ) (s : State) (n : Note) → is_exact x.command ≡ true → IsNote w x s n →
+    walked w (x ∷ xs) bad s ≡ goes_on w (ends_run x.command.verb) xs bad (left_after w n.looped x s)
+note-walked same w x xs bad s n e h =
+    let leaves = note-leaves same w x s n e h in
+    walked-step w x xs bad s (plainly_left w x.command s) leaves.0 ∙ ap (λ (t : State). goes_on w (ends_run x.command.verb) xs bad t) leaves.1
+
+noted-comes : NeedsAreTheSame → (w : Sight) (xs : List Step) (bad : Option ℕ) (s : State) (ns : List Note) → are_exact xs ≡ true → AreNotes w (counted xs) s ns →
+    walked w xs bad s ≡ closes (has_quit xs) bad (result_from w (counted xs) s ns)
+noted-comes same w [] bad s [] e h = refl
+noted-comes same w [] bad s (n ∷ ns) e h = absurd h
+noted-comes same w (x ∷ xs) bad s [] e h = absurd h
+noted-comes same w (x ∷ xs) bad s (n ∷ ns) e h =
     let both = exact-both x xs e in
-    let t : State = left_after n.looped x s in
-    walked-step x xs bad s t (note-leaves x s n both.0 h.0)
-    ∙ (elim (ends_run x.command.verb) as (λ q. AreNotes (counted_by q xs) t ns →
-    goes_on q xs bad t ≡ closes (q || has_quit xs) bad (result_from (counted_by q xs) t ns)) [
+    let t : State = left_after w n.looped x s in
+    note-walked same w x xs bad s n both.0 h.0
+    ∙ (elim (ends_run x.command.verb) as (λ q. AreNotes w (counted_by q xs) t ns →
+    goes_on w q xs bad t ≡ closes (q || has_quit xs) bad (result_from w (counted_by q xs) t ns)) [
       | true ↦ λ k. refl
-      | false ↦ λ k. noted-comes xs bad t ns both.1 k
+      | false ↦ λ k. noted-comes same w xs bad t ns both.1 k
     ]) h.1
 
 -- A CERTIFICATE
 
-pub certified-walk : (script : Script) (start : Start) (c : Certificate) → are_exact script.steps ≡ true → IsCertificate script start c →
-    walked script.steps script.fault (begun start) ≡ Ok c.last
-certified-walk script start c e h =
-    noted-comes script.steps script.fault (begun start) c.notes e h.notes
+pub certified-walk : NeedsAreTheSame → (script : Script) (start : Start) (c : Certificate) → are_exact script.steps ≡ true → IsCertificate script start c →
+    walked (sight_over script start) script.steps script.fault (begun start) ≡ Ok c.last
+certified-walk same script start c e h =
+    noted-comes same (sight_over script start) script.steps script.fault (begun start) c.notes e h.notes
     ∙ ap (λ (t : State). closes (has_quit script.steps) script.fault t)
     (sym h.last)
     ∙ (elim (has_quit script.steps) as (λ q. end_fault q script.fault c.last ≡ None →
@@ -131,53 +140,53 @@ certified-walk script start c e h =
 
 -- A FAILURE
 
-need-fails : (inner : Option ℕ) (why : Fault) (x : Step) (s : State) (l : Option Looped) → is_exact x.command ≡ true →
-    NeedFails inner why x s l → step x.command s ≡ Err why
-need-fails None why x s None e h = fails (step x.command s) h
+need-fails : NeedsAreTheSame → (w : Sight) (inner : Option ℕ) (why : Fault) (x : Step) (s : State) (l : Option Looped) → is_exact x.command ≡ true →
+    NeedFails w inner why x s l → step w.watch x.command s ≡ Err why
+need-fails same w None why x s None e h = fails (step w.watch x.command s) (same w.watch [] x.command s ∙ h)
   where
     fails : (r : Result State Fault) → fault_of r ≡ Some why → r ≡ Err why
     fails (Ok t) h = absurd cc
     fails (Err f) h = fault-is f why h
-need-fails None why x s (Some l) e h = absurd h
-need-fails (Some inner) why x s None e h = absurd h
-need-fails (Some inner) why x s (Some l) e h =
+need-fails same w None why x s (Some l) e h = absurd h
+need-fails same w (Some inner) why x s None e h = absurd h
+need-fails same w (Some inner) why x s (Some l) e h =
     let g : is_global x.command.verb ≡ false = not-global x.command.verb (exact-verb x.command e) in
     let k : is_global x.command.verb ≡ true = h.global in
     let bad : false ≡ true = sym g ∙ k in
     absurd cc
 
-fails-walk : (inner : Option ℕ) (why : Fault) (xs : List Step) (bad : Option ℕ) (s : State) (ns : List Note) → are_exact xs ≡ true →
-    NotesFail inner why (counted xs) s ns →
-    walked xs bad s ≡ Err why
-fails-walk inner why [] bad s ns e h = absurd h
-fails-walk inner why (x ∷ xs) bad s [] e h = absurd h
-fails-walk inner why (x ∷ xs) bad s (n ∷ []) e h =
-    walked-fails x xs bad s why (need-fails inner why x s n.looped (exact-both x xs e).0 h.1)
-fails-walk inner why (x ∷ xs) bad s (n ∷ m ∷ ns) e h =
+fails-walk : NeedsAreTheSame → (w : Sight) (inner : Option ℕ) (why : Fault) (xs : List Step) (bad : Option ℕ) (s : State) (ns : List Note) → are_exact xs ≡ true →
+    NotesFail w inner why (counted xs) s ns →
+    walked w xs bad s ≡ Err why
+fails-walk same w inner why [] bad s ns e h = absurd h
+fails-walk same w inner why (x ∷ xs) bad s [] e h = absurd h
+fails-walk same w inner why (x ∷ xs) bad s (n ∷ []) e h =
+    walked-fails w x xs bad s why (need-fails same w inner why x s n.looped (exact-both x xs e).0 h.1)
+fails-walk same w inner why (x ∷ xs) bad s (n ∷ m ∷ ns) e h =
     let both = exact-both x xs e in
-    let t : State = left_after n.looped x s in
-    let r = (elim (ends_run x.command.verb) as (λ q. NotesFail inner why (counted_by q xs) t (m ∷ ns) →
-    goes_on q xs bad t ≡ Err why) [
+    let t : State = left_after w n.looped x s in
+    let r = (elim (ends_run x.command.verb) as (λ q. NotesFail w inner why (counted_by q xs) t (m ∷ ns) →
+    goes_on w q xs bad t ≡ Err why) [
       | true ↦ λ k. absurd k
-      | false ↦ λ k. fails-walk inner why xs bad t (m ∷ ns) both.1 k
+      | false ↦ λ k. fails-walk same w inner why xs bad t (m ∷ ns) both.1 k
     ]) h.1 in
-    walked-step x xs bad s t (note-leaves x s n both.0 h.0) ∙ r
+    note-walked same w x xs bad s n both.0 h.0 ∙ r
 
-end-walk : (script : Script) (start : Start) (notes : List Note) (why : Fault) → are_exact script.steps ≡ true →
-    AreNotes (counted script.steps) (begun start) notes →
-    end_fault (has_quit script.steps) script.fault (result_from (counted script.steps) (begun start) notes) ≡ Some why →
-    walked script.steps script.fault (begun start) ≡ Err why
-end-walk script start notes why e h k =
-    let last : State = result_from (counted script.steps) (begun start) notes in
+end-walk : NeedsAreTheSame → (script : Script) (start : Start) (notes : List Note) (why : Fault) → are_exact script.steps ≡ true →
+    AreNotes (sight_over script start) (counted script.steps) (begun start) notes →
+    end_fault (has_quit script.steps) script.fault (result_from (sight_over script start) (counted script.steps) (begun start) notes) ≡ Some why →
+    walked (sight_over script start) script.steps script.fault (begun start) ≡ Err why
+end-walk same script start notes why e h k =
+    let last : State = result_from (sight_over script start) (counted script.steps) (begun start) notes in
     let r = (elim (has_quit script.steps) as (λ q. end_fault q script.fault last ≡ Some why →
     closes q script.fault last ≡ Err why) [
       | true ↦ λ i. absurd cc
       | false ↦ λ i. ended-some script.fault last why i
     ]) k in
-    noted-comes script.steps script.fault (begun start) notes e h ∙ r
+    noted-comes same (sight_over script start) script.steps script.fault (begun start) notes e h ∙ r
 
-pub failed-walk : (script : Script) (start : Start) (place : Place) (why : Fault) (notes : List Note) → are_exact script.steps ≡ true →
+pub failed-walk : NeedsAreTheSame → (script : Script) (start : Start) (place : Place) (why : Fault) (notes : List Note) → are_exact script.steps ≡ true →
     IsFailure script start place why notes →
-    walked script.steps script.fault (begun start) ≡ Err why
-failed-walk script start place why notes e (inl h) = fails-walk place.inner why script.steps script.fault (begun start) notes e h.fails
-failed-walk script start place why notes e (inr h) = end-walk script start notes why e h.noted h.fails
+    walked (sight_over script start) script.steps script.fault (begun start) ≡ Err why
+failed-walk same script start place why notes e (inl h) = fails-walk same (sight_over script start) place.inner why script.steps script.fault (begun start) notes e h.fails
+failed-walk same script start place why notes e (inr h) = end-walk same script start notes why e h.noted h.fails

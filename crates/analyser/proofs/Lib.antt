@@ -2,6 +2,7 @@ pub mod Listing
 pub mod Sets
 pub mod Results
 pub mod Remembering
+pub mod Gaining
 pub mod Rooms
 pub mod Rounding
 pub mod ToldBounds
@@ -10,6 +11,7 @@ pub mod Accepting
 pub mod Answering
 pub mod Going
 pub mod Determined
+pub mod Telling
 pub mod Texting
 pub mod ExactWalks
 pub mod ExactRuns

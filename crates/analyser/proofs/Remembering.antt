@@ -23,6 +23,10 @@ use Rattle.ed_rules.specs.Substituting.{replacement_used, pattern_used, mark_sub
 use Rattle.ed_rules.specs.Files.{named, named_first, named_anew, file_read, whole_or_ranged, file_written, loaded, saved, edited_anyway, edited, file_named}
 use Rattle.ed_rules.specs.Undoing.{brought_back, undone_by}
 use Rattle.ed_rules.specs.Rules.{taken, effect, suffixed, step_at, step}
+use Rattle.cert_check.specs.declared.certificate.Version.{Version}
+use Rattle.cert_check.specs.declared.certificate.Version.TheVariants as version
+use Rattle.cert_check.specs.declared.sight.Sight.{Sight}
+use Rattle.cert_check.specs.checker.Valid.{told_by, told}
 use Rattle.ed_rules.proofs.Basics.{and-both}
 use Rattle.ed_syntax.proofs.meaning.ResultLemmas.{IfOk-bind, IfOk-after}
 use Rattle.analyser.proofs.Results.{either, for_each, needed}
@@ -390,9 +394,9 @@ module _ (patterns names : List Choice) where
   within-suffixed None s q = q
   within-suffixed (Some form) s q = needed (Within patterns names) _ _ s q
 
-  within-step_at : (a : Addresses) (c : Command) (s : State) → are_choices (addresses_patterns a) patterns ≡ true → are_choices (verb_patterns c.verb) patterns ≡ true → are_choices (verb_paths c.verb) names ≡ true →
-      Within patterns names s → IfOk (step_at a c s) (Within patterns names)
-  within-step_at a c s d g f q =
+  within-step_at : (watched : List (List ℕ)) (a : Addresses) (c : Command) (s : State) → are_choices (addresses_patterns a) patterns ≡ true → are_choices (verb_patterns c.verb) patterns ≡ true → are_choices (verb_paths c.verb) names ≡ true →
+      Within patterns names s → IfOk (step_at watched a c s) (Within patterns names)
+  within-step_at watched a c s d g f q =
       IfOk-bind (Within patterns names) (Within patterns names) (addressed a s) _ (within-addressed a s d q) (λ t h.
       IfOk-bind (Within patterns names) (Within patterns names) (targeted (takes c.verb).target t) _
       (within-targeted (takes c.verb).target t (target-patterns patterns c.verb g) h) (λ p i.
@@ -402,10 +406,18 @@ module _ (patterns names : List Choice) where
       (within-effect c.listed c.addresses c.verb s u g f j) (λ r l.
       within-suffixed c.suffix _ l))))
 
-  pub within-step : (c : Command) (s : State) → are_choices (command_patterns c) patterns ≡ true → are_choices (verb_paths c.verb) names ≡ true → Within patterns names s →
-      IfOk (step c s) (Within patterns names)
-  within-step c s g f q =
+  pub within-step : (watched : List (List ℕ)) (c : Command) (s : State) → are_choices (command_patterns c) patterns ≡ true → are_choices (verb_paths c.verb) names ≡ true → Within patterns names s →
+      IfOk (step watched c s) (Within patterns names)
+  within-step watched c s g f q =
       let both = append-all (has_choice patterns) (addresses_patterns c.addresses) (verb_patterns c.verb) g in
-      IfOk-bind (Within patterns names) (Within patterns names) _ (step_at (given_or c.addresses (standing (takes c.verb).default)) c)
+      IfOk-bind (Within patterns names) (Within patterns names) _ (step_at watched (given_or c.addresses (standing (takes c.verb).default)) c)
       (needed (Within patterns names) _ _ s q)
-      (λ t h. within-step_at (given_or c.addresses (standing (takes c.verb).default)) c t (own-patterns patterns c.addresses c.verb both.0) both.1 f h)
+      (λ t h. within-step_at watched (given_or c.addresses (standing (takes c.verb).default)) c t (own-patterns patterns c.addresses c.verb both.0) both.1 f h)
+
+-- as far as it is told
+within-told_by : (patterns names : List Choice) (v : Version) (s : State) → Within patterns names s → Within patterns names (told_by v s)
+within-told_by patterns names version.One s q = q
+within-told_by patterns names version.Two s q = q
+
+pub within-told : (patterns names : List Choice) (w : Sight) (s : State) → Within patterns names s → Within patterns names (told w s)
+within-told patterns names w s q = within-told_by patterns names w.version s q

@@ -1,8 +1,9 @@
 -- How often the invariant of the rounds of a list can still be weakened, and that this falls from each round to the next.
-use Rattle.std.proofs.Common.{pos, negsuc, ℤ, ◌≡◌, ◌≤◌, ◌<◌, ◌+◌, ◌*◌, ℕ, zero, suc, Bool, true, false, ◌||◌, ◌&&◌, List, [], ◌∷◌, length, get_or, Option, None, Some, ◌⊎◌, inl, inr, refl, sym, ap, subst, arith}
+use Rattle.std.proofs.Common.{pos, negsuc, ℤ, ◌≡◌, ◌≤◌, ◌<◌, ◌+◌, ◌*◌, ℕ, zero, suc, Bool, true, false, ◌||◌, ◌&&◌, List, [], ◌∷◌, length, get_or, Option, None, Some, ◌⊎◌, inl, inr, refl, sym, ap, subst, cond, nat_eq, arith}
 use Rattle.std.specs.Prelude.{nat_lt}
+use Rattle.std.specs.List.{list_all, filter}
 use Rattle.std.specs.Ordering.{is_eq, nat_cmp}
-use Rattle.std.specs.Cmp.Lexicographic.{slice_cmp}
+use Rattle.std.specs.Cmp.Lexicographic.{pointwise, slice_cmp, bytes_decides}
 use Rattle.std.specs.declared.cmp.Ordering.{Ordering}
 use Rattle.std.specs.declared.cmp.Ordering.TheVariants.{Less, Equal, Greater}
 use Rattle.std.proofs.lemmas.Int.{ints}
@@ -22,10 +23,12 @@ use Rattle.ed_rules.specs.declared.state.Old.{Old}
 use Rattle.ed_rules.specs.declared.state.State.{State}
 use Rattle.ed_rules.specs.Choices.{Choice, order_of, has_choice, union, are_choices}
 use Rattle.ed_rules.specs.Marks.{is_sure, both_sure}
-use Rattle.ed_rules.specs.Order.{old_of_both, united, join, widen, CoversOld, Covers}
+use Rattle.ed_rules.specs.Texts.{is_member, are_members, both_texts}
+use Rattle.ed_rules.specs.Order.{old_of_both, old_has_of_both, united, join, widen, CoversOld, Covers}
 use Rattle.ed_rules.proofs.Basics.{and-both}
 use Rattle.ed_rules.proofs.Choosing.{or-cases, or-left, or-right, choice-itself}
-use Rattle.cert_check.specs.checker.Covering.{zone_covers, allows, are_among, old_covers, covers}
+use Rattle.ed_rules.proofs.Texting.{member-passes, members-both, members-both_other}
+use Rattle.cert_check.specs.checker.Covering.{zone_covers, allows, are_among, old_covers, old_has_covers, covers}
 use Rattle.cert_check.proofs.verdicts.Covering.{below-each}
 use Rattle.analyser.specs.Rounds.{next_invariant}
 use Rattle.analyser.specs.Walking.{OldIsZone, HasZones}
@@ -256,19 +259,116 @@ falls-old (Some one) (Some other) h k c d =
     (falls-zone one.zone other.zone (join_of one.zone other.zone) h (IsZone-join_of one.zone other.zone h k) c.0 d.0)
     (falls-marks one.marks other.marks)
 
--- A STATE, beside the patterns and the paths that may ever be remembered
+-- TEXTS
 
-abbrev pub state_room : (patterns names : List Choice) → State → ℕ
-state_room patterns names s =
+-- those of a set that pass a test are fewer where not all do
+filter-length : (p : List ℕ → Bool) (set : List (List ℕ)) → (length (filter p set) ≤ length set) × (list_all p set ≡ false → length (filter p set) < length set)
+filter-length p [] = (omega arith, λ e. absurd cc)
+filter-length p (t ∷ set) =
+    let later = filter-length p set in
+    let no_more = later.0 in
+    elim (p t) as (λ b. (length (cond b (t ∷ filter p set) (filter p set)) ≤ suc (length set)) × (b && list_all p set ≡ false → length (cond b (t ∷ filter p set) (filter p set)) < suc (length set))) [
+      | true ↦ (omega arith, λ e. let fewer = later.1 e in omega arith)
+      | false ↦ (omega arith, λ e. omega arith)
+    ]
+
+falls-has : (one other : List (List ℕ)) → Falls (are_members one other) (length (both_texts one other)) (length one)
+falls-has one other = let h = filter-length (is_member other) one in record { no_more = h.0; fewer = h.1 }
+
+-- how many of a list of texts a set has
+abbrev pub held_of : (texts set : List (List ℕ)) → ℕ
+held_of [] set = 0
+held_of (t ∷ texts) set = mark_room (is_member set t) + held_of texts set
+
+held-most : (texts set : List (List ℕ)) → held_of texts set ≤ length texts
+held-most [] set = omega arith
+held-most (t ∷ texts) set =
+    let here = mark-most (is_member set t) in
+    let later = held-most texts set in
+    omega arith
+
+abbrev HoldsTexts : (few many : List (List ℕ)) → Type 0
+HoldsTexts few many = (t : List ℕ) → is_member few t ≡ true → is_member many t ≡ true
+
+room-less : (a b : Bool) → (a ≡ true → b ≡ true) → mark_room a ≤ mark_room b
+room-less true b h = let e : b ≡ true = h refl in rw e (omega arith)
+room-less false b h = omega arith
+
+held-less : (texts few many : List (List ℕ)) → HoldsTexts few many → held_of texts few ≤ held_of texts many
+held-less [] few many h = omega arith
+held-less (t ∷ texts) few many h =
+    let here = room-less (is_member few t) (is_member many t) (h t) in
+    let later = held-less texts few many h in
+    omega arith
+
+room-fewer : (a b : Bool) → a ≡ false → b ≡ true → mark_room a < mark_room b
+room-fewer a b e f = rw (e, f) (omega arith)
+
+held-fewer : (texts few many : List (List ℕ)) (t : List ℕ) → HoldsTexts few many → is_member texts t ≡ true → is_member few t ≡ false → is_member many t ≡ true → held_of texts few < held_of texts many
+held-fewer [] few many t h i e f = absurd cc
+held-fewer (u ∷ texts) few many t h i e f = elim (or-cases (pointwise nat_eq u t) (is_member texts t) i) [
+  | inl q ↦
+      let same : t ≡ u = sym ((bytes_decides u t).0 q) in
+      let here : mark_room (is_member few u) < mark_room (is_member many u) = room-fewer (is_member few u) (is_member many u) (subst (λ (x : List ℕ). is_member few x ≡ false) same e) (subst (λ (x : List ℕ). is_member many x ≡ true) same f) in
+      let later = held-less texts few many h in
+      omega arith
+  | inr q ↦
+      let here = room-less (is_member few u) (is_member many u) (h u) in
+      let later = held-fewer texts few many t h q e f in
+      omega arith
+]
+
+-- where not each of some texts is in another set, one is lost
+lost-fewer : (texts few many other : List (List ℕ)) → HoldsTexts few many → HoldsTexts few other → (some : List (List ℕ)) → are_members some texts ≡ true → HoldsTexts some many → are_members some other ≡ false →
+    held_of texts few < held_of texts many
+lost-fewer texts few many other h k [] within g e = absurd cc
+lost-fewer texts few many other h k (t ∷ some) within g e =
+    let inside = and-both (is_member texts t) (are_members some texts) within in
+    (elim (is_member other t) as (λ b. is_member other t ≡ b → b && are_members some other ≡ false → held_of texts few < held_of texts many) [
+      | true ↦ λ q f. lost-fewer texts few many other h k some inside.1 (λ u i. g u (or-right (pointwise nat_eq t u) (is_member some u) i)) f
+      | false ↦ λ q f. held-fewer texts few many t h inside.0 (no-member (is_member few t) (is_member other t) (k t) q) (g t (or-left (pointwise nat_eq t t) (is_member some t) ((bytes_decides t t).1 refl)))
+    ]) refl e
+  where
+    no-member : (a b : Bool) → (a ≡ true → b ≡ true) → b ≡ false → a ≡ false
+    no-member true b i q = let r : b ≡ true = i refl in absurd cc
+    no-member false b i q = refl
+
+in-both : (one other : List (List ℕ)) → HoldsTexts (both_texts one other) one
+in-both one other t m = member-passes (is_member one) (both_texts one other) t m (members-both one other)
+
+in-both_other : (one other : List (List ℕ)) → HoldsTexts (both_texts one other) other
+in-both_other one other t m = member-passes (is_member other) (both_texts one other) t m (members-both_other one other)
+
+-- one more than all of them where undo has no earlier buffer: one that comes brings what its lines match
+abbrev pub old_has_room : {A : Type 0} → (texts : List (List ℕ)) → Option A → (old_has : List (List ℕ)) → ℕ
+old_has_room texts None old_has = suc (length texts)
+old_has_room texts (Some old) old_has = held_of texts old_has
+
+falls-old_has : (texts : List (List ℕ)) (one other : Option Old) (has other_has : List (List ℕ)) → are_members has texts ≡ true →
+    Falls (old_has_covers other has other_has) (old_has_room texts (old_of_both one other) (old_has_of_both one other has other_has)) (old_has_room texts one has)
+falls-old_has texts None None has other_has within = record { no_more = omega arith; fewer = λ e. absurd cc }
+falls-old_has texts (Some one) None has other_has within = record { no_more = omega arith; fewer = λ e. absurd cc }
+falls-old_has texts None (Some other) has other_has within =
+    let most = held-most texts other_has in record { no_more = omega arith; fewer = λ e. omega arith }
+falls-old_has texts (Some one) (Some other) has other_has within = record {
+  no_more = held-less texts (both_texts has other_has) has (in-both has other_has);
+  fewer = λ e. lost-fewer texts (both_texts has other_has) has other_has (in-both has other_has) (in-both_other has other_has) has within (λ t m. m) e;
+}
+
+-- A STATE, beside the patterns and the paths that may ever be remembered, and the patterns that some line may ever be known to match
+
+abbrev pub state_room : (patterns names : List Choice) → (texts : List (List ℕ)) → State → ℕ
+state_room patterns names texts s =
     total_room s.zone + (sure_room 26 s.marks + (lacking patterns s.patterns
     + ((flag_room s.replacements.none + (flag_room s.replacements.plain + flag_room s.replacements.split)) + (lacking names s.names
-    + ((flag_room s.changed.no + flag_room s.changed.yes) + (flag_room s.undo.nothing + (flag_room s.undo.same + old_room s.undo.was)))))))
+    + ((flag_room s.changed.no + flag_room s.changed.yes) + ((flag_room s.undo.nothing + (flag_room s.undo.same + old_room s.undo.was))
+    + (length s.has + old_has_room texts s.undo.was s.old_has)))))))
 
-module _ (patterns names : List Choice) where
-  falls-united : (one other : State) (zone : Bounds) → HasZones one → HasZones other → are_choices other.patterns patterns ≡ true → are_choices other.names names ≡ true →
-      IsZone zone → Covers (united one other zone) one → Covers (united one other zone) other → Falls (covers one other) (state_room patterns names (united one other zone)) (state_room patterns names one)
+module _ (patterns names : List Choice) (texts : List (List ℕ)) where
+  falls-united : (one other : State) (zone : Bounds) → HasZones one → HasZones other → are_choices other.patterns patterns ≡ true → are_choices other.names names ≡ true → are_members one.old_has texts ≡ true →
+      IsZone zone → Covers (united one other zone) one → Covers (united one other zone) other → Falls (covers one other) (state_room patterns names texts (united one other zone)) (state_room patterns names texts one)
   unfolding covers
-  falls-united one other zone h k p n z c d =
+  falls-united one other zone h k p n o z c d =
       falls-and _ _ _ _ _ _ (falls-zone one.zone other.zone zone h.zone z c.zone d.zone) (
       falls-and _ _ _ _ _ _ (falls-marks one.marks other.marks) (
       falls-and _ _ _ _ _ _ (falls-set patterns one.patterns other.patterns (union one.patterns other.patterns) p c.patterns d.patterns) (
@@ -277,23 +377,24 @@ module _ (patterns names : List Choice) where
       (falls-and _ _ _ _ _ _ (falls-flag one.replacements.plain other.replacements.plain) (falls-flag one.replacements.split other.replacements.split))) (
       falls-and _ _ _ _ _ _ (falls-set names one.names other.names (union one.names other.names) n c.names d.names) (
       falls-and _ _ _ _ _ _ (falls-and _ _ _ _ _ _ (falls-flag one.changed.no other.changed.no) (falls-flag one.changed.yes other.changed.yes)) (
-      falls-and _ _ _ _ _ _ (falls-flag one.undo.nothing other.undo.nothing) (
-      falls-and _ _ _ _ _ _ (falls-flag one.undo.same other.undo.same) (falls-old one.undo.was other.undo.was h.old k.old c.was d.was))))))))
+      falls-and _ _ _ _ _ _ (falls-and _ _ _ _ _ _ (falls-flag one.undo.nothing other.undo.nothing) (
+      falls-and _ _ _ _ _ _ (falls-flag one.undo.same other.undo.same) (falls-old one.undo.was other.undo.was h.old k.old c.was d.was)))
+      (falls-and _ _ _ _ _ _ (falls-has one.has other.has) (falls-old_has texts one.undo.was other.undo.was one.old_has other.old_has o))))))))
 
-  falls-join : Laws → (one other : State) → HasZones one → HasZones other → are_choices other.patterns patterns ≡ true → are_choices other.names names ≡ true →
-      Falls (covers one other) (state_room patterns names (join one other)) (state_room patterns names one)
+  falls-join : Laws → (one other : State) → HasZones one → HasZones other → are_choices other.patterns patterns ≡ true → are_choices other.names names ≡ true → are_members one.old_has texts ≡ true →
+      Falls (covers one other) (state_room patterns names texts (join one other)) (state_room patterns names texts one)
   unfolding join
-  falls-join l one other h k p n =
-      falls-united one other (join_of one.zone other.zone) h k p n (IsZone-join_of one.zone other.zone h.zone k.zone) (l.joined one other) (l.joined_other one other)
+  falls-join l one other h k p n o =
+      falls-united one other (join_of one.zone other.zone) h k p n o (IsZone-join_of one.zone other.zone h.zone k.zone) (l.joined one other) (l.joined_other one other)
 
-  falls-widen : Laws → (one other : State) → HasZones one → HasZones other → are_choices other.patterns patterns ≡ true → are_choices other.names names ≡ true →
-      Falls (covers one other) (state_room patterns names (widen one other)) (state_room patterns names one)
+  falls-widen : Laws → (one other : State) → HasZones one → HasZones other → are_choices other.patterns patterns ≡ true → are_choices other.names names ≡ true → are_members one.old_has texts ≡ true →
+      Falls (covers one other) (state_room patterns names texts (widen one other)) (state_room patterns names texts one)
   unfolding widen
-  falls-widen l one other h k p n =
-      falls-united one other (widening_of one.zone other.zone) h k p n (IsZone-widening_of one.zone other.zone h.zone k.zone) (l.widened one other) (l.widened_other one other)
+  falls-widen l one other h k p n o =
+      falls-united one other (widening_of one.zone other.zone) h k p n o (IsZone-widening_of one.zone other.zone h.zone k.zone) (l.widened one other) (l.widened_other one other)
 
-  pub falls-next : Laws → (before : ℕ) (one other : State) → HasZones one → HasZones other → are_choices other.patterns patterns ≡ true → are_choices other.names names ≡ true →
-      Falls (covers one other) (state_room patterns names (next_invariant before one other)) (state_room patterns names one)
-  falls-next l before one other h k p n =
-      either (λ (u : State). Falls (covers one other) (state_room patterns names u) (state_room patterns names one)) (nat_lt before 2) (join one other) (widen one other)
-      (falls-join l one other h k p n) (falls-widen l one other h k p n)
+  pub falls-next : Laws → (before : ℕ) (one other : State) → HasZones one → HasZones other → are_choices other.patterns patterns ≡ true → are_choices other.names names ≡ true → are_members one.old_has texts ≡ true →
+      Falls (covers one other) (state_room patterns names texts (next_invariant before one other)) (state_room patterns names texts one)
+  falls-next l before one other h k p n o =
+      either (λ (u : State). Falls (covers one other) (state_room patterns names texts u) (state_room patterns names texts one)) (nat_lt before 2) (join one other) (widen one other)
+      (falls-join l one other h k p n o) (falls-widen l one other h k p n o)

@@ -9,42 +9,50 @@ use Rattle.ed_syntax.specs.PublicTypes.{command_value}
 use Rattle.ed_syntax.specs.meaning.Verbs.{is_global}
 use Rattle.ed_rules.specs.declared.state.State.{State}
 use Rattle.ed_rules.specs.Choices.{Choice, has_choice, are_choices}
+use Rattle.ed_rules.specs.Texts.{are_members}
 use Rattle.ed_rules.specs.Rules.{step, fault_of}
-use Rattle.ed_rules.specs.Globals.{body_entry, loop_end}
+use Rattle.ed_rules.specs.Globals.{taken_matches, body_entry, loop_end}
 use Rattle.ed_rules.proofs.Choosing.{or-right}
+use Rattle.ed_rules.proofs.Texting.{members-through}
+use Rattle.cert_check.specs.declared.sight.Sight.{Sight}
 use Rattle.cert_check.specs.checker.Covering.{covers}
 use Rattle.cert_check.specs.declared.certificate.Looped as looped
 use Rattle.cert_check.specs.Certificates.{Looped, Note, looped_value}
-use Rattle.cert_check.specs.checker.Valid.{are_met, left_by}
+use Rattle.cert_check.specs.checker.Valid.{told, are_met, left_by}
+use Rattle.cert_check.proofs.verdicts.Checks.{NeedsAreTheSame}
 use Rattle.analyser.specs.declared.rounds.Round.{Round}
 use Rattle.analyser.specs.declared.walk.End.{End}
 use Rattle.analyser.specs.declared.walk.End.TheVariants.{Leaves}
-use Rattle.analyser.specs.Rounds.{all_met, left_by_list, AreInner, InnerFail, turned, next_invariant, round_invariant, ends, IsSettled}
+use Rattle.analyser.specs.Rounds.{all_met, left_by_list, AreInner, InnerFail, entered, turned, next_invariant, round_invariant, ends, IsSettled}
 use Rattle.analyser.specs.Following.{IsKnownOfList, IsNote, ListFails}
 use Rattle.analyser.specs.Walking.{AreKnown, IsRound, invariant_after, HasZones, IsLastRound, IsTaken}
 use Rattle.analyser.proofs.Going.{at-place, counted-none}
 use Rattle.analyser.proofs.Results.{either}
-use Rattle.analyser.proofs.Sets.{append-all, are-front, are-back, are-same}
-use Rattle.analyser.proofs.Remembering.{command_patterns, verb_paths, Within, within-step, within-join, within-widen}
+use Rattle.analyser.proofs.Sets.{append-all, are-front, are-back, are-same, members-append}
+use Rattle.analyser.proofs.Remembering.{command_patterns, verb_paths, Within, within-step, within-join, within-widen, within-told}
+use Rattle.analyser.proofs.Gaining.{Among, among-join, among-widen, among-entry, among-told, among-left_by}
 use Rattle.analyser.proofs.Rooms.{Laws, state_room, falls-next}
 
 -- ONE COMMAND
 
-pub met-none : (c : Command) (s : State) → fault_of (step c s) ≡ None → are_met c s ≡ true
+pub needs-of : NeedsAreTheSame → (w : Sight) (c : Command) (s : State) (o : Option Fault) → fault_of (step w.watch c s) ≡ o → fault_of (step [] c s) ≡ o
+needs-of same w c s o e = same [] w.watch c s ∙ e
+
+pub met-none : (c : Command) (s : State) → fault_of (step [] c s) ≡ None → are_met c s ≡ true
 unfolding are_met
 met-none c s e = ap is_none e
 
-pub unmet-some : (c : Command) (s : State) (why : Fault) → fault_of (step c s) ≡ Some why → are_met c s ≡ false
+pub unmet-some : (c : Command) (s : State) (why : Fault) → fault_of (step [] c s) ≡ Some why → are_met c s ≡ false
 unfolding are_met
 unmet-some c s why e = ap is_none e
 
-left-of : (s t : State) (r : Result State Fault) → r ≡ Ok t → (elim r as (λ _. State) [ Ok u ↦ u | Err f ↦ s ]) ≡ t
-left-of s t (Ok u) e = cc
-left-of s t (Err f) e = absurd cc
+left-of : (w : Sight) (s t : State) (r : Result State Fault) → r ≡ Ok t → told w (elim r as (λ _. State) [ Ok u ↦ u | Err f ↦ s ]) ≡ told w t
+left-of w s t (Ok u) e = cc
+left-of w s t (Err f) e = absurd cc
 
-pub left-is : (c : Command) (s t : State) → step c s ≡ Ok t → left_by c s ≡ t
+pub left-is : (w : Sight) (c : Command) (s t : State) → step w.watch c s ≡ Ok t → left_by w c s ≡ told w t
 unfolding left_by
-left-is c s t e = left-of s t (step c s) e
+left-is w c s t e = left-of w s t (step w.watch c s) e
 
 -- WHAT THE COMMANDS OF A LIST GIVE
 
@@ -56,79 +64,106 @@ abbrev pub list_names : List Command → List Choice
 list_names [] = []
 list_names (c ∷ cs) = verb_paths c.verb ++ list_names cs
 
-left-within : (patterns names : List Choice) (s : State) (r : Result State Fault) → Within patterns names s →
+left-within : (patterns names : List Choice) (w : Sight) (s : State) (r : Result State Fault) → Within patterns names s →
     IfOk r (Within patterns names) →
-    Within patterns names (elim r as (λ _. State) [ Ok t ↦ t | Err f ↦ s ])
-left-within patterns names s (Ok t) h q = q
-left-within patterns names s (Err f) h q = h
+    Within patterns names (told w (elim r as (λ _. State) [ Ok t ↦ t | Err f ↦ s ]))
+left-within patterns names w s (Ok t) h q = within-told patterns names w t q
+left-within patterns names w s (Err f) h q = within-told patterns names w s h
 
-within-left_by : (patterns names : List Choice) (c : Command) (s : State) → are_choices (command_patterns c) patterns ≡ true → are_choices (verb_paths c.verb) names ≡ true → Within patterns names s →
-    Within patterns names (left_by c s)
+within-left_by : (patterns names : List Choice) (w : Sight) (c : Command) (s : State) → are_choices (command_patterns c) patterns ≡ true → are_choices (verb_paths c.verb) names ≡ true → Within patterns names s →
+    Within patterns names (left_by w c s)
 unfolding left_by
-within-left_by patterns names c s g f q = left-within patterns names s (step c s) q (within-step patterns names c s g f q)
+within-left_by patterns names w c s g f q = left-within patterns names w s (step w.watch c s) q (within-step patterns names w.watch c s g f q)
 
-within-list : (patterns names : List Choice) (cs : List Command) (s : State) → are_choices (list_patterns cs) patterns ≡ true → are_choices (list_names cs) names ≡ true → Within patterns names s →
-    Within patterns names (left_by_list cs s)
-within-list patterns names [] s g f q = q
-within-list patterns names (c ∷ cs) s g f q =
+within-list : (patterns names : List Choice) (w : Sight) (cs : List Command) (s : State) → are_choices (list_patterns cs) patterns ≡ true → are_choices (list_names cs) names ≡ true → Within patterns names s →
+    Within patterns names (left_by_list w cs s)
+within-list patterns names w [] s g f q = q
+within-list patterns names w (c ∷ cs) s g f q =
     let p = append-all (has_choice patterns) (command_patterns c) (list_patterns cs) g in
     let n = append-all (has_choice names) (verb_paths c.verb) (list_names cs) f in
-    within-list patterns names cs (left_by c s) p.1 n.1 (within-left_by patterns names c s p.0 n.0 q)
+    within-list patterns names w cs (left_by w c s) p.1 n.1 (within-left_by patterns names w c s p.0 n.0 q)
+
+among-list : (texts : List (List ℕ)) (w : Sight) (cs : List Command) (s : State) → are_members w.watch texts ≡ true → Among texts s → Among texts (left_by_list w cs s)
+among-list texts w [] s g q = q
+among-list texts w (c ∷ cs) s g q = among-list texts w cs (left_by w c s) g (among-left_by texts w c s g q)
 
 -- all that may ever be remembered in the rounds of a list
-abbrev pub patterns_of : List Command → State → List Choice
-patterns_of list first = first.patterns ++ list_patterns list
+abbrev pub patterns_of : Step → State → List Choice
+patterns_of x first = first.patterns ++ list_patterns x.list
 
-abbrev pub names_of : List Command → State → List Choice
-names_of list first = first.names ++ list_names list
+abbrev pub names_of : Step → State → List Choice
+names_of x first = first.names ++ list_names x.list
 
-abbrev pub Known : List Command → (first : State) → State → Type 0
-Known list first s = Within (patterns_of list first) (names_of list first) s
+-- and all that some line may ever be known to match
+abbrev pub texts_of : Sight → Step → State → List (List ℕ)
+texts_of w x first = (first.has ++ first.old_has) ++ (w.watch ++ taken_matches x.command.verb [])
 
-pub known-first : (list : List Command) (first : State) → Known list first first
-known-first list first = (are-front first.patterns first.patterns (list_patterns list) (are-same first.patterns), are-front first.names first.names (list_names list) (are-same first.names))
+abbrev pub Known : Sight → Step → (first : State) → State → Type 0
+Known w x first s = Within (patterns_of x first) (names_of x first) s × Among (texts_of w x first) s
 
-pub known-turned : (list : List Command) (first invariant : State) → Known list first invariant → Known list first (turned list invariant)
-known-turned list first invariant q =
-    within-list (patterns_of list first) (names_of list first) list (body_entry invariant)
-    (are-back (list_patterns list) first.patterns (list_patterns list) (are-same (list_patterns list)))
-    (are-back (list_names list) first.names (list_names list) (are-same (list_names list))) q
+pub known-first : (w : Sight) (x : Step) (first : State) → Known w x first first
+known-first w x first =
+    let texts = members-append (first.has ++ first.old_has) (w.watch ++ taken_matches x.command.verb []) in
+    let both = members-append first.has first.old_has in (
+      (are-front first.patterns first.patterns (list_patterns x.list) (are-same first.patterns), are-front first.names first.names (list_names x.list) (are-same first.names)),
+      (
+        members-through first.has (first.has ++ first.old_has) (texts_of w x first) both.0 texts.0,
+        members-through first.old_has (first.has ++ first.old_has) (texts_of w x first) both.1 texts.0,
+      ),
+    )
 
-pub known-next : (list : List Command) (first : State) (before : ℕ) (invariant left : State) → Known list first invariant → Known list first left → Known list first (next_invariant before invariant left)
-known-next list first before invariant left h q =
-    either (Known list first) (nat_lt before 2) _ _ (within-join (patterns_of list first) (names_of list first) invariant left h q) (within-widen (patterns_of list first) (names_of list first) invariant left h q)
+pub known-turned : (w : Sight) (x : Step) (first invariant : State) → Known w x first invariant → Known w x first (turned w x invariant)
+known-turned w x first invariant q =
+    let verb = x.command.verb in
+    let texts = members-append (first.has ++ first.old_has) (w.watch ++ taken_matches verb []) in
+    let both = members-append w.watch (taken_matches verb []) in
+    let gains = members-through w.watch (w.watch ++ taken_matches verb []) (texts_of w x first) both.0 texts.1 in
+    let takes = members-through (taken_matches verb []) (w.watch ++ taken_matches verb []) (texts_of w x first) both.1 texts.1 in (
+      within-list (patterns_of x first) (names_of x first) w x.list (entered w x invariant)
+          (are-back (list_patterns x.list) first.patterns (list_patterns x.list) (are-same (list_patterns x.list)))
+          (are-back (list_names x.list) first.names (list_names x.list) (are-same (list_names x.list)))
+          (within-told (patterns_of x first) (names_of x first) w (body_entry verb invariant) q.0),
+      among-list (texts_of w x first) w x.list (entered w x invariant) gains
+          (among-told (texts_of w x first) w (body_entry verb invariant) (among-entry (texts_of w x first) verb invariant takes q.1)),
+    )
+
+pub known-next : (w : Sight) (x : Step) (first : State) (before : ℕ) (invariant left : State) → Known w x first invariant → Known w x first left → Known w x first (next_invariant before invariant left)
+known-next w x first before invariant left h q =
+    either (Known w x first) (nat_lt before 2) _ _
+    (within-join (patterns_of x first) (names_of x first) invariant left h.0 q.0, among-join (texts_of w x first) invariant left h.1 q.1)
+    (within-widen (patterns_of x first) (names_of x first) invariant left h.0 q.0, among-widen (texts_of w x first) invariant left h.1 q.1)
 
 -- ONE ROUND
 
-pub inner-met : (cs : List Command) (s : State) (inner : List State) → AreInner cs s inner → all_met cs s ≡ true
-inner-met [] s inner h = refl
-inner-met (c ∷ cs) s [] h = absurd h
-inner-met (c ∷ cs) s (t ∷ inner) h = let e = h.1 in rw e (inner-met cs (left_by c s) inner h.2)
+pub inner-met : (w : Sight) (cs : List Command) (s : State) (inner : List State) → AreInner w cs s inner → all_met w cs s ≡ true
+inner-met w [] s inner h = refl
+inner-met w (c ∷ cs) s [] h = absurd h
+inner-met w (c ∷ cs) s (t ∷ inner) h = let e = h.1 in rw e (inner-met w cs (left_by w c s) inner h.2)
 
-inner-unmet : (why : Fault) (cs : List Command) (s : State) (inner : List State) → InnerFail why cs s inner → all_met cs s ≡ false
-inner-unmet why [] s inner h = absurd h
-inner-unmet why (c ∷ cs) s [] h = absurd h
-inner-unmet why (c ∷ cs) s (t ∷ []) h = let e : are_met c s ≡ false = unmet-some c s why h.1 in rw e refl
-inner-unmet why (c ∷ cs) s (t ∷ u ∷ inner) h = let e = h.1 in rw e (inner-unmet why cs (left_by c s) (u ∷ inner) h.2)
+inner-unmet : (w : Sight) (why : Fault) (cs : List Command) (s : State) (inner : List State) → InnerFail w why cs s inner → all_met w cs s ≡ false
+inner-unmet w why [] s inner h = absurd h
+inner-unmet w why (c ∷ cs) s [] h = absurd h
+inner-unmet w why (c ∷ cs) s (t ∷ []) h = let e : are_met c s ≡ false = unmet-some c s why h.1 in rw e refl
+inner-unmet w why (c ∷ cs) s (t ∷ u ∷ inner) h = let e = h.1 in rw e (inner-unmet w why cs (left_by w c s) (u ∷ inner) h.2)
 
-pub inner-length : (cs : List Command) (s : State) (inner : List State) → AreInner cs s inner → length inner ≡ length cs
-inner-length [] s [] h = refl
-inner-length [] s (t ∷ inner) h = absurd h
-inner-length (c ∷ cs) s [] h = absurd h
-inner-length (c ∷ cs) s (t ∷ inner) h = let q = inner-length cs (left_by c s) inner h.2 in omega arith
+pub inner-length : (w : Sight) (cs : List Command) (s : State) (inner : List State) → AreInner w cs s inner → length inner ≡ length cs
+inner-length w [] s [] h = refl
+inner-length w [] s (t ∷ inner) h = absurd h
+inner-length w (c ∷ cs) s [] h = absurd h
+inner-length w (c ∷ cs) s (t ∷ inner) h = let q = inner-length w cs (left_by w c s) inner h.2 in omega arith
 
 -- the round isn't the last: the invariant of the next one, and that this one doesn't end
-pub record Goes (list : List Command) (before : ℕ) (invariant next : State) : Type 0 where
-  pub uncovered : covers invariant (turned list invariant) ≡ false
-  pub is : next ≡ next_invariant before invariant (turned list invariant)
-  pub goes : ends list invariant ≡ false
+pub record Goes (w : Sight) (x : Step) (before : ℕ) (invariant next : State) : Type 0 where
+  pub uncovered : covers invariant (turned w x invariant) ≡ false
+  pub is : next ≡ next_invariant before invariant (turned w x invariant)
+  pub goes : ends w x invariant ≡ false
 
-goes-if : (list : List Command) (before : ℕ) (invariant next t : State) (inner : List State) → AreInner list (body_entry invariant) inner → t ≡ turned list invariant → (covered : Bool) →
-    covers invariant t ≡ covered → (if covered then None else Some (next_invariant before invariant t)) ≡ Some next → Goes list before invariant next
-goes-if list before invariant next t inner h e true c n = absurd cc
-goes-if list before invariant next t inner h e false c n =
-    let uncovered : covers invariant (turned list invariant) ≡ false = subst (λ (u : State). covers invariant u ≡ false) e c in
-    let met : all_met list (body_entry invariant) ≡ true = inner-met list (body_entry invariant) inner h in
+goes-if : (w : Sight) (x : Step) (before : ℕ) (invariant next t : State) (inner : List State) → AreInner w x.list (entered w x invariant) inner → t ≡ turned w x invariant → (covered : Bool) →
+    covers invariant t ≡ covered → (if covered then None else Some (next_invariant before invariant t)) ≡ Some next → Goes w x before invariant next
+goes-if w x before invariant next t inner h e true c n = absurd cc
+goes-if w x before invariant next t inner h e false c n =
+    let uncovered : covers invariant (turned w x invariant) ≡ false = subst (λ (u : State). covers invariant u ≡ false) e c in
+    let met : all_met w x.list (entered w x invariant) ≡ true = inner-met w x.list (entered w x invariant) inner h in
     let same : next_invariant before invariant t ≡ next = cc in
     record {
       uncovered = uncovered;
@@ -136,34 +171,34 @@ goes-if list before invariant next t inner h e false c n =
       goes = rw met uncovered;
     }
 
-pub goes-on : (list : List Command) (before : ℕ) (invariant next : State) (inner : List State) (failed : Option Fault) (t : State) → IsRound list (body_entry invariant) inner failed t →
-    invariant_after before invariant failed t ≡ Some next → Goes list before invariant next
-goes-on list before invariant next inner (Some why) t h e = absurd cc
-goes-on list before invariant next inner None t h e = goes-if list before invariant next t inner h.0 h.1 (covers invariant t) refl e
+pub goes-on : (w : Sight) (x : Step) (before : ℕ) (invariant next : State) (inner : List State) (failed : Option Fault) (t : State) → IsRound w x.list (entered w x invariant) inner failed t →
+    invariant_after before invariant failed t ≡ Some next → Goes w x before invariant next
+goes-on w x before invariant next inner (Some why) t h e = absurd cc
+goes-on w x before invariant next inner None t h e = goes-if w x before invariant next t inner h.0 h.1 (covers invariant t) refl e
 
-ends-if : (list : List Command) (before : ℕ) (invariant t : State) → t ≡ turned list invariant → (covered : Bool) → covers invariant t ≡ covered →
-    (if covered then None else Some (next_invariant before invariant t)) ≡ None → ends list invariant ≡ true
-ends-if list before invariant t e true c n =
-    or-right (not (all_met list (body_entry invariant))) (covers invariant (turned list invariant)) (subst (λ (u : State). covers invariant u ≡ true) e c)
-ends-if list before invariant t e false c n = absurd cc
+ends-if : (w : Sight) (x : Step) (before : ℕ) (invariant t : State) → t ≡ turned w x invariant → (covered : Bool) → covers invariant t ≡ covered →
+    (if covered then None else Some (next_invariant before invariant t)) ≡ None → ends w x invariant ≡ true
+ends-if w x before invariant t e true c n =
+    or-right (not (all_met w x.list (entered w x invariant))) (covers invariant (turned w x invariant)) (subst (λ (u : State). covers invariant u ≡ true) e c)
+ends-if w x before invariant t e false c n = absurd cc
 
-pub ends-here : (list : List Command) (before : ℕ) (invariant : State) (inner : List State) (failed : Option Fault) (t : State) → IsRound list (body_entry invariant) inner failed t →
-    invariant_after before invariant failed t ≡ None → ends list invariant ≡ true
-ends-here list before invariant inner (Some why) t h e = let unmet : all_met list (body_entry invariant) ≡ false = inner-unmet why list (body_entry invariant) inner h in rw unmet refl
-ends-here list before invariant inner None t h e = ends-if list before invariant t h.1 (covers invariant t) refl e
+pub ends-here : (w : Sight) (x : Step) (before : ℕ) (invariant : State) (inner : List State) (failed : Option Fault) (t : State) → IsRound w x.list (entered w x invariant) inner failed t →
+    invariant_after before invariant failed t ≡ None → ends w x invariant ≡ true
+ends-here w x before invariant inner (Some why) t h e = let unmet : all_met w x.list (entered w x invariant) ≡ false = inner-unmet w why x.list (entered w x invariant) inner h in rw unmet refl
+ends-here w x before invariant inner None t h e = ends-if w x before invariant t h.1 (covers invariant t) refl e
 
 -- ALL ROUNDS SO FAR
 
 -- the rounds before this one don't end; more than two of them count as two
-pub record Rounds (list : List Command) (first : State) (counted : ℕ) (invariant : State) : Type 0 where
+pub record Rounds (w : Sight) (x : Step) (first : State) (counted : ℕ) (invariant : State) : Type 0 where
   pub number : ℕ
   pub counts : counted ≡ min number 2
-  pub is : invariant ≡ round_invariant list first number
-  pub none_before : (n : ℕ) → n < number → ends list (round_invariant list first n) ≡ false
-  pub known : Known list first invariant
+  pub is : invariant ≡ round_invariant w x first number
+  pub none_before : (n : ℕ) → n < number → ends w x (round_invariant w x first n) ≡ false
+  pub known : Known w x first invariant
 
-pub rounds-start : (list : List Command) (first : State) → Rounds list first 0 first
-rounds-start list first = record { number = 0; counts = refl; is = refl; none_before = λ n l. absurd (omega arith); known = known-first list first }
+pub rounds-start : (w : Sight) (x : Step) (first : State) → Rounds w x first 0 first
+rounds-start w x first = record { number = 0; counts = refl; is = refl; none_before = λ n l. absurd (omega arith); known = known-first w x first }
 
 same-next : (counted number : ℕ) (invariant left : State) → counted ≡ min number 2 → next_invariant counted invariant left ≡ next_invariant number invariant left
 same-next counted number invariant left e = elim (cases_lt number 2) [
@@ -174,43 +209,47 @@ same-next counted number invariant left e = elim (cases_lt number 2) [
       rw (two, later) refl
 ]
 
-pub rounds-on : (list : List Command) (first invariant next : State) (counted more : ℕ) → Rounds list first counted invariant → Goes list counted invariant next → more ≡ min (counted + 1) 2 → Rounds list first more next
-rounds-on list first invariant next counted more r g e =
+pub rounds-on : (w : Sight) (x : Step) (first invariant next : State) (counted more : ℕ) → Rounds w x first counted invariant → Goes w x counted invariant next → more ≡ min (counted + 1) 2 → Rounds w x first more next
+rounds-on w x first invariant next counted more r g e =
     let counts = r.counts in
-    let is : next ≡ round_invariant list first (suc r.number) =
-    g.is ∙ same-next counted r.number invariant (turned list invariant) r.counts
-    ∙ ap (λ (u : State). next_invariant r.number u (turned list u)) r.is in
+    let is : next ≡ round_invariant w x first (suc r.number) =
+    g.is ∙ same-next counted r.number invariant (turned w x invariant) r.counts
+    ∙ ap (λ (u : State). next_invariant r.number u (turned w x u)) r.is in
     record {
       number = suc r.number;
       counts = omega arith;
       is = is;
       none_before = λ n l. elim (cases_lt n r.number) [
         | inl k ↦ r.none_before n k
-        | inr k ↦ let same : r.number ≡ n = omega arith in subst (λ (m : ℕ). ends list (round_invariant list first m) ≡ false) same (subst (λ (u : State). ends list u ≡ false) r.is g.goes)
+        | inr k ↦ let same : r.number ≡ n = omega arith in subst (λ (m : ℕ). ends w x (round_invariant w x first m) ≡ false) same (subst (λ (u : State). ends w x u ≡ false) r.is g.goes)
       ];
-      known = subst (λ (u : State). Known list first u) (sym g.is) (known-next list first counted invariant (turned list invariant) r.known (known-turned list first invariant r.known));
+      known = subst (λ (u : State). Known w x first u) (sym g.is) (known-next w x first counted invariant (turned w x invariant) r.known (known-turned w x first invariant r.known));
     }
 
-pub rounds-end : (list : List Command) (first invariant : State) (counted : ℕ) → Rounds list first counted invariant → ends list invariant ≡ true → IsSettled list first invariant
-rounds-end list first invariant counted r e = record { before = r.number; is = r.is; last = e; none_before = r.none_before }
+pub rounds-end : (w : Sight) (x : Step) (first invariant : State) (counted : ℕ) → Rounds w x first counted invariant → ends w x invariant ≡ true → IsSettled w x first invariant
+rounds-end w x first invariant counted r e = record { before = r.number; is = r.is; last = e; none_before = r.none_before }
 
-pub rounds-fall : Laws → (list : List Command) (first invariant next : State) (counted : ℕ) → HasZones invariant → HasZones (turned list invariant) → Rounds list first counted invariant → Goes list counted invariant next →
-    state_room (patterns_of list first) (names_of list first) next < state_room (patterns_of list first) (names_of list first) invariant
-rounds-fall l list first invariant next counted h k r g =
-    let within = known-turned list first invariant r.known in
-    let falls = falls-next (patterns_of list first) (names_of list first) l counted invariant (turned list invariant) h k within.0 within.1 in
-    subst (λ (u : State). state_room (patterns_of list first) (names_of list first) u < state_room (patterns_of list first) (names_of list first) invariant) (sym g.is) (falls.fewer g.uncovered)
+-- how often the invariant can still be weakened
+abbrev pub room_of : Sight → Step → (first invariant : State) → ℕ
+room_of w x first invariant = state_room (patterns_of x first) (names_of x first) (texts_of w x first) invariant
+
+pub rounds-fall : Laws → (w : Sight) (x : Step) (first invariant next : State) (counted : ℕ) → HasZones invariant → HasZones (turned w x invariant) → Rounds w x first counted invariant → Goes w x counted invariant next →
+    room_of w x first next < room_of w x first invariant
+rounds-fall l w x first invariant next counted h k r g =
+    let within = known-turned w x first invariant r.known in
+    let falls = falls-next (patterns_of x first) (names_of x first) (texts_of w x first) l counted invariant (turned w x invariant) h k within.0.0 within.0.1 r.known.1.1 in
+    subst (λ (u : State). room_of w x first u < room_of w x first invariant) (sym g.is) (falls.fewer g.uncovered)
 
 -- THE WALK OVER A LIST
 
 -- what is known of the whole list, by what is known of the commands that are left
-pub record Passing (all : List Command) (entry : State) (inner : List State) (coming : State) (left : List Command) : Type 0 where
-  pub on : (ts : List State) → AreInner left coming ts → AreInner all entry (inner ++ ts)
-  pub off : (why : Fault) (t : State) (ts : List State) → InnerFail why left coming (t ∷ ts) → InnerFail why all entry (inner ++ t ∷ ts)
-  pub result : left_by_list all entry ≡ left_by_list left coming
+pub record Passing (w : Sight) (all : List Command) (entry : State) (inner : List State) (coming : State) (left : List Command) : Type 0 where
+  pub on : (ts : List State) → AreInner w left coming ts → AreInner w all entry (inner ++ ts)
+  pub off : (why : Fault) (t : State) (ts : List State) → InnerFail w why left coming (t ∷ ts) → InnerFail w why all entry (inner ++ t ∷ ts)
+  pub result : left_by_list w all entry ≡ left_by_list w left coming
 
-pub passing-start : (all : List Command) (entry : State) → Passing all entry [] entry all
-passing-start all entry = record { on = λ ts h. h; off = λ why t ts h. h; result = refl }
+pub passing-start : (w : Sight) (all : List Command) (entry : State) → Passing w all entry [] entry all
+passing-start w all entry = record { on = λ ts h. h; off = λ why t ts h. h; result = refl }
 
 push-state : (inner later : List State) (t : State) → inner ++ (t ∷ later) ≡ (inner ++ t ∷ []) ++ later
 push-state [] later t = refl
@@ -220,88 +259,87 @@ append-no_state : (inner : List State) → inner ++ [] ≡ inner
 append-no_state [] = refl
 append-no_state (t ∷ inner) = ap (λ (l : List State). t ∷ l) (append-no_state inner)
 
-pub passing-on : (all : List Command) (entry : State) (inner : List State) (s t : State) (c : Command) (cs : List Command) → fault_of (step c s) ≡ None → step c s ≡ Ok t →
-    Passing all entry inner s (c ∷ cs) → Passing all entry (inner ++ s ∷ []) t cs
-passing-on all entry inner s t c cs e is p =
-    let met : are_met c s ≡ true = met-none c s e in
-    let left : t ≡ left_by c s = sym (left-is c s t is) in
-    record {
-      on = λ ts h. subst (λ (us : List State). AreInner all entry us) (push-state inner ts s) (p.on (s ∷ ts) (refl, met, subst (λ (u : State). AreInner cs u ts) left h));
-      off = λ why u ts h. subst (λ (us : List State). InnerFail why all entry us) (push-state inner (u ∷ ts) s) (p.off why s (u ∷ ts) (refl, met, subst (λ (v : State). InnerFail why cs v (u ∷ ts)) left h));
-      result = p.result ∙ ap (λ (u : State). left_by_list cs u) (sym left);
-    }
+pub passing-on : (w : Sight) (all : List Command) (entry : State) (inner : List State) (s t : State) (c : Command) (cs : List Command) → are_met c s ≡ true → t ≡ left_by w c s →
+    Passing w all entry inner s (c ∷ cs) → Passing w all entry (inner ++ s ∷ []) t cs
+passing-on w all entry inner s t c cs met left p = record {
+  on = λ ts h. subst (λ (us : List State). AreInner w all entry us) (push-state inner ts s) (p.on (s ∷ ts) (refl, met, subst (λ (u : State). AreInner w cs u ts) left h));
+  off = λ why u ts h. subst (λ (us : List State). InnerFail w why all entry us) (push-state inner (u ∷ ts) s) (p.off why s (u ∷ ts) (refl, met, subst (λ (v : State). InnerFail w why cs v (u ∷ ts)) left h));
+  result = p.result ∙ ap (λ (u : State). left_by_list w cs u) (sym left);
+}
 
-pub passing-off : (all : List Command) (entry : State) (inner : List State) (s : State) (why : Fault) (c : Command) (cs : List Command) → fault_of (step c s) ≡ Some why →
-    Passing all entry inner s (c ∷ cs) → InnerFail why all entry (inner ++ s ∷ [])
-passing-off all entry inner s why c cs e p = p.off why s [] (refl, e)
+pub passing-off : (w : Sight) (all : List Command) (entry : State) (inner : List State) (s : State) (why : Fault) (c : Command) (cs : List Command) → fault_of (step [] c s) ≡ Some why →
+    Passing w all entry inner s (c ∷ cs) → InnerFail w why all entry (inner ++ s ∷ [])
+passing-off w all entry inner s why c cs e p = p.off why s [] (refl, e)
 
-pub passing-end : (all : List Command) (entry : State) (inner : List State) (s : State) → Passing all entry inner s [] → AreInner all entry inner × (s ≡ left_by_list all entry)
-passing-end all entry inner s p = (subst (λ (us : List State). AreInner all entry us) (append-no_state inner) (p.on [] tt), sym p.result)
+pub passing-end : (w : Sight) (all : List Command) (entry : State) (inner : List State) (s : State) → Passing w all entry inner s [] → AreInner w all entry inner × (s ≡ left_by_list w all entry)
+passing-end w all entry inner s p = (subst (λ (us : List State). AreInner w all entry us) (append-no_state inner) (p.on [] tt), sym p.result)
 
 -- one command of it further
-pub passing-next : (list : List memory.Command) (entry : State) (i : ℕ) (d : memory.Command) (inner more : List State) (s t : State) → i < length list → d ≡ get_or list i d → more ≡ inner ++ s ∷ [] →
-    fault_of (step (command_value d) s) ≡ None → step (command_value d) s ≡ Ok t → Passing (map command_value list) entry inner s (map command_value (drop i list)) →
-    Passing (map command_value list) entry more t (map command_value (drop (i + 1) list))
-passing-next list entry i d inner more s t bound is pushed none after p =
-    let here : Passing (map command_value list) entry inner s (command_value d ∷ map command_value (drop (i + 1) list)) =
-    subst (λ (cs : List memory.Command). Passing (map command_value list) entry inner s (map command_value cs)) (at-place list i d bound is) p in
-    subst (λ (us : List State). Passing (map command_value list) entry us t (map command_value (drop (i + 1) list))) (sym pushed)
-    (passing-on (map command_value list) entry inner s t (command_value d) (map command_value (drop (i + 1) list)) none after here)
+pub passing-next : (w : Sight) (list : List memory.Command) (entry : State) (i : ℕ) (d : memory.Command) (inner more : List State) (s t told_of next : State) → i < length list → d ≡ get_or list i d → more ≡ inner ++ s ∷ [] →
+    fault_of (step [] (command_value d) s) ≡ None → step w.watch (command_value d) s ≡ Ok t → told_of ≡ told w t → next ≡ told_of →
+    Passing w (map command_value list) entry inner s (map command_value (drop i list)) →
+    Passing w (map command_value list) entry more next (map command_value (drop (i + 1) list))
+passing-next w list entry i d inner more s t told_of next bound is pushed none after tells same p =
+    let here : Passing w (map command_value list) entry inner s (command_value d ∷ map command_value (drop (i + 1) list)) =
+    subst (λ (cs : List memory.Command). Passing w (map command_value list) entry inner s (map command_value cs)) (at-place list i d bound is) p in
+    let left : next ≡ left_by w (command_value d) s = same ∙ tells ∙ sym (left-is w (command_value d) s t after) in
+    subst (λ (us : List State). Passing w (map command_value list) entry us next (map command_value (drop (i + 1) list))) (sym pushed)
+    (passing-on w (map command_value list) entry inner s next (command_value d) (map command_value (drop (i + 1) list)) (met-none (command_value d) s none) left here)
 
-pub passing-stops : (list : List memory.Command) (entry : State) (i : ℕ) (d : memory.Command) (inner more : List State) (s : State) (why : Fault) → i < length list → d ≡ get_or list i d → more ≡ inner ++ s ∷ [] →
-    fault_of (step (command_value d) s) ≡ Some why → Passing (map command_value list) entry inner s (map command_value (drop i list)) → InnerFail why (map command_value list) entry more
-passing-stops list entry i d inner more s why bound is pushed fails p =
-    let here : Passing (map command_value list) entry inner s (command_value d ∷ map command_value (drop (i + 1) list)) =
-    subst (λ (cs : List memory.Command). Passing (map command_value list) entry inner s (map command_value cs)) (at-place list i d bound is) p in
-    subst (λ (us : List State). InnerFail why (map command_value list) entry us) (sym pushed)
-    (passing-off (map command_value list) entry inner s why (command_value d) (map command_value (drop (i + 1) list)) fails here)
+pub passing-stops : (w : Sight) (list : List memory.Command) (entry : State) (i : ℕ) (d : memory.Command) (inner more : List State) (s : State) (why : Fault) → i < length list → d ≡ get_or list i d → more ≡ inner ++ s ∷ [] →
+    fault_of (step [] (command_value d) s) ≡ Some why → Passing w (map command_value list) entry inner s (map command_value (drop i list)) → InnerFail w why (map command_value list) entry more
+passing-stops w list entry i d inner more s why bound is pushed fails p =
+    let here : Passing w (map command_value list) entry inner s (command_value d ∷ map command_value (drop (i + 1) list)) =
+    subst (λ (cs : List memory.Command). Passing w (map command_value list) entry inner s (map command_value cs)) (at-place list i d bound is) p in
+    subst (λ (us : List State). InnerFail w why (map command_value list) entry us) (sym pushed)
+    (passing-off w (map command_value list) entry inner s why (command_value d) (map command_value (drop (i + 1) list)) fails here)
 
-pub passing-over : (list : List memory.Command) (entry : State) (i : ℕ) (inner : List State) (s : State) → i ≡ length list → Passing (map command_value list) entry inner s (map command_value (drop i list)) →
-    AreInner (map command_value list) entry inner × (s ≡ left_by_list (map command_value list) entry)
-passing-over list entry i inner s e p =
-    passing-end (map command_value list) entry inner s (subst (λ (cs : List memory.Command). Passing (map command_value list) entry inner s (map command_value cs)) (counted-none list i e) p)
+pub passing-over : (w : Sight) (list : List memory.Command) (entry : State) (i : ℕ) (inner : List State) (s : State) → i ≡ length list → Passing w (map command_value list) entry inner s (map command_value (drop i list)) →
+    AreInner w (map command_value list) entry inner × (s ≡ left_by_list w (map command_value list) entry)
+passing-over w list entry i inner s e p =
+    passing-end w (map command_value list) entry inner s (subst (λ (cs : List memory.Command). Passing w (map command_value list) entry inner s (map command_value cs)) (counted-none list i e) p)
 
 -- THE ROUNDS, by what the calls of one answer
 
-round-of : (all list : List Command) (invariant entry : State) (inner : List State) (failed : Option Fault) (t : State) → all ≡ list → entry ≡ body_entry invariant → IsRound all entry inner failed t →
-    IsRound list (body_entry invariant) inner failed t
-round-of all list invariant entry inner failed t same begins round =
-    subst (λ (cs : List Command). IsRound cs (body_entry invariant) inner failed t) same (subst (λ (u : State). IsRound all u inner failed t) begins round)
+round-of : (w : Sight) (x : Step) (all : List Command) (invariant entry : State) (inner : List State) (failed : Option Fault) (t : State) → all ≡ x.list → entry ≡ entered w x invariant → IsRound w all entry inner failed t →
+    IsRound w x.list (entered w x invariant) inner failed t
+round-of w x all invariant entry inner failed t same begins round =
+    subst (λ (cs : List Command). IsRound w cs (entered w x invariant) inner failed t) same (subst (λ (u : State). IsRound w all u inner failed t) begins round)
 
-goes-by : (all list : List Command) (invariant next entry : State) (counted : ℕ) (inner : List State) (failed : Option Fault) (t : State) (o : Option State) → all ≡ list → entry ≡ body_entry invariant →
-    IsRound all entry inner failed t → o ≡ invariant_after counted invariant failed t → o ≡ Some next → Goes list counted invariant next
-goes-by all list invariant next entry counted inner failed t o same begins round after some =
-    goes-on list counted invariant next inner failed t (round-of all list invariant entry inner failed t same begins round) (sym after ∙ some)
+goes-by : (w : Sight) (x : Step) (all : List Command) (invariant next entry : State) (counted : ℕ) (inner : List State) (failed : Option Fault) (t : State) (o : Option State) → all ≡ x.list → entry ≡ entered w x invariant →
+    IsRound w all entry inner failed t → o ≡ invariant_after counted invariant failed t → o ≡ Some next → Goes w x counted invariant next
+goes-by w x all invariant next entry counted inner failed t o same begins round after some =
+    goes-on w x counted invariant next inner failed t (round-of w x all invariant entry inner failed t same begins round) (sym after ∙ some)
 
-pub rounds-next : (all list : List Command) (first invariant next entry : State) (counted more : ℕ) (inner : List State) (failed : Option Fault) (t : State) (o : Option State) → all ≡ list → entry ≡ body_entry invariant →
-    IsRound all entry inner failed t → o ≡ invariant_after counted invariant failed t → o ≡ Some next → more ≡ min (counted + 1) 2 → Rounds list first counted invariant → Rounds list first more next
-rounds-next all list first invariant next entry counted more inner failed t o same begins round after some count r =
-    rounds-on list first invariant next counted more r (goes-by all list invariant next entry counted inner failed t o same begins round after some) count
+pub rounds-next : (w : Sight) (x : Step) (all : List Command) (first invariant next entry : State) (counted more : ℕ) (inner : List State) (failed : Option Fault) (t : State) (o : Option State) → all ≡ x.list → entry ≡ entered w x invariant →
+    IsRound w all entry inner failed t → o ≡ invariant_after counted invariant failed t → o ≡ Some next → more ≡ min (counted + 1) 2 → Rounds w x first counted invariant → Rounds w x first more next
+rounds-next w x all first invariant next entry counted more inner failed t o same begins round after some count r =
+    rounds-on w x first invariant next counted more r (goes-by w x all invariant next entry counted inner failed t o same begins round after some) count
 
-zones-turned : (list : List Command) (invariant next : State) (counted : ℕ) (inner : List State) (failed : Option Fault) (t : State) → IsRound list (body_entry invariant) inner failed t →
-    invariant_after counted invariant failed t ≡ Some next → HasZones t → HasZones (turned list invariant)
-zones-turned list invariant next counted inner (Some why) t round after h = absurd cc
-zones-turned list invariant next counted inner None t round after h = subst (λ (u : State). HasZones u) round.1 h
+zones-turned : (w : Sight) (x : Step) (invariant next : State) (counted : ℕ) (inner : List State) (failed : Option Fault) (t : State) → IsRound w x.list (entered w x invariant) inner failed t →
+    invariant_after counted invariant failed t ≡ Some next → HasZones t → HasZones (turned w x invariant)
+zones-turned w x invariant next counted inner (Some why) t round after h = absurd cc
+zones-turned w x invariant next counted inner None t round after h = subst (λ (u : State). HasZones u) round.1 h
 
-pub rounds-smaller : Laws → (all list : List Command) (first invariant next entry : State) (counted : ℕ) (inner : List State) (failed : Option Fault) (t : State) (o : Option State) → all ≡ list → entry ≡ body_entry invariant →
-    IsRound all entry inner failed t → o ≡ invariant_after counted invariant failed t → o ≡ Some next → HasZones invariant → HasZones t → Rounds list first counted invariant →
-    state_room (patterns_of list first) (names_of list first) next < state_room (patterns_of list first) (names_of list first) invariant
-rounds-smaller l all list first invariant next entry counted inner failed t o same begins round after some h k r =
-    rounds-fall l list first invariant next counted h
-    (zones-turned list invariant next counted inner failed t (round-of all list invariant entry inner failed t same begins round) (sym after ∙ some) k) r
-    (goes-by all list invariant next entry counted inner failed t o same begins round after some)
+pub rounds-smaller : Laws → (w : Sight) (x : Step) (all : List Command) (first invariant next entry : State) (counted : ℕ) (inner : List State) (failed : Option Fault) (t : State) (o : Option State) → all ≡ x.list → entry ≡ entered w x invariant →
+    IsRound w all entry inner failed t → o ≡ invariant_after counted invariant failed t → o ≡ Some next → HasZones invariant → HasZones t → Rounds w x first counted invariant →
+    room_of w x first next < room_of w x first invariant
+rounds-smaller l w x all first invariant next entry counted inner failed t o same begins round after some h k r =
+    rounds-fall l w x first invariant next counted h
+    (zones-turned w x invariant next counted inner failed t (round-of w x all invariant entry inner failed t same begins round) (sym after ∙ some) k) r
+    (goes-by w x all invariant next entry counted inner failed t o same begins round after some)
 
-known-of_round : (list : List Command) (s : State) (inner : List State) (failed : Option Fault) (t : State) → IsRound list s inner failed t → AreKnown list s inner failed
-known-of_round list s inner None t h = h.0
-known-of_round list s inner (Some why) t h = h
+known-of_round : (w : Sight) (list : List Command) (s : State) (inner : List State) (failed : Option Fault) (t : State) → IsRound w list s inner failed t → AreKnown w list s inner failed
+known-of_round w list s inner None t h = h.0
+known-of_round w list s inner (Some why) t h = h
 
-pub rounds-last : (all list : List Command) (first invariant entry : State) (counted : ℕ) (r : Round) (t : State) (o : Option State) → all ≡ list → entry ≡ body_entry invariant →
-    IsRound all entry r.inner.items r.failed t → o ≡ invariant_after counted invariant r.failed t → o ≡ None → Rounds list first counted invariant → IsLastRound list first invariant r
-rounds-last all list first invariant entry counted r t o same begins round after none so_far =
-    let here = round-of all list invariant entry r.inner.items r.failed t same begins round in
+pub rounds-last : (w : Sight) (x : Step) (all : List Command) (first invariant entry : State) (counted : ℕ) (r : Round) (t : State) (o : Option State) → all ≡ x.list → entry ≡ entered w x invariant →
+    IsRound w all entry r.inner.items r.failed t → o ≡ invariant_after counted invariant r.failed t → o ≡ None → Rounds w x first counted invariant → IsLastRound w x first invariant r
+rounds-last w x all first invariant entry counted r t o same begins round after none so_far =
+    let here = round-of w x all invariant entry r.inner.items r.failed t same begins round in
     record {
-      settled = rounds-end list first invariant counted so_far (ends-here list counted invariant r.inner.items r.failed t here (sym after ∙ none));
-      known = known-of_round list (body_entry invariant) r.inner.items r.failed t here;
+      settled = rounds-end w x first invariant counted so_far (ends-here w x counted invariant r.inner.items r.failed t here (sym after ∙ none));
+      known = known-of_round w x.list (entered w x invariant) r.inner.items r.failed t here;
     }
 
 -- ONE COMMAND WITH ITS LIST
@@ -309,22 +347,22 @@ rounds-last all list first invariant entry counted r t o same begins round after
 abbrev noted : State → Option Looped → Note
 noted s l = record { state = s; looped = l }
 
-known-of : (x : Step) (s : State) (l : Option Looped) (global : Bool) → is_global x.command.verb ≡ global → IsKnownOfList global x s l → IsKnownOfList (is_global x.command.verb) x s l
-known-of x s l global e h = subst (λ (b : Bool). IsKnownOfList b x s l) (sym e) h
+known-of : (w : Sight) (x : Step) (s : State) (l : Option Looped) (global : Bool) → is_global x.command.verb ≡ global → IsKnownOfList w global x s l → IsKnownOfList w (is_global x.command.verb) x s l
+known-of w x s l global e h = subst (λ (b : Bool). IsKnownOfList w b x s l) (sym e) h
 
-pub global-leaves : (x : Step) (s t invariant : State) (r : Round) → is_global x.command.verb ≡ true → fault_of (step x.command s) ≡ None → IsLastRound x.list (left_by x.command s) invariant r →
-    r.failed ≡ None → t ≡ loop_end x s invariant →
-    IsNote x s (noted s (Some (record { invariant = invariant; inner = r.inner.items }))) × (t ≡ loop_end x s invariant)
-global-leaves x s t invariant r global none last end is =
-    let known = subst (λ (f : Option Fault). AreKnown x.list (body_entry invariant) r.inner.items f) end last.known in (
-      record { state = refl; met = met-none x.command s none; list = known-of x s _ true global (last.settled, known) },
-      is,
+pub global-leaves : (w : Sight) (x : Step) (s t u invariant : State) (r : Round) → is_global x.command.verb ≡ true → fault_of (step [] x.command s) ≡ None → IsLastRound w x (left_by w x.command s) invariant r →
+    r.failed ≡ None → u ≡ loop_end x s invariant → t ≡ told w u →
+    IsNote w x s (noted s (Some (record { invariant = invariant; inner = r.inner.items }))) × (t ≡ told w (loop_end x s invariant))
+global-leaves w x s t u invariant r global none last end is tells =
+    let known = subst (λ (f : Option Fault). AreKnown w x.list (entered w x invariant) r.inner.items f) end last.known in (
+      record { state = refl; met = met-none x.command s none; list = known-of w x s _ true global (last.settled, known) },
+      tells ∙ ap (told w) is,
     )
 
-pub global-stops : (x : Step) (s invariant : State) (number : ℕ) (why : Fault) (r : Round) → is_global x.command.verb ≡ true → fault_of (step x.command s) ≡ None → IsLastRound x.list (left_by x.command s) invariant r →
-    r.failed ≡ Some why → number ≡ length r.inner.items → ListFails number why x s (record { invariant = invariant; inner = r.inner.items })
-global-stops x s invariant number why r global none last end count =
-    let known = subst (λ (f : Option Fault). AreKnown x.list (body_entry invariant) r.inner.items f) end last.known in
+pub global-stops : (w : Sight) (x : Step) (s invariant : State) (number : ℕ) (why : Fault) (r : Round) → is_global x.command.verb ≡ true → fault_of (step [] x.command s) ≡ None → IsLastRound w x (left_by w x.command s) invariant r →
+    r.failed ≡ Some why → number ≡ length r.inner.items → ListFails w number why x s (record { invariant = invariant; inner = r.inner.items })
+global-stops w x s invariant number why r global none last end count =
+    let known = subst (λ (f : Option Fault). AreKnown w x.list (entered w x invariant) r.inner.items f) end last.known in
     record {
       met = met-none x.command s none;
       global = global;
@@ -333,21 +371,25 @@ global-stops x s invariant number why r global none last end count =
       number = count;
     }
 
-pub last-begun : (x : Step) (s first invariant : State) (r : Round) → step x.command s ≡ Ok first → IsLastRound x.list first invariant r → IsLastRound x.list (left_by x.command s) invariant r
-last-begun x s first invariant r begins last = subst (λ (u : State). IsLastRound x.list u invariant r) (sym (left-is x.command s first begins)) last
+pub last-begun : (w : Sight) (x : Step) (s first invariant : State) (r : Round) → first ≡ left_by w x.command s → IsLastRound w x first invariant r → IsLastRound w x (left_by w x.command s) invariant r
+last-begun w x s first invariant r begins last = subst (λ (u : State). IsLastRound w x u invariant r) begins last
 
-pub plain-leaves : (x : Step) (s t : State) → is_global x.command.verb ≡ false → fault_of (step x.command s) ≡ None → step x.command s ≡ Ok t → IsNote x s (noted s None) × (t ≡ left_by x.command s)
-plain-leaves x s t global none after = (
-  record { state = refl; met = met-none x.command s none; list = known-of x s None false global tt },
-  sym (left-is x.command s t after),
+-- what a command leaves, where its needs hold
+pub left-told : (w : Sight) (x : Step) (s t u : State) → step w.watch x.command s ≡ Ok u → t ≡ told w u → t ≡ left_by w x.command s
+left-told w x s t u after tells = tells ∙ sym (left-is w x.command s u after)
+
+pub plain-leaves : (w : Sight) (x : Step) (s t u : State) → is_global x.command.verb ≡ false → fault_of (step [] x.command s) ≡ None → step w.watch x.command s ≡ Ok u → t ≡ told w u → IsNote w x s (noted s None) × (t ≡ left_by w x.command s)
+plain-leaves w x s t u global none after tells = (
+  record { state = refl; met = met-none x.command s none; list = known-of w x s None false global tt },
+  left-told w x s t u after tells,
 )
 
-shape-if : (global : Bool) (x : Step) (s : State) (l : Option looped.Looped) → IsKnownOfList global x s (option_map looped_value l) → IfSome l (λ m. length m.inner.items ≡ length x.list)
-shape-if global x s None h = tt
-shape-if false x s (Some l) h = absurd h
-shape-if true x s (Some l) h = inner-length x.list (body_entry l.invariant) l.inner.items h.1
+shape-if : (w : Sight) (global : Bool) (x : Step) (s : State) (l : Option looped.Looped) → IsKnownOfList w global x s (option_map looped_value l) → IfSome l (λ m. length m.inner.items ≡ length x.list)
+shape-if w global x s None h = tt
+shape-if w false x s (Some l) h = absurd h
+shape-if w true x s (Some l) h = inner-length w x.list (entered w x l.invariant) l.inner.items h.1
 
-pub taken-shape : (x : Step) (s t : State) (l : Option looped.Looped) (end : End) → IsTaken x s l end t → end ≡ Leaves → IfSome l (λ m. length m.inner.items ≡ length x.list)
-taken-shape x s t l end h e =
-    let leaves = subst (λ (r : End). IsTaken x s l r t) e h in
-    shape-if (is_global x.command.verb) x s l leaves.0.list
+pub taken-shape : (w : Sight) (x : Step) (s t : State) (l : Option looped.Looped) (end : End) → IsTaken w x s l end t → end ≡ Leaves → IfSome l (λ m. length m.inner.items ≡ length x.list)
+taken-shape w x s t l end h e =
+    let leaves = subst (λ (r : End). IsTaken w x s l r t) e h in
+    shape-if w (is_global x.command.verb) x s l leaves.0.list

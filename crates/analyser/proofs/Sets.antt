@@ -1,13 +1,16 @@
 -- Sets of choices: those within another set, and how many of a list a set lacks.
-use Rattle.std.proofs.Common.{◌≡◌, ℕ, Bool, true, false, ◌&&◌, List, [], ◌∷◌, ◌++◌, map, None, Some, inl, inr, refl}
+use Rattle.std.proofs.Common.{◌≡◌, ℕ, Bool, true, false, ◌&&◌, List, [], ◌∷◌, ◌++◌, map, None, Some, inl, inr, refl, nat_eq}
 use Rattle.std.specs.Prelude.{unwrap_or}
 use Rattle.std.specs.List.{list_all}
 use Rattle.std.specs.Ordering.{is_eq}
+use Rattle.std.specs.Cmp.Lexicographic.{pointwise}
 use Rattle.std.specs.declared.cmp.Ordering.TheVariants.{Less, Equal, Greater}
 use Rattle.ed_rules.specs.Choices.{Choice, order_of, has_choice, with_choice, union, are_choices}
+use Rattle.ed_rules.specs.Texts.{is_member, are_members}
 use Rattle.ed_rules.specs.Files.{filled}
 use Rattle.ed_rules.proofs.Basics.{and-both}
 use Rattle.ed_rules.proofs.Choosing.{choice-itself, or-cases, or-left, or-right}
+use Rattle.ed_rules.proofs.Texting.{members-more}
 
 pub both-and : (p q : Bool) → p ≡ true → q ≡ true → p && q ≡ true
 both-and true q e f = f
@@ -82,3 +85,20 @@ are-front (c ∷ few) cs ds e =
 pub are-back : (few cs ds : List Choice) → are_choices few ds ≡ true → are_choices few (cs ++ ds) ≡ true
 are-back few [] ds e = e
 are-back few (c ∷ cs) ds e = are-more c few (cs ++ ds) (are-back few cs ds e)
+
+-- SETS OF TEXTS
+
+member-front : (one other : List (List ℕ)) (t : List ℕ) → is_member one t ≡ true → is_member (one ++ other) t ≡ true
+member-front [] other t h = absurd cc
+member-front (u ∷ one) other t h = elim (or-cases (pointwise nat_eq u t) (is_member one t) h) [
+  | inl e ↦ or-left (pointwise nat_eq u t) (is_member (one ++ other) t) e
+  | inr e ↦ or-right (pointwise nat_eq u t) (is_member (one ++ other) t) (member-front one other t e)
+]
+
+member-back : (one other : List (List ℕ)) (t : List ℕ) → is_member other t ≡ true → is_member (one ++ other) t ≡ true
+member-back [] other t h = h
+member-back (u ∷ one) other t h = or-right (pointwise nat_eq u t) (is_member (one ++ other) t) (member-back one other t h)
+
+-- both are among all of them
+pub members-append : (one other : List (List ℕ)) → (are_members one (one ++ other) ≡ true) × (are_members other (one ++ other) ≡ true)
+members-append one other = (members-more one (one ++ other) (member-front one other), members-more other (one ++ other) (member-back one other))

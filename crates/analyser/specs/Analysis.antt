@@ -19,7 +19,7 @@ use Rattle.cert_check.specs.checker.Valid.{counted, has_quit, judged}
 use Rattle.analyser.specs.declared.analysis.Start.{Start}
 use Rattle.analyser.specs.declared.analysis.Analysis.{Analysis}
 use Rattle.analyser.specs.declared.analysis.Analysis.TheVariants.{Vouched, Cannot}
-use Rattle.analyser.specs.Following.{AreNotes, NotesFail, result_from, paths_from, begun, end_fault}
+use Rattle.analyser.specs.Following.{AreNotes, NotesFail, result_from, paths_from, version_of, stated_of, sight_over, begun, end_fault}
 
 -- a low bound as it is told: 0 where none is known, or one below 0; most_lines where it is higher
 abbrev pub low_of : Option ℤ → ℕ
@@ -37,13 +37,16 @@ pub record AreListed (writes : List (List ℕ)) (paths : List Choice) : Type 0 w
   pub just : (path : List ℕ) → Contains writes path ↔ Contains paths (Some path)
   pub rising : IsStrictlySortedBy (slice_cmp nat_cmp) writes
 
--- the certificate of a script in which no need fails: what follows from the start, and the known bounds of the number of lines left
+-- The certificate of a script in which no need fails: of the version and the start that were asked for, with what follows from there, and
+-- the known bounds of the number of lines left.
 pub record IsCertificate (script : Script) (start : Start) (c : Certificate) : Type 0 where
+  pub version : c.version ≡ version_of start.has
   pub path : c.path ≡ start.path
   pub min : c.min ≡ start.min
   pub max : c.max ≡ start.max
-  pub notes : AreNotes (counted script.steps) (begun start) c.notes
-  pub last : c.last ≡ result_from (counted script.steps) (begun start) c.notes
+  pub has : c.has ≡ stated_of start.has
+  pub notes : AreNotes (sight_over script start) (counted script.steps) (begun start) c.notes
+  pub last : c.last ≡ result_from (sight_over script start) (counted script.steps) (begun start) c.notes
   pub end : end_fault (has_quit script.steps) script.fault c.last ≡ None
   pub low : c.low ≡ low_of (least c.last.zone last_line name.zero)
   pub high : c.high ≡ high_of (greatest c.last.zone last_line name.zero)
@@ -52,13 +55,13 @@ pub record IsCertificate (script : Script) (start : Start) (c : Certificate) : T
 -- the first need that fails is one of a counted command, or of its list; the notes are those up to it
 pub record CommandFails (script : Script) (start : Start) (place : Place) (why : Fault) (notes : List Note) : Type 0 where
   pub number : place.command ≡ length notes
-  pub fails : NotesFail place.inner why (counted script.steps) (begun start) notes
+  pub fails : NotesFail (sight_over script start) place.inner why (counted script.steps) (begun start) notes
 
 -- it is one of the end, whose number is that after the last counted command; there is a note for each of these
 pub record EndFails (script : Script) (start : Start) (place : Place) (why : Fault) (notes : List Note) : Type 0 where
   pub at_end : place ≡ record { command = length notes + 1; inner = None }
-  pub noted : AreNotes (counted script.steps) (begun start) notes
-  pub fails : end_fault (has_quit script.steps) script.fault (result_from (counted script.steps) (begun start) notes) ≡ Some why
+  pub noted : AreNotes (sight_over script start) (counted script.steps) (begun start) notes
+  pub fails : end_fault (has_quit script.steps) script.fault (result_from (sight_over script start) (counted script.steps) (begun start) notes) ≡ Some why
 
 -- the first need that fails
 abbrev pub IsFailure : Script → Start → Place → Fault → List Note → Type 0

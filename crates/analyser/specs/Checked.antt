@@ -8,7 +8,7 @@ use Rattle.cert_check.specs.checker.Valid.{counted, checks_from}
 use Rattle.analyser.specs.declared.analysis.Start.{Start}
 use Rattle.analyser.specs.declared.analysis.Analysis.{Analysis}
 use Rattle.analyser.specs.declared.analysis.Analysis.TheVariants.{Vouched, Cannot}
-use Rattle.analyser.specs.Following.{paths_from, begun}
+use Rattle.analyser.specs.Following.{paths_from, sight_over, begun}
 
 -- at one command: its own place comes before those of its list, and these come by their numbers
 abbrev pub IsBeforeInside : (inner other : Option ℕ) → Type 0
@@ -26,7 +26,7 @@ IsBefore place other = (place.command < other.command) ⊎ ((place.command ≡ o
 abbrev pub ChecksHoldBefore : Place → Script → Start → List Note → Type 0
 ChecksHoldBefore place script start notes =
     (writes : List (List ℕ)) → ((path : List ℕ) → Contains (paths_from (counted script.steps) notes) (Some path) → Contains writes path) →
-    All (λ check. IsBefore check.place place → IsTrue check.holds) (checks_from writes (λ number left. []) 1 (begun start) (counted script.steps) notes)
+    All (λ check. IsBefore check.place place → IsTrue check.holds) (checks_from (sight_over script start) writes (λ number left. []) 1 (begun start) (counted script.steps) notes)
 
 -- where a need fails, they hold before its place
 abbrev pub IsChecked : Script → Start → Analysis → Type 0

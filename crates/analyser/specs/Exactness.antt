@@ -1,6 +1,6 @@
 -- No false alarm on exact scripts. Over a known number of lines such a script is vouched for just where its run meets no fault, and the
 -- certificate then tells just how many lines that run leaves. Where the run ends by a fault, that fault is the one that is told.
-use Rattle.std.specs.Prelude.{◌≡◌, ◌≤◌, ℕ, false, List, [], ◌∷◌, ◌++◌, length, take, drop, Option, Some, None, Ok, Err, IsTrue, All}
+use Rattle.std.specs.Prelude.{◌≡◌, ◌≤◌, ℕ, false, List, [], ◌∷◌, ◌++◌, length, take, drop, Option, Some, None, option_map, Ok, Err, IsTrue, All}
 use Rattle.ed_syntax.specs.declared.options.Options.{Options}
 use Rattle.ed_syntax.specs.declared.options.Ending.{Ending}
 use Rattle.ed_syntax.specs.declared.request.Answer.{Answer}
@@ -34,7 +34,7 @@ up_to k script = record { steps = take k script.steps ++ quit_anyway ∷ []; fau
 pub record IsExactRun (script : Script) (start : Start) (o : Options) (answers : List Answer) : Type 0 where
   pub exact : IsTrue (are_exact script.steps)
   pub path : o.path ≡ start.path
-  pub lines : start_lines start.path answers ≡ Some start.min
+  pub lines : option_map length (start_lines start.path answers) ≡ Some start.min
   pub one : start.max ≡ Some start.min
   pub done : All (λ (a : Answer). a ≡ answer.Done) (to_commands start.path answers)
   pub enough : length script.steps ≤ length (to_commands start.path answers)

@@ -2,73 +2,75 @@
 use Rattle.std.specs.Prelude.{◌≡◌, ℕ, Bool, true, false, List, [], ◌∷◌, ◌++◌, length, Option, Some, None, is_some, if◌then◌else◌}
 use Rattle.ed_base.specs.declared.fault.Fault.{Fault}
 use Rattle.ed_base.specs.declared.fault.Fault.TheVariants as fault
-use Rattle.ed_syntax.specs.Commands.{Command, Step}
+use Rattle.ed_syntax.specs.Commands.{Command, Step, Script}
 use Rattle.ed_syntax.specs.meaning.Verbs.{is_global}
 use Rattle.ed_rules.specs.declared.state.State.{State}
 use Rattle.ed_rules.specs.Choices.{Choice}
 use Rattle.ed_rules.specs.States as states
 use Rattle.ed_rules.specs.Files.{written_paths}
 use Rattle.ed_rules.specs.Rules.{step, fault_of}
-use Rattle.ed_rules.specs.Globals.{body_entry}
+use Rattle.cert_check.specs.declared.certificate.Version.{Version}
+use Rattle.cert_check.specs.declared.certificate.Version.TheVariants as version
+use Rattle.cert_check.specs.declared.sight.Sight.{Sight}
 use Rattle.cert_check.specs.Certificates.{Looped, Note}
-use Rattle.cert_check.specs.checker.Valid.{are_met, left_by, left_after}
+use Rattle.cert_check.specs.checker.Valid.{sight_of, are_met, left_by, left_after}
 use Rattle.analyser.specs.declared.analysis.Start.{Start}
-use Rattle.analyser.specs.Rounds.{IsSettled, AreInner, InnerFail}
+use Rattle.analyser.specs.Rounds.{IsSettled, AreInner, InnerFail, entered}
 
 -- ONE COMMAND, of which a state comes in
 
 -- What is known of its list, where no need of the command or of its list fails: nothing where it has none; else the invariant of the
 -- last round, and what is known before each command of the list in that round. The first round's invariant is the state before the
 -- first line is taken.
-abbrev pub IsKnownOfList : (global : Bool) → Step → (coming : State) → Option Looped → Type 0
-IsKnownOfList false x s None = Unit {0}
-IsKnownOfList false x s (Some l) = ⊥
-IsKnownOfList true x s None = ⊥
-IsKnownOfList true x s (Some l) = IsSettled x.list (left_by x.command s) l.invariant × AreInner x.list (body_entry l.invariant) l.inner
+abbrev pub IsKnownOfList : Sight → (global : Bool) → Step → (coming : State) → Option Looped → Type 0
+IsKnownOfList w false x s None = Unit {0}
+IsKnownOfList w false x s (Some l) = ⊥
+IsKnownOfList w true x s None = ⊥
+IsKnownOfList w true x s (Some l) = IsSettled w x (left_by w x.command s) l.invariant × AreInner w x.list (entered w x l.invariant) l.inner
 
 -- its note, where no need fails
-pub record IsNote (x : Step) (coming : State) (n : Note) : Type 0 where
+pub record IsNote (w : Sight) (x : Step) (coming : State) (n : Note) : Type 0 where
   pub state : n.state ≡ coming
   pub met : are_met x.command coming ≡ true
-  pub list : IsKnownOfList (is_global x.command.verb) x coming n.looped
+  pub list : IsKnownOfList w (is_global x.command.verb) x coming n.looped
 
 -- A need of its list fails, and the needs of the command hold: the invariant of the last round, and what is known before the list's
 -- commands up to the one whose need fails, which is told by its number.
-pub record ListFails (inner : ℕ) (why : Fault) (x : Step) (coming : State) (l : Looped) : Type 0 where
+pub record ListFails (w : Sight) (inner : ℕ) (why : Fault) (x : Step) (coming : State) (l : Looped) : Type 0 where
   pub met : are_met x.command coming ≡ true
   pub global : is_global x.command.verb ≡ true
-  pub settled : IsSettled x.list (left_by x.command coming) l.invariant
-  pub states : InnerFail why x.list (body_entry l.invariant) l.inner
+  pub settled : IsSettled w x (left_by w x.command coming) l.invariant
+  pub states : InnerFail w why x.list (entered w x l.invariant) l.inner
   pub number : inner ≡ length l.inner
 
 -- its first need that fails, by this fault: one of its own, or of its list
-abbrev pub NeedFails : (inner : Option ℕ) → Fault → Step → (coming : State) → Option Looped → Type 0
-NeedFails None why x s None = fault_of (step x.command s) ≡ Some why
-NeedFails None why x s (Some l) = ⊥
-NeedFails (Some inner) why x s None = ⊥
-NeedFails (Some inner) why x s (Some l) = ListFails inner why x s l
+abbrev pub NeedFails : Sight → (inner : Option ℕ) → Fault → Step → (coming : State) → Option Looped → Type 0
+NeedFails w None why x s None = fault_of (step [] x.command s) ≡ Some why
+NeedFails w None why x s (Some l) = ⊥
+NeedFails w (Some inner) why x s None = ⊥
+NeedFails w (Some inner) why x s (Some l) = ListFails w inner why x s l
 
 -- COMMANDS ONE AFTER ANOTHER, from the state on that comes in
 
 -- Their notes, where no need fails: the first is of the state that comes in, each later one of the result of the command before it.
-abbrev pub AreNotes : List Step → (coming : State) → List Note → Type 0
-AreNotes [] s [] = Unit {0}
-AreNotes [] s (n ∷ ns) = ⊥
-AreNotes (x ∷ xs) s [] = ⊥
-AreNotes (x ∷ xs) s (n ∷ ns) = IsNote x s n × AreNotes xs (left_after n.looped x s) ns
+abbrev pub AreNotes : Sight → List Step → (coming : State) → List Note → Type 0
+AreNotes w [] s [] = Unit {0}
+AreNotes w [] s (n ∷ ns) = ⊥
+AreNotes w (x ∷ xs) s [] = ⊥
+AreNotes w (x ∷ xs) s (n ∷ ns) = IsNote w x s n × AreNotes w xs (left_after w n.looped x s) ns
 
 -- their notes up to the command with the first need that fails, which is that of the last note
-abbrev pub NotesFail : (inner : Option ℕ) → Fault → List Step → (coming : State) → List Note → Type 0
-NotesFail inner why [] s ns = ⊥
-NotesFail inner why (x ∷ xs) s [] = ⊥
-NotesFail inner why (x ∷ xs) s (n ∷ []) = (n.state ≡ s) × NeedFails inner why x s n.looped
-NotesFail inner why (x ∷ xs) s (n ∷ m ∷ ns) = IsNote x s n × NotesFail inner why xs (left_after n.looped x s) (m ∷ ns)
+abbrev pub NotesFail : Sight → (inner : Option ℕ) → Fault → List Step → (coming : State) → List Note → Type 0
+NotesFail w inner why [] s ns = ⊥
+NotesFail w inner why (x ∷ xs) s [] = ⊥
+NotesFail w inner why (x ∷ xs) s (n ∷ []) = (n.state ≡ s) × NeedFails w inner why x s n.looped
+NotesFail w inner why (x ∷ xs) s (n ∷ m ∷ ns) = IsNote w x s n × NotesFail w inner why xs (left_after w n.looped x s) (m ∷ ns)
 
 -- the result of the last command, by the notes
-abbrev pub result_from : List Step → (coming : State) → List Note → State
-result_from [] s ns = s
-result_from (x ∷ xs) s [] = s
-result_from (x ∷ xs) s (n ∷ ns) = result_from xs (left_after n.looped x s) ns
+abbrev pub result_from : Sight → List Step → (coming : State) → List Note → State
+result_from w [] s ns = s
+result_from w (x ∷ xs) s [] = s
+result_from w (x ∷ xs) s (n ∷ ns) = result_from w xs (left_after w n.looped x s) ns
 
 -- the paths that the commands of a list may write, by what is known before each
 abbrev pub list_paths : List Command → List State → List Choice
@@ -88,9 +90,23 @@ paths_from (x ∷ xs) (n ∷ ns) = (written_paths x.command.verb n.state ++ loop
 
 -- A SCRIPT
 
+-- the version of the certificate that is asked for: where patterns are given, also none, it tells of matches
+abbrev pub version_of : (has : Option (List (List ℕ))) → Version
+version_of None = version.One
+version_of (Some has) = version.Two
+
+-- the patterns that some line of the start matches, as far as it is told
+abbrev pub stated_of : (has : Option (List (List ℕ))) → List (List ℕ)
+stated_of None = []
+stated_of (Some has) = has
+
+-- what a script is judged by, beside what is known
+abbrev pub sight_over : Script → Start → Sight
+sight_over script start = sight_of script (version_of start.has) (stated_of start.has)
+
 -- what is known at the start
 abbrev pub begun : Start → State
-begun start = states.start start.path start.min start.max
+begun start = states.start start.path start.min start.max (stated_of start.has)
 
 -- A script without `q` and `Q` ends by a `q`: what can't be read is reached then, and no change may be left.
 abbrev pub end_fault : (quit : Bool) → (bad : Option ℕ) → State → Option Fault

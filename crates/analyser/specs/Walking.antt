@@ -10,8 +10,8 @@ use Rattle.zones.specs.Limits.{IsZone}
 use Rattle.ed_rules.specs.declared.state.Old.{Old}
 use Rattle.ed_rules.specs.declared.state.State.{State}
 use Rattle.ed_rules.specs.Choices.{Choice}
-use Rattle.ed_rules.specs.Globals.{body_entry}
 use Rattle.ed_rules.specs.Formed.{TextsAreBytes}
+use Rattle.cert_check.specs.declared.sight.Sight.{Sight}
 use Rattle.cert_check.specs.checker.Covering.{covers}
 use Rattle.cert_check.specs.declared.certificate.Looped.{Looped}
 use Rattle.cert_check.specs.Certificates.{looped_value, note_value}
@@ -22,7 +22,7 @@ use Rattle.analyser.specs.declared.walk.End.TheVariants.{Leaves, Stops}
 use Rattle.analyser.specs.declared.walk.Walk.{Walk}
 use Rattle.analyser.specs.declared.walk.Outcome.{Outcome}
 use Rattle.analyser.specs.declared.walk.Outcome.TheVariants.{Left, Fails}
-use Rattle.analyser.specs.Rounds.{left_by_list, AreInner, InnerFail, next_invariant, IsSettled}
+use Rattle.analyser.specs.Rounds.{left_by_list, AreInner, InnerFail, entered, next_invariant, IsSettled}
 use Rattle.analyser.specs.Following.{IsNote, NeedFails, AreNotes, NotesFail, result_from, paths_from}
 
 -- a path put in its place, where it isn't there already
@@ -38,14 +38,14 @@ with_paths (None ∷ choices) paths = with_paths choices paths
 with_paths (Some path ∷ choices) paths = with_paths choices (with_path path paths)
 
 -- what is known before each command of a list, from a state on, up to the first one with a need that fails
-abbrev pub AreKnown : List Command → State → List State → (failed : Option Fault) → Type 0
-AreKnown list s inner None = AreInner list s inner
-AreKnown list s inner (Some why) = InnerFail why list s inner
+abbrev pub AreKnown : Sight → List Command → State → List State → (failed : Option Fault) → Type 0
+AreKnown w list s inner None = AreInner w list s inner
+AreKnown w list s inner (Some why) = InnerFail w why list s inner
 
 -- what a round of a list comes to, from a state on, and what it leaves where no need fails
-abbrev pub IsRound : List Command → State → List State → (failed : Option Fault) → (left : State) → Type 0
-IsRound list s inner None t = AreInner list s inner × (t ≡ left_by_list list s)
-IsRound list s inner (Some why) t = InnerFail why list s inner
+abbrev pub IsRound : Sight → List Command → State → List State → (failed : Option Fault) → (left : State) → Type 0
+IsRound w list s inner None t = AreInner w list s inner × (t ≡ left_by_list w list s)
+IsRound w list s inner (Some why) t = InnerFail w why list s inner
 
 -- the invariant of the round after one that comes to this; there is none after the last round
 abbrev pub invariant_after : (before : ℕ) → State → (failed : Option Fault) → (left : State) → Option State
@@ -61,32 +61,32 @@ pub record HasZones (s : State) : Type 0 where
   pub zone : IsZone s.zone
   pub old : OldIsZone s.undo.was
 
--- what the last round of a list comes to
-pub record IsLastRound (list : List Command) (first invariant : State) (r : Round) : Type 0 where
-  pub settled : IsSettled list first invariant
-  pub known : AreKnown list (body_entry invariant) r.inner.items r.failed
+-- what the last round of a global command comes to
+pub record IsLastRound (w : Sight) (x : Step) (first invariant : State) (r : Round) : Type 0 where
+  pub settled : IsSettled w x first invariant
+  pub known : AreKnown w x.list (entered w x invariant) r.inner.items r.failed
 
 -- what is told of a list by its last round
 abbrev pub looped_of : (invariant : State) → Round → Looped
 looped_of invariant r = record { invariant = invariant; inner = r.inner }
 
 -- what a command comes to, its list included, and its result where no need fails
-abbrev pub IsTaken : Step → State → Option Looped → End → (left : State) → Type 0
-IsTaken x s l Leaves t = IsNote x s (record { state = s; looped = option_map looped_value l }) × (t ≡ left_after (option_map looped_value l) x s)
-IsTaken x s l (Stops inner why) t = NeedFails inner why x s (option_map looped_value l)
+abbrev pub IsTaken : Sight → Step → State → Option Looped → End → (left : State) → Type 0
+IsTaken w x s l Leaves t = IsNote w x s (record { state = s; looped = option_map looped_value l }) × (t ≡ left_after w (option_map looped_value l) x s)
+IsTaken w x s l (Stops inner why) t = NeedFails w inner why x s (option_map looped_value l)
 
 -- what the counted ones of these commands come to, from a state on
-abbrev pub IsOutcome : List Step → State → Walk → Outcome → Type 0
-IsOutcome steps s w (Left t) =
-    AreNotes (counted steps) s (map note_value w.notes.items)
-    × (t ≡ result_from (counted steps) s (map note_value w.notes.items))
-    × (w.writes.items ≡ with_paths (paths_from (counted steps) (map note_value w.notes.items)) [])
-    × (w.quit ≡ has_quit steps)
-IsOutcome steps s w (Fails place why) =
-    (place.command ≡ length w.notes.items) × NotesFail place.inner why (counted steps) s (map note_value w.notes.items)
+abbrev pub IsOutcome : Sight → List Step → State → Walk → Outcome → Type 0
+IsOutcome w steps s walk (Left t) =
+    AreNotes w (counted steps) s (map note_value walk.notes.items)
+    × (t ≡ result_from w (counted steps) s (map note_value walk.notes.items))
+    × (walk.writes.items ≡ with_paths (paths_from (counted steps) (map note_value walk.notes.items)) [])
+    × (walk.quit ≡ has_quit steps)
+IsOutcome w steps s walk (Fails place why) =
+    (place.command ≡ length walk.notes.items) × NotesFail w place.inner why (counted steps) s (map note_value walk.notes.items)
 
-abbrev pub IsWalk : List Step → State → Walk → Type 0
-IsWalk steps s w = IsOutcome steps s w w.outcome
+abbrev pub IsWalk : Sight → List Step → State → Walk → Type 0
+IsWalk w steps s walk = IsOutcome w steps s walk walk.outcome
 
 -- the texts of a command and of its list are bytes
 abbrev pub StepIsBytes : Step → Type 0

@@ -4,7 +4,7 @@ ghost use Rattle.std.specs.Prelude.{◌≡◌, ◌≤◌, All, IfOk, IfSome};
 ghost use Rattle.ed_syntax.specs.PublicTypes.{steps_value};
 ghost use Rattle.ed_syntax.specs.PublicScript.{script_value};
 ghost use Rattle.ed_rules.specs.LineBounds.{IsAtMost};
-ghost use Rattle.analyser.specs.Following.{begun, end_fault};
+ghost use Rattle.analyser.specs.Following.{version_of, stated_of, sight_over, begun, end_fault};
 ghost use Rattle.analyser.specs.Analysis.{most_lines, IsAnswer, IsValid, HasTextIfVouched};
 ghost use Rattle.analyser.specs.Checked.{IsChecked};
 ghost use Rattle.analyser.specs.Exactness.{IsExactAnswer};
@@ -13,13 +13,15 @@ ghost use Rattle.analyser.specs.Walking.{IsWalk, StepIsBytes};
 use crate::analysis::{Analysis, Start};
 use crate::bounds::{high_of, low_of};
 use crate::laws::exact_scripts_are_foretold;
-use crate::texts::{path_is_bytes, paths_are_bytes, steps_are_bytes};
+use crate::texts::{has_is_formed, path_is_bytes, paths_are_bytes, steps_are_bytes};
 use crate::walk::{Outcome, Walk, go_through, place_of};
-use cert_check::{Certificate, covering_is_decided};
+use cert_check::{Certificate, Sight, Version, covering_is_decided};
 use ed_base::Fault;
-use ed_rules::{KeptState, State, covering_states_is_an_order, states_stay_formed};
+use ed_rules::{
+    KeptState, State, Texts, covering_states_is_an_order, matches_stay_formed, states_stay_formed,
+};
 use ed_syntax::Script;
-use std::alloc::AllocError;
+use std::alloc::{AllocError, Global};
 
 /// The fault that may come at the end of a script.
 fn end_fault(quit: bool, fault: Option<usize>, last: &KeptState) -> Option<Fault>
@@ -36,9 +38,54 @@ fn end_fault(quit: bool, fault: Option<usize>, last: &KeptState) -> Option<Fault
     }
 }
 
+/// The version of the certificate that is asked for.
+fn version_of(has: &Option<Texts>) -> Version
+    ensures value { result ≡ version_of has.now }
+{
+    match has {
+        None => Version::One,
+        Some(_) => Version::Two,
+    }
+}
+
+/// The patterns that some line of the start matches, as far as it is told.
+fn stated_of(alloc: Global, has: Option<Texts>) -> Texts
+    ensures value { result ≡ stated_of has }
+{
+    match has {
+        None => Texts::none(alloc),
+        Some(has) => has,
+    }
+}
+
+/// What the script is judged by beside what is known, and what is known at the start, where some of its lines match these patterns.
+fn opened(
+    alloc: Global,
+    script: &Script,
+    start: &Start,
+    has: &Texts,
+) -> Result<(Sight, State), AllocError>
+    requires stated { has.now ≡ stated_of start.now.has }
+    ensures value { IfOk result (λ (sight, begins). (sight ≡ sight_over (script_value script.now) start.now) × (begins ≡ begun start.now)) }
+{
+    let sight = Sight::of(script, version_of(&start.has), has)?;
+    let begins = State::start(alloc, &start.path, start.min, start.max, has)?;
+    Ok((sight, begins))
+}
+
+/// What the script is judged by beside what is known, and what is known at the start.
+fn begin(alloc: Global, script: &Script, start: &Start) -> Result<(Sight, State), AllocError>
+    ensures value { IfOk result (λ (sight, begins). (sight ≡ sight_over (script_value script.now) start.now) × (begins ≡ begun start.now)) }
+{
+    match &start.has {
+        None => opened(alloc, script, start, &Texts::none(alloc)),
+        Some(has) => opened(alloc, script, start, has),
+    }
+}
+
 /// The answer, by what the walk over the counted commands came to.
 fn answer(script: &Script, start: Start, walk: Walk) -> Analysis
-    requires walked { IsWalk (steps_value script.now.commands.items) (begun start) walk }
+    requires walked { IsWalk (sight_over (script_value script.now) start) (steps_value script.now.commands.items) (begun start) walk }
     requires ordered { IsAtMost start.min start.max }
     requires low { start.min ≤ most_lines }
     requires high { IfSome start.max (λ most. most ≤ most_lines) }
@@ -49,6 +96,7 @@ fn answer(script: &Script, start: Start, walk: Walk) -> Analysis
     ensures texts { HasTextIfVouched result }
 {
     states_stay_formed();
+    matches_stay_formed();
     covering_is_decided();
     covering_states_is_an_order();
     let Walk {
@@ -58,6 +106,7 @@ fn answer(script: &Script, start: Start, walk: Walk) -> Analysis
         outcome,
     } = walk;
     path_is_bytes(&start.path);
+    has_is_formed(&start.has);
     paths_are_bytes(writes.as_slice());
     match outcome {
         Outcome::Fails { place, why } => Analysis::Cannot { place, why, notes },
@@ -68,9 +117,11 @@ fn answer(script: &Script, start: Start, walk: Walk) -> Analysis
                 notes,
             },
             None => Analysis::Vouched(Certificate {
+                version: version_of(&start.has),
                 path: start.path,
                 min: start.min,
                 max: start.max,
+                has: stated_of(*script.commands.allocator(), start.has),
                 notes,
                 low: low_of(&last.zone()),
                 high: high_of(&last.zone()),
@@ -81,8 +132,8 @@ fn answer(script: &Script, start: Start, walk: Walk) -> Analysis
     }
 }
 
-/// Makes the certificate that a script can't fail over any start of these bounds, or tells the first need that fails. It goes
-/// through the script once, and through the list of a global command in rounds.
+/// Makes the certificate that a script can't fail over any start of these bounds in which some line matches each of the patterns, or
+/// tells the first need that fails. It goes through the script once, and through the list of a global command in rounds.
 pub fn analyse(script: &Script, start: Start) -> Result<Analysis, AllocError>
     requires ordered { IsAtMost start.min start.max }
     requires low { start.min ≤ most_lines }
@@ -106,7 +157,7 @@ pub fn analyse(script: &Script, start: Start) -> Result<Analysis, AllocError>
     exact_scripts_are_foretold();
     let alloc = *script.commands.allocator();
     steps_are_bytes(script.commands.as_slice());
-    let begun = State::start(alloc, &start.path, start.min, start.max)?;
-    let walk = go_through(alloc, script.commands.as_slice(), begun)?;
+    let (sight, begins) = begin(alloc, script, &start)?;
+    let walk = go_through(alloc, &sight, script.commands.as_slice(), begins)?;
     Ok(answer(script, start, walk))
 }

@@ -2,6 +2,7 @@
 
 use cert_check::{Certificate, Note, Place};
 use ed_base::{Bytes, Fault};
+use ed_rules::Texts;
 
 /// The start of the runs that a script is analysed for.
 #[derive(Debug, Drop)]
@@ -12,6 +13,9 @@ pub struct Start {
     pub min: u64,
     /// The most lines that the start may have; with none there is no limit.
     pub max: Option<u64>,
+    /// The patterns that some line of the start matches, maybe none: a certificate of version two is made, which states them. With
+    /// `None` it is one of version one, which tells nothing of what lines match.
+    pub has: Option<Texts>,
 }
 
 /// Whether a script is vouched for.

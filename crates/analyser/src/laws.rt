@@ -10,7 +10,7 @@ ghost use Rattle.analyser.specs.declared.analysis.Analysis.{Analysis};
 ghost use Rattle.analyser.specs.Analysis.{IsCertificate, IsFailure, IsAnswer};
 ghost use Rattle.analyser.specs.Exactness.{IsExactAnswer};
 
-use ed_rules::exact_commands_are_exact;
+use ed_rules::{exact_commands_are_exact, needs_are_the_same_whatever_is_watched};
 use ed_syntax::answers_are_asked_for;
 
 /// A script has one answer over a start: its certificate is determined, and so is the first need that fails.
@@ -30,5 +30,6 @@ pub fn exact_scripts_are_foretold()
     ensures exact { (script : Script) (start : Start) (answer : Analysis) → IsAnswer script start answer → IsExactAnswer script start answer }
 {
     exact_commands_are_exact();
+    needs_are_the_same_whatever_is_watched();
     answers_are_asked_for();
 }

@@ -1,13 +1,18 @@
 //! The rounds of a global command's list, up to the invariant that shows what is known at every turn.
 
-ghost use Rattle.std.specs.Prelude.{◌≡◌, ◌+◌, map, min, IfOk};
+ghost use Rattle.std.specs.Prelude.{◌≡◌, ◌+◌, true, map, min, IfOk};
 ghost use Rattle.ed_syntax.specs.PublicTypes.{command_value, step_value};
+ghost use Rattle.ed_syntax.specs.meaning.Verbs.{is_global};
 ghost use Rattle.zones.specs.Limits.{IsZone};
+ghost use Rattle.analyser.specs.Rounds.{entered};
 ghost use Rattle.analyser.specs.Walking.{IsRound, invariant_after, OldIsZone, HasZones, IsLastRound};
 
-use cert_check::covering_is_decided;
+use cert_check::{Sight, covering_is_decided};
 use ed_base::Fault;
-use ed_rules::{KeptState, Old, State, body_entry, covering_states_is_an_order, outcome_into};
+use ed_rules::{
+    KeptState, Old, State, body_entry, covering_states_is_an_order,
+    needs_are_the_same_whatever_is_watched, outcome_into,
+};
 use ed_syntax::Command;
 use std::alloc::{AllocError, Global};
 use zones::{Name, Zone};
@@ -21,21 +26,36 @@ pub(crate) struct Round {
     pub failed: Option<Fault>,
 }
 
+/// The state in which a list is run for a line, as far as it is told.
+fn enter(sight: &Sight, command: &Command, invariant: &State) -> Result<State, AllocError>
+    requires global { is_global (command_value command.now).verb ≡ true }
+    ensures value { IfOk result (λ entry. entry ≡ entered sight.now (step_value command.now) invariant.now) }
+{
+    let mut entry = body_entry(command, invariant)?;
+    sight.tell(&mut entry);
+    Ok(entry)
+}
+
 /// A round: goes through a list, from the state in which it is run for a line. Where no need fails, `coming` becomes the result of
 /// the last command. `left` is used again for the result of each.
 fn go_round(
     alloc: Global,
+    sight: &Sight,
     list: &[Command],
     coming: &mut State,
     left: &mut State,
 ) -> Result<Round, AllocError>
-    ensures value { IfOk result (λ round. IsRound (map command_value list.now) coming.old round.inner.items round.failed coming.new) }
+    ensures value { IfOk result (λ round. IsRound sight.now (map command_value list.now) coming.old round.inner.items round.failed coming.new) }
 {
+    needs_are_the_same_whatever_is_watched();
     let mut inner = Vec::new(alloc);
     for command in list {
         inner.push(coming.try_keep()?)?;
-        match outcome_into(command, coming, left)? {
-            None => coming.try_copy_from(left)?,
+        match outcome_into(command, coming, left, sight.watch())? {
+            None => {
+                sight.tell(left);
+                coming.try_copy_from(left)?;
+            }
             Some(why) => {
                 return Ok(Round {
                     inner,
@@ -103,18 +123,20 @@ fn zones_are_kept(state: &State)
 /// told. `known` becomes the invariant, what is known before each line is taken.
 pub(crate) fn settle(
     alloc: Global,
+    sight: &Sight,
     command: &Command,
     known: &mut State,
 ) -> Result<Round, AllocError>
-    ensures value { IfOk result (λ round. IsLastRound (step_value command.now).list known.old known.new round) }
+    requires global { is_global (command_value command.now).verb ≡ true }
+    ensures value { IfOk result (λ round. IsLastRound sight.now (step_value command.now) known.old known.new round) }
 {
     covering_states_is_an_order();
     let list = command.list();
     let mut left = known.try_copy()?;
     let mut before = 0;
     'settling: loop {
-        let mut coming = body_entry(known)?;
-        let round = go_round(alloc, list, &mut coming, &mut left)?;
+        let mut coming = enter(sight, command, known)?;
+        let round = go_round(alloc, sight, list, &mut coming, &mut left)?;
         zones_are_kept(known);
         zones_are_kept(&coming);
         match invariant_after(before, known, round.failed, &coming)? {

@@ -2,10 +2,12 @@
 
 ghost use Rattle.std.specs.Prelude.{◌<◌, All, Some, map};
 ghost use Rattle.ed_syntax.specs.PublicTypes.{base_value, addresses_value, verb_value, command_value, step_value, steps_value};
-ghost use Rattle.ed_rules.specs.Formed.{ChoiceIsBytes, BaseIsBytes, AddressesAreBytes, VerbIsBytes, TextsAreBytes};
+ghost use Rattle.ed_rules.specs.Formed.{ChoiceIsBytes, BaseIsBytes, AddressesAreBytes, VerbIsBytes, TextsAreBytes, TextsAreFormed};
+ghost use Rattle.analyser.specs.Following.{stated_of};
 ghost use Rattle.analyser.specs.Walking.{StepIsBytes};
 
 use ed_base::Bytes;
+use ed_rules::Texts;
 use ed_syntax::{Address, Addresses, Base, Command, Pattern, Verb};
 
 /// Items of a slice of bytes are bytes.
@@ -112,5 +114,14 @@ pub(crate) fn paths_are_bytes(paths: &[Bytes])
 {
     for path in paths {
         are_bytes(path.as_slice());
+    }
+}
+
+/// The patterns of a start rise and are bytes.
+pub(crate) fn has_is_formed(has: &Option<Texts>)
+    ensures formed { TextsAreFormed (stated_of has.now) }
+{
+    if let Some(has) = has {
+        paths_are_bytes(has.members());
     }
 }

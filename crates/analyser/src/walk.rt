@@ -1,6 +1,6 @@
 //! The walk over the counted commands, from one state to the next.
 
-ghost use Rattle.std.specs.Prelude.{◌≡◌, true, None, Some, Ok, IfOk, option_map};
+ghost use Rattle.std.specs.Prelude.{◌≡◌, true, [], None, Some, IfOk, option_map};
 ghost use Rattle.ed_syntax.specs.PublicTypes.{command_value, step_value, steps_value};
 ghost use Rattle.ed_syntax.specs.meaning.Verbs.{is_global};
 ghost use Rattle.cert_check.specs.Certificates.{looped_value, note_value};
@@ -10,9 +10,9 @@ ghost use Rattle.analyser.specs.Walking.{IsLastRound, looped_of, IsTaken, IsWalk
 
 use crate::paths::list_taken;
 use crate::rounds::{Round, settle};
-use cert_check::{Looped, Note, Place};
+use cert_check::{Looped, Note, Place, Sight};
 use ed_base::{Bytes, Fault};
-use ed_rules::{KeptState, State, loop_end, outcome_into};
+use ed_rules::{KeptState, State, loop_end, needs_are_the_same_whatever_is_watched, outcome_into};
 use ed_syntax::Command;
 use std::alloc::{AllocError, Global};
 
@@ -77,19 +77,21 @@ pub(crate) fn place_of(command: usize, inner: Option<usize>) -> Place
 /// What a global command comes to whose own needs hold, by the last round of its list. From the invariant of that round, `left`
 /// becomes the command's result.
 fn end_of_list(
+    sight: &Sight,
     command: &Command,
     state: &State,
     round: &Round,
     left: &mut State,
 ) -> Result<End, AllocError>
     requires global { is_global (command_value command.now).verb ≡ true }
-    requires needed { fault_of (step (command_value command.now) state.now) ≡ None }
-    requires last { IsLastRound (step_value command.now).list (left_by (command_value command.now) state.now) left.old round.now }
-    ensures value { IfOk result (λ end. IsTaken (step_value command.now) state.now (Some (looped_of left.old round.now)) end left.new) }
+    requires needed { fault_of (step [] (command_value command.now) state.now) ≡ None }
+    requires last { IsLastRound sight.now (step_value command.now) (left_by sight.now (command_value command.now) state.now) left.old round.now }
+    ensures value { IfOk result (λ end. IsTaken sight.now (step_value command.now) state.now (Some (looped_of left.old round.now)) end left.new) }
 {
     match round.failed {
         None => {
             *left = loop_end(command, state, left)?;
+            sight.tell(left);
             Ok(End::Leaves)
         }
         Some(why) => Ok(End::Stops {
@@ -103,17 +105,19 @@ fn end_of_list(
 /// command's result.
 fn take_global(
     alloc: Global,
+    sight: &Sight,
     command: &Command,
     state: &State,
     left: &mut State,
 ) -> Result<Taken, AllocError>
     requires global { is_global (command_value command.now).verb ≡ true }
-    requires start { step (command_value command.now) state.now ≡ Ok left.old }
-    ensures value { IfOk result (λ taken. IsTaken (step_value command.now) state.now taken.looped taken.end left.new) }
+    requires needed { fault_of (step [] (command_value command.now) state.now) ≡ None }
+    requires start { left.old ≡ left_by sight.now (command_value command.now) state.now }
+    ensures value { IfOk result (λ taken. IsTaken sight.now (step_value command.now) state.now taken.looped taken.end left.new) }
 {
-    let round = settle(alloc, command, left)?;
+    let round = settle(alloc, sight, command, left)?;
     let invariant = left.try_keep()?;
-    let end = end_of_list(command, state, &round, left)?;
+    let end = end_of_list(sight, command, state, &round, left)?;
     Ok(Taken {
         looped: Some(Looped {
             invariant,
@@ -126,16 +130,19 @@ fn take_global(
 /// What a command comes to. Where no need fails, `left` becomes its result.
 fn take(
     alloc: Global,
+    sight: &Sight,
     command: &Command,
     state: &State,
     left: &mut State,
 ) -> Result<Taken, AllocError>
-    ensures value { IfOk result (λ taken. IsTaken (step_value command.now) state.now taken.looped taken.end left.new) }
+    ensures value { IfOk result (λ taken. IsTaken sight.now (step_value command.now) state.now taken.looped taken.end left.new) }
 {
-    match outcome_into(command, state, left)? {
+    needs_are_the_same_whatever_is_watched();
+    match outcome_into(command, state, left, sight.watch())? {
         None => {
+            sight.tell(left);
             if command.verb.takes().global {
-                return take_global(alloc, command, state, left);
+                return take_global(alloc, sight, command, state, left);
             }
             Ok(Taken {
                 looped: None,
@@ -168,10 +175,11 @@ fn note_of(alloc: Global, state: KeptState, looped: Option<Looped>) -> Result<No
 /// Goes through the counted commands, from the state at the start.
 pub(crate) fn go_through(
     alloc: Global,
+    sight: &Sight,
     commands: &[Command],
     start: State,
 ) -> Result<Walk, AllocError>
-    ensures value { IfOk result (λ walk. IsWalk (steps_value commands.now) start walk) }
+    ensures value { IfOk result (λ walk. IsWalk sight.now (steps_value commands.now) start walk) }
 {
     let mut notes = Vec::new(alloc);
     let mut writes = Vec::new(alloc);
@@ -179,7 +187,7 @@ pub(crate) fn go_through(
     // It is used again for the result of each command.
     let mut left = coming.try_copy()?;
     for (index, command) in commands.iter().enumerate() {
-        let Taken { looped, end } = take(alloc, command, &coming, &mut left)?;
+        let Taken { looped, end } = take(alloc, sight, command, &coming, &mut left)?;
         let known = coming.try_keep()?;
         match end {
             End::Stops { inner, why } => {

@@ -4,6 +4,7 @@ use crate::walking::{Start, UNNAMED, Unreached, lines, path_of};
 use analyser::{Analysis, analyse};
 use cert_check::{Certificate, Place, Verdict, check};
 use ed_base::Fault;
+use ed_rules::Texts;
 use ed_syntax::{Script, read_script};
 use std::alloc::Global;
 use std::test::Fail;
@@ -11,8 +12,13 @@ use std::test::Fail;
 /// A certificate tells of at most 10^12 lines.
 const MOST_LINES: u64 = 1_000_000_000_000;
 
-/// The answer over a start whose bounds are those of starts.
-fn analysed(alloc: Global, script: &Script, start: Start) -> Result<Analysis, Unreached> {
+/// The answer over a start whose bounds are those of starts; with patterns it is one of version two.
+pub(crate) fn analysed(
+    alloc: Global,
+    script: &Script,
+    start: Start,
+    has: Option<Texts>,
+) -> Result<Analysis, Unreached> {
     let (min, max) = (start.min, start.max);
     let ordered = match max {
         Some(max) => min <= max && max <= MOST_LINES,
@@ -22,7 +28,15 @@ fn analysed(alloc: Global, script: &Script, start: Start) -> Result<Analysis, Un
         return Err(Unreached::Need);
     }
     let path = path_of(alloc, start)?;
-    Ok(analyse(script, analyser::Start { path, min, max })?)
+    Ok(analyse(
+        script,
+        analyser::Start {
+            path,
+            min,
+            max,
+            has,
+        },
+    )?)
 }
 
 #[derive(Drop)]
@@ -113,7 +127,7 @@ fn script_otherwise(
     row: &Row,
     script: &Script,
 ) -> Result<Option<&'static str>, Unreached> {
-    let analysis = analysed(alloc, script, row.start)?;
+    let analysis = analysed(alloc, script, row.start, None)?;
     answer_otherwise(row, script, &analysis)
 }
 
@@ -143,7 +157,7 @@ struct Refusal {
 }
 
 /// Where the script fails, why, and how many notes come with that.
-fn refused(analysis: &Analysis) -> Option<(Place, Fault, usize)> {
+pub(crate) fn refused(analysis: &Analysis) -> Option<(Place, Fault, usize)> {
     match analysis {
         Analysis::Vouched(_) => None,
         Analysis::Cannot { place, why, notes } => Some((*place, *why, notes.len())),
@@ -184,7 +198,7 @@ fn script_refused(
     script: &Script,
     start: Start,
 ) -> Result<Option<(Place, Fault, usize)>, Unreached> {
-    let analysis = analysed(alloc, script, start)?;
+    let analysis = analysed(alloc, script, start, None)?;
     Ok(refused(&analysis))
 }
 

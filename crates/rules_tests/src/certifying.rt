@@ -3,7 +3,7 @@
 
 use crate::walking::{Start, state_of};
 use cert_check::{CertFault, Certificate, Note};
-use ed_rules::{State, outcome_into};
+use ed_rules::{State, Watch, outcome_into};
 use ed_syntax::{Command, Script, Verb};
 use std::alloc::{AllocError, Global};
 
@@ -70,11 +70,12 @@ fn add_notes(
     commands: &[Command],
     state: &mut State,
     left: &mut State,
+    watch: &Watch,
     certificate: &mut Certificate,
 ) -> Result<bool, AllocError> {
     for command in commands {
         add_note(state, &mut certificate.notes)?;
-        if outcome_into(command, state, left)?.is_some() {
+        if outcome_into(command, state, left, watch)?.is_some() {
             return Ok(false);
         }
         state.try_copy_from(left)?;
@@ -87,12 +88,20 @@ fn add_notes(
 }
 
 fn add_notes_from(
+    alloc: Global,
     script: &Script,
     state: &mut State,
     certificate: &mut Certificate,
 ) -> Result<bool, AllocError> {
     let mut left = state.try_copy()?;
-    add_notes(script.commands.as_slice(), state, &mut left, certificate)
+    let watch = Watch::none(alloc);
+    add_notes(
+        script.commands.as_slice(),
+        state,
+        &mut left,
+        &watch,
+        certificate,
+    )
 }
 
 /// Puts in what the rules give from the start on, one after another; it tells whether all needs hold.
@@ -103,5 +112,5 @@ pub(crate) fn fill(
     certificate: &mut Certificate,
 ) -> Result<bool, AllocError> {
     let mut state = state_of(alloc, start)?;
-    add_notes_from(script, &mut state, certificate)
+    add_notes_from(alloc, script, &mut state, certificate)
 }

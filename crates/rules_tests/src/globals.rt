@@ -28,6 +28,27 @@ fn begun(alloc: Global, script: &[u8], state: &State) -> Result<State, Unreached
     begun_first(&script, state)
 }
 
+/// The state in which the list of a global command is run for a line.
+fn entered_by(command: &Command, begun: &State) -> Result<State, Unreached> {
+    match &command.verb {
+        Verb::Global { .. } => Ok(body_entry(command, begun)?),
+        _ => Err(Unreached::Need),
+    }
+}
+
+fn entered_first(script: &Script, begun: &State) -> Result<State, Unreached> {
+    match script.commands.first() {
+        Some(command) => entered_by(command, begun),
+        None => Err(Unreached::Need),
+    }
+}
+
+/// The same of the global command that is a script's first.
+fn entered(alloc: Global, script: &[u8], begun: &State) -> Result<State, Unreached> {
+    let script = read_script(alloc, script)?;
+    entered_first(&script, begun)
+}
+
 /// The state after a global command.
 fn ended_by(command: &Command, before: &State, invariant: &State) -> Result<State, Unreached> {
     match &command.verb {
@@ -53,6 +74,8 @@ fn ended(
     let script = read_script(alloc, script)?;
     ended_first(&script, before, invariant)
 }
+
+const DELETING: &[u8] = b"g/x/d\n";
 
 /// What is known of a line that is taken.
 #[derive(Drop)]
@@ -102,25 +125,29 @@ fn entry_otherwise(row: &Taken, entry: &State) -> Option<&'static str> {
 }
 
 /// What is told otherwise than the row, of what is known before the list is run.
-fn begun_otherwise(row: &Taken, begun: &State) -> Result<Option<&'static str>, Unreached> {
+fn begun_otherwise(
+    alloc: Global,
+    row: &Taken,
+    begun: &State,
+) -> Result<Option<&'static str>, Unreached> {
     if first_unlike(begun, row.begun).is_some() {
         return Ok(Some("the bounds before"));
     }
     if begun.patterns.has(&None) {
         return Ok(Some("the patterns before"));
     }
-    let entry = body_entry(begun)?;
+    let entry = entered(alloc, DELETING, begun)?;
     Ok(entry_otherwise(row, &entry))
 }
 
 fn begun_over(alloc: Global, start: Start) -> Result<State, Unreached> {
     let before = state_of(alloc, start)?;
-    begun(alloc, b"g/x/d\n", &before)
+    begun(alloc, DELETING, &before)
 }
 
 fn row_otherwise(alloc: Global, row: &Taken) -> Result<Option<&'static str>, Unreached> {
     let begun = begun_over(alloc, row.start)?;
-    begun_otherwise(row, &begun)
+    begun_otherwise(alloc, row, &begun)
 }
 
 #[test]

@@ -14,10 +14,14 @@ mod globals;
 #[cfg(test)]
 mod lists;
 #[cfg(test)]
+mod matching;
+#[cfg(test)]
 mod rules;
 #[cfg(test)]
 mod substitution;
 #[cfg(test)]
 mod text;
+#[cfg(test)]
+mod versions;
 #[cfg(test)]
 mod walking;

@@ -2,7 +2,7 @@
 
 use crate::walking::{Known, Start, Unreached, first_unlike, lines, pass_all, state_of};
 use ed_base::{Fault, Letter};
-use ed_rules::{Changed, Replacements, State, after, needs};
+use ed_rules::{Changed, Replacements, State, Texts, Watch, after, needs};
 use ed_syntax::{Command, read_script};
 use std::alloc::{AllocError, Global};
 use std::test::Fail;
@@ -56,7 +56,7 @@ fn row_need(alloc: Global, row: &Row, state: &State) -> Result<(bool, Option<Fau
 }
 
 fn row_needs(alloc: Global, row: &Row) -> Result<(bool, Option<Fault>), AllocError> {
-    let state = State::start(alloc, &None, row.min, row.max)?;
+    let state = State::start(alloc, &None, row.min, row.max, &Texts::none(alloc))?;
     row_need(alloc, row, &state)
 }
 
@@ -170,23 +170,23 @@ fn told_otherwise(row: &Left, state: &State) -> Option<&'static str> {
 }
 
 /// The state after a command whose needs hold.
-fn done(command: &Command, state: &State) -> Result<State, Unreached> {
+fn done(alloc: Global, command: &Command, state: &State) -> Result<State, Unreached> {
     if needs(command, state)?.is_some() {
         return Err(Unreached::Need);
     }
-    Ok(after(command, state)?)
+    Ok(after(command, state, &Watch::none(alloc))?)
 }
 
-fn first_done(commands: &[Command], before: &State) -> Result<State, Unreached> {
+fn first_done(alloc: Global, commands: &[Command], before: &State) -> Result<State, Unreached> {
     match commands.first() {
-        Some(command) => done(command, before),
+        Some(command) => done(alloc, command, before),
         None => Err(Unreached::Need),
     }
 }
 
 fn row_done(alloc: Global, row: &Left, before: &State) -> Result<State, Unreached> {
     let commands = commands_of(alloc, row.script, row.listed)?;
-    first_done(commands.as_slice(), before)
+    first_done(alloc, commands.as_slice(), before)
 }
 
 fn left_by(alloc: Global, row: &Left) -> Result<State, Unreached> {

@@ -57,7 +57,7 @@ writes =F
 ";
 
 /// What the text of a certificate is in place of `text`.
-fn text_otherwise(
+pub(crate) fn text_otherwise(
     certificate: &Certificate,
     text: &[u8],
 ) -> Result<Option<&'static str>, AllocError> {
@@ -161,7 +161,8 @@ fn add_members(
     Ok(())
 }
 
-fn choices(alloc: Global, patterns: &[Option<&[u8]>]) -> Result<Choices, AllocError> {
+/// A set of these; `None` where they are none.
+fn choices(alloc: Global, patterns: &[Option<&[u8]>]) -> Result<Option<Choices>, AllocError> {
     let mut members = Vec::new(alloc);
     add_members(alloc, patterns, &mut members)?;
     Ok(Choices::from_rising(members))
@@ -174,7 +175,9 @@ fn change_state(alloc: Global, change: &Change, state: &mut State) -> Result<(),
     if change.z_is_sure {
         state.marks.add(Letter::at(25));
     }
-    state.patterns = choices(alloc, change.patterns)?;
+    if let Some(patterns) = choices(alloc, change.patterns)? {
+        state.patterns = patterns;
+    }
     Ok(())
 }
 
@@ -218,13 +221,10 @@ fn made_has_text(
 }
 
 #[rattlefmt::skip]
-static TEXTLESS: [Change; 6] = [
+static TEXTLESS: [Change; 4] = [
     // More lines at the start than there may be, and more at the end than a text may speak of.
     Change { min: 4, ..NO_CHANGE },
     Change { high: Some(1_000_000_000_001), ..NO_CHANGE },
-    // No choice at all, and none after a text.
-    Change { patterns: &[], ..NO_CHANGE },
-    Change { patterns: &[Some(b""), None], ..NO_CHANGE },
     // A letter that isn't sure, and a path twice.
     Change { spoken: Some(b'a'), ..NO_CHANGE },
     Change { writes: 2, ..NO_CHANGE },
@@ -235,6 +235,15 @@ fn a_certificate_that_is_no_text_says_so(rt: HostRuntime) -> Result<(), Fail> {
     for (index, change) in TEXTLESS.iter().enumerate() {
         assert!(rt; !has_text(rt.alloc(), change)??, "row {index}");
     }
+    Ok(())
+}
+
+/// No choice at all, none after a text, and a text twice are no sets.
+#[test]
+fn sets_of_choices_have_a_member_and_rise(rt: HostRuntime) -> Result<(), Fail> {
+    assert!(rt; choices(rt.alloc(), &[])?.is_none());
+    assert!(rt; choices(rt.alloc(), &[Some(b""), None])?.is_none());
+    assert!(rt; choices(rt.alloc(), &[Some(b"a"), Some(b"a")])?.is_none());
     Ok(())
 }
 

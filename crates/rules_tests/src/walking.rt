@@ -1,7 +1,7 @@
 //! The way of states through scripts, by the rules alone, and what is known of a state.
 
 use ed_base::{Bytes, Fault, Letter};
-use ed_rules::{State, outcome_into};
+use ed_rules::{State, Texts, Watch, outcome_into};
 use ed_syntax::{Command, read_script};
 use std::alloc::{AllocError, Global};
 use zones::Name;
@@ -45,7 +45,8 @@ pub(crate) fn path_of(alloc: Global, start: Start) -> Result<Option<Bytes>, Allo
 
 /// The state at the start.
 pub(crate) fn state_of(alloc: Global, start: Start) -> Result<State, AllocError> {
-    State::start(alloc, &path_of(alloc, start)?, start.min, start.max)
+    let path = path_of(alloc, start)?;
+    State::start(alloc, &path, start.min, start.max, &Texts::none(alloc))
 }
 
 /// Takes a state through commands, with `left` for room, up to the first whose needs fail: its number is told, with its fault.
@@ -53,9 +54,10 @@ fn pass(
     commands: &[Command],
     state: &mut State,
     left: &mut State,
+    watch: &Watch,
 ) -> Result<Option<(usize, Fault)>, AllocError> {
     for (index, command) in commands.iter().enumerate() {
-        if let Some(fault) = outcome_into(command, state, left)? {
+        if let Some(fault) = outcome_into(command, state, left, watch)? {
             return Ok(Some((index + 1, fault)));
         }
         state.try_copy_from(left)?;
@@ -65,11 +67,12 @@ fn pass(
 
 /// Takes a state through commands, up to the first whose needs fail.
 fn walk_commands(
+    alloc: Global,
     commands: &[Command],
     state: &mut State,
 ) -> Result<Option<(usize, Fault)>, AllocError> {
     let mut left = state.try_copy()?;
-    pass(commands, state, &mut left)
+    pass(commands, state, &mut left, &Watch::none(alloc))
 }
 
 /// Takes a state through a script, up to the first command whose needs fail.
@@ -79,7 +82,7 @@ pub(crate) fn walk(
     state: &mut State,
 ) -> Result<Option<(usize, Fault)>, AllocError> {
     let script = read_script(alloc, script)?;
-    walk_commands(script.commands.as_slice(), state)
+    walk_commands(alloc, script.commands.as_slice(), state)
 }
 
 /// Why what is asked for isn't reached.

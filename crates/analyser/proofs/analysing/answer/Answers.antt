@@ -3,13 +3,14 @@ use Rattle.ed_syntax.specs.PublicScript.{script_value}
 use Rattle.ed_syntax.specs.PublicTypes.{steps_value}
 use Rattle.cert_check.specs.Certificates.{note_value}
 use Rattle.cert_check.specs.checker.Valid.{counted}
-use Rattle.analyser.specs.Following.{begun, paths_from}
+use Rattle.analyser.specs.Following.{sight_over, begun, paths_from}
 use Rattle.analyser.specs.Walking.{IsOutcome}
 use Rattle.analyser.proofs.Listing.{listed-by}
 use Rattle.ed_rules.specs.Formed.{ChoiceIsBytes}
 use Rattle.std.specs.List.{All}
-use Rattle.analyser.proofs.Texting as text
-use Rattle.analyser.proofs.Texting.{script-formed, has-text}
+use Rattle.analyser.proofs.Telling as telling
+use Rattle.analyser.proofs.Telling.{MatchLaws, script-holds}
+use Rattle.analyser.proofs.Texting.{has-text}
 use Rattle.analyser.proofs.Checking.{Laws, checked-before}
 use Rattle.analyser.proofs.Accepting.{accepted}
 use Rattle.analyser.proofs.Answering.{end-is, stops-at, stops-at_end}
@@ -17,14 +18,14 @@ use Rattle.analyser.proofs.analysing.answer.Goals as goal
 
 pub returns-in-Fails-clause-exact : goal.returns-in-Fails-clause-exact
 returns-in-Fails-clause-exact c =
-    let stops = subst (λ o. IsOutcome (steps_value c.args.script.now.commands.items) (begun c.args.start) c.args.walk o) c.in-Fails.is c.requires.walked in
+    let stops = subst (λ o. IsOutcome (sight_over (script_value c.args.script.now) c.args.start) (steps_value c.args.script.now.commands.items) (begun c.args.start) c.args.walk o) c.in-Fails.is c.requires.walked in
     inl (stops-at (script_value c.args.script.now) c.args.start c.args.walk.notes.items c.in-Fails.place c.in-Fails.why stops.0 stops.1)
 
 pub returns-in-Some-clause-exact : goal.returns-in-Some-clause-exact
 returns-in-Some-clause-exact c =
     let script = script_value c.args.script.now in
     let start = c.args.start in
-    let left = subst (λ o. IsOutcome (steps_value c.args.script.now.commands.items) (begun start) c.args.walk o) c.in-Left.is c.requires.walked in
+    let left = subst (λ o. IsOutcome (sight_over (script_value c.args.script.now) c.args.start) (steps_value c.args.script.now.commands.items) (begun start) c.args.walk o) c.in-Left.is c.requires.walked in
     let ends = end-is script c.args.walk.quit c.in-Left.last _ c.end_fault.result left.3 left.1 c.end_fault.ensures.value ∙ c.in-Some.is in
     let size : c.len.result ≡ length c.args.walk.notes.items = let counts = c.len.ensures in omega (arith, c.args.walk.notes.ok.0) in
     inr (stops-at_end script start c.args.walk.notes.items c.place_of.result c.in-Some.why left.0 ends
@@ -56,12 +57,14 @@ pub returns-in-None-clause-exact : goal.returns-in-None-clause-exact
 returns-in-None-clause-exact c =
     let script = script_value c.args.script.now in
     let start = c.args.start in
-    let left = subst (λ o. IsOutcome (steps_value c.args.script.now.commands.items) (begun start) c.args.walk o) c.in-Left.is c.requires.walked in
+    let left = subst (λ o. IsOutcome (sight_over (script_value c.args.script.now) c.args.start) (steps_value c.args.script.now.commands.items) (begun start) c.args.walk o) c.in-Left.is c.requires.walked in
     let ends = end-is script c.args.walk.quit c.in-Left.last _ c.end_fault.result left.3 refl c.end_fault.ensures.value ∙ c.in-None.is in
     record {
+      version = c.version_of.ensures.value;
       path = refl;
       min = refl;
       max = refl;
+      has = c.stated_of.ensures.value;
       notes = left.0;
       last = left.1;
       end = ends;
@@ -79,21 +82,30 @@ returns-in-None-clause-valid c =
       widen = c.covering_states_is_an_order.ensures.widen;
       decided = c.covering_is_decided.ensures.exact;
     } in
-    let formed : text.Laws = record {
+    let formed : telling.Laws = record {
       start = c.states_stay_formed.ensures.start;
       command = c.states_stay_formed.ensures.command;
       join = c.states_stay_formed.ensures.join;
       widen = c.states_stay_formed.ensures.widen;
       entry = c.states_stay_formed.ensures.entry;
       end = c.states_stay_formed.ensures.end;
+    } in
+    let matches : MatchLaws = record {
+      start = c.matches_stay_formed.ensures.start;
+      command = c.matches_stay_formed.ensures.command;
+      join = c.matches_stay_formed.ensures.join;
+      widen = c.matches_stay_formed.ensures.widen;
+      entry = c.matches_stay_formed.ensures.entry;
+      end = c.matches_stay_formed.ensures.end;
+      watched = c.matches_stay_formed.ensures.watched;
     } in
     let is = returns-in-None-clause-exact c in
     accepted laws (script_value c.args.script.now) c.args.start _ is
-    (script-formed formed (script_value c.args.script.now) c.args.start _ c.requires.bytes c.path_is_bytes.ensures.bytes is.notes).1.counted
+    (script-holds formed matches (script_value c.args.script.now) c.args.start _ c.requires.bytes c.path_is_bytes.ensures.bytes c.has_is_formed.ensures.formed is.notes).1.ended.counted
 
 pub returns-in-None-clause-texts : goal.returns-in-None-clause-texts
 returns-in-None-clause-texts c =
-    let laws : text.Laws = record {
+    let laws : telling.Laws = record {
       start = c.states_stay_formed.ensures.start;
       command = c.states_stay_formed.ensures.command;
       join = c.states_stay_formed.ensures.join;
@@ -101,5 +113,14 @@ returns-in-None-clause-texts c =
       entry = c.states_stay_formed.ensures.entry;
       end = c.states_stay_formed.ensures.end;
     } in
-    has-text laws (script_value c.args.script.now) c.args.start _ c.requires.bytes c.path_is_bytes.ensures.bytes
+    let matches : MatchLaws = record {
+      start = c.matches_stay_formed.ensures.start;
+      command = c.matches_stay_formed.ensures.command;
+      join = c.matches_stay_formed.ensures.join;
+      widen = c.matches_stay_formed.ensures.widen;
+      entry = c.matches_stay_formed.ensures.entry;
+      end = c.matches_stay_formed.ensures.end;
+      watched = c.matches_stay_formed.ensures.watched;
+    } in
+    has-text laws matches (script_value c.args.script.now) c.args.start _ c.requires.bytes c.path_is_bytes.ensures.bytes c.has_is_formed.ensures.formed
     (subst (λ (ps : List (List ℕ)). All ChoiceIsBytes (map (λ path. Some path) ps)) c.as_slice.ensures.value c.paths_are_bytes.ensures.bytes) c.requires.ordered c.requires.low c.requires.high (returns-in-None-clause-exact c)

@@ -13,15 +13,15 @@ use Rattle.analyser.proofs.walk.go_through.Goals as goal
 
 pub loop-index-init : goal.loop-index-init
 loop-index-init c = record {
-  going = subst (λ ns. Going (counted_from c.args.commands.now 0) c.args.start 0 (map note_value ns) c.new-writes.result.items c.args.start (counted_from c.args.commands.now 0)) (sym c.new-notes.ensures.items)
-      (subst (λ ws. Going (counted_from c.args.commands.now 0) c.args.start 0 _ ws c.args.start (counted_from c.args.commands.now 0)) (sym c.new-writes.ensures.items) (going-start (counted_from c.args.commands.now 0) c.args.start));
+  going = subst (λ ns. Going c.args.sight.now (counted_from c.args.commands.now 0) c.args.start 0 (map note_value ns) c.new-writes.result.items c.args.start (counted_from c.args.commands.now 0)) (sym c.new-notes.ensures.items)
+      (subst (λ ws. Going c.args.sight.now (counted_from c.args.commands.now 0) c.args.start 0 _ ws c.args.start (counted_from c.args.commands.now 0)) (sym c.new-writes.ensures.items) (going-start c.args.sight.now (counted_from c.args.commands.now 0) c.args.start));
   quit = refl;
 }
 
 pub returns-in-Stops : goal.returns-in-Stops
 returns-in-Stops c = record {
   value =
-      walk-off c.args.commands.now c.args.start c.loop-index.index c.index-commands-index.result c.loop-index.notes.items c.push.new.self.items c.in_ok-note-in-Stops.note c.in_ok-looped.field-0.looped c.loop-index.writes.items c.loop-index.coming c.take.new.left
+      walk-off c.args.sight.now c.args.commands.now c.args.start c.loop-index.index c.index-commands-index.result c.loop-index.notes.items c.push.new.self.items c.in_ok-note-in-Stops.note c.in_ok-looped.field-0.looped c.loop-index.writes.items c.loop-index.coming c.take.new.left
       c.in_ok-looped.field-0.end c.in-Stops.inner c.in-Stops.why c.place_of-place.result c.of.result
       (omega arith) c.index-commands-index.is (rw c.in_ok-known.ensures.value at c.in_ok-note-in-Stops.ensures.value) c.in_ok-push-in-Stops.ensures.items c.in_ok-looped.ensures.value c.in-Stops.is c.loop-index.invariant.going
       c.place_of-place.ensures.value (ap (λ (w : Walk). w.outcome) c.of.ensures.value) (ap (λ (w : Walk). w.notes.items) c.of.ensures.value);
@@ -29,19 +29,19 @@ returns-in-Stops c = record {
 
 pub list_taken-requires : goal.list_taken-requires
 list_taken-requires c = record {
-  shape = taken-shape (step_value c.index-commands-index.result) c.loop-index.coming c.take.new.left c.in_ok-looped.field-0.looped c.in_ok-looped.field-0.end c.in_ok-looped.ensures.value c.in-Leaves.is;
+  shape = taken-shape c.args.sight.now (step_value c.index-commands-index.result) c.loop-index.coming c.take.new.left c.in_ok-looped.field-0.looped c.in_ok-looped.field-0.end c.in_ok-looped.ensures.value c.in-Leaves.is;
 }
 
 pub returns-then-is_some : goal.returns-then-is_some
 returns-then-is_some c =
-    let on = walk-on c.args.commands.now c.args.start c.loop-index.index c.index-commands-index.result c.loop-index.notes.items c.push-in-Leaves.new.self.items c.in_ok-note-in-Leaves.note c.in_ok-looped.field-0.looped c.loop-index.writes.items c.list_taken.new.paths.items
+    let on = walk-on c.args.sight.now c.args.commands.now c.args.start c.loop-index.index c.index-commands-index.result c.loop-index.notes.items c.push-in-Leaves.new.self.items c.in_ok-note-in-Leaves.note c.in_ok-looped.field-0.looped c.loop-index.writes.items c.list_taken.new.paths.items
     c.loop-index.coming c.take.new.left c.try_copy_from.new.self c.in_ok-looped.field-0.end
     (omega arith) c.index-commands-index.is (rw c.in_ok-known.ensures.value at c.in_ok-note-in-Leaves.ensures.value) c.in_ok-push-in-Leaves.ensures.items (rw c.in_ok-known.ensures.value at c.in_ok-list_taken-in-Leaves.ensures.value) c.in_ok-looped.ensures.value c.in-Leaves.is c.in_ok-try_copy_from-in-Leaves.ensures.value c.loop-index.invariant.going in
     let ends = sym (ap (λ (t : Takes). is_some t.ends) c.takes.ensures.value) ∙ sym c.is_some.ensures ∙ c.if-is_some.true in
     let quit = quit-off c.args.commands.now c.loop-index.index c.index-commands-index.result (omega arith) c.index-commands-index.is ends c.loop-index.invariant.quit in
     record {
       value =
-          walk-end c.args.commands.now c.args.start (c.loop-index.index + 1) c.push-in-Leaves.new.self.items c.list_taken.new.paths.items c.try_copy_from.new.self _ c.of-then-is_some.result
+          walk-end c.args.sight.now c.args.commands.now c.args.start (c.loop-index.index + 1) c.push-in-Leaves.new.self.items c.list_taken.new.paths.items c.try_copy_from.new.self _ c.of-then-is_some.result
           on (later-off c.args.commands.now c.loop-index.index c.index-commands-index.result ends)
           (ap (λ (w : Walk). w.outcome) c.of-then-is_some.ensures.value ∙ ap (λ (s : State). Left s) c.in_ok-try_keep.ensures.value) (ap (λ (w : Walk). w.notes.items) c.of-then-is_some.ensures.value) (ap (λ (w : Walk). w.writes.items) c.of-then-is_some.ensures.value)
           (ap (λ (w : Walk). w.quit) c.of-then-is_some.ensures.value ∙ sym quit);
@@ -49,12 +49,12 @@ returns-then-is_some c =
 
 pub loop-index-preserved : goal.loop-index-preserved
 loop-index-preserved c =
-    let on = walk-on c.args.commands.now c.args.start c.loop-index.index c.index-commands-index.result c.loop-index.notes.items c.push-in-Leaves.new.self.items c.in_ok-note-in-Leaves.note c.in_ok-looped.field-0.looped c.loop-index.writes.items c.list_taken.new.paths.items
+    let on = walk-on c.args.sight.now c.args.commands.now c.args.start c.loop-index.index c.index-commands-index.result c.loop-index.notes.items c.push-in-Leaves.new.self.items c.in_ok-note-in-Leaves.note c.in_ok-looped.field-0.looped c.loop-index.writes.items c.list_taken.new.paths.items
     c.loop-index.coming c.take.new.left c.try_copy_from.new.self c.in_ok-looped.field-0.end
     (omega arith) c.index-commands-index.is (rw c.in_ok-known.ensures.value at c.in_ok-note-in-Leaves.ensures.value) c.in_ok-push-in-Leaves.ensures.items (rw c.in_ok-known.ensures.value at c.in_ok-list_taken-in-Leaves.ensures.value) c.in_ok-looped.ensures.value c.in-Leaves.is c.in_ok-try_copy_from-in-Leaves.ensures.value c.loop-index.invariant.going in
     let stays = sym (ap (λ (t : Takes). is_some t.ends) c.takes.ensures.value) ∙ sym c.is_some.ensures ∙ c.if-is_some.false in
     record {
-      going = subst (λ (xs : List Step). Going (counted_from c.args.commands.now 0) c.args.start (c.loop-index.index + 1) (map note_value c.push-in-Leaves.new.self.items) c.list_taken.new.paths.items c.try_copy_from.new.self xs)
+      going = subst (λ (xs : List Step). Going c.args.sight.now (counted_from c.args.commands.now 0) c.args.start (c.loop-index.index + 1) (map note_value c.push-in-Leaves.new.self.items) c.list_taken.new.paths.items c.try_copy_from.new.self xs)
           (later-on c.args.commands.now c.loop-index.index c.index-commands-index.result stays) on;
       quit = quit-on c.args.commands.now c.loop-index.index c.index-commands-index.result (omega arith) c.index-commands-index.is stays c.loop-index.invariant.quit;
     }
@@ -64,7 +64,7 @@ returns c =
     let none = counted-none c.args.commands.now c.loop-index.index (omega arith) in
     record {
       value =
-          walk-end c.args.commands.now c.args.start c.loop-index.index c.loop-index.notes.items c.loop-index.writes.items c.loop-index.coming _ c.of-2.result
+          walk-end c.args.sight.now c.args.commands.now c.args.start c.loop-index.index c.loop-index.notes.items c.loop-index.writes.items c.loop-index.coming _ c.of-2.result
           c.loop-index.invariant.going (ap (λ l. counted (steps_value l)) none)
           (ap (λ (w : Walk). w.outcome) c.of-2.ensures.value ∙ ap (λ (s : State). Left s) c.in_ok-try_keep-2.ensures.value) (ap (λ (w : Walk). w.notes.items) c.of-2.ensures.value) (ap (λ (w : Walk). w.writes.items) c.of-2.ensures.value)
           (ap (λ (w : Walk). w.quit) c.of-2.ensures.value ∙ sym (c.loop-index.invariant.quit ∙ ap (λ l. has_quit (steps_value l)) none));

@@ -1,12 +1,10 @@
-use Rattle.std.proofs.Common.{ap}
 use Rattle.ed_syntax.specs.PublicTypes.{step_value}
-use Rattle.ed_rules.specs.Rules.{fault_of}
 use Rattle.analyser.proofs.Rounding.{last-begun}
 use Rattle.analyser.proofs.walk.take_global.Goals as goal
 
 pub end_of_list-requires : goal.end_of_list-requires
 end_of_list-requires c = record {
   global = c.requires.global;
-  needed = ap fault_of c.requires.start;
-  last = last-begun (step_value c.args.command.now) c.args.state.now c.args.left.now c.settle.new.known c.in_ok-round.round c.requires.start c.in_ok-round.ensures.value;
+  needed = c.requires.needed;
+  last = last-begun c.args.sight.now (step_value c.args.command.now) c.args.state.now c.args.left.now c.settle.new.known c.in_ok-round.round c.requires.start c.in_ok-round.ensures.value;
 }

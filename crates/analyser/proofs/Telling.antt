@@ -1,0 +1,264 @@
+-- What is known is formed, as far as it is told: it can be written down.
+use Rattle.std.proofs.Common.{◌≡◌, ℕ, zero, suc, Bool, true, false, List, [], ◌∷◌, Option, None, Some, Result, Ok, Err, refl, sym, ap, subst}
+use Rattle.std.specs.Prelude.{nat_lt, IfOk}
+use Rattle.std.specs.List.{All}
+use Rattle.std.proofs.lemmas.List.Elements.{All-nil, All-cons, All-head, All-tail}
+use Rattle.ed_base.specs.declared.fault.Fault.{Fault}
+use Rattle.ed_syntax.specs.Commands.{Verb, Command, Step, Script}
+use Rattle.ed_syntax.specs.meaning.Verbs.{is_global, ends_run}
+use Rattle.ed_rules.specs.declared.state.State.{State}
+use Rattle.ed_rules.specs.Choices.{Choice}
+use Rattle.ed_rules.specs.Texts.{both_texts}
+use Rattle.ed_rules.specs.Matched.{watched}
+use Rattle.ed_rules.specs.States as states
+use Rattle.ed_rules.specs.Order.{join, widen, old_has_of_both}
+use Rattle.ed_rules.specs.Rules.{step}
+use Rattle.ed_rules.specs.Globals.{body_entry, loop_end}
+use Rattle.ed_rules.specs.Formed.{ChoiceIsBytes, IsFormed, IsEnded, TextsAreFormed, MatchesAreFormed, VerbIsBytes, TextsAreBytes}
+use Rattle.cert_check.specs.declared.certificate.Version.{Version}
+use Rattle.cert_check.specs.declared.certificate.Version.TheVariants as version
+use Rattle.cert_check.specs.declared.sight.Sight.{Sight}
+use Rattle.cert_check.specs.Certificates.{Looped, Note}
+use Rattle.cert_check.specs.checker.Valid.{sight_of, told_by, told, counted, left_by, left_after}
+use Rattle.analyser.specs.declared.analysis.Start.{Start}
+use Rattle.analyser.specs.Rounds.{left_by_list, AreInner, entered, turned, round_invariant}
+use Rattle.analyser.specs.Following.{IsKnownOfList, AreNotes, result_from, version_of, stated_of, sight_over, begun}
+use Rattle.analyser.specs.Walking.{StepIsBytes}
+use Rattle.analyser.proofs.Results.{either}
+
+-- the laws that this rests on
+pub record Laws : Type 0 where
+  pub start : (path : Choice) (min : ℕ) (max : Option ℕ) (has : List (List ℕ)) → ChoiceIsBytes path → IsEnded (states.start path min max has)
+  pub command : (watched : List (List ℕ)) (c : Command) (s : State) → TextsAreBytes c → IsFormed s → IfOk (step watched c s) IsEnded
+  pub join : (one other : State) → IsFormed one → IsFormed other → IsFormed (join one other)
+  pub widen : (old new : State) → IsFormed old → IsFormed new → IsFormed (widen old new)
+  pub entry : (verb : Verb) (invariant : State) → IsFormed invariant → IsEnded (body_entry verb invariant)
+  pub end : (x : Step) (before invariant : State) → IsFormed before → IsFormed invariant → IsEnded (loop_end x before invariant)
+
+-- the same of matches
+pub record MatchLaws : Type 0 where
+  pub start : (path : Choice) (min : ℕ) (max : Option ℕ) (has : List (List ℕ)) → TextsAreFormed has → MatchesAreFormed (states.start path min max has)
+  pub command : (watched : List (List ℕ)) (c : Command) (s : State) → TextsAreFormed watched → MatchesAreFormed s → IfOk (step watched c s) MatchesAreFormed
+  pub join : (one other : State) → MatchesAreFormed one → MatchesAreFormed other → MatchesAreFormed (join one other)
+  pub widen : (old new : State) → MatchesAreFormed old → MatchesAreFormed new → MatchesAreFormed (widen old new)
+  pub entry : (verb : Verb) (invariant : State) → VerbIsBytes verb → MatchesAreFormed invariant → MatchesAreFormed (body_entry verb invariant)
+  pub end : (x : Step) (before invariant : State) → MatchesAreFormed before → MatchesAreFormed invariant → MatchesAreFormed (loop_end x before invariant)
+  pub watched : (script : Script) (has : List (List ℕ)) → All (λ (x : Step). TextsAreBytes x.command × All TextsAreBytes x.list) script.steps → TextsAreFormed has → TextsAreFormed (watched script has)
+
+-- AS FAR AS IT IS TOLD
+
+formed-told_by : (v : Version) (s : State) → IsFormed s → IsFormed (told_by v s)
+formed-told_by version.One s h = record {
+  formed = record {
+    zone = h.formed.zone;
+    patterns = h.formed.patterns;
+    replacements = h.formed.replacements;
+    names = h.formed.names;
+    changed = h.formed.changed;
+    undo = h.formed.undo;
+    old = h.formed.old;
+  };
+  low = h.low;
+  old_low = h.old_low;
+}
+formed-told_by version.Two s h = h
+
+formed-told : (w : Sight) (s : State) → IsFormed s → IsFormed (told w s)
+formed-told w s h = formed-told_by w.version s h
+
+ended-told_by : (v : Version) (s : State) → IsEnded s → IsEnded (told_by v s)
+ended-told_by version.One s h = record { formed = formed-told_by version.One s h.formed; counted = h.counted }
+ended-told_by version.Two s h = h
+
+ended-told : (w : Sight) (s : State) → IsEnded s → IsEnded (told w s)
+ended-told w s h = ended-told_by w.version s h
+
+-- version one says nothing of matches; what version two says is formed
+abbrev pub SaysAsTold : Version → State → Type 0
+SaysAsTold version.One s = (s.has ≡ []) × (s.old_has ≡ [])
+SaysAsTold version.Two s = MatchesAreFormed s
+
+-- what is asked of a result before it is told
+abbrev MayBeTold : Version → State → Type 0
+MayBeTold version.One s = Unit {0}
+MayBeTold version.Two s = MatchesAreFormed s
+
+abbrev WatchIsFormed : Version → (watch : List (List ℕ)) → Type 0
+WatchIsFormed version.One watch = Unit {0}
+WatchIsFormed version.Two watch = TextsAreFormed watch
+
+says-told : (v : Version) (s : State) → MayBeTold v s → SaysAsTold v (told_by v s)
+says-told version.One s h = (refl, refl)
+says-told version.Two s h = h
+
+may-told : (v : Version) (s : State) → SaysAsTold v s → MayBeTold v s
+may-told version.One s h = tt
+may-told version.Two s h = h
+
+old-none : {A B : Type 0} (one : Option A) (other : Option B) (has other_has : List (List ℕ)) → has ≡ [] → other_has ≡ [] → old_has_of_both one other has other_has ≡ []
+old-none None other has other_has e f = f
+old-none (Some a) None has other_has e f = e
+old-none (Some a) (Some b) has other_has e f = ap (λ (set : List (List ℕ)). both_texts set other_has) e
+
+says-join : MatchLaws → (v : Version) (one other : State) → SaysAsTold v one → SaysAsTold v other → SaysAsTold v (join one other)
+unfolding join
+says-join k version.One one other h q = (ap (λ (set : List (List ℕ)). both_texts set other.has) h.0, old-none one.undo.was other.undo.was one.old_has other.old_has h.1 q.1)
+says-join k version.Two one other h q = k.join one other h q
+
+says-widen : MatchLaws → (v : Version) (one other : State) → SaysAsTold v one → SaysAsTold v other → SaysAsTold v (widen one other)
+unfolding widen
+says-widen k version.One one other h q = (ap (λ (set : List (List ℕ)). both_texts set other.has) h.0, old-none one.undo.was other.undo.was one.old_has other.old_has h.1 q.1)
+says-widen k version.Two one other h q = k.widen one other h q
+
+may-step : MatchLaws → (v : Version) (watch : List (List ℕ)) (c : Command) (s : State) → WatchIsFormed v watch → SaysAsTold v s → IfOk (step watch c s) (MayBeTold v)
+may-step k version.One watch c s g h = always (step watch c s)
+  where
+    always : (r : Result State Fault) → IfOk r (λ (_ : State). Unit {0})
+    always (Ok t) = tt
+    always (Err f) = tt
+may-step k version.Two watch c s g h = k.command watch c s g h
+
+may-entry : MatchLaws → (v : Version) (verb : Verb) (invariant : State) → VerbIsBytes verb → SaysAsTold v invariant → MayBeTold v (body_entry verb invariant)
+may-entry k version.One verb invariant b h = tt
+may-entry k version.Two verb invariant b h = k.entry verb invariant b h
+
+may-end : MatchLaws → (v : Version) (x : Step) (before invariant : State) → SaysAsTold v before → SaysAsTold v invariant → MayBeTold v (loop_end x before invariant)
+may-end k version.One x before invariant h q = tt
+may-end k version.Two x before invariant h q = k.end x before invariant h q
+
+-- WHAT IS KNOWN of a state, and of one at the start or at a rule's end
+
+pub record Holds (v : Version) (s : State) : Type 0 where
+  pub formed : IsFormed s
+  pub says : SaysAsTold v s
+
+pub record HoldsAtEnd (v : Version) (s : State) : Type 0 where
+  pub ended : IsEnded s
+  pub says : SaysAsTold v s
+
+holds-at_end : (v : Version) (s : State) → HoldsAtEnd v s → Holds v s
+holds-at_end v s h = record { formed = h.ended.formed; says = h.says }
+
+-- of what is known of a list, and of a note
+abbrev pub LoopedHolds : Version → Option Looped → Type 0
+LoopedHolds v None = Unit {0}
+LoopedHolds v (Some l) = Holds v l.invariant × All (Holds v) l.inner
+
+abbrev pub NoteHolds : Version → Note → Type 0
+NoteHolds v n = Holds v n.state × LoopedHolds v n.looped
+
+module _ (k : Laws) (m : MatchLaws) (w : Sight) (watch : WatchIsFormed w.version w.watch) where
+  -- LISTS
+
+  left-holds : (s : State) (r : Result State Fault) → Holds w.version s → IfOk r IsEnded → IfOk r (MayBeTold w.version) →
+      Holds w.version (told w (elim r as (λ _. State) [ Ok t ↦ t | Err f ↦ s ]))
+  left-holds s (Ok t) h q r = record { formed = formed-told w t q.formed; says = says-told w.version t r }
+  left-holds s (Err f) h q r = record { formed = formed-told w s h.formed; says = says-told w.version s (may-told w.version s h.says) }
+
+  step-holds : (c : Command) (s : State) → TextsAreBytes c → Holds w.version s → Holds w.version (left_by w c s)
+  unfolding left_by
+  step-holds c s b h = left-holds s (step w.watch c s) h (k.command w.watch c s b h.formed) (may-step m w.version w.watch c s watch h.says)
+
+  left-ends : (s : State) (r : Result State Fault) → HoldsAtEnd w.version s → IfOk r IsEnded → IfOk r (MayBeTold w.version) →
+      HoldsAtEnd w.version (told w (elim r as (λ _. State) [ Ok t ↦ t | Err f ↦ s ]))
+  left-ends s (Ok t) h q r = record { ended = ended-told w t q; says = says-told w.version t r }
+  left-ends s (Err f) h q r = record { ended = ended-told w s h.ended; says = says-told w.version s (may-told w.version s h.says) }
+
+  step-ends : (c : Command) (s : State) → TextsAreBytes c → HoldsAtEnd w.version s → HoldsAtEnd w.version (left_by w c s)
+  unfolding left_by
+  step-ends c s b h = left-ends s (step w.watch c s) h (k.command w.watch c s b h.ended.formed) (may-step m w.version w.watch c s watch h.says)
+
+  list-holds : (cs : List Command) (s : State) → All TextsAreBytes cs → Holds w.version s → Holds w.version (left_by_list w cs s)
+  list-holds [] s b h = h
+  list-holds (c ∷ cs) s b h = list-holds cs (left_by w c s) (All-tail TextsAreBytes c cs b) (step-holds c s (All-head TextsAreBytes c cs b) h)
+
+  entry-holds : (x : Step) (invariant : State) → StepIsBytes x → Holds w.version invariant → Holds w.version (entered w x invariant)
+  entry-holds x invariant b h =
+      let entry : State = body_entry x.command.verb invariant in
+      record { formed = formed-told w entry (k.entry x.command.verb invariant h.formed).formed; says = says-told w.version entry (may-entry m w.version x.command.verb invariant b.0.1 h.says) }
+
+  round-holds : (x : Step) (first : State) (n : ℕ) → StepIsBytes x → Holds w.version first → Holds w.version (round_invariant w x first n)
+  round-holds x first zero b h = h
+  round-holds x first (suc n) b h =
+      let invariant : State = round_invariant w x first n in
+      let before : Holds w.version invariant = round-holds x first n b h in
+      let after : Holds w.version (turned w x invariant) = list-holds x.list (entered w x invariant) b.1 (entry-holds x invariant b before) in
+      either (Holds w.version) (nat_lt n 2) _ _
+      (record { formed = k.join _ _ before.formed after.formed; says = says-join m w.version _ _ before.says after.says })
+      (record { formed = k.widen _ _ before.formed after.formed; says = says-widen m w.version _ _ before.says after.says })
+
+  inner-hold : (cs : List Command) (s : State) (ts : List State) → All TextsAreBytes cs → Holds w.version s → AreInner w cs s ts → All (Holds w.version) ts
+  inner-hold [] s [] b h i = All-nil (Holds w.version)
+  inner-hold [] s (t ∷ ts) b h i = absurd i
+  inner-hold (c ∷ cs) s [] b h i = absurd i
+  inner-hold (c ∷ cs) s (t ∷ ts) b h i =
+      All-cons (Holds w.version) t ts (subst (Holds w.version) (sym i.0) h)
+      (inner-hold cs (left_by w c s) ts (All-tail TextsAreBytes c cs b) (step-holds c s (All-head TextsAreBytes c cs b) h) i.2)
+
+  -- COMMANDS WITH THEIR NOTES
+
+  end-holds : (x : Step) (s invariant : State) → HoldsAtEnd w.version s → Holds w.version invariant → HoldsAtEnd w.version (told w (loop_end x s invariant))
+  end-holds x s invariant h q = record {
+    ended = ended-told w (loop_end x s invariant) (k.end x s invariant h.ended.formed q.formed);
+    says = says-told w.version (loop_end x s invariant) (may-end m w.version x s invariant h.says q.says);
+  }
+
+  after-holds : (global : Bool) (x : Step) (s : State) (l : Option Looped) → StepIsBytes x → HoldsAtEnd w.version s → IsKnownOfList w global x s l →
+      LoopedHolds w.version l × HoldsAtEnd w.version (left_after w l x s)
+  after-holds false x s None b h i = (tt, step-ends x.command s b.0 h)
+  after-holds false x s (Some l) b h i = absurd i
+  after-holds true x s None b h i = absurd i
+  after-holds true x s (Some l) b h i =
+      let first : Holds w.version (left_by w x.command s) = step-holds x.command s b.0 (holds-at_end w.version s h) in
+      let invariant : Holds w.version l.invariant =
+      subst (λ (u : State). Holds w.version u) (sym i.0.is) (round-holds x (left_by w x.command s) i.0.before b first) in (
+        (invariant, inner-hold x.list (entered w x l.invariant) l.inner b.1 (entry-holds x l.invariant b invariant) i.1),
+        end-holds x s l.invariant h invariant,
+      )
+
+  notes-hold : (xs : List Step) (s : State) (ns : List Note) → All StepIsBytes xs → HoldsAtEnd w.version s → AreNotes w xs s ns →
+      All (NoteHolds w.version) ns × HoldsAtEnd w.version (result_from w xs s ns)
+  notes-hold [] s [] b h i = (All-nil (NoteHolds w.version), h)
+  notes-hold [] s (n ∷ ns) b h i = absurd i
+  notes-hold (x ∷ xs) s [] b h i = absurd i
+  notes-hold (x ∷ xs) s (n ∷ ns) b h i =
+      let here = after-holds (is_global x.command.verb) x s n.looped (All-head StepIsBytes x xs b) h i.0.list in
+      let later = notes-hold xs (left_after w n.looped x s) ns (All-tail StepIsBytes x xs b) here.1 i.1 in
+      (All-cons (NoteHolds w.version) n ns (subst (Holds w.version) (sym i.0.state) (holds-at_end w.version s h), here.0) later.0, later.1)
+
+counted-if : (ends : Bool) (x : Step) (xs : List Step) → StepIsBytes x → All StepIsBytes (counted xs) → All StepIsBytes (x ∷ (elim ends as (λ _. List Step) [ true ↦ [] | false ↦ counted xs ]))
+counted-if true x xs h b = All-cons StepIsBytes x [] h (All-nil StepIsBytes)
+counted-if false x xs h b = All-cons StepIsBytes x (counted xs) h b
+
+counted-bytes : (xs : List Step) → All StepIsBytes xs → All StepIsBytes (counted xs)
+counted-bytes [] b = b
+counted-bytes (x ∷ xs) b = counted-if (ends_run x.command.verb) x xs (All-head StepIsBytes x xs b) (counted-bytes xs (All-tail StepIsBytes x xs b))
+
+-- A SCRIPT
+
+pub sight-version : (script : Script) (has : Option (List (List ℕ))) → (sight_of script (version_of has) (stated_of has)).version ≡ version_of has
+sight-version script None = refl
+sight-version script (Some has) = refl
+
+begun-says : MatchLaws → (has : Option (List (List ℕ))) (path : Choice) (min : ℕ) (max : Option ℕ) → TextsAreFormed (stated_of has) → SaysAsTold (version_of has) (states.start path min max (stated_of has))
+unfolding states.start
+begun-says k None path min max h = (refl, refl)
+begun-says k (Some has) path min max h = k.start path min max has h
+
+watch-formed : MatchLaws → (script : Script) (has : Option (List (List ℕ))) → All StepIsBytes script.steps → TextsAreFormed (stated_of has) →
+    WatchIsFormed (sight_of script (version_of has) (stated_of has)).version (sight_of script (version_of has) (stated_of has)).watch
+watch-formed k script None b h = tt
+watch-formed k script (Some has) b h = k.watched script has b h
+
+-- so it is of the notes of a script, and at its end it is known that there are at least 0 lines
+pub script-holds : Laws → MatchLaws → (script : Script) (start : Start) (notes : List Note) → All StepIsBytes script.steps → ChoiceIsBytes start.path → TextsAreFormed (stated_of start.has) →
+    AreNotes (sight_over script start) (counted script.steps) (begun start) notes →
+    All (NoteHolds (version_of start.has)) notes × HoldsAtEnd (version_of start.has) (result_from (sight_over script start) (counted script.steps) (begun start) notes)
+script-holds k m script start notes bytes path has h =
+    let w : Sight = sight_over script start in
+    let same : w.version ≡ version_of start.has = sight-version script start.has in
+    let begins : HoldsAtEnd (version_of start.has) (begun start) =
+    record { ended = k.start start.path start.min start.max (stated_of start.has) path; says = begun-says m start.has start.path start.min start.max has } in
+    subst (λ (v : Version). All (NoteHolds v) notes × HoldsAtEnd v (result_from w (counted script.steps) (begun start) notes)) same
+    (notes-hold k m w (watch-formed m script start.has bytes has) (counted script.steps) (begun start) notes (counted-bytes script.steps bytes)
+    (subst (λ (v : Version). HoldsAtEnd v (begun start)) (sym same) begins) h)
