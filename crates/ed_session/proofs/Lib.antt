@@ -12,3 +12,4 @@ mod AgendaLemmas
 mod RunningLists
 mod Causes
 mod Rounds
+mod Refusing

@@ -88,6 +88,17 @@ pub data EndsMissing : Log → Type 0 where
   here : (path : List ℕ) → EndsMissing ((request.Read path, answer.Missing) ∷ [])
   later : (entry : Request × Answer) (log : Log) → EndsMissing log → EndsMissing (entry ∷ log)
 
+-- an answer is a refusal
+abbrev pub is_refusal : Answer → Bool
+is_refusal answer.Refused = true
+is_refusal other = false
+
+-- the last of these was refused
+abbrev pub ends_refused : Log → Bool
+ends_refused [] = false
+ends_refused (entry ∷ []) = is_refusal entry.1
+ends_refused (entry ∷ next ∷ log) = ends_refused (next ∷ log)
+
 -- what was asked by commands, and not for the start
 abbrev pub of_commands : Phase → Log → Log
 of_commands (phases.Fresh (Some path)) log = drop 1 log

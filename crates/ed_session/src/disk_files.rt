@@ -1,7 +1,9 @@
 //! Files on a disk, whose calls are logged.
-ghost use Rattle.std.specs.Prelude.{◌≡◌, ◌≢◌, ◌≤◌, ◌⊎◌, [], length, IfOk, OnOk};
+ghost use Rattle.std.specs.Prelude.{◌≡◌, ◌≢◌, ◌≤◌, ◌⊎◌, [], None, true, length, IfOk, IfSome, OnOk};
 ghost use Rattle.std.specs.Io.KnownBytes.{Appends};
 ghost use Rattle.ed_syntax.specs.declared.request.Answer.TheVariants as answer;
+ghost use Rattle.std.proofs.Props.{props};
+ghost use Rattle.ed_session.specs.Drives.{ends_refused};
 ghost use Rattle.ed_session.specs.Seen.{log_seen};
 
 use crate::Outside;
@@ -27,7 +29,10 @@ pub struct DiskFiles<R: Files<File = File> + Drop> {
     files: R,
     log: Vec<(SeenRequest, SeenAnswer)>,
     failures: usize,
+    // Why the call was refused that came last, if it was.
+    reason: Option<io::Error>,
     ghost few: { failures ≤ length log.items },
+    ghost refused: { IfSome reason (λ error. ends_refused (log_seen log.items) ≡ true) } by { Prim.hlevel props },
 }
 
 impl<R: Files<File = File> + Drop> DiskFiles<R> {
@@ -41,7 +46,16 @@ impl<R: Files<File = File> + Drop> DiskFiles<R> {
             files,
             log: Vec::new(alloc),
             failures: 0,
+            reason: None,
         }
+    }
+
+    /// Why the call that came last was refused, in the system's words, which no clause knows. None where it wasn't refused. A call that
+    /// found no memory doesn't count.
+    pub fn reason(&self) -> Option<io::Error>
+        ensures only_if_refused { IfSome result (λ error. ends_refused (log_seen self.now.log.items) ≡ true) }
+    {
+        self.reason
     }
 }
 
@@ -55,27 +69,33 @@ impl<R: Files<File = File> + Drop> Outside for DiskFiles<R> {
 
     ghost few_failures = { λ d. subst (λ n. d.failures ≤ n) (sym (length-map d.log.items _)) d.few };
 
+    #[tactic(auto, using(crate::proofs::Refusing::reason_kept))]
     fn read(&mut self, path: &[u8]) -> Result<Answer, AllocError> {
         self.log.reserve(1)?;
         let asked = SeenRequest::Read(SeenBytes::of(self.alloc, path)?);
-        let answer = read_answer(self.alloc, &self.files, path)?;
+        let mut reason = None;
+        let answer = read_answer(self.alloc, &self.files, path, &mut reason)?;
         let seen = SeenAnswer::of(self.alloc, &answer)?;
         self.log.push((asked, seen))?;
+        self.reason = reason;
         if matches!(answer, Answer::Refused) {
             self.failures += 1;
         }
         Ok(answer)
     }
 
+    #[tactic(auto, using(crate::proofs::Refusing::reason_kept))]
     fn write(&mut self, path: &[u8], bytes: &Pieces) -> Result<Answer, AllocError> {
         self.log.reserve(1)?;
         let asked = SeenRequest::Write(
             SeenBytes::of(self.alloc, path)?,
             SeenBytes::of_pieces(self.alloc, bytes)?,
         );
-        let answer = write_answer(self.alloc, &self.files, path, bytes)?;
+        let mut reason = None;
+        let answer = write_answer(self.alloc, &self.files, path, bytes, &mut reason)?;
         let seen = SeenAnswer::of(self.alloc, &answer)?;
         self.log.push((asked, seen))?;
+        self.reason = reason;
         if matches!(answer, Answer::Refused) {
             self.failures += 1;
         }
@@ -83,11 +103,24 @@ impl<R: Files<File = File> + Drop> Outside for DiskFiles<R> {
     }
 }
 
-// What a read of a path is answered.
-fn read_answer<R: Files>(alloc: Global, files: &R, path: &[u8]) -> Result<Answer, AllocError>
+// Why a path can't be one of the system's.
+fn not_text() -> io::Error {
+    io::Error::new(ErrorKind::InvalidInput, "a name that isn't UTF-8")
+}
+
+// What a read of a path is answered, and why it is refused, if it is.
+fn read_answer<R: Files>(
+    alloc: Global,
+    files: &R,
+    path: &[u8],
+    reason: &mut Option<io::Error>,
+) -> Result<Answer, AllocError>
+    requires none { reason.old ≡ None }
     ensures not_done { IfOk result (λ a. a ≢ answer.Done) }
+    ensures only_if_refused { IfOk result (λ a. IfSome reason.new (λ error. a ≡ answer.Refused)) }
 {
     let Ok(path) = str::from_utf8(path) else {
+        *reason = Some(not_text());
         return Ok(Answer::Refused);
     };
     match read_file(alloc, files, path) {
@@ -95,7 +128,10 @@ fn read_answer<R: Files>(alloc: Global, files: &R, path: &[u8]) -> Result<Answer
         Err(error) => match error.kind() {
             ErrorKind::NotFound => Ok(Answer::Missing),
             ErrorKind::OutOfMemory => Err(AllocError),
-            _ => Ok(Answer::Refused),
+            _ => {
+                *reason = Some(error);
+                Ok(Answer::Refused)
+            }
         },
     }
 }
@@ -109,16 +145,21 @@ fn read_file<R: Files>(alloc: Global, files: &R, path: &str) -> io::Result<Vec<u
     Ok(bytes)
 }
 
-// What a write to a path is answered. Memory is asked for no later than by the opening, which changes no byte.
+// What a write to a path is answered, and why it is refused, if it is. Memory is asked for no later than by the opening, which changes
+// no byte.
 fn write_answer<R: Files<File = File>>(
     alloc: Global,
     files: &R,
     path: &[u8],
     bytes: &Pieces,
+    reason: &mut Option<io::Error>,
 ) -> Result<Answer, AllocError>
+    requires none { reason.old ≡ None }
     ensures done_or_refused { IfOk result (λ a. (a ≡ answer.Done) ⊎ (a ≡ answer.Refused)) }
+    ensures only_if_refused { IfOk result (λ a. IfSome reason.new (λ error. a ≡ answer.Refused)) }
 {
     let Ok(path) = str::from_utf8(path) else {
+        *reason = Some(not_text());
         return Ok(Answer::Refused);
     };
     let room = Vec::with_capacity(alloc, bytes.len().min(ROOM))?;
@@ -129,10 +170,16 @@ fn write_answer<R: Files<File = File>>(
     {
         Ok(file) => match overwrite(file, bytes, room) {
             Ok(()) => Ok(Answer::Done),
-            Err(_) => Ok(Answer::Refused),
+            Err(error) => {
+                *reason = Some(error);
+                Ok(Answer::Refused)
+            }
         },
         Err(error) if error.kind() == ErrorKind::OutOfMemory => Err(AllocError),
-        Err(_) => Ok(Answer::Refused),
+        Err(error) => {
+            *reason = Some(error);
+            Ok(Answer::Refused)
+        }
     }
 }
 

@@ -46,6 +46,13 @@ impl<O: Outside + Drop> Rehearsal<O> {
         }
     }
 
+    /// The real files.
+    pub fn real(&self) -> &O
+        ensures value { result.now ≡ self.now.real }
+    {
+        &self.real
+    }
+
     /// The writes that would have been made, the first one first.
     pub fn writes(&self) -> &[HeldWrite]
         ensures value { result.now ≡ writes_of (log_of self.now.files) }

@@ -4,9 +4,10 @@ use ed_base::{Bytes, Pieces};
 use ed_session::{DiskFiles, Outside};
 use ed_syntax::Answer;
 use std::alloc::Global;
+use std::io::ErrorKind;
 use std::process::Abort;
 use std::rc::Rc;
-use std::{env, fs};
+use std::{env, fs, io};
 
 fn bytes(rt: &impl Abort, alloc: Global, of: &[u8]) -> Bytes {
     Bytes::from_slice(alloc, of).expect(rt, "memory")
@@ -98,6 +99,35 @@ static ROWS: [Row; 5] = [
     Row { path: b"session_tests\0absent", missing: false },
     Row { path: b"session_tests_\xff", missing: false },
 ];
+
+#[test]
+fn a_refusal_has_a_reason_until_the_next_call(rt: HostRuntime) {
+    let alloc = rt.alloc();
+    let mut files = DiskFiles::new(alloc, &rt);
+    let line = Pieces::from_bytes(alloc, bytes(&rt, alloc, b"a\n"));
+    assert!(rt; files.reason().is_none());
+    check_read(&rt, &mut files, b".", Answer::Refused);
+    assert!(rt; is_for(files.reason(), ErrorKind::IsADirectory));
+    check_read(&rt, &mut files, b"session_tests_absent", Answer::Missing);
+    assert!(rt; files.reason().is_none());
+    check_write(
+        &rt,
+        &mut files,
+        b"session_tests_absent/file",
+        &line,
+        Answer::Refused,
+    );
+    assert!(rt; is_for(files.reason(), ErrorKind::NotFound));
+    check_read(&rt, &mut files, b"session_tests_\xff", Answer::Refused);
+    assert!(rt; is_for(files.reason(), ErrorKind::InvalidInput));
+}
+
+fn is_for(reason: Option<io::Error>, kind: ErrorKind) -> bool {
+    match reason {
+        Some(error) => error.kind() == kind,
+        None => false,
+    }
+}
 
 fn check_refused<O: Outside>(rt: &impl Abort, files: &mut O, row: &Row, line: &Pieces) {
     let read = if row.missing {

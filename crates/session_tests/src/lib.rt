@@ -14,6 +14,8 @@ mod globals;
 #[cfg(test)]
 mod listing;
 #[cfg(test)]
+mod reading_all;
+#[cfg(test)]
 mod refusals;
 #[cfg(test)]
 mod refused_in_turn;

@@ -1,0 +1,2 @@
+-- what a reader has to believe
+pub mod Source
