@@ -20,11 +20,11 @@ IsVouched script start = (c : Certificate) × IsCertificate script start c
 
 -- a start with another least number of lines
 abbrev pub with_min : Start → ℕ → Start
-with_min start min = record { path = start.path; min = min; max = start.max }
+with_min start min = record { path = start.path; min = min; max = start.max; has = start.has }
 
 -- a start with this greatest number of lines
 abbrev pub with_max : Start → ℕ → Start
-with_max start most = record { path = start.path; min = start.min; max = Some most }
+with_max start most = record { path = start.path; min = start.min; max = Some most; has = start.has }
 
 -- In one command: its own needs come first, and then those of its list's commands in their order.
 abbrev pub IsLaterInside : (next place : Option ℕ) → Type 0

@@ -8,6 +8,7 @@ use crate::commands::{count_of_lines, line_at, line_of_span, span_of};
 use crate::drafts::Draft;
 use crate::endings::{push_end, push_losing};
 use crate::foreign::push_spellings;
+use crate::further::with_more_lines;
 use crate::hint::{Advice, Hint, Remark};
 use crate::passing::gets_past_all;
 use crate::searches::{push_blank, push_offset, push_searching};
@@ -57,7 +58,7 @@ fn number_at(alloc: Global, script: &[u8], place: Place) -> Result<usize, AllocE
 }
 
 /// The first of these drafts that gets past a place.
-fn first_past(
+pub(crate) fn first_past(
     alloc: Global,
     start: &Start,
     place: Place,
@@ -153,6 +154,28 @@ fn push_hint(found: &mut Vec<Hint>, place: Place, hint: Option<Hint>) -> Result<
     Ok(())
 }
 
+/// The hints that were found, or the one that asks for more lines, by which the script only gets further.
+fn or_further(
+    alloc: Global,
+    script: &[u8],
+    start: &Start,
+    place: Place,
+    line: usize,
+    found: Vec<Hint>,
+) -> Result<Vec<Hint>, AllocError>
+    requires high { IfSome start.now.max (λ most. most ≤ most_lines) }
+    requires found { All (IsTried place) found.items }
+    ensures tried { IfOk result (λ found. All (IsTried place) found.items) }
+{
+    if !found.is_empty() {
+        return Ok(found);
+    }
+    let mut found = found;
+    let more = with_more_lines(alloc, script, start, place, line)?;
+    push_hint(&mut found, place, more)?;
+    Ok(found)
+}
+
 /// What to write where a need of a script fails at a place by a fault: the best hint first. Each gets past the place.
 pub fn hints(
     alloc: Global,
@@ -176,7 +199,7 @@ pub fn hints(
         push_hint(&mut found, place, fewest)?;
         push_hint(&mut found, place, most)?;
         push_hint(&mut found, place, written)?;
-        return Ok(found);
+        return or_further(alloc, script, start, place, line, found);
     }
     push_hint(&mut found, place, written)?;
     push_hint(&mut found, place, fewest)?;

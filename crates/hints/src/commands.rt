@@ -96,6 +96,16 @@ pub(crate) fn line_of_span(script: &[u8], span: Span) -> Span {
     }
 }
 
+/// The command at a place of a script, also one of a list.
+pub(crate) fn command_of(script: &Script, place: Place) -> Option<&Command> {
+    let index = place.command.saturating_sub(1);
+    let command = script.commands.as_slice().get(index)?;
+    match place.inner {
+        Some(inner) => command.list().get(inner.saturating_sub(1)),
+        None => Some(command),
+    }
+}
+
 /// How many lines a command of a list takes: one, and those of its text with the period after it.
 fn lines_of_listed(command: &Command) -> usize {
     match &command.verb {

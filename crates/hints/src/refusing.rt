@@ -17,7 +17,7 @@ use ed_syntax::read_script;
 use std::alloc::{AllocError, Global};
 
 /// How many refusals are told at most.
-const MOST_REFUSALS: usize = 10;
+pub const MOST_REFUSALS: usize = 10;
 
 /// The first need that fails of a script over a start, and what may be written.
 #[derive(Debug, Drop)]

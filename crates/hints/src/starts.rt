@@ -9,6 +9,7 @@ ghost use Rattle.hints.specs.Passing.{IsVouched, with_min, with_max};
 use crate::passing::is_vouched;
 use analyser::Start;
 use ed_base::Bytes;
+use ed_rules::Texts;
 use ed_syntax::{Script, read_script};
 use std::alloc::{AllocError, Global};
 
@@ -24,14 +25,24 @@ fn copy_of_path(path: &Option<Bytes>) -> Result<Option<Bytes>, AllocError>
     }
 }
 
-/// A start with the path of another one, and these bounds.
+fn copy_of_has(has: &Option<Texts>) -> Result<Option<Texts>, AllocError>
+    ensures value { IfOk result (λ copy. copy ≡ has.now) }
+{
+    match has {
+        Some(has) => Ok(Some(has.try_copy()?)),
+        None => Ok(None),
+    }
+}
+
+/// A start with the path and the patterns of another one, and these bounds.
 pub(crate) fn with_bounds(start: &Start, min: u64, max: Option<u64>) -> Result<Start, AllocError>
-    ensures value { IfOk result (λ copy. copy ≡ record { path = start.now.path; min = min; max = max }) }
+    ensures value { IfOk result (λ copy. copy ≡ record { path = start.now.path; min = min; max = max; has = start.now.has }) }
 {
     Ok(Start {
         path: copy_of_path(&start.path)?,
         min,
         max,
+        has: copy_of_has(&start.has)?,
     })
 }
 
@@ -52,7 +63,7 @@ fn is_vouched_within(
     requires ordered { IsAtMost min max }
     requires low { min ≤ most_lines }
     requires high { IfSome max (λ most. most ≤ most_lines) }
-    ensures exact { IfOk result (λ yes. IsTrue yes ↔ IsVouched (script_value script.now) (record { path = start.now.path; min = min; max = max })) }
+    ensures exact { IfOk result (λ yes. IsTrue yes ↔ IsVouched (script_value script.now) (record { path = start.now.path; min = min; max = max; has = start.now.has })) }
 {
     is_vouched(script, with_bounds(start, min, max)?)
 }
@@ -144,7 +155,7 @@ fn greatest_between(
     Ok(lower)
 }
 
-/// The least number of lines, above the one that is given, under which a script is vouched for, with the same path and the same most
+/// The least number of lines, above the one that is given, under which a script is vouched for, with the same path, patterns and most
 /// lines. None where it is vouched for already, or isn't under as many lines as the start may have.
 pub fn least_start(alloc: Global, script: &[u8], start: &Start) -> Result<Option<u64>, AllocError>
     requires ordered { IsAtMost start.now.min start.now.max }
@@ -180,7 +191,7 @@ fn refused_of(max: Option<u64>) -> u64
     }
 }
 
-/// The greatest number of lines, below the one that is given, under which a script is vouched for, with the same path and the same
+/// The greatest number of lines, below the one that is given, under which a script is vouched for, with the same path, patterns and
 /// fewest lines. None where it is vouched for already, or isn't under as few lines as the start may have.
 pub fn greatest_start(
     alloc: Global,

@@ -4,10 +4,9 @@ ghost use Rattle.std.specs.Prelude.{◌≡◌, ◌≤◌, IfSome};
 ghost use Rattle.ed_rules.specs.LineBounds.{most_lines, IsAtMost};
 
 use crate::advising::{hints, remarks};
-use crate::bytes::between;
 use crate::commands::{Span, command_at, count_of_lines, line_at};
 use crate::hint::{Hint, Remark};
-use crate::patterns::patterns_of;
+use crate::reasons::reason;
 use crate::refusing::Refusal;
 use crate::words::quoted;
 use analyser::Start;
@@ -26,19 +25,19 @@ fn number_text(alloc: Global, place: Place) -> Result<String, AllocError> {
     }
 }
 
-/// Why no match may be found: the pattern that no line need match, where the line at a place has one.
-fn reason_text(alloc: Global, line: &[u8], place: Place, why: Fault) -> Result<String, AllocError> {
-    if why != Fault::NoMatch {
-        return Ok(String::new(alloc));
-    }
-    // The first command of a list stands on the line of its global command, after whose pattern its own come.
-    let index: usize = if place.inner == Some(1) { 1 } else { 0 };
-    match patterns_of(alloc, line)?.as_slice().get(index) {
-        Some(pattern) if pattern.low < pattern.high => {
-            let shown = quoted(alloc, between(line, pattern.low, pattern.high))?;
-            Ok(format!(in alloc; ": no line need match {shown}")?)
-        }
-        _ => Ok(String::new(alloc)),
+/// A fault, with the reason why it may come.
+fn fault_text(
+    alloc: Global,
+    script: &[u8],
+    line: &[u8],
+    place: Place,
+    why: Fault,
+    notes: &[Note],
+) -> Result<String, AllocError> {
+    let fault = why.text();
+    match reason(alloc, script, line, place, why, state_at(place, notes))? {
+        Some(reason) => Ok(format!(in alloc; "{fault}: {reason}")?),
+        None => String::from_str(alloc, fault),
     }
 }
 
@@ -49,24 +48,30 @@ fn command_text(
     span: Span,
     place: Place,
     why: Fault,
+    notes: &[Note],
 ) -> Result<String, AllocError> {
     let number = number_text(alloc, place)?;
     let bytes = command_at(script, span);
     let shown = quoted(alloc, bytes)?;
-    let reason = reason_text(alloc, bytes, place, why)?;
+    let fault = fault_text(alloc, script, bytes, place, why, notes)?;
     let line = span.line;
-    let fault = why.text();
-    Ok(format!(in alloc; "error: line {line}, command {number}: {shown}: {fault}{reason}\n")?)
+    Ok(format!(in alloc; "error: line {line}, command {number}: {shown}: {fault}\n")?)
 }
 
 /// What fails at the end.
-fn end_text(alloc: Global, script: &[u8], place: Place, why: Fault) -> Result<String, AllocError> {
+fn end_text(
+    alloc: Global,
+    script: &[u8],
+    place: Place,
+    why: Fault,
+    notes: &[Note],
+) -> Result<String, AllocError> {
     let lines = count_of_lines(script);
     let before = Place {
         command: place.command.saturating_sub(1),
         inner: None,
     };
-    let fault = why.text();
+    let fault = fault_text(alloc, script, b"", place, why, notes)?;
     match line_at(alloc, script, before)? {
         Some(span) => {
             let shown = quoted(alloc, command_at(script, span))?;
@@ -84,10 +89,11 @@ fn error_text(
     script: &[u8],
     place: Place,
     why: Fault,
+    notes: &[Note],
 ) -> Result<String, AllocError> {
     match line_at(alloc, script, place)? {
-        Some(span) => command_text(alloc, script, span, place, why),
-        None => end_text(alloc, script, place, why),
+        Some(span) => command_text(alloc, script, span, place, why, notes),
+        None => end_text(alloc, script, place, why, notes),
     }
 }
 
@@ -157,7 +163,7 @@ fn lines_of(
     hints: &[Hint],
     remarks: &[Remark],
 ) -> Result<String, AllocError> {
-    let mut lines = error_text(alloc, script, place, why)?;
+    let mut lines = error_text(alloc, script, place, why, notes)?;
     lines.push_str(known_text(alloc, place, notes)?.as_str())?;
     for hint in hints {
         lines.push_str("hint: ")?;

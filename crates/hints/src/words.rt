@@ -2,10 +2,15 @@
 
 use std::alloc::{AllocError, Global};
 
-/// Bytes between backquotes. Those that would end the line, or aren't text, are escaped.
+/// Bytes between backquotes. Those that would end the line, or aren't text, are escaped; a tab isn't.
 pub(crate) fn quoted(alloc: Global, bytes: &[u8]) -> Result<String, AllocError> {
     match str::from_utf8(bytes) {
-        Ok(text) if !text.chars().any(char::is_control) => Ok(format!(in alloc; "`{text}`")?),
+        Ok(text) if !text.chars().any(is_strange) => Ok(format!(in alloc; "`{text}`")?),
         _ => Ok(format!(in alloc; "`{}`", bytes.escape_ascii())?),
     }
+}
+
+/// Whether a character is none that a line shows.
+fn is_strange(character: char) -> bool {
+    character.is_control() && character != '\t'
 }

@@ -1,0 +1,115 @@
+//! The fewest lines with which a script gets past a line that it names by its number, where more of it isn't vouched for.
+
+ghost use Rattle.std.specs.Prelude.{◌≡◌, ◌≤◌, true, IfOk, IfSome};
+ghost use Rattle.ed_rules.specs.LineBounds.{most_lines, IsAtMost};
+ghost use Rattle.hints.specs.Hints.{IsTried};
+
+use crate::advising::first_past;
+use crate::commands::command_of;
+use crate::drafts::drafted;
+use crate::hint::{Advice, Hint};
+use crate::starts::with_bounds;
+use analyser::Start;
+use cert_check::Place;
+use ed_base::Bytes;
+use ed_rules::LineBounds;
+use ed_syntax::{Address, Addresses, Base, Command, read_script};
+use std::alloc::{AllocError, Global};
+
+/// How many lines beyond those that a command names are tried: so many may be deleted before it.
+const MOST_EXTRA: u64 = 10;
+
+/// How many lines there have to be for an address.
+fn needed_for(address: &Address) -> i128 {
+    match &address.base {
+        Base::Number(number) => i128::from(*number).saturating_add(address.offset),
+        Base::Last => address.offset.saturating_neg().saturating_add(1),
+        _ => 1,
+    }
+}
+
+/// How many lines there have to be for a command.
+fn needed_by(command: &Command) -> i128 {
+    let own = match &command.addresses {
+        Addresses::Without => 1,
+        Addresses::One(only) => needed_for(only),
+        Addresses::Comma(first, second) => needed_for(first).max(needed_for(second)),
+        Addresses::Semicolon(first, None) => needed_for(first),
+        Addresses::Semicolon(first, Some(second)) => needed_for(first).max(needed_for(second)),
+    };
+    match command.verb.takes().target {
+        Some(target) => own.max(needed_for(target)),
+        None => own,
+    }
+}
+
+/// How many lines there have to be for the command at a place, where it is no command of a list.
+fn needed_at(alloc: Global, script: &[u8], place: Place) -> Result<Option<u64>, AllocError> {
+    if place.inner.is_some() {
+        return Ok(None);
+    }
+    let read = read_script(alloc, script)?;
+    match command_of(&read, place) {
+        Some(command) => Ok(u64::try_from(needed_by(command)).ok()),
+        None => Ok(None),
+    }
+}
+
+/// Whether a start may have so many lines at least.
+fn is_least(min: u64, max: Option<u64>) -> bool
+    ensures sound { result ≡ true → (min ≤ most_lines) × IsAtMost min max }
+{
+    min <= LineBounds::MOST
+        && match max {
+            Some(max) => min <= max,
+            None => true,
+        }
+}
+
+/// The hint to ask for so many lines at least, where the script gets past the place by that.
+fn with_lines(
+    alloc: Global,
+    script: &[u8],
+    start: &Start,
+    place: Place,
+    line: usize,
+    min: u64,
+) -> Result<Option<Hint>, AllocError>
+    requires low { min ≤ most_lines }
+    requires ordered { IsAtMost min start.now.max }
+    requires high { IfSome start.now.max (λ most. most ≤ most_lines) }
+    ensures tried { IfOk result (λ found. IfSome found (IsTried place)) }
+{
+    let bounded = with_bounds(start, min, start.max)?;
+    let text = format!(in alloc; "gets further with --min {min}")?;
+    let same = Bytes::from_slice(alloc, script)?;
+    let mut drafts = Vec::new(alloc);
+    drafts.push(drafted(Advice::AtLeast, text, same, 0))?;
+    first_past(alloc, &bounded, place, line, drafts)
+}
+
+/// The hint to ask for as many lines at least as a command names, or some more, where the script gets past the place by that.
+pub(crate) fn with_more_lines(
+    alloc: Global,
+    script: &[u8],
+    start: &Start,
+    place: Place,
+    line: usize,
+) -> Result<Option<Hint>, AllocError>
+    requires high { IfSome start.now.max (λ most. most ≤ most_lines) }
+    ensures tried { IfOk result (λ found. IfSome found (IsTried place)) }
+{
+    let Some(needed) = needed_at(alloc, script, place)? else {
+        return Ok(None);
+    };
+    for extra in 0..MOST_EXTRA {
+        let min = needed.saturating_add(extra);
+        if start.min < min && is_least(min, start.max) {
+            let found = with_lines(alloc, script, start, place, line, min)?;
+            if found.is_some() {
+                return Ok(found);
+            }
+        }
+    }
+    Ok(None)
+}
