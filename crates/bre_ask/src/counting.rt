@@ -25,10 +25,11 @@ fn matches_in(finder: &mut Finder<'_>, line: &[u8]) -> Result<usize, AllocError>
             return Ok(count);
         };
         count = count.saturating_add(1);
-        place = if found.end > place {
+        // An empty match is counted once, so the next one ends later.
+        place = if found.start < found.end {
             found.end
         } else {
-            place + 1
+            found.end + 1
         };
     }
     Ok(count)

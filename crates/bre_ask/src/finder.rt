@@ -1,6 +1,7 @@
 //! The ways in which a pattern is looked for.
 
-ghost use Rattle.std.specs.Prelude.{◌≤◌, length};
+ghost use Rattle.std.specs.Prelude.{◌≤◌, length, IfOk, IfSome};
+ghost use Rattle.bre_match.specs.Answer.{LiesWithin};
 
 use bre_match::{Match, Searcher, find, matches};
 use bre_parse::Bre;
@@ -52,6 +53,7 @@ impl<'a> Finder<'a> {
 
     pub(crate) fn find(&mut self, text: &[u8], from: usize) -> Result<Option<Match>, AllocError>
         requires place { from ≤ length text.now }
+        ensures within { IfOk result (λ found. IfSome found (LiesWithin from (length text.now))) }
     {
         match self.means {
             Means::Alone => find(self.alloc, self.pattern, text, from),
