@@ -7,7 +7,7 @@ _ed_main() {
     return
   fi
   case $before in
-  --min) return ;;
+  --min | --has) return ;;
   --max)
     mapfile -t COMPREPLY < <(compgen -W any -- "$word")
     return
@@ -19,7 +19,7 @@ _ed_main() {
     local words=
     case $job in
     edit) words="-n -s -p --help" ;;
-    vouch) words="--min --max --help" ;;
+    vouch) words="--min --max --all --patterns --has --help" ;;
     check) words="--help" ;;
     run) words="-n -s --help" ;;
     fits) words="--help" ;;

@@ -21,10 +21,9 @@ use Rattle.ed_syntax.specs.meaning.Verbs.{is_step}
 use Rattle.ed_session.specs.Drives.{Log, answers, requests, added, EndsMissing}
 use Rattle.ed_session.specs.Sinks.{SinkChange, SinkState, Failed, change}
 use Rattle.cert_check.specs.Certificates.{Certificate}
-use Rattle.ed_rules.specs.LineBounds.{IsWithin}
 use Rattle.cert_check.specs.declared.checker.verdict.Verdict.TheVariants.{Accepted}
 use Rattle.cert_check.specs.checker.Valid.{judged}
-use Rattle.cert_check.specs.checker.Sound.{CannotFail, MayAsk, StopsWell, start_lines}
+use Rattle.cert_check.specs.checker.Sound.{CannotFail, IsAllowed, MayAsk, StopsWell, start_lines}
 use Rattle.ed_main.specs.declared.run.Ran.{Ran}
 use Rattle.ed_main.specs.declared.run.Ran.TheVariants as ran
 use Rattle.ed_main.specs.Edit as edit
@@ -39,6 +38,10 @@ use Rattle.ed_main.proofs.Correctness.{comes_after}
 -- what a longer log has more
 pub added_is : (old new more : Log) → new ≡ old ++ more → added old new ≡ more
 added_is old new more e = rw e (drop-append-le (length old) old more (omega arith) ∙ ap (λ l. l ++ more) (drop-length old))
+
+-- where it has none
+pub none_added : (old new : Log) → new ≡ old → added old new ≡ []
+none_added old new e = added_is old new [] (e ∙ sym (append-nil old))
 
 -- what was asked in two parts
 pub added_twice : (old mid new first later : Log) → mid ≡ old ++ first → new ≡ mid ++ later → added old new ≡ first ++ later
@@ -59,7 +62,7 @@ came_outside script c o start log state accepted named missing outside is =
     let lines : start_lines o.path (answers (reading o.path start)) ≡ lines_told start =
     subst (λ l. start_lines o.path (answers l) ≡ lines_told start) (append-nil (reading o.path start)) (start_is o.path start [] missing) in
     checked.outside accepted
-    (checked.too_short_or_long start named is (subst (λ l. LiesOutside c (start_lines o.path (answers l))) (sym is) (subst (LiesOutside c) (sym lines) outside))) refl refl
+    (checked.not_allowed start named is (subst (λ l. LiesOutside c (start_lines o.path (answers l))) (sym is) (subst (LiesOutside c) (sym lines) outside))) refl refl
 
 -- a read with which no run starts was refused, so it was counted
 counted_refusal : (a : Answer) (before failed : ℕ) → (a ≡ answer.Refused → before < failed) → a ≢ answer.Done → IsFalse (starts a) → before < failed
@@ -68,9 +71,9 @@ counted_refusal answer.Missing before failed counted other h = absurd (let e = h
 counted_refusal answer.Refused before failed counted other h = counted refl
 counted_refusal answer.Done before failed counted other h = absurd (other refl)
 
-pub not_both : (c : Certificate) (lines : Option ℕ) → LiesOutside c lines → IfSome lines (IsWithin c.min c.max) → ⊥
+pub not_both : (c : Certificate) (lines : Option (List (List ℕ))) → LiesOutside c lines → IfSome lines (IsAllowed c) → ⊥
 not_both c None outside inside = outside
-not_both c (Some n) outside inside = outside inside
+not_both c (Some lines) outside inside = outside inside
 
 module _ (P : Request → Type 0) where
   -- what was asked before memory ran out was asked in the whole run
@@ -102,9 +105,9 @@ ends_well c whole asked sink result (edit.refused front more begun some wrote ri
 
 -- so does a session just made, when it is driven
 pub runs_end_well : CutsAfter → ((script : Script) (c : Certificate) → IsTrue (list_all is_step script.steps) → judged script c ≡ Accepted → CannotFail script c) → AcceptedRunsEndWell
-runs_end_well cuts safe script c o from log sink result steps accepted named is none within drove =
+runs_end_well cuts safe script c o from log sink result steps accepted named is none allowed drove =
     let whole : Progress = run script o (answers log) in
-    let well = safe script c steps accepted o (answers log) named (subst (λ p. IfSome (start_lines p (answers log)) (IsWithin c.min c.max)) named within) in
+    let well = safe script c steps accepted o (answers log) named (subst (λ p. IfSome (start_lines p (answers log)) (IsAllowed c)) named allowed) in
     let comes : ComesTo whole (requests log) sink result = comes_after cuts from [] whole log sink result (sym (is (answers log))) none drove in
     (ends_well c whole (requests log) sink result comes well.1, asks_no_more (MayAsk c) whole (requests log) sink result comes well.0)
 
@@ -125,15 +128,29 @@ only_read : (c : Certificate) (path : Option (List ℕ)) (a : Answer) → All (M
 only_read c None a = All-nil (MayAsk c)
 only_read c (Some path) a = All-cons (MayAsk c) (request.Read path) [] tt (All-nil (MayAsk c))
 
+-- there was no memory to test a start that was read
+pub came_untested : (script : Script) (c : Certificate) (o : Options) (start : Answer) (log : Log) (state : SinkState) → judged script c ≡ Accepted → o.path ≡ c.path
+    → log ≡ reading o.path start → CheckedRun script c o log (change state state) (Err Memory)
+came_untested script c o start log state accepted named is = checked.no_memory (inr (accepted, (named, (start, is)))) refl refl
+
+pub headline_untested : (script : Script) (c : Certificate) (o : Options) (start : Answer) (log : Log) (files_before files : ℕ) (sink : SinkChange) → log ≡ reading o.path start
+    → Headline script c o log (MayFail o.path log files_before files sink) (Err Memory)
+headline_untested script c o start log files_before files sink is = λ accepted named allowed.
+    (tt, subst (λ l. All (MayAsk c) (requests l)) (sym is) (only_read c o.path start))
+
 module _ (script : Script) (c : Certificate) (o : Options) (start : Answer) (later : Log) (sink : SinkChange) (ended : Result Ending Fault)
-    (accepted : judged script c ≡ Accepted) (named : o.path ≡ c.path) (missing : o.path ≡ None → start ≡ answer.Missing) (within : IfSome (lines_told start) (IsWithin c.min c.max)) where
+    (accepted : judged script c ≡ Accepted) (named : o.path ≡ c.path) (missing : o.path ≡ None → start ≡ answer.Missing) (allowed : IfSome (lines_told start) (IsAllowed c)) where
   inside : (more : Log) → StartsInside c o.path (reading o.path start ++ more)
-  inside more = record { named = named; given = start; later = more; read = refl; within = subst (λ n. IfSome n (IsWithin c.min c.max)) (sym (start_is o.path start more missing)) within }
+  inside more = record { named = named; given = start; later = more; read = refl; allowed = subst (λ l. IfSome l (IsAllowed c)) (sym (start_is o.path start more missing)) allowed }
+
+  -- where nothing was asked later
+  only_start : later ≡ [] → reading o.path start ++ later ≡ reading o.path start
+  only_start none = ap (λ l. reading o.path start ++ l) none ∙ append-nil (reading o.path start)
 
   came_over : RunsOver script o start later sink ended → CheckedRun script c o (reading o.path start ++ later) sink (told_of ended)
   unfolding inside
   came_over (parts.driven comes) = checked.driven ended accepted (inside later) comes refl
-  came_over (parts.no_memory none unwritten is) = checked.no_memory (inr (accepted, (inside later, none))) unwritten (ap told_of is)
+  came_over (parts.no_memory none unwritten is) = checked.no_memory (inr (accepted, (named, (start, only_start none)))) unwritten (ap told_of is)
 
   pub came_of : (log : Log) (result : Result Ran Fault) → log ≡ reading o.path start ++ later → result ≡ told_of ended → RunsOver script o start later sink ended → CheckedRun script c o log sink result
   came_of log result logged told ran =
@@ -142,14 +159,13 @@ module _ (script : Script) (c : Certificate) (o : Options) (start : Answer) (lat
   sound : CannotFail script c → All (MayAsk c) (asked_of (run script o (answers (reading o.path start ++ later)))) × StopsWell c (stop_of (run script o (answers (reading o.path start ++ later))))
   sound cannot =
       cannot o (answers (reading o.path start ++ later)) named
-      (subst (λ p. IfSome (start_lines p (answers (reading o.path start ++ later))) (IsWithin c.min c.max)) named (inside later).within)
+      (subst (λ p. IfSome (start_lines p (answers (reading o.path start ++ later))) (IsAllowed c)) named (inside later).allowed)
 
   asks_well : CannotFail script c → RunsOver script o start later sink ended → All (MayAsk c) (requests (reading o.path start ++ later))
   asks_well cannot (parts.driven comes) =
       asks_no_more (MayAsk c) (run script o (answers (reading o.path start ++ later))) (requests (reading o.path start ++ later)) sink ended comes (sound cannot).0
   asks_well cannot (parts.no_memory none unwritten is) =
-      let read : reading o.path start ++ later ≡ reading o.path start = ap (λ l. reading o.path start ++ l) none ∙ append-nil (reading o.path start) in
-      subst (λ l. All (MayAsk c) (requests l)) (sym read) (only_read c o.path start)
+      subst (λ l. All (MayAsk c) (requests l)) (sym (only_start none)) (only_read c o.path start)
 
   ended_well : CannotFail script c → RunsOver script o start later sink ended → EndsAsCertified c ended
   ended_well cannot (parts.driven comes) =

@@ -1,11 +1,12 @@
 mod Checks
 mod Correctness
 mod Fitting
+mod GivenPatterns
 mod Joining
 mod Rehearsing
 mod Sayings
+mod StatedPatterns
 mod Steps
 mod SubcommandLemmas
-mod Taking
 mod WordsLemmas
 mod WordsRows

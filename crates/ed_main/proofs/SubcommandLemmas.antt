@@ -35,11 +35,7 @@ none_global old new (arg ∷ args) local none adds =
     none_global adds.0 new args (All-tail IsLocal arg args local)
     (adds.1.globals ∙ ap₂ (λ (b c : Bool). b || c) none (All-head IsLocal arg args local)) adds.2
 
--- three rules in a row
-pub three_rules : (a b c : Arg) (r s t : Rule) → rule_of a ≡ r → rule_of b ≡ s → rule_of c ≡ t → map rule_of (a ∷ b ∷ c ∷ []) ≡ r ∷ s ∷ t ∷ []
-three_rules a b c r s t e f g = rw (e, f, g) refl
-
-pub three_local : (a b c : Arg) → IsLocal a → IsLocal b → IsLocal c → All IsLocal (a ∷ b ∷ c ∷ [])
+three_local : (a b c : Arg) → IsLocal a → IsLocal b → IsLocal c → All IsLocal (a ∷ b ∷ c ∷ [])
 three_local a b c e f g = All-cons IsLocal a (b ∷ c ∷ []) e (All-cons IsLocal b (c ∷ []) f (All-cons IsLocal c [] g (All-nil IsLocal)))
 
 -- two rules in a row
@@ -55,3 +51,11 @@ four_rules a b c d r s t u e f g h = rw (e, f, g, h) refl
 
 pub four_local : (a b c d : Arg) → IsLocal a → IsLocal b → IsLocal c → IsLocal d → All IsLocal (a ∷ b ∷ c ∷ d ∷ [])
 four_local a b c d e f g h = All-cons IsLocal a (b ∷ c ∷ d ∷ []) e (three_local b c d f g h)
+
+-- six rules in a row
+pub six_rules : (a b c d e f : Arg) (r s t u v w : Rule) → rule_of a ≡ r → rule_of b ≡ s → rule_of c ≡ t → rule_of d ≡ u → rule_of e ≡ v → rule_of f ≡ w
+    → map rule_of (a ∷ b ∷ c ∷ d ∷ e ∷ f ∷ []) ≡ r ∷ s ∷ t ∷ u ∷ v ∷ w ∷ []
+six_rules a b c d e f r s t u v w g h i j k l = rw (g, h, i, j, k, l) refl
+
+pub six_local : (a b c d e f : Arg) → IsLocal a → IsLocal b → IsLocal c → IsLocal d → IsLocal e → IsLocal f → All IsLocal (a ∷ b ∷ c ∷ d ∷ e ∷ f ∷ [])
+six_local a b c d e f g h i j k l = All-cons IsLocal a (b ∷ c ∷ d ∷ e ∷ f ∷ []) g (All-cons IsLocal b (c ∷ d ∷ e ∷ f ∷ []) h (four_local c d e f i j k l))

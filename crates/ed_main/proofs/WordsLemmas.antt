@@ -6,8 +6,10 @@ use Rattle.std.specs.List.{list_all}
 use Rattle.std.specs.Str.Parse.{AllDigits, IsNumeral, digits_value, without_leading_plus}
 use Rattle.std.specs.Box.{box_value}
 use Rattle.clap.proofs.OnLiterals.{clap_on_literals}
-use Rattle.clap.specs.Words.{App, IsAmong, Kinds, Row, Text, fault_of, is_simple, is_simple_and_free, rows_of, found_of, subcommand_name_of, subcommand_of, subcommand_rows, subcommand_rows_of}
-use Rattle.std.specs.Prelude.{Box}
+use Rattle.clap.specs.Words.{App, IsAmong, Kinds, Row, Text, fault_of, is_simple, is_simple_and_free, matched_of, raw_values, rows_of, found_of, subcommand_name_of, subcommand_of, subcommand_rows, subcommand_rows_of}
+use Rattle.clap.specs.declared.parser.matches.Found.{Found}
+use Rattle.clap.proofs.WalkLemmas.{raw_values-rows}
+use Rattle.std.specs.Prelude.{Box, unwrap_or}
 use Rattle.clap.specs.declared.parser.matches.ArgMatches.{ArgMatches}
 use Rattle.clap.specs.declared.parser.matches.ArgMatches.TheViews.{out-ArgMatches, out-SubCommand}
 use Rattle.clap.specs.declared.parser.matches.SubCommand.{SubCommand}
@@ -18,7 +20,7 @@ use Rattle.ed_main.specs.declared.words.WordsFault.{WordsFault}
 use Rattle.ed_main.specs.declared.words.WordsFault.TheVariants as fault
 use Rattle.ed_rules.specs.LineBounds.{is_few}
 use Rattle.ed_main.specs.Subcommands.{program}
-use Rattle.ed_main.specs.Words.{are_digits, lines_in, job_by_name, job_of, job_named, unless_refused}
+use Rattle.ed_main.specs.Words.{are_digits, lines_in, job_by_name, job_of, job_named, texts_in, unless_refused}
 
 -- `clap` says of the program all that it says of simple commands
 simple : is_simple program ≡ true
@@ -80,6 +82,10 @@ is_named m name rows is found = named (out-ArgMatches m).subcommand name rows is
 -- and none gives no job
 pub none_named : (m : ArgMatches) → subcommand_name_of m ≡ None → job_named (subcommand_rows_of m) ≡ None
 none_named m is = none (out-ArgMatches m).subcommand is
+
+-- all values of an argument, by what was found
+pub texts_found : (f : Found) (id : Text) (texts : Option (List Text)) → texts ≡ option_map raw_values (matched_of f id) → unwrap_or texts [] ≡ texts_in id (rows_of f)
+texts_found f id texts is = ap (λ (o : Option (List Text)). unwrap_or o []) (is ∙ raw_values-rows f id)
 
 digits_pass : (ds : List ℕ) → AllDigits 10 ds → list_all (λ d. nat_lt (digit_value d) 10) ds ≡ true
 digits_pass [] h = refl

@@ -16,7 +16,15 @@ rehearsal silent prompt path = Some (job.Edit (record { silent = silent; prompt 
 
 -- a certificate for these bounds
 abbrev vouch : ℕ → Option ℕ → Option (List ℕ) → Option Job
-vouch min max path = Some (job.Vouch (record { path = path; min = min; max = max }))
+vouch min max path = Some (job.Vouch (record { path = path; min = min; max = max; has = None }) false)
+
+-- the same, or else all refusals
+abbrev vouch_all : ℕ → Option ℕ → Option (List ℕ) → Option Job
+vouch_all min max path = Some (job.Vouch (record { path = path; min = min; max = max; has = None }) true)
+
+-- a certificate that tells of patterns, which states these
+abbrev vouch_with : List (List ℕ) → Option Job
+vouch_with has = Some (job.Vouch (record { path = Some (codes "F"); min = 1; max = None; has = Some has }) false)
 
 -- a run that is checked first
 abbrev run : List ℕ → Bool → Option (List ℕ) → Option Job
@@ -229,6 +237,62 @@ a_vouched_hyphen = refl
 silent_vouching : job_given (codes "vouch" ∷ codes "-s" ∷ codes "--min" ∷ codes "0" ∷ codes "--max" ∷ codes "any" ∷ []) ≡ None
 unfolding clap_on_literals program job_of
 silent_vouching = refl
+
+all_refusals : job_given (codes "vouch" ∷ codes "--all" ∷ codes "--min" ∷ codes "1" ∷ codes "--max" ∷ codes "any" ∷ codes "F" ∷ []) ≡ vouch_all 1 None (Some (codes "F"))
+unfolding clap_on_literals program job_of
+all_refusals = refl
+
+all_refusals_at_the_end : job_given (codes "vouch" ∷ codes "--min=0" ∷ codes "--max=3" ∷ codes "F" ∷ codes "--all" ∷ []) ≡ vouch_all 0 (Some 3) (Some (codes "F"))
+unfolding clap_on_literals program job_of
+all_refusals_at_the_end = refl
+
+all_refusals_twice : job_given (codes "vouch" ∷ codes "--all" ∷ codes "--all" ∷ codes "--min" ∷ codes "0" ∷ codes "--max" ∷ codes "any" ∷ []) ≡ None
+unfolding clap_on_literals program job_of
+all_refusals_twice = refl
+
+all_refusals_of_a_check : job_given (codes "check" ∷ codes "--all" ∷ codes "C" ∷ []) ≡ None
+unfolding clap_on_literals program job_of
+all_refusals_of_a_check = refl
+
+vouched_with_a_pattern : job_given (codes "vouch" ∷ codes "--min" ∷ codes "1" ∷ codes "--max" ∷ codes "any" ∷ codes "--has" ∷ codes "foo" ∷ codes "F" ∷ []) ≡ vouch_with (codes "foo" ∷ [])
+unfolding clap_on_literals program job_of
+vouched_with_a_pattern = refl
+
+vouched_with_patterns_out_of_order : job_given (codes "vouch" ∷ codes "--has" ∷ codes "b" ∷ codes "--min" ∷ codes "1" ∷ codes "--max" ∷ codes "any" ∷ codes "F" ∷ codes "--has=a" ∷ codes "--has" ∷ codes "b" ∷ []) ≡ vouch_with (codes "a" ∷ codes "b" ∷ [])
+unfolding clap_on_literals program job_of
+vouched_with_patterns_out_of_order = refl
+
+vouched_with_none_but_the_flag : job_given (codes "vouch" ∷ codes "--patterns" ∷ codes "--min" ∷ codes "1" ∷ codes "--max" ∷ codes "any" ∷ codes "F" ∷ []) ≡ vouch_with []
+unfolding clap_on_literals program job_of
+vouched_with_none_but_the_flag = refl
+
+vouched_with_the_flag_too : job_given (codes "vouch" ∷ codes "--patterns" ∷ codes "--min" ∷ codes "1" ∷ codes "--max" ∷ codes "any" ∷ codes "--has=-x" ∷ codes "F" ∷ []) ≡ vouch_with (codes "-x" ∷ [])
+unfolding clap_on_literals program job_of
+vouched_with_the_flag_too = refl
+
+the_flag_twice : job_given (codes "vouch" ∷ codes "--patterns" ∷ codes "--patterns" ∷ codes "--min" ∷ codes "1" ∷ codes "--max" ∷ codes "any" ∷ codes "F" ∷ []) ≡ None
+unfolding clap_on_literals program job_of
+the_flag_twice = refl
+
+no_pattern : job_given (codes "vouch" ∷ codes "--min" ∷ codes "1" ∷ codes "--max" ∷ codes "any" ∷ codes "--has" ∷ []) ≡ None
+unfolding clap_on_literals program job_of
+no_pattern = refl
+
+a_group_that_is_not_closed : job_given (codes "vouch" ∷ codes "--min" ∷ codes "1" ∷ codes "--max" ∷ codes "any" ∷ codes "--has" ∷ codes "\\(" ∷ codes "F" ∷ []) ≡ None
+unfolding clap_on_literals program job_of
+a_group_that_is_not_closed = refl
+
+a_pattern_and_one_that_is_none : job_given (codes "vouch" ∷ codes "--min" ∷ codes "1" ∷ codes "--max" ∷ codes "any" ∷ codes "--has" ∷ codes "a" ∷ codes "--has" ∷ codes "[b" ∷ codes "F" ∷ []) ≡ None
+unfolding clap_on_literals program job_of
+a_pattern_and_one_that_is_none = refl
+
+a_pattern_like_an_option : job_given (codes "vouch" ∷ codes "--min" ∷ codes "1" ∷ codes "--max" ∷ codes "any" ∷ codes "--has" ∷ codes "-x" ∷ codes "F" ∷ []) ≡ None
+unfolding clap_on_literals program job_of
+a_pattern_like_an_option = refl
+
+patterns_of_a_check : job_given (codes "check" ∷ codes "--has" ∷ codes "a" ∷ codes "C" ∷ []) ≡ None
+unfolding clap_on_literals program job_of
+patterns_of_a_check = refl
 
 help_of_vouch : job_given (codes "vouch" ∷ codes "--help" ∷ []) ≡ None
 unfolding clap_on_literals program job_of

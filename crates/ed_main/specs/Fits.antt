@@ -7,19 +7,20 @@ use Rattle.ed_session.specs.Sinks.{SinkChange}
 use Rattle.cert_check.specs.Certificates.{Certificate}
 use Rattle.cert_check.specs.text.HasText.{IsText}
 use Rattle.cert_check.specs.checker.Sound.{start_lines}
-use Rattle.ed_main.specs.Run.{StartsInside, StartsOutside, Untouched}
+use Rattle.ed_main.specs.Run.{OnlyReads, StartsInside, StartsOutside, Untouched}
 use Rattle.ed_main.specs.Told.{IsUnread, Says, Tells, outside_told}
 
--- the status of a start that doesn't lie outside: where its number of lines isn't known, its file was refused
-abbrev pub status_of_lines : Option ℕ → ℕ
+-- the status of a start that doesn't lie outside: where its lines aren't known, its file was refused
+abbrev pub status_of_lines : Option (List (List ℕ)) → ℕ
 status_of_lines None = status_of fault.File
 status_of_lines (Some lines) = 0
 
 -- The start at a path came to this by the certificate whose text the bytes are. There is no certificate; or the start is another; or it is
--- the certificate's, unless its file was refused; or there was no memory to find out.
+-- the certificate's, unless its file was refused; or there was no memory to find out, for the certificate or for the test.
 pub data Fits (certificate : List ℕ) (path : Option (List ℕ)) (log : Log) (sink : SinkChange) (status : ℕ) : Type 0 where
   no_certificate : log ≡ [] → Says (IsUnread certificate) sink status → Fits certificate path log sink status
   outside : (c : Certificate) → IsText certificate c → StartsOutside c path log → Tells outside_told sink status → Fits certificate path log sink status
   inside : (c : Certificate) → IsText certificate c → (start : StartsInside c path log) → start.later ≡ [] → Untouched sink →
       status ≡ status_of_lines (start_lines path (answers log)) → Fits certificate path log sink status
   no_memory : log ≡ [] → Untouched sink → status ≡ status_of fault.Memory → Fits certificate path log sink status
+  untested : (c : Certificate) → IsText certificate c → OnlyReads c path log → Untouched sink → status ≡ status_of fault.Memory → Fits certificate path log sink status

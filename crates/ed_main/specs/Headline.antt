@@ -1,6 +1,7 @@
 -- The headline. If the checker accepts a script with its certificate, then for every start file whose number of lines lies in the
--- certificate's bounds, and whatever other files hold, the editor runs the script to its end with no fault but want of memory, a
--- refused file or a refused output, leaves a number of lines within the certified final bounds, and asks to write only listed paths.
+-- certificate's bounds and that has a matching line for each pattern stated at its start, and whatever other files hold, the editor
+-- runs the script to its end with no fault but want of memory, a refused file or a refused output, leaves a number of lines within the
+-- certified final bounds, and asks to write only listed paths. A certificate of version one states no pattern.
 use Rattle.std.specs.Prelude.{◌≡◌, ◌⊎◌, ℕ, List, [], Option, IfSome, IsTrue, All, Result, Ok, Err}
 use Rattle.std.specs.List.{list_all}
 use Rattle.ed_base.specs.declared.fault.Fault.{Fault}
@@ -17,7 +18,7 @@ use Rattle.ed_session.specs.Sinks.{SinkChange, Failed}
 use Rattle.cert_check.specs.declared.checker.verdict.Verdict.TheVariants.{Accepted}
 use Rattle.cert_check.specs.Certificates.{Certificate}
 use Rattle.ed_rules.specs.LineBounds.{IsWithin}
-use Rattle.cert_check.specs.checker.Sound.{MayAsk, start_lines}
+use Rattle.cert_check.specs.checker.Sound.{IsAllowed, MayAsk, start_lines}
 use Rattle.cert_check.specs.checker.Valid.{judged}
 use Rattle.ed_main.specs.Edit.{FileIsLost}
 use Rattle.ed_main.specs.declared.run.Ran.{Ran}
@@ -38,7 +39,7 @@ EndsWell c may_fail (Ok other) = ⊥
 EndsWell c may_fail (Err fault) = may_fail fault
 
 abbrev pub Headline : Script → Certificate → Options → Log → (may_fail : Fault → Type 0) → Result Ran Fault → Type 0
-Headline script c o log may_fail result = judged script c ≡ Accepted → o.path ≡ c.path → IfSome (start_lines o.path (answers log)) (IsWithin c.min c.max) →
+Headline script c o log may_fail result = judged script c ≡ Accepted → o.path ≡ c.path → IfSome (start_lines o.path (answers log)) (IsAllowed c) →
     EndsWell c may_fail result × All (MayAsk c) (requests log)
 
 -- the ends of a run that no certificate excludes: as many lines as are certified, or a fault of memory, of a file or of the output
@@ -51,4 +52,4 @@ EndsAsCertified c (Err f) = (f ≡ Memory) ⊎ ((f ≡ File) ⊎ (f ≡ Output))
 abbrev pub AcceptedRunsEndWell : Type 0
 AcceptedRunsEndWell = (script : Script) (c : Certificate) (o : Options) (from : SessionValue) (log : Log) (sink : SinkChange) (result : Result Ending Fault) →
     IsTrue (list_all is_step script.steps) → judged script c ≡ Accepted → o.path ≡ c.path → ((given : List Answer) → rest from given ≡ run script o given) → from.pending ≡ [] →
-    IfSome (start_lines o.path (answers log)) (IsWithin c.min c.max) → Drove from log sink result → EndsAsCertified c result × All (MayAsk c) (requests log)
+    IfSome (start_lines o.path (answers log)) (IsAllowed c) → Drove from log sink result → EndsAsCertified c result × All (MayAsk c) (requests log)

@@ -13,5 +13,5 @@ pub record IsStart (start : Start) : Type 0 where
   pub path : start.path ≢ Some []
 
 abbrev pub IsGiven : Job → Type 0
-IsGiven (job.Vouch start) = IsStart start
+IsGiven (job.Vouch start all) = IsStart start
 IsGiven other = Unit {0}

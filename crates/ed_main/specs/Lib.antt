@@ -7,7 +7,6 @@ pub mod Vouch
 pub mod Run
 pub mod Fits
 pub mod Rehearsed
-pub mod Source
 pub mod Subcommands
 pub mod Words
 pub mod Job

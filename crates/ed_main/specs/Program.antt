@@ -8,8 +8,8 @@ use Rattle.ed_session.specs.Drives.{Log}
 use Rattle.ed_session.specs.Sinks.{SinkChange}
 use Rattle.ed_main.specs.declared.job.Job.{Job}
 use Rattle.ed_main.specs.declared.job.Job.TheVariants as job
-use Rattle.ed_main.specs.declared.source.ReadFault.{ReadFault}
-use Rattle.ed_main.specs.declared.source.ReadFault.TheVariants as reading
+use Rattle.sources.specs.declared.source.ReadFault.{ReadFault}
+use Rattle.sources.specs.declared.source.ReadFault.TheVariants as reading
 use Rattle.ed_main.specs.declared.words.WordsFault.{WordsFault}
 use Rattle.ed_main.specs.declared.words.WordsFault.TheVariants as words
 use Rattle.ed_main.specs.Check.{Checks}
@@ -65,7 +65,7 @@ pub data WithCertificate (Used : List ℕ → ℕ → Type 0) (status : ℕ) : T
 -- what a job comes to, for a script of these bytes; a test of a start has none
 abbrev pub Does : List ℕ → Job → ℕ → Type 0
 Does script (job.Edit options rehearsed) = Somehow (Edits script options rehearsed)
-Does script (job.Vouch start) = Somehow (λ met. Says (Vouches script start) met.sink)
+Does script (job.Vouch start all) = Somehow (λ met. Says (Vouches script start) met.sink)
 Does script (job.Check path) = WithCertificate (λ certificate. Somehow (λ met. Says (Checks script certificate) met.sink))
 Does script (job.Run path options rehearsed) = WithCertificate (λ certificate. Somehow (RunsOn script certificate options rehearsed))
 Does script (job.Fits certificate path) = WithCertificate (λ bytes. Somehow (λ met. Fits bytes path met.log met.sink))

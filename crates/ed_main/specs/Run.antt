@@ -13,12 +13,11 @@ use Rattle.ed_syntax.specs.meaning.Runs.{run}
 use Rattle.ed_syntax.specs.spelling.Spellings.{SpellsScript}
 use Rattle.ed_session.specs.Drives.{Log, answers, requests}
 use Rattle.ed_session.specs.Sinks.{SinkChange, SinkState, change}
-use Rattle.ed_rules.specs.LineBounds.{IsWithin}
 use Rattle.cert_check.specs.declared.checker.verdict.Place.{Place}
 use Rattle.cert_check.specs.declared.checker.verdict.Verdict.TheVariants.{Accepted, Refused}
 use Rattle.cert_check.specs.Certificates.{Certificate}
 use Rattle.cert_check.specs.text.HasText.{IsText}
-use Rattle.cert_check.specs.checker.Sound.{start_lines}
+use Rattle.cert_check.specs.checker.Sound.{IsAllowed, start_lines}
 use Rattle.cert_check.specs.checker.Valid.{judged}
 use Rattle.ed_main.specs.declared.run.Ran.{Ran}
 use Rattle.ed_main.specs.declared.run.Ran.TheVariants as ran
@@ -32,41 +31,46 @@ abbrev pub reading : Option (List ℕ) → Answer → Log
 reading None given = []
 reading (Some path) given = (request.Read path, given) ∷ []
 
--- the number of lines of a start, where it has one, isn't as the certificate wants it
-abbrev pub LiesOutside : Certificate → Option ℕ → Type 0
+-- the lines of a start, where they are known, aren't such as the certificate allows: they are too few or too many, or a pattern that it
+-- states is matched by none of them
+abbrev pub LiesOutside : Certificate → Option (List (List ℕ)) → Type 0
 LiesOutside c None = ⊥
-LiesOutside c (Some lines) = IsWithin c.min c.max lines → ⊥
+LiesOutside c (Some lines) = IsAllowed c lines → ⊥
 
--- The start is another than the certificate's: its path is, and nothing was asked; or it was read, and has too few lines or too many.
+-- The start is another than the certificate's: its path is, and nothing was asked; or it was read, and its lines aren't allowed.
 pub data StartsOutside (c : Certificate) (path : Option (List ℕ)) (log : Log) : Type 0 where
   elsewhere : path ≢ c.path → log ≡ [] → StartsOutside c path log
-  too_short_or_long : (given : Answer) → path ≡ c.path → log ≡ reading path given → LiesOutside c (start_lines path (answers log)) → StartsOutside c path log
+  not_allowed : (given : Answer) → path ≡ c.path → log ≡ reading path given → LiesOutside c (start_lines path (answers log)) → StartsOutside c path log
 
--- the start is the certificate's: its path is, and it was read first, and has as many lines as are allowed, unless its file was refused
+-- the start is the certificate's: its path is, and it was read first, and its lines are allowed, unless its file was refused
 pub record StartsInside (c : Certificate) (path : Option (List ℕ)) (log : Log) : Type 0 where
   pub named : path ≡ c.path
   pub given : Answer
   pub later : Log
   pub read : log ≡ reading path given ++ later
-  pub within : IfSome (start_lines path (answers log)) (IsWithin c.min c.max)
+  pub allowed : IfSome (start_lines path (answers log)) (IsAllowed c)
 
 -- what is told of a run's end
 abbrev pub told_of : Result Ending Fault → Result Ran Fault
 told_of (Ok ending) = Ok (ran.Done ending)
 told_of (Err fault) = Err fault
 
+-- nothing was asked but the start, whose path is the certificate's
+abbrev pub OnlyReads : Certificate → (path : Option (List ℕ)) → Log → Type 0
+OnlyReads c path log = (path ≡ c.path) × ((given : Answer) × (log ≡ reading path given))
+
 -- where the script isn't run, the sink isn't written to
 abbrev pub Untouched : SinkChange → Type 0
 Untouched sink = sink.after ≡ sink.before
 
 -- A script with its certificate came to this. The certificate is refused; or the start is another; or the script was run over the start
--- that was read; or before that there was no memory.
+-- that was read; or before that there was no memory, for the check, for the test of the start or for the run.
 pub data CheckedRun (script : Script) (c : Certificate) (o : Options) (log : Log) (sink : SinkChange) (result : Result Ran Fault) : Type 0 where
   refused : (place : Place) → judged script c ≡ Refused place → log ≡ [] → Untouched sink → result ≡ Ok (ran.Refused place) → CheckedRun script c o log sink result
   outside : judged script c ≡ Accepted → StartsOutside c o.path log → Untouched sink → result ≡ Ok ran.StartOutside → CheckedRun script c o log sink result
   driven : (ended : Result Ending Fault) → judged script c ≡ Accepted → StartsInside c o.path log →
       ComesTo (run script o (answers log)) (requests log) sink ended → result ≡ told_of ended → CheckedRun script c o log sink result
-  no_memory : (log ≡ []) ⊎ (judged script c ≡ Accepted) × ((start : StartsInside c o.path log) × (start.later ≡ [])) →
+  no_memory : (log ≡ []) ⊎ (judged script c ≡ Accepted) × OnlyReads c o.path log →
       Untouched sink → result ≡ Err Memory → CheckedRun script c o log sink result
 
 -- what is told of a checked run besides its own output

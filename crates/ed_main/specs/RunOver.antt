@@ -1,5 +1,5 @@
 -- What the run over a start that was read comes to (our own division of the work).
-use Rattle.std.specs.Prelude.{◌≡◌, ◌++◌, ℕ, [], length, Option, Some, None, Result, Err}
+use Rattle.std.specs.Prelude.{◌≡◌, ◌++◌, ℕ, List, [], Option, Some, None, Result, Err}
 use Rattle.ed_base.specs.Lines.{lines_of}
 use Rattle.ed_base.specs.declared.fault.Fault.{Fault}
 use Rattle.ed_base.specs.declared.fault.Fault.TheVariants.{Memory}
@@ -14,10 +14,10 @@ use Rattle.ed_session.specs.Sinks.{SinkChange}
 use Rattle.ed_main.specs.Edit.{ComesTo}
 use Rattle.ed_main.specs.Run.{Untouched, reading}
 
--- how many lines a file has by the answer to its read
-abbrev pub lines_told : Answer → Option ℕ
-lines_told (answer.Bytes bytes) = Some (length (lines_of bytes))
-lines_told answer.Missing = Some 0
+-- the lines of a file by the answer to its read
+abbrev pub lines_told : Answer → Option (List (List ℕ))
+lines_told (answer.Bytes bytes) = Some (lines_of bytes)
+lines_told answer.Missing = Some []
 lines_told other = None
 
 -- A script was run over a start that was answered so, and was answered this from then on; or there was no memory to begin.

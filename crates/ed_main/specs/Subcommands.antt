@@ -2,7 +2,7 @@
 use Rattle.std.specs.Prelude.{ℕ, true, List, [], ◌∷◌, codes, Some}
 use Rattle.clap.specs.Words.{App, Rule, new_app, new_rule, with_subcommand}
 use Rattle.clap.specs.Simple.{on_top}
-use Rattle.clap.specs.declared.builder.action.ArgAction.TheVariants.{Set, SetTrue}
+use Rattle.clap.specs.declared.builder.action.ArgAction.TheVariants.{Append, Set, SetTrue}
 
 -- `-s`
 abbrev pub silent : Rule
@@ -28,6 +28,18 @@ min = record (new_rule (codes "min")) { long = Some (codes "min"); action = Some
 abbrev pub max : Rule
 max = record (new_rule (codes "max")) { long = Some (codes "max"); action = Some Set; value_names = 1; required = true }
 
+-- `--all`
+abbrev pub all : Rule
+all = record (new_rule (codes "all")) { long = Some (codes "all"); action = Some SetTrue }
+
+-- `--patterns`
+abbrev pub patterns : Rule
+patterns = record (new_rule (codes "patterns")) { long = Some (codes "patterns"); action = Some SetTrue }
+
+-- `--has RE`, which may come more than once
+abbrev pub has : Rule
+has = record (new_rule (codes "has")) { long = Some (codes "has"); action = Some Append; value_names = 1 }
+
 -- `CERT`
 abbrev pub certificate : Rule
 certificate = record (new_rule (codes "certificate")) { action = Some Set; value_names = 1; required = true }
@@ -40,9 +52,9 @@ subcommand name takes = on_top (λ s. record s { rules = takes }) (new_app name)
 abbrev pub edit : App
 edit = subcommand (codes "edit") (rehearsed ∷ silent ∷ prompt ∷ file ∷ [])
 
--- `vouch --min N --max M [FILE]`
+-- `vouch --min N --max M [--all] [--patterns] [--has RE] [FILE]`
 abbrev pub vouch : App
-vouch = subcommand (codes "vouch") (min ∷ max ∷ file ∷ [])
+vouch = subcommand (codes "vouch") (min ∷ max ∷ all ∷ patterns ∷ has ∷ file ∷ [])
 
 -- `check CERT`
 abbrev pub check : App

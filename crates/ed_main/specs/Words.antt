@@ -1,14 +1,16 @@
 -- The words that the program is given, as `clap` reads them, and the job that they give (XCU ed, "Synopsis"; our choice: no prompt or file
 -- that reads as an option).
-use Rattle.std.specs.Prelude.{ℕ, Bool, true, false, not, ◌&&◌, List, [], ◌∷◌, codes, length, nat_eq, nat_lt, Option, Some, None, option_and_then, option_map, if◌then◌else◌}
+use Rattle.std.specs.Prelude.{ℕ, Bool, true, false, not, ◌&&◌, List, [], ◌∷◌, codes, length, nat_eq, nat_lt, Option, Some, None, option_and_then, option_map, unwrap_or, is_ok, if◌then◌else◌}
 use Rattle.std.specs.List.{list_all}
 use Rattle.std.specs.Option.{option_map_or}
 use Rattle.std.specs.Char.{digit_value}
 use Rattle.std.specs.Str.{bytes_eq}
 use Rattle.std.specs.Str.Parse.{digits_value, without_leading_plus}
-use Rattle.clap.specs.Words.{Kinds, Row, fault_of, first_of, subcommand_of}
+use Rattle.clap.specs.Words.{Kinds, Row, all_of, fault_of, first_of, subcommand_of}
+use Rattle.bre_parse.specs.Grammar.{pattern}
 use Rattle.ed_syntax.specs.declared.options.Options.{Options}
 use Rattle.ed_rules.specs.LineBounds.{is_few, is_within}
+use Rattle.ed_rules.specs.Texts.{with_texts}
 use Rattle.ed_main.specs.declared.job.Job.{Job}
 use Rattle.ed_main.specs.declared.job.Job.TheVariants as job
 use Rattle.ed_main.specs.Subcommands.{program}
@@ -42,6 +44,10 @@ options_in rows = record {
 abbrev pub is_rehearsed : List Row → Bool
 is_rehearsed rows = is_given (first_of (codes "rehearsed") rows)
 
+-- all refusals are to be shown
+abbrev pub shows_all : List Row → Bool
+shows_all rows = is_given (first_of (codes "all") rows)
+
 -- a run with these options, where they may be given
 abbrev pub editing : Options → (rehearsed : Bool) → Option Job
 editing o rehearsed = elim (is_prompt o.prompt && is_path o.path) [ true ↦ Some (job.Edit o rehearsed) | false ↦ None ]
@@ -60,22 +66,39 @@ lines_in text =
 abbrev pub limit_in : List ℕ → Option (Option ℕ)
 limit_in text = elim (bytes_eq text (codes "any")) [ true ↦ Some None | false ↦ option_map (λ n. Some n) (lines_in text) ]
 
+-- the values of an option that may come several times
+abbrev pub texts_in : (id : List ℕ) → List Row → List (List ℕ)
+texts_in id rows = unwrap_or (all_of id rows) []
+
+-- each of these texts is a pattern
+abbrev pub are_patterns : List (List ℕ) → Bool
+are_patterns texts = list_all (λ text. is_ok (pattern text)) texts
+
+-- The patterns that a start states, each once and in their order, where a certificate that tells of patterns is asked for: by its flag, or by
+-- a pattern.
+abbrev pub stated : (asked : Bool) → (texts : List (List ℕ)) → Option (List (List ℕ))
+stated asked (text ∷ texts) = Some (with_texts (text ∷ texts) [])
+stated true [] = Some []
+stated false [] = None
+
 -- a certificate for starts of these bounds, where the low one isn't above the high one
-abbrev pub vouching_within : ℕ → Option ℕ → Option (List ℕ) → Option Job
-vouching_within least most path =
-    elim (is_within least most && is_path path) [ true ↦ Some (job.Vouch (record { path = path; min = least; max = most })) | false ↦ None ]
+abbrev pub vouching_within : ℕ → Option ℕ → (path : Option (List ℕ)) → (asked : Bool) → (has : List (List ℕ)) → (all : Bool) → Option Job
+vouching_within least most path asked has all = elim (is_within least most && (is_path path && are_patterns has)) [
+  | true ↦ Some (job.Vouch (record { path = path; min = least; max = most; has = stated asked has }) all)
+  | false ↦ None
+]
 
-abbrev pub vouching_from : ℕ → Option (Option ℕ) → Option (List ℕ) → Option Job
-vouching_from least None path = None
-vouching_from least (Some most) path = vouching_within least most path
+abbrev pub vouching_from : ℕ → Option (Option ℕ) → (path : Option (List ℕ)) → (asked : Bool) → (has : List (List ℕ)) → (all : Bool) → Option Job
+vouching_from least None path asked has all = None
+vouching_from least (Some most) path asked has all = vouching_within least most path asked has all
 
-abbrev pub vouching_read : Option ℕ → Option (Option ℕ) → Option (List ℕ) → Option Job
-vouching_read None most path = None
-vouching_read (Some least) most path = vouching_from least most path
+abbrev pub vouching_read : Option ℕ → Option (Option ℕ) → (path : Option (List ℕ)) → (asked : Bool) → (has : List (List ℕ)) → (all : Bool) → Option Job
+vouching_read None most path asked has all = None
+vouching_read (Some least) most path asked has all = vouching_from least most path asked has all
 
 -- the same by the texts of the bounds
-abbrev pub vouching : (min max : Option (List ℕ)) → (path : Option (List ℕ)) → Option Job
-vouching min max path = vouching_read (option_and_then lines_in min) (option_and_then limit_in max) path
+abbrev pub vouching : (min max : Option (List ℕ)) → (path : Option (List ℕ)) → (asked : Bool) → (has : List (List ℕ)) → (all : Bool) → Option Job
+vouching min max path asked has all = vouching_read (option_and_then lines_in min) (option_and_then limit_in max) path asked has all
 
 -- a check of the certificate at a path that may be given
 abbrev pub checking : Option (List ℕ) → Option Job
@@ -97,7 +120,9 @@ abbrev pub edit_job : List Row → Option Job
 edit_job rows = editing (options_in rows) (is_rehearsed rows)
 
 abbrev pub vouch_job : List Row → Option Job
-vouch_job rows = vouching (first_of (codes "min") rows) (first_of (codes "max") rows) (first_of (codes "file") rows)
+vouch_job rows =
+    vouching (first_of (codes "min") rows) (first_of (codes "max") rows) (first_of (codes "file") rows) (is_given (first_of (codes "patterns") rows))
+    (texts_in (codes "has") rows) (shows_all rows)
 
 abbrev pub check_job : List Row → Option Job
 check_job rows = checking (first_of (codes "certificate") rows)

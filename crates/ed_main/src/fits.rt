@@ -5,7 +5,7 @@ ghost use Rattle.ed_session.specs.Sinks.{change};
 ghost use Rattle.cert_check.specs.Certificates.{certificate_value};
 ghost use Rattle.ed_main.specs.Fits.{Fits, status_of_lines};
 ghost use Rattle.ed_main.specs.RunOver.{lines_told};
-ghost use Rattle.ed_main.specs.StartTest.{IsTested};
+ghost use Rattle.ed_main.specs.StartTest.{IsTested, IsUntested};
 
 use crate::run::{is_path, lies_outside, read_start};
 use crate::stderr::aside::Aside;
@@ -39,7 +39,7 @@ pub fn fit<O: Outside, W: Sink>(
             return tell(unread_told(alloc, fault), sink);
         }
     };
-    match allowed_start(&certificate, path, outside, aside) {
+    match allowed_start(alloc, &certificate, path, outside, aside) {
         Ok(Some(start)) => status_of_start(&start),
         Ok(None) => tell(outside_told(alloc), sink),
         Err(AllocError) => Fault::Memory.status(),
@@ -48,6 +48,7 @@ pub fn fit<O: Outside, W: Sink>(
 
 // The answer to the read of a start that the certificate allows.
 fn allowed_start<O: Outside>(
+    alloc: Global,
     certificate: &Certificate,
     path: &Option<Bytes>,
     outside: &mut O,
@@ -56,15 +57,16 @@ fn allowed_start<O: Outside>(
     ensures log { O.log outside.new ≡ O.log outside.old ++ added (O.log outside.old) (O.log outside.new) }
     ensures tested { IfOk result (IsTested (certificate_value certificate.now) path.now
         (added (O.log outside.old) (O.log outside.new))) }
-    ensures unchanged { OnErr result (O.log outside.new ≡ O.log outside.old) }
+    ensures untested { OnErr result (IsUntested (certificate_value certificate.now) path.now
+        (added (O.log outside.old) (O.log outside.new))) }
 {
     if !is_path(path, &certificate.path) {
         aside.other_path(certificate, path);
         return Ok(None);
     }
     let start = read_start(path, outside)?;
-    if lies_outside(certificate, &start) {
-        aside.other_size(certificate, path, &start);
+    let is_other = lies_outside(alloc, certificate, path, &start, aside)?;
+    if is_other {
         return Ok(None);
     }
     Ok(Some(start))

@@ -12,8 +12,11 @@ pub enum Job {
         options: Options,
         rehearsed: bool,
     },
-    /// To make a script's certificate for a start of these bounds.
-    Vouch(Start),
+    /// To make a script's certificate for a start of these bounds, or to show its first refusal, or all of them.
+    Vouch {
+        start: Start,
+        all: bool,
+    },
     /// To check the certificate at this path.
     Check(Bytes),
     /// To run a script on a file if the certificate at this path allows it, or to rehearse that.

@@ -16,9 +16,8 @@ use crate::fits::fit;
 use crate::held_writes::show_held;
 use crate::job::Job;
 use crate::run::run;
-use crate::source::{In, ReadFault, Source, read_all};
 use crate::stderr::aside::Aside;
-use crate::stderr::refusals::{Watched, show_input, show_output, show_unread};
+use crate::stderr::refusals::{Explains, Watched, show_input, show_output, show_unread};
 use crate::stderr::usage::USAGE;
 use crate::vouch::vouch_text;
 use crate::words::{WordsFault, read_words};
@@ -27,6 +26,7 @@ use ed_base::{Bytes, Fault};
 use ed_session::{DiskFiles, Out, Outside};
 use ed_syntax::Options;
 use rehearsal::Rehearsal;
+use sources::{In, ReadFault, Source, read_all};
 use std::alloc::{AllocError, Global};
 use std::fs::File;
 use std::rt::{Env, Files};
@@ -134,7 +134,7 @@ where
 {
     match job {
         Job::Edit { options, rehearsed } => edit_file(rt, script, options, rehearsed),
-        Job::Vouch(start) => vouch_file(rt, script, start),
+        Job::Vouch { start, all } => vouch_file(rt, script, start, all),
         Job::Check(path) => match certificate_at(rt, &path) {
             Ok(certificate) => check_file(rt, script, &path, certificate.as_slice()),
             Err(fault) => status_of_read(fault),
@@ -229,7 +229,7 @@ where
 fn edit_over<R, O>(rt: &R, script: &[u8], options: Options, files: &mut Watched<O>) -> u8
 where
     R: Print + Eprint + AllocGlobal,
-    O: Outside + Drop,
+    O: Outside + Explains + Drop,
     ensures status { result ≤ 4 }
     ensures came { Somehow (λ met status. (met.log ≡ added (O.log files.old.files) (O.log files.new.files))
         × Correct script.now options met.log met.refusals_before met.refusals met.sink status) result }
@@ -251,16 +251,16 @@ where
     Watched::new(rt.alloc(), files, path.is_some())
 }
 
-// Tells the standard output the certificate of the script's bytes, or why there is none.
-fn vouch_file<R>(rt: &R, script: &[u8], start: Start) -> u8
+// Tells the standard output the certificate of the script's bytes, or why there is none. All that is to be mended is shown if `all` is true.
+fn vouch_file<R>(rt: &R, script: &[u8], start: Start, all: bool) -> u8
 where
     R: Print + Eprint + AllocGlobal,
-    requires given { IsGiven (job.Vouch start) }
+    requires given { IsGiven (job.Vouch start all) }
     ensures status { result ≤ 4 }
     ensures came { Somehow (λ met. Says (Vouches script.now start) met.sink) result }
 {
     let mut output = Out::new(io::writer(rt));
-    let status = vouch_text(rt.alloc(), rt, script, start, &mut output);
+    let status = vouch_text(rt.alloc(), rt, script, start, all, &mut output);
     show_output(rt, status);
     status
 }
@@ -330,7 +330,7 @@ fn run_over<R, O>(
 ) -> u8
 where
     R: Print + Eprint + AllocGlobal,
-    O: Outside + Drop,
+    O: Outside + Explains + Drop,
     ensures status { result ≤ 4 }
     ensures came { Somehow (λ met status. (met.log ≡ added (O.log files.old.files) (O.log files.new.files))
         × RunsWith script.now certificate.now options met status) result }

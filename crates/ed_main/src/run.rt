@@ -1,15 +1,17 @@
 //! A script that is run only over a start that its certificate allows, and only where the checker accepts it.
-ghost use Rattle.std.specs.Prelude.{◌≡◌, ◌≢◌, ◌<◌, ◌≤◌, ◌-◌, ◌^◌, ◌++◌, ◌⊎◌, ◌↔◌, IsTrue, IsFalse, None, Err, IfSome, IfOk, OnErr};
+ghost use Rattle.std.specs.Prelude.{◌≡◌, ◌≢◌, ◌<◌, ◌≤◌, ◌-◌, ◌^◌, ◌++◌, ◌⊎◌, ◌↔◌, IsTrue, IsFalse, None, Err, length, IfSome, IsSomeAnd, IfOk, OnErr};
 ghost use Rattle.ed_syntax.specs.meaning.Laws.{starts};
 ghost use Rattle.ed_syntax.specs.PublicScript.{script_value};
 ghost use Rattle.ed_session.specs.Drives.{added, EndsMissing};
 ghost use Rattle.ed_session.specs.Sinks.{change, Failed};
 ghost use Rattle.ed_rules.specs.LineBounds.{IsWithin};
 ghost use Rattle.cert_check.specs.Certificates.{certificate_value};
+ghost use Rattle.cert_check.specs.checker.Sound.{IsAllowed};
 ghost use Rattle.ed_main.specs.Headline.{Headline, MayFail};
 ghost use Rattle.ed_main.specs.Run.{CheckedRun, LiesOutside, Runs, reading, told_of};
 ghost use Rattle.ed_main.specs.RunOver.{RunsOver, lines_told};
 
+use crate::stated::unmatched;
 use crate::stderr::aside::Aside;
 use crate::told::{outside_told, tell, unread_told, verdict_told};
 use cert_check::{Certificate, Place, Verdict, check};
@@ -74,14 +76,15 @@ pub fn run<O: Outside, W: Sink>(
 pub enum Ran {
     /// The checker refuses the certificate, at this place. Nothing was asked or written.
     Refused(Place),
-    /// The start has another path than the certificate's, or a number of lines that it doesn't allow. Nothing was written.
+    /// The start has another path than the certificate's, a number of lines that it doesn't allow, or no line that matches a pattern which
+    /// it states. Nothing was written.
     StartOutside,
     /// The script was run to its end.
     Done(Ending),
 }
 
-/// Runs a script over its start file if the checker accepts its certificate, and the file is the certificate's and has as many
-/// lines as that allows.
+/// Runs a script over its start file if the checker accepts its certificate, and the file is the certificate's, has as many lines as
+/// that allows, and a matching line for each pattern that it states.
 ///
 /// The file is read once, and the run edits the bytes that were read; with no path nothing is read, and the buffer is empty. A
 /// missing file has no lines. One that is refused goes on to the run, which ends by `Fault::File`. Nothing is written before
@@ -118,8 +121,8 @@ pub fn run_checked<S: LineStore, O: Outside, W: Sink>(
         return Ok(Ran::StartOutside);
     }
     let start = read_start(&options.path, outside)?;
-    if lies_outside(certificate, &start) {
-        aside.other_size(certificate, &options.path, &start);
+    let is_other = lies_outside(alloc, certificate, &options.path, &start, aside)?;
+    if is_other {
         return Ok(Ran::StartOutside);
     }
     outcome(run_over::<S, O, W>(alloc, script, options, start, outside, sink, aside))
@@ -156,11 +159,40 @@ pub(crate) fn read_start<O: Outside>(
     }
 }
 
-/// Whether a start has too few or too many lines. A refused one isn't known to have.
-pub(crate) fn lies_outside(certificate: &Certificate, start: &Answer) -> bool
-    ensures outside { IsTrue result → LiesOutside (certificate_value certificate.now) (lines_told start.now) }
-    ensures inside { IsFalse result →
-        IfSome (lines_told start.now) (IsWithin certificate.now.min certificate.now.max) }
+/// Whether the lines of a start aren't such as a certificate allows: they are too few or too many, or a pattern that it states is matched
+/// by none of them. Those of a refused one aren't known. A person is told why.
+pub(crate) fn lies_outside(
+    alloc: Global,
+    certificate: &Certificate,
+    path: &Option<Bytes>,
+    start: &Answer,
+    aside: &mut Aside<'_>,
+) -> Result<bool, AllocError>
+    ensures outside { IfOk result (λ outside. IsTrue outside →
+        LiesOutside (certificate_value certificate.now) (lines_told start.now)) }
+    ensures inside { IfOk result (λ outside. IsFalse outside →
+        IfSome (lines_told start.now) (IsAllowed (certificate_value certificate.now))) }
+{
+    if has_other_size(certificate, start) {
+        aside.other_size(certificate, path, start);
+        return Ok(true);
+    }
+    let found = unmatched(alloc, certificate, start)?;
+    match found {
+        Some(pattern) => {
+            aside.unmatched(path, pattern);
+            Ok(true)
+        }
+        None => Ok(false),
+    }
+}
+
+// Whether a start has too few or too many lines.
+fn has_other_size(certificate: &Certificate, start: &Answer) -> bool
+    ensures other { IsTrue result → IsSomeAnd (lines_told start.now) (λ lines.
+        IsWithin certificate.now.min certificate.now.max (length lines) → ⊥) }
+    ensures within { IsFalse result → IfSome (lines_told start.now) (λ lines.
+        IsWithin certificate.now.min certificate.now.max (length lines)) }
 {
     let bounds = LineBounds {
         min: certificate.min,

@@ -3,5 +3,6 @@ pub mod aside;
 mod command_line;
 mod file_name;
 pub mod hinted;
+pub mod pattern;
 pub mod refusals;
 pub mod usage;

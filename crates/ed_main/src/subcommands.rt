@@ -53,6 +53,9 @@ fn vouch<'a>(alloc: Global) -> Result<Command<'a>, AllocError>
         vec![in alloc;
             min(alloc),
             max(alloc),
+            all(alloc),
+            patterns(alloc),
+            has(alloc),
             file(alloc, "The file that the certificate is for"),
         ]?,
     )
@@ -181,6 +184,37 @@ fn max<'a>(alloc: Global) -> Arg<'a>
         .value_name("M")
         .required(true)
         .help("The most lines that the file may have, at most 10^12, or any")
+}
+
+fn all<'a>(alloc: Global) -> Arg<'a>
+    ensures value { rule_of result ≡ meaning.all }
+    ensures local { result.global ≡ false }
+{
+    Arg::new(alloc, "all")
+        .long("all")
+        .action(ArgAction::SetTrue)
+        .help("Shows all that may fail, each as if what comes before it were mended")
+}
+
+fn patterns<'a>(alloc: Global) -> Arg<'a>
+    ensures value { rule_of result ≡ meaning.patterns }
+    ensures local { result.global ≡ false }
+{
+    Arg::new(alloc, "patterns")
+        .long("patterns")
+        .action(ArgAction::SetTrue)
+        .help("Tells of patterns, as --has does, that lines match which are entered or taken by g")
+}
+
+fn has<'a>(alloc: Global) -> Arg<'a>
+    ensures value { rule_of result ≡ meaning.has }
+    ensures local { result.global ≡ false }
+{
+    Arg::new(alloc, "has")
+        .long("has")
+        .action(ArgAction::Append)
+        .value_name("RE")
+        .help("A pattern that some line of the file matches, as run tests; may come more than once")
 }
 
 fn certificate<'a>(alloc: Global) -> Arg<'a>

@@ -16,12 +16,14 @@ use hints::copy_of;
 use std::alloc::{AllocError, Global};
 
 /// Tells a sink the certificate of the script that these bytes spell, for starts of these bounds, or the need that fails, and gives
-/// the exit status. A person is shown where it fails, what is known there, and what to write.
+/// the exit status. A person is shown where it fails, what is known there, and what to write; where `all` is true, also where it fails with
+/// that written, and so on.
 pub fn vouch_text<W: Sink>(
     alloc: Global,
     rt: &impl Eprint,
     script: &[u8],
     start: Start,
+    all: bool,
     sink: &mut W,
 ) -> u8
     requires count { (W.state sink.old).failures < 2 ^ 64 - 1 }
@@ -38,7 +40,7 @@ pub fn vouch_text<W: Sink>(
         Ok(analysis) => {
             let status = tell(told_of(alloc, &analysis), sink);
             if status == 1 {
-                show_hinted(alloc, rt, script, &kept, &analysis);
+                show_hinted(alloc, rt, script, &kept, &analysis, all);
             }
             status
         }

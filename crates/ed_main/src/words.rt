@@ -1,5 +1,5 @@
 //! The words that the program is given, and the job that they give.
-ghost use Rattle.std.specs.Prelude.{◌≡◌, ◌≢◌, List, Some, None, if◌then◌else◌, map, IfOk, IfErr, option_and_then, option_map};
+ghost use Rattle.std.specs.Prelude.{◌≡◌, ◌≢◌, true, false, List, Some, None, if◌then◌else◌, map, codes, IfOk, IfErr, option_and_then, option_map};
 ghost use Rattle.clap.specs.Words.{found_of, first_of, rows_of, subcommand_rows_of};
 ghost use Rattle.ed_rules.specs.LineBounds.{is_few};
 ghost use Rattle.ed_main.specs.Words as meaning;
@@ -7,6 +7,7 @@ ghost use Rattle.ed_main.specs.Words.{job_of, job_named, options_in};
 ghost use Rattle.ed_main.specs.Job.{IsGiven};
 
 use crate::job::Job;
+use crate::patterns::stated_of;
 use crate::stderr::usage::{
     CHECK_USAGE, EDIT_USAGE, FITS_USAGE, NO_CERTIFICATE, NO_FILE, NO_MAX, NO_MIN, RUN_USAGE, USAGE,
     VOUCH_USAGE, refused,
@@ -15,7 +16,7 @@ use crate::subcommands::program;
 use analyser::Start;
 use clap::ArgMatches;
 use ed_base::Bytes;
-use ed_rules::LineBounds;
+use ed_rules::{LineBounds, Texts};
 use ed_syntax::Options;
 use std::alloc::{AllocError, Global};
 use thiserror::Error;
@@ -137,11 +138,17 @@ fn vouch_job(alloc: Global, given: &ArgMatches<'_>) -> Result<Job, WordsFault>
     if !is_path(path) {
         return Err(WordsFault::of(alloc, NO_FILE, VOUCH_USAGE));
     }
-    Ok(Job::Vouch(Start {
+    let has = patterns_in(alloc, given, is_given(text_of(given, "patterns")))?;
+    let start = Start {
         path: bytes_of(alloc, path)?,
         min,
         max,
-    }))
+        has,
+    };
+    Ok(Job::Vouch {
+        start,
+        all: is_given(text_of(given, "all")),
+    })
 }
 
 fn check_job(alloc: Global, given: &ArgMatches<'_>) -> Result<Job, WordsFault>
@@ -209,6 +216,23 @@ fn text_of<'a>(given: &ArgMatches<'a>, id: &str) -> Option<&'a str>
     ensures value { option_map (λ text. text.now) result ≡ first_of id.now (rows_of (found_of given.now)) }
 {
     given.get_str(id)
+}
+
+// The patterns that a start states, where they are asked for or given.
+fn patterns_in(
+    alloc: Global,
+    given: &ArgMatches<'_>,
+    asked: bool,
+) -> Result<Option<Texts>, WordsFault>
+    ensures patterns { IfOk result (λ _. meaning.are_patterns (meaning.texts_in (codes "has") (rows_of (found_of given.now))) ≡ true) }
+    ensures value { IfOk result (λ has. has ≡ meaning.stated asked (meaning.texts_in (codes "has") (rows_of (found_of given.now)))) }
+    ensures only_if_refused { IfErr result (λ fault. fault ≢ WordsFault.Memory →
+        meaning.are_patterns (meaning.texts_in (codes "has") (rows_of (found_of given.now))) ≡ false) }
+{
+    match given.get_strs("has") {
+        Some(texts) => stated_of(alloc, asked, texts),
+        None => stated_of(alloc, asked, &[]),
+    }
 }
 
 fn is_prompt(text: Option<&str>) -> bool

@@ -1,8 +1,8 @@
 //! What a person is told of a job beside its output. No clause speaks of these lines.
 
-use crate::stderr::command_line::line_of_command;
-use crate::stderr::file_name::{quoted_name, shell_word, start_name};
-use cert_check::{CertFault, Certificate, Place, Verdict, wanted};
+use crate::stderr::command_line::{line_of_command, quoted};
+use crate::stderr::file_name::{quoted_name, shell_option, shell_word, start_name};
+use cert_check::{CertFault, Certificate, Place, Verdict, Version, wanted};
 use ed_base::{Bytes, Fault, count_lines};
 use ed_session::Session;
 use ed_syntax::{Answer, Ending};
@@ -104,6 +104,12 @@ impl<'a> Aside<'a> {
         let lines = size_text(self.alloc, certificate, path, start);
         self.add(lines);
     }
+
+    /// The start has no line that matches a pattern which the certificate states.
+    pub fn unmatched(&mut self, path: &Option<Bytes>, pattern: &Bytes) {
+        let lines = unmatched_text(self.alloc, path, pattern.as_slice());
+        self.add(lines);
+    }
 }
 
 // A command of the list of the global command of this number is at fault.
@@ -200,18 +206,36 @@ fn again_text(alloc: Global, certificate: &Certificate) -> Result<String, AllocE
         None => String::from_str(alloc, "any")?,
     };
     let max = max.as_str();
+    let patterns = pattern_words(alloc, certificate)?;
+    let patterns = patterns.as_str();
     match &certificate.path {
         Some(path) => {
             let word = shell_word(alloc, path.as_slice())?;
             let word = word.as_str();
             Ok(format!(in alloc;
-                "hint: vouch again: ed_main vouch --min {min} --max {max} {word}\n"
+                "hint: vouch again: ed_main vouch --min {min} --max {max}{patterns} {word}\n"
             )?)
         }
         None => Ok(format!(in alloc;
-            "hint: vouch again: ed_main vouch --min {min} --max {max}\n"
+            "hint: vouch again: ed_main vouch --min {min} --max {max}{patterns}\n"
         )?),
     }
+}
+
+// The words by which a certificate is made that states the same patterns, each after a blank.
+fn pattern_words(alloc: Global, certificate: &Certificate) -> Result<String, AllocError> {
+    let mut words = String::new(alloc);
+    if certificate.version == Version::Two {
+        let patterns = certificate.has.members();
+        if patterns.is_empty() {
+            words.push_str(" --patterns")?;
+        }
+        for pattern in patterns {
+            words.push_str(" --has")?;
+            words.push_str(shell_option(alloc, pattern.as_slice())?.as_str())?;
+        }
+    }
+    Ok(words)
 }
 
 fn path_text(
@@ -242,6 +266,18 @@ fn size_text(
     let allowed = allowed_text(alloc, certificate.min, certificate.max)?;
     let allowed = allowed.as_str();
     Ok(format!(in alloc; "error: {name} has {count} {lines}, and {allowed}\n")?)
+}
+
+fn unmatched_text(
+    alloc: Global,
+    path: &Option<Bytes>,
+    pattern: &[u8],
+) -> Result<String, AllocError> {
+    let name = start_name(alloc, path)?;
+    let name = name.as_str();
+    let pattern = quoted(alloc, pattern)?;
+    let pattern = pattern.as_str();
+    Ok(format!(in alloc; "error: {name}: no line matches {pattern}\n")?)
 }
 
 // How many lines are allowed.

@@ -8,7 +8,7 @@ use std::alloc::{AllocError, Global};
 pub struct CommandLine {
     /// Its number, counted from 1.
     pub number: usize,
-    /// The line without its newline, between backquotes. Bytes that would end the line, or aren't text, are escaped.
+    /// The line without its newline, between backquotes. Bytes that would end the line, or aren't text, are escaped; a tab isn't.
     pub text: String,
 }
 
@@ -34,9 +34,15 @@ fn line_at(script: &[u8], number: usize) -> &[u8] {
     lines.nth(number.wrapping_sub(1)).unwrap_or(script)
 }
 
-fn quoted(alloc: Global, line: &[u8]) -> Result<String, AllocError> {
+/// A line between backquotes. Bytes that would end it, or aren't text, are escaped.
+pub fn quoted(alloc: Global, line: &[u8]) -> Result<String, AllocError> {
     match str::from_utf8(line) {
-        Ok(text) if !text.chars().any(char::is_control) => Ok(format!(in alloc; "`{text}`")?),
+        Ok(text) if !text.chars().any(is_strange) => Ok(format!(in alloc; "`{text}`")?),
         _ => Ok(format!(in alloc; "`{}`", line.escape_ascii())?),
     }
+}
+
+// Whether a character is none that a line shows.
+fn is_strange(character: char) -> bool {
+    character.is_control() && character != '\t'
 }

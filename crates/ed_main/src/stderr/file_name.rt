@@ -29,6 +29,17 @@ pub fn shell_word(alloc: Global, path: &[u8]) -> Result<String, AllocError> {
     Ok(word)
 }
 
+/// A value as it follows the name of an option in a command of the shell, after an equals sign where it begins with a hyphen.
+pub fn shell_option(alloc: Global, value: &[u8]) -> Result<String, AllocError> {
+    if value.is_empty() {
+        return String::from_str(alloc, " ''");
+    }
+    let word = quoted_word(alloc, value)?;
+    let word = word.as_str();
+    let between = if value.starts_with(b"-") { '=' } else { ' ' };
+    Ok(format!(in alloc; "{between}{word}")?)
+}
+
 fn quoted_word(alloc: Global, path: &[u8]) -> Result<String, AllocError> {
     match str::from_utf8(path) {
         Ok(text) if path.iter().all(is_plain) => String::from_str(alloc, text),

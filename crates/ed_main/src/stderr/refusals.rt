@@ -1,11 +1,13 @@
 //! What was refused outside, as a person reads it: a file, standard input, standard output. No clause speaks of these lines.
 ghost use Rattle.std.specs.Prelude.{◌≡◌};
 
-use crate::stderr::file_name::quoted_name;
 use ed_base::{Bytes, Fault, Pieces};
-use ed_session::Outside;
+use ed_session::{DiskFiles, Outside};
 use ed_syntax::Answer;
+use rehearsal::Rehearsal;
 use std::alloc::{AllocError, Global};
+use std::fs::File;
+use std::rt::Files;
 use std::{io, mem};
 
 /// What is wrong with a file that was asked for.
@@ -29,26 +31,47 @@ impl Wrong {
     }
 }
 
+/// Files that know why their last call was refused.
+pub trait Explains {
+    /// The system's reason, or none where the call wasn't refused.
+    fn reason(&self) -> Option<io::Error>;
+}
+
+impl<R: Files<File = File> + Drop> Explains for DiskFiles<R> {
+    fn reason(&self) -> Option<io::Error> {
+        DiskFiles::reason(self)
+    }
+}
+
+// Of a rehearsal's calls only its reads are refused, and by the real files.
+impl<O: Outside + Explains + Drop> Explains for Rehearsal<O> {
+    fn reason(&self) -> Option<io::Error> {
+        self.real().reason()
+    }
+}
+
 /// A request that a file refused.
 #[derive(Drop)]
 struct Refusal {
     /// None where there was no memory for it.
     path: Option<Bytes>,
     wrong: Wrong,
+    reason: Option<io::Error>,
 }
 
 impl Refusal {
-    fn new(alloc: Global, path: &[u8], wrong: Wrong) -> Self {
+    fn new(alloc: Global, path: &[u8], wrong: Wrong, reason: Option<io::Error>) -> Self {
         Refusal {
             path: Bytes::from_slice(alloc, path).ok(),
             wrong,
+            reason,
         }
     }
 }
 
 /// An outside that remembers which file has refused last, to tell of it when the run is over.
 #[derive(Drop)]
-pub struct Watched<O: Outside + Drop> {
+pub struct Watched<O: Outside + Explains + Drop> {
     alloc: Global,
     files: O,
     // Whether the next read is that of the start, which may miss its file.
@@ -56,7 +79,7 @@ pub struct Watched<O: Outside + Drop> {
     refusal: Option<Refusal>,
 }
 
-impl<O: Outside + Drop> Watched<O> {
+impl<O: Outside + Explains + Drop> Watched<O> {
     /// A watch over these files, whose first read is a run's start if `starts` is true.
     pub fn new(alloc: Global, files: O, starts: bool) -> Self
         ensures log { O.log result.files ≡ O.log files }
@@ -77,12 +100,21 @@ impl<O: Outside + Drop> Watched<O> {
         &self.files
     }
 
+    // Remembers that the call that came last was refused, or found no file.
+    fn refuse(&mut self, path: &[u8], wrong: Wrong)
+        ensures unchanged { self.new.files ≡ self.old.files }
+    {
+        let reason = self.files.reason();
+        self.refusal = Some(Refusal::new(self.alloc, path, wrong, reason));
+    }
+
     /// Shows in one line what was refused where a run over these files ended with this status: a file, else standard output.
     pub fn show_refusal(&self, rt: &impl Eprint, status: u8) {
         match &self.refusal {
             Some(refusal) if status == Fault::File.status() => {
                 if let Some(path) = &refusal.path {
-                    show_file(rt, path.as_slice(), refusal.wrong);
+                    let (path, wrong) = (path.as_slice(), refusal.wrong);
+                    show_file(self.alloc, rt, path, wrong, refusal.reason);
                 }
             }
             _ => show_output(rt, status),
@@ -90,7 +122,7 @@ impl<O: Outside + Drop> Watched<O> {
     }
 }
 
-impl<O: Outside + Drop> Outside for Watched<O> {
+impl<O: Outside + Explains + Drop> Outside for Watched<O> {
     ghost log = { λ w. O.log w.files };
 
     ghost failures = { λ w. O.failures w.files };
@@ -101,10 +133,8 @@ impl<O: Outside + Drop> Outside for Watched<O> {
         let starts = mem::replace(&mut self.starts, false);
         let answer = self.files.read(path)?;
         match &answer {
-            Answer::Refused => self.refusal = Some(Refusal::new(self.alloc, path, Wrong::Unread)),
-            Answer::Missing if !starts => {
-                self.refusal = Some(Refusal::new(self.alloc, path, Wrong::Missing));
-            }
+            Answer::Refused => self.refuse(path, Wrong::Unread),
+            Answer::Missing if !starts => self.refuse(path, Wrong::Missing),
             _ => {}
         }
         Ok(answer)
@@ -113,18 +143,26 @@ impl<O: Outside + Drop> Outside for Watched<O> {
     fn write(&mut self, path: &[u8], bytes: &Pieces) -> Result<Answer, AllocError> {
         let answer = self.files.write(path, bytes)?;
         if matches!(answer, Answer::Refused) {
-            self.refusal = Some(Refusal::new(self.alloc, path, Wrong::Unwritten));
+            self.refuse(path, Wrong::Unwritten);
         }
         Ok(answer)
     }
 }
 
-// Shows in one line what is wrong with the file at a path. Bytes that would end the line, or aren't text, are escaped.
-fn show_file(rt: &impl Eprint, path: &[u8], wrong: Wrong) {
+// Shows in one line what is wrong with the file at a path, with the system's reason where there is one. Bytes that would end the line,
+// or aren't text, are escaped. Where there is no memory for the reason, it is left out.
+fn show_file(
+    alloc: Global,
+    rt: &impl Eprint,
+    path: &[u8],
+    wrong: Wrong,
+    reason: Option<io::Error>,
+) {
     let wrong = wrong.text();
+    let reason = reason_text(alloc, reason).unwrap_or(String::new(alloc));
     let _ = match str::from_utf8(path) {
-        Ok(text) => eprintln!(rt; "error: {text:?}: {wrong}"),
-        Err(_) => eprintln!(rt; "error: \"{}\": {wrong}", path.escape_ascii()),
+        Ok(text) => eprintln!(rt; "error: {text:?}: {wrong}{reason}"),
+        Err(_) => eprintln!(rt; "error: \"{}\": {wrong}{reason}", path.escape_ascii()),
     };
 }
 
@@ -132,14 +170,11 @@ fn show_file(rt: &impl Eprint, path: &[u8], wrong: Wrong) {
 pub fn show_unread(alloc: Global, rt: &impl Eprint, path: &[u8], reason: Option<io::Error>) {
     if let Some(error) = reason {
         if error.kind() == io::ErrorKind::NotFound {
-            show_file(rt, path, Wrong::Missing);
+            show_file(alloc, rt, path, Wrong::Missing, None);
             return;
         }
     }
-    if let Ok(name) = quoted_name(alloc, path) {
-        let reason = reason_text(alloc, reason).unwrap_or(String::new(alloc));
-        let _ = eprintln!(rt; "error: {name}: can't be read{reason}");
-    }
+    show_file(alloc, rt, path, Wrong::Unread, reason);
 }
 
 /// Shows in one line that standard input wasn't read, with the system's reason where there is one.

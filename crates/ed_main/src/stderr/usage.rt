@@ -9,7 +9,7 @@ use std::alloc::{AllocError, Global};
 /// How the program is used.
 pub const USAGE: &str = "\
 usage: ed_main edit [-n] [-s] [-p STRING] [FILE] <SCRIPT
-       ed_main vouch --min N --max M [FILE] <SCRIPT
+       ed_main vouch --min N --max M [--all] [--patterns] [--has RE] [FILE] <SCRIPT
        ed_main check CERT <SCRIPT
        ed_main run CERT [-n] [-s] [FILE] <SCRIPT
        ed_main fits CERT [FILE]
@@ -17,7 +17,8 @@ usage: ed_main edit [-n] [-s] [-p STRING] [FILE] <SCRIPT
 
 pub const EDIT_USAGE: &str = "usage: ed_main edit [-n] [-s] [-p STRING] [FILE] <SCRIPT\n";
 
-pub const VOUCH_USAGE: &str = "usage: ed_main vouch --min N --max M [FILE] <SCRIPT\n";
+pub const VOUCH_USAGE: &str =
+    "usage: ed_main vouch --min N --max M [--all] [--patterns] [--has RE] [FILE] <SCRIPT\n";
 
 pub const CHECK_USAGE: &str = "usage: ed_main check CERT <SCRIPT\n";
 

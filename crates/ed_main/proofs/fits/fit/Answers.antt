@@ -3,7 +3,7 @@ use Rattle.std.proofs.lemmas.Result.{IfOk-weaker}
 use Rattle.cert_check.specs.Certificates.{certificate_value}
 use Rattle.ed_main.specs.Fits as meaning
 use Rattle.ed_main.specs.Told.{IsUnread}
-use Rattle.ed_main.proofs.Fitting.{fits_inside, fits_outside}
+use Rattle.ed_main.proofs.Fitting.{fits_inside, fits_outside, fits_untested}
 use Rattle.ed_main.proofs.Sayings.{says_of, unread_status}
 use Rattle.ed_main.proofs.fits.fit.Goals as goal
 
@@ -28,3 +28,7 @@ pub returns-in-Ok-None-clause-came : goal.returns-in-Ok-None-clause-came
 returns-in-Ok-None-clause-came g c =
     fits_outside c.args.certificate.now (certificate_value c.in-Ok.certificate) c.args.path.now _ c.outside_told.result _ _ c.in-Ok.ensures.exact
     (rw c.in-Ok-None.field-0-is at c.in-Ok-None.ensures.tested) c.outside_told.ensures.value c.tell-in-Ok-None.ensures.says
+
+pub returns-clause-came : goal.returns-clause-came
+returns-clause-came g c =
+    fits_untested c.args.certificate.now (certificate_value c.in-Ok.certificate) c.args.path.now _ _ _ c.in-Ok.ensures.exact c.in-Err-allowed_start.ensures.untested c.status.ensures.value

@@ -1,8 +1,0 @@
-use Rattle.std.proofs.Common.{rules}
-use Rattle.ed_main.proofs.Taking.{takes_more}
-use Rattle.ed_main.proofs.source.read_pieces.Goals as goal
-
-pub returns-in_err-extend_from_slice-in-Ok-clause-taken :
-    goal.returns-in_err-extend_from_slice-in-Ok-clause-taken
-returns-in_err-extend_from_slice-in-Ok-clause-taken g c =
-    takes_more _ _ _ _ _ _ _ c.reads.invariant.consumed c.in-Ok.ensures.consumed.0 (search rules)
