@@ -1,8 +1,8 @@
 #!/bin/sh
-# Refuses each allocation of `vouch`, `check` and `run` in turn. Each has to end by want of memory (status 2) with nothing told, but for
-# what the script of a `run` had written by then and the report `?`; or, where the library under it can do without, just as it does:
-# want of memory is no certificate that is refused, and no need that fails. It runs the program that `make` built, from anywhere, and
-# needs a C compiler. The last line counts the runs.
+# Refuses each allocation of `vouch`, `check`, `run` and `fits` in turn. Each has to end by want of memory (status 2) with nothing told, but
+# for what the script of a `run` had written by then and the report `?`; or, where the library under it can do without, just as it does:
+# want of memory is no certificate that is refused, no need that fails, and no start outside. With `run -n` the file is as it was. It runs
+# the program that `make` built, from anywhere, and needs a C compiler. The last line counts the runs.
 cd "$(dirname "$0")" || exit 1
 program=$(cd ../.. && pwd)/crates/ed_main/out/ed_main
 work=$(mktemp -d)
@@ -69,7 +69,8 @@ try() {
     fi
 }
 
-# Vouches for a script, checks the certificate and runs what it allows.
+# Vouches for a script, checks the certificate, and runs and rehearses what it allows; of a script that isn't vouched for all refusals are
+# asked for.
 on() { # SCRIPT WORDS..
     printf "$1" > script
     shift
@@ -79,6 +80,11 @@ on() { # SCRIPT WORDS..
     if [ "$vouched" -eq 0 ]; then
         try check CERT
         try run CERT -s FILE
+        try run CERT -n -s FILE
+        printf 'foo\nb\nc\n' | cmp -s - written || { echo "a rehearsal has written"; failed=$((failed + 1)); }
+        try fits CERT FILE
+    else
+        try vouch --all "$@" FILE
     fi
 }
 
@@ -89,6 +95,12 @@ on '1d\nu\n1p\nQ\n' --min 1 --max any
 on 'g/o/t.\\\nka\nw\nw G\nq\n' --min 0 --max 9
 on '2ka\n1,2d\n'"'"'ap\nQ\n' --min 2 --max any
 on 'g/x/-1d\nQ\n' --min 1 --max any
+on '/^a/d\n9p\n/^b/s/b/c/\nq\n' --min 1 --max any
+on '/^a/d\ng/./p\n/^b/s/b/c/\nq\n' --min 1 --max any
+on '/foo/p\nQ\n' --min 1 --max any --has foo
+on '/foo/p\nQ\n' --min 1 --max any --patterns
+on '$a\nfoo\n.\n/foo/p\nQ\n' --min 0 --max any --patterns
+on 'v/foo/?foo?p\nQ\n' --min 0 --max any --patterns
 # A certificate that is refused, or is none, stays so or isn't told.
 printf '1d\nw\nq\n' > script
 "$program" vouch --min 1 --max 3 FILE < script | sed 's/^final 0 2$/final 0 1/' > CERT
@@ -96,5 +108,14 @@ try check CERT
 sed 's/^start 1 3$/start 3 1/' CERT > OTHER
 try check OTHER
 try run OTHER -s FILE
+try fits OTHER FILE
+# A start that lies outside stays so or isn't told.
+"$program" vouch --min 9 --max any FILE < script > CERT
+try fits CERT FILE
+try fits CERT OTHER
+try run CERT -s FILE
+"$program" vouch --min 1 --max any --has 'z$' FILE < script > CERT
+try fits CERT FILE
+try run CERT -s FILE
 echo "$passed passed, $failed failed"
 [ "$failed" -eq 0 ]
