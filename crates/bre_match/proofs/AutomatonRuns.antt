@@ -1,23 +1,23 @@
 -- How a scan by an automaton goes on, and what it tells where it ends.
-use Rattle.std.proofs.Common.{◌≡◌, ◌≢◌, ℕ, zero, suc, ◌+◌, ◌-◌, ◌<◌, ◌≤◌, ◌⊎◌, inl, inr, List, [], ◌∷◌, length, get_or, Option, Some, None, Bool, true, false, cond, eqb, refl, ap, sym, ◌∙◌, subst, arith}
+use Rattle.std.proofs.Common.{◌≡◌, ℕ, zero, suc, ◌+◌, ◌-◌, ◌<◌, ◌≤◌, ◌⊎◌, inl, inr, List, [], ◌∷◌, length, get_or, Option, Some, None, Bool, true, false, cond, eqb, leb, refl, ap, sym, ◌∙◌, subst, arith}
 use Rattle.std.proofs.lemmas.Bool.Decides.{nat_tests}
-use Rattle.std.proofs.lemmas.Option.{same_Some}
 use Rattle.std.specs.Prelude.{is_some}
 use Rattle.bre_parse.specs.Tree.{Tree}
 use Rattle.bre_parse.specs.Groups.{refers}
 use Rattle.bre_parse.specs.WellFormed.{repeats_in_order}
 use Rattle.bre_parse.specs.Match.{match_from}
-use Rattle.bre_match.specs.Parts.{Part, Nothing, Never, One, AtStart, AtEnd, Both, Maybe, Star, Reaches, part_of}
+use Rattle.bre_match.specs.declared.state.Starts.TheVariants as kind
+use Rattle.bre_match.specs.Parts.{Part, Nothing, Never, One, AtStart, AtEnd, Both, Maybe, Star, part_of}
 use Rattle.bre_match.specs.Columns.{peek, step}
 use Rattle.bre_match.specs.Marks.{fill, past, marks_of}
 use Rattle.bre_match.specs.Ends.{columns, out_of}
-use Rattle.bre_match.specs.States.{any_start, as_state, marks_unless, none_marked, transition}
-use Rattle.bre_match.specs.Automata.{meaning_of, IsEntry, Serves}
+use Rattle.bre_match.specs.States.{any_start, as_state, none_marked, transition}
+use Rattle.bre_match.specs.Automata.{state_in, meaning_of, IsEntry, Serves}
 use Rattle.bre_match.proofs.Automata.{out_is_match, none_out_no_match, none_before, passed_over}
 use Rattle.bre_match.proofs.ColumnRuns.{unmarked_part}
 use Rattle.bre_match.proofs.ColumnRows.{column_of_row}
 use Rattle.bre_match.proofs.ColumnSearch.{no_marks}
-use Rattle.bre_match.proofs.AutomatonTables.{meaning_of-state}
+use Rattle.bre_match.proofs.AutomatonTables.{meaning_is_known, entry_says}
 
 -- A part with marks as a state has them
 
@@ -52,7 +52,7 @@ fill_state t ms = by_cases (none_marked ms) refl
 -- What a scan keeps: no match starts before the clean place; the marks at the place are those of the state, where the starts from the
 -- clean place on enter; and no match of these ends before the place.
 pub record Run (t : Tree) (s : List ℕ) (from : ℕ) (states : List (List (Option ℕ))) (table : List ℕ) (x clean state : ℕ) : Type 0 where
-  pub serves : Serves (part_of t) states table
+  pub serves : Serves kind.Every (part_of t) states table
   pub begun : 2 ≤ length states
   pub within : state < length states
   pub start : eqb x 0 ≡ eqb state 0
@@ -71,7 +71,7 @@ no_states_marks states (suc (suc n)) lt e f = absurd (omega arith)
 
 pub run_begins : (t : Tree) (s : List ℕ) (from clean : ℕ) (states : List (List (Option ℕ))) (table : List ℕ) (state : ℕ) →
     from ≤ clean → clean ≤ length s → match_from t s clean ≡ match_from t s from → 2 ≤ length states → state < 2 →
-    eqb clean 0 ≡ eqb state 0 → Serves (part_of t) states table → Run t s from states table clean clean state
+    eqb clean 0 ≡ eqb state 0 → Serves kind.Every (part_of t) states table → Run t s from states table clean clean state
 run_begins t s from clean states table state low le same begun lt start h = record {
   serves = h;
   begun = begun;
@@ -89,13 +89,12 @@ run_begins t s from clean states table state low le same begun lt start h = reco
 }
 
 -- the transition at a place is what the column gives
-none_is_out : (out : Option ℕ) (marks : List (Option ℕ)) → marks_unless out marks ≡ None → is_some out ≡ true
-none_is_out None marks e = absurd (cc)
-none_is_out (Some w) marks e = refl
+pub none_there : (o : Option ℕ) → is_some o ≡ false → o ≡ None
+none_there None e = refl
+none_there (Some w) e = absurd (cc)
 
-some_is_next : (out : Option ℕ) (marks row : List (Option ℕ)) → marks_unless out marks ≡ Some row → (out ≡ None) × (row ≡ marks)
-some_is_next None marks row e = (refl, cc)
-some_is_next (Some w) marks row e = absurd (cc)
+pub state_of_entry : (entry : ℕ) → entry < 256 → state_in entry ≡ entry
+state_of_entry entry lt = omega arith
 
 out_here : (part : Part) (s : List ℕ) (from : ℕ) (states : List (List (Option ℕ))) (x state : ℕ) → from ≤ x →
     fill part (get_or states state []) ≡ columns part s from any_start (x - from) →
@@ -104,12 +103,9 @@ out_here part s from states x state low e =
     ap (λ z. peek (columns part s from any_start (x - from)) s z (Some 0)) (let f : from + (x - from) ≡ x = omega arith in f)
     ∙ ap (λ c. peek c s x (Some 0)) (sym e)
 
-meaning_of-found : (states : List (List (Option ℕ))) (entry : ℕ) → entry ≡ 65534 → meaning_of states entry ≡ Some None
-meaning_of-found states entry e = ap (λ v. meaning_of states v) e
-
 pub run_finds : (t : Tree) (s : List ℕ) (from : ℕ) (states old : List (List (Option ℕ))) (table : List ℕ) (x clean state entry : ℕ) →
     refers t ≡ false → repeats_in_order t ≡ true → Run t s from old table x clean state →
-    meaning_of states entry ≡ Some (transition (part_of t) (get_or old state []) s x) → entry ≡ 65534 →
+    meaning_of states entry ≡ Some (transition (part_of t) (get_or old state []) s x) → 256 ≤ entry →
     (from ≤ clean) × (clean ≤ length s) × (match_from t s clean ≡ match_from t s from) × (is_some (match_from t s from) ≡ true)
 run_finds t s from states old table x clean state entry free order h tells is =
     let later = h.later in
@@ -121,17 +117,17 @@ run_finds t s from states old table x clean state entry free order h tells is =
       ap is_some (sym h.same)
           ∙ out_is_match t s clean (x - clean) free order (omega arith)
           (ap is_some (out_here (part_of t) s clean old x state later h.column)
-          ∙ none_is_out (peek (fill (part_of t) (get_or old state [])) s x (Some 0)) _
-          (sym (same_Some None _ (sym (meaning_of-found states entry is) ∙ tells)))),
+          ∙ sym (entry_says states entry _ _ tells).0
+          ∙ (let e : leb 256 entry ≡ true = grind (arith, nat_tests) in e)),
     )
 
 -- where an entry isn't that of a match's end, none ends at the place, and the entry's state has the marks of the next one
 goes_on : (t : Tree) (s : List ℕ) (from : ℕ) (states old : List (List (Option ℕ))) (before : List ℕ) (x clean state entry : ℕ) →
     Run t s from old before x clean state → meaning_of states entry ≡ Some (transition (part_of t) (get_or old state []) s x) →
-    eqb entry 65535 ≡ false → eqb entry 65534 ≡ false →
+    entry < 256 →
     ((n : ℕ) → n < x + 1 - clean → out_of (part_of t) s clean any_start n ≡ None) ×
     (fill (part_of t) (get_or states entry []) ≡ columns (part_of t) s clean any_start (x + 1 - clean))
-goes_on t s from states old before x clean state entry h tells known on = (none, column)
+goes_on t s from states old before x clean state entry h tells on = (none, column)
   where
     later : clean ≤ x
     later = h.later
@@ -139,8 +135,11 @@ goes_on t s from states old before x clean state entry h tells known on = (none,
     both : (peek (fill (part_of t) (get_or old state [])) s x (Some 0) ≡ None) ×
         (get_or states entry [] ≡ as_state (marks_of (step (fill (part_of t) (get_or old state [])) s x (Some 0))))
     both =
-        some_is_next _ _ (get_or states entry [])
-        (sym (same_Some (Some (get_or states entry [])) _ (sym (meaning_of-state states entry known on) ∙ tells)))
+        let says = entry_says states entry _ _ tells in (
+          none_there (peek (fill (part_of t) (get_or old state [])) s x (Some 0))
+              (sym says.0 ∙ (let e : leb 256 entry ≡ false = grind (arith, nat_tests) in e)),
+          ap (λ i. get_or states i []) (sym (state_of_entry entry on)) ∙ says.1,
+        )
 
     here_or_before : (n : ℕ) → n < x + 1 - clean → (n ≡ x - clean) ⊎ (n < x - clean)
     here_or_before n lt = grind arith
@@ -168,11 +167,11 @@ goes_on t s from states old before x clean state entry h tells known on = (none,
 
 pub run_goes_on : (t : Tree) (s : List ℕ) (from : ℕ) (states old : List (List (Option ℕ))) (table before : List ℕ)
     (x clean state entry next new : ℕ) → refers t ≡ false → repeats_in_order t ≡ true → x < length s →
-    Run t s from old before x clean state → 2 ≤ length states → Serves (part_of t) states table → IsEntry states entry →
-    meaning_of states entry ≡ Some (transition (part_of t) (get_or old state []) s x) → entry ≢ 65535 → entry ≢ 65534 →
+    Run t s from old before x clean state → 2 ≤ length states → Serves kind.Every (part_of t) states table → IsEntry states entry →
+    meaning_of states entry ≡ Some (transition (part_of t) (get_or old state []) s x) → entry < 256 →
     x + 1 ≤ next → next ≤ length s → (eqb entry 1 ≡ false → next ≡ x + 1) → match_from t s next ≡ match_from t s (x + 1) →
     new ≡ cond (eqb entry 1) next clean → Run t s from states table next new entry
-run_goes_on t s from states old table before x clean state entry next new free order lt h begun serves good tells unlike on after within stays
+run_goes_on t s from states old table before x clean state entry next new free order lt h begun serves good tells on after within stays
     same e =
     by_cases (eqb entry 1) refl e
   where
@@ -182,14 +181,11 @@ run_goes_on t s from states old table before x clean state entry next new free o
     later : clean ≤ x
     later = h.later
 
-    not_unknown : eqb entry 65535 ≡ false
-    not_unknown = grind (arith, nat_tests)
-
-    not_found : eqb entry 65534 ≡ false
-    not_found = grind (arith, nat_tests)
-
     number : (0 < entry) × (entry < length states)
-    number = good not_unknown not_found
+    number =
+        let known = meaning_is_known states entry _ tells in
+        let same = state_of_entry entry on in
+        subst (λ i. (0 < i) × (i < length states)) same (good (grind (arith, nat_tests)))
 
     not_first : eqb next 0 ≡ eqb entry 0
     not_first =
@@ -200,7 +196,7 @@ run_goes_on t s from states old table before x clean state entry next new free o
 
     both : ((n : ℕ) → n < x + 1 - clean → out_of (part_of t) s clean any_start n ≡ None) ×
         (fill (part_of t) (get_or states entry []) ≡ columns (part_of t) s clean any_start (x + 1 - clean))
-    both = goes_on t s from states old before x clean state entry h tells not_unknown not_found
+    both = goes_on t s from states old before x clean state entry h tells on
 
     no_mark : entry ≡ 1 → columns (part_of t) s clean any_start (x + 1 - clean) ≡ part_of t
     no_mark is =
@@ -237,12 +233,12 @@ run_goes_on t s from states old table before x clean state entry next new free o
 
 pub run_ends : (t : Tree) (s : List ℕ) (from : ℕ) (states old : List (List (Option ℕ))) (table : List ℕ) (x clean state entry : ℕ) →
     refers t ≡ false → repeats_in_order t ≡ true → length s ≤ x → Run t s from old table x clean state →
-    meaning_of states entry ≡ Some (transition (part_of t) (get_or old state []) s x) → entry ≢ 65535 → entry ≢ 65534 →
+    meaning_of states entry ≡ Some (transition (part_of t) (get_or old state []) s x) → entry < 256 →
     match_from t s from ≡ None
-run_ends t s from states old table x clean state entry free order le h tells unlike on =
+run_ends t s from states old table x clean state entry free order le h tells on =
     sym h.same ∙ none_out_no_match t s clean free order (let a = h.later in let b = h.high in omega arith) none
   where
     none : (n : ℕ) → clean + n ≤ length s → out_of (part_of t) s clean any_start n ≡ None
     none n high =
-        (goes_on t s from states old table x clean state entry h tells (grind (arith, nat_tests)) (grind (arith, nat_tests))).0 n
+        (goes_on t s from states old table x clean state entry h tells on).0 n
         (let b = h.high in omega arith)

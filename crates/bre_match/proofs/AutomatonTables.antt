@@ -1,13 +1,17 @@
 -- How states and their table go on serving a part while they grow and are forgotten, and what a known entry says.
-use Rattle.std.proofs.Common.{◌≡◌, ◌≢◌, ℕ, ◌+◌, ◌*◌, ◌<◌, ◌≤◌, ◌⊎◌, inl, inr, List, [], ◌∷◌, ◌++◌, length, drop, take, get_or, set, replicate, min, Option, Some, None, Bool, true, false, cond, eqb, refl, ap, sym, ◌∙◌, subst, arith, slice_get}
+use Rattle.std.proofs.Common.{◌≡◌, ◌≢◌, ℕ, ◌+◌, ◌*◌, ◌<◌, ◌≤◌, ◌⊎◌, inl, inr, List, [], ◌∷◌, ◌++◌, length, take, get_or, set, replicate, min, Option, Some, None, Bool, true, false, cond, eqb, leb, refl, ap, sym, ◌∙◌, subst, arith, slice_get}
 use Rattle.std.proofs.lemmas.Bool.Decides.{nat_tests}
-use Rattle.std.proofs.lemmas.List.{length-take, get_or-take, get_or-set_same, get_or-set_other, get_or-replicate, get_or_past, length-replicate, length-set, get_or_read}
+use Rattle.std.proofs.lemmas.List.{length-take, get_or-take, get_or-set_same, get_or-set_other, get_or-replicate, get_or_past, length-replicate, length-set, get_or_read, get_or_default}
 use Rattle.std.proofs.lemmas.Option.{slice_get_past, slice_get-get_or, same_Some}
+use Rattle.std.specs.Prelude.{is_some}
+use Rattle.bre_parse.specs.Ways.{has_byte_in}
+use Rattle.bre_match.specs.declared.state.Starts.{Starts}
+use Rattle.bre_match.specs.declared.state.Starts.TheVariants as kind
 use Rattle.bre_match.specs.Parts.{Part}
-use Rattle.bre_match.specs.Columns.{peek, step}
-use Rattle.bre_match.specs.Marks.{fill, marks_of}
-use Rattle.bre_match.specs.States.{as_state, marks_unless, transition}
-use Rattle.bre_match.specs.Automata.{symbol_byte, meaning_of, IsEntry, entry_at, EntriesHold, Grows, SameEntries, Serves}
+use Rattle.bre_match.specs.Columns.{where_true, peek, step}
+use Rattle.bre_match.specs.Marks.{first_mark, other_marks, fill, marks_of}
+use Rattle.bre_match.specs.States.{part_for, first_row, own_weight, own_row, marks_before, as_state, transition}
+use Rattle.bre_match.specs.Automata.{symbol_byte, state_in, meaning_of, IsEntry, entry_at, EntriesHold, Grows, SameEntries, Serves}
 use Rattle.bre_match.proofs.Automata.{Alike, same_peek, same_step}
 
 -- What a step gives once, it gives at each place that looks alike
@@ -36,8 +40,8 @@ alike s x t y le high e f = record {
 same_transition : (p : Part) (ms : List (Option ℕ)) (s : List ℕ) (x : ℕ) (t : List ℕ) (y : ℕ) → Alike s x t y →
     transition p ms s x ≡ transition p ms t y
 same_transition p ms s x t y h =
-    ap (λ o. marks_unless o (as_state (marks_of (step (fill p ms) s x (Some 0))))) (same_peek (fill p ms) s x t y (Some 0) h)
-    ∙ ap (λ q. marks_unless (peek (fill p ms) t y (Some 0)) (as_state (marks_of q))) (same_step (fill p ms) s x t y (Some 0) h)
+    ap (λ (o : Option ℕ). (is_some o, as_state (marks_of (step (fill p ms) s x (Some 0))))) (same_peek (fill p ms) s x t y (Some 0) h)
+    ∙ ap (λ q. (is_some (peek (fill p ms) t y (Some 0)), as_state (marks_of q))) (same_step (fill p ms) s x t y (Some 0) h)
 
 -- Entries of a table
 
@@ -52,12 +56,13 @@ same_or_other m n = by_cases (eqb m n) refl
     by_cases false e = inr (λ f. grind (arith, nat_tests))
 
 -- what a table tells when an entry is put into it
-pub entry_put : (part : Part) (states : List (List (Option ℕ))) (table new : List ℕ) (state symbol slot entry : ℕ) (s : List ℕ)
-    (x : ℕ) → Serves part states table → state < length states → symbol ≤ 256 → slot ≡ 512 * state + symbol → IsEntry states entry →
-    meaning_of states entry ≡ Some (transition part (get_or states state []) s x) → symbol_byte symbol ≡ slice_get s x → x ≤ length s →
-    eqb x 0 ≡ eqb state 0 → new ≡ set table slot entry → Serves part states new
-entry_put part states table new state symbol slot entry s x h lt le is good tells at high start e =
-    subst (λ l. Serves part states l) (sym e)
+pub entry_put : (starts : Starts) (part : Part) (states : List (List (Option ℕ))) (table new : List ℕ) (state symbol slot entry : ℕ) (s : List ℕ)
+    (x : ℕ) → Serves starts part states table → state < length states → symbol ≤ 256 → slot ≡ 512 * state + symbol →
+    IsEntry states entry → meaning_of states entry ≡ Some (transition (part_for starts part) (get_or states state []) s x) →
+    symbol_byte symbol ≡ slice_get s x → x ≤ length s → eqb x 0 ≡ eqb state 0 → new ≡ set table slot entry →
+    Serves starts part states new
+entry_put starts part states table new state symbol slot entry s x h lt le is good tells at high start e =
+    subst (λ l. Serves starts part states l) (sym e)
     (record {
       few = h.few;
       first = h.first;
@@ -88,20 +93,20 @@ entry_put part states table new state symbol slot entry s x h lt le is good tell
           | inr other ↦ subst (λ v. IsEntry states v) (sym (get_or-set_other table slot k entry 65535 other)) (h.entries k)
         ]
 
-    holds_here : (b : ℕ) (answer : Option (List (Option ℕ))) (t : List ℕ) (y : ℕ) → meaning_of states entry ≡ Some answer → b ≡ symbol →
-        y ≤ length t → slice_get t y ≡ symbol_byte b → eqb y 0 ≡ eqb state 0 → transition part (get_or states state []) t y ≡ answer
+    holds_here : (b : ℕ) (answer : Bool × List (Option ℕ)) (t : List ℕ) (y : ℕ) → meaning_of states entry ≡ Some answer → b ≡ symbol →
+        y ≤ length t → slice_get t y ≡ symbol_byte b → eqb y 0 ≡ eqb state 0 → transition (part_for starts part) (get_or states state []) t y ≡ answer
     holds_here b answer t y tells_it same low byte first =
-        same_transition part (get_or states state []) t y s x
+        same_transition (part_for starts part) (get_or states state []) t y s x
         (alike t y s x low high (byte ∙ ap symbol_byte same ∙ at) (first ∙ sym start))
-        ∙ same_Some (transition part (get_or states state []) s x) answer (sym tells ∙ tells_it)
+        ∙ same_Some (transition (part_for starts part) (get_or states state []) s x) answer (sym tells ∙ tells_it)
 
-    hold_still : EntriesHold part states (set table slot entry)
+    hold_still : EntriesHold (part_for starts part) states (set table slot entry)
     hold_still i b answer t y below low tells_it high_y byte first =
         elim (same_or_other (512 * i + b) slot) [
           | inl same ↦ (
               let both : (i ≡ state) × (b ≡ symbol) = same_slot i b state symbol low le (same ∙ is) in
               let value : entry_at (set table slot entry) i b ≡ entry = put (512 * i + b) same in
-              ap (λ j. transition part (get_or states j []) t y) both.0
+              ap (λ j. transition (part_for starts part) (get_or states j []) t y) both.0
               ∙ holds_here b answer t y (sym (ap (λ v. meaning_of states v) value) ∙ tells_it) both.1 high_y byte
               (first ∙ ap (λ j. eqb j 0) both.0))
           | inr other ↦
@@ -113,41 +118,54 @@ entry_put part states table new state symbol slot entry s x h lt le is good tell
 -- one more state
 meaning_of-grown : (old new : List (List (Option ℕ))) (entry : ℕ) → Grows old new → IsEntry old entry →
     meaning_of new entry ≡ meaning_of old entry
-meaning_of-grown old new entry grows good = by_cases (eqb entry 65535) (eqb entry 65534) refl refl
+meaning_of-grown old new entry grows good = by_cases (eqb entry 65535) refl
   where
-    by_cases : (a b : Bool) → eqb entry 65535 ≡ a → eqb entry 65534 ≡ b → cond a None
-        (cond b (Some None) (Some (Some (get_or new entry [])))) ≡ cond a None (cond b (Some None) (Some (Some (get_or old entry []))))
-    by_cases true b e f = refl
-    by_cases false true e f = refl
-    by_cases false false e f = ap (λ r. Some (Some r)) (grows.2 entry (let k = good e f in k.1))
+    says : List (List (Option ℕ)) → Bool × List (Option ℕ)
+    says states = (leb 256 entry, get_or states (state_in entry) [])
 
-pub grown : (part : Part) (old new : List (List (Option ℕ))) (table wider : List ℕ) → 2 ≤ length old → length old < 128 →
-    Grows old new → SameEntries wider table → 512 * length new ≤ length wider → Serves part old table → Serves part new wider
-grown part old new table wider begun room grows same large h = record {
+    by_cases : (a : Bool) → eqb entry 65535 ≡ a → cond {A = Option (Bool × List (Option ℕ))} a None (Some (says new)) ≡
+        cond {A = Option (Bool × List (Option ℕ))} a None (Some (says old))
+    by_cases true e = refl
+    by_cases false e =
+        ap (λ (r : List (Option ℕ)). let p : Bool × List (Option ℕ) = (leb 256 entry, r) in Some p)
+        (grows.2 (state_in entry) (let k = good e in k.1))
+
+pub grown : (starts : Starts) (part : Part) (old new : List (List (Option ℕ))) (table wider : List ℕ) → 2 ≤ length old →
+    length old < 128 → Grows old new → SameEntries wider table → 512 * length new ≤ length wider → Serves starts part old table →
+    Serves starts part new wider
+grown starts part old new table wider begun room grows same large h = record {
   few = let b = grows.1 in omega arith;
-  first = grows.2 0 (omega arith) ∙ h.first;
-  second = grows.2 1 (omega arith) ∙ h.second;
+  first = kept 0 (omega arith) h.first;
+  second = kept 1 (omega arith) h.second;
   room = large;
   fresh = λ k after. same k ∙ h.fresh k (let b = grows.0 in omega arith);
   entries = λ k. subst (λ v. IsEntry new v) (sym (same k)) (good_still k);
   hold = hold_still;
 }
   where
-    good_still : (k : ℕ) → IsEntry new (get_or table k 65535)
-    good_still k m n = (let a = h.entries k m n in let c = a.1 in let b = grows.0 in (a.0, omega arith))
+    kept : (i : ℕ) → i < 2 → get_or old i (first_row starts) ≡ first_row starts → get_or new i (first_row starts) ≡ first_row starts
+    kept i lt e =
+        let b = grows.0 in
+        get_or_default new i (first_row starts) [] (omega arith)
+        ∙ grows.2 i (omega arith)
+        ∙ get_or_default old i [] (first_row starts) (omega arith)
+        ∙ e
 
-    said_before : (i b : ℕ) (answer : Option (List (Option ℕ))) → meaning_of new (entry_at wider i b) ≡ Some answer →
+    good_still : (k : ℕ) → IsEntry new (get_or table k 65535)
+    good_still k m = (let a = h.entries k m in let c = a.1 in let b = grows.0 in (a.0, omega arith))
+
+    said_before : (i b : ℕ) (answer : Bool × List (Option ℕ)) → meaning_of new (entry_at wider i b) ≡ Some answer →
         meaning_of old (entry_at table i b) ≡ Some answer
     said_before i b answer tells_it =
         sym (meaning_of-grown old new (entry_at table i b) grows (h.entries (512 * i + b)))
         ∙ ap (λ v. meaning_of new v) (sym (same (512 * i + b)))
         ∙ tells_it
 
-    hold_still : EntriesHold part new wider
+    hold_still : EntriesHold (part_for starts part) new wider
     hold_still i b answer t y below low tells_it high byte first =
         elim (older i) [
           | inl before ↦
-              ap (λ r. transition part r t y) (grows.2 i before)
+              ap (λ r. transition (part_for starts part) r t y) (grows.2 i before)
               ∙ h.hold i b answer t y before low (said_before i b answer tells_it) high byte first
           | inr after ↦ (
               let unknown : entry_at wider i b ≡ 65535 = same (512 * i + b) ∙ h.fresh (512 * i + b) (omega arith) in
@@ -178,38 +196,39 @@ nothing_said part states table unknown i b answer t y below low tells_it high by
     absurd (cc)
 
 unknown_entry : (states : List (List (Option ℕ))) (entry : ℕ) → entry ≡ 65535 → IsEntry states entry
-unknown_entry states entry is m n = absurd (let u : eqb entry 65535 ≡ true = ap (λ v. eqb v 65535) is in cc)
+unknown_entry states entry is m = absurd (let u : eqb entry 65535 ≡ true = ap (λ v. eqb v 65535) is in cc)
 
-pub nothing_known : (part : Part) → Serves part [] []
-nothing_known part = record {
+pub nothing_known : (starts : Starts) (part : Part) → Serves starts part [] []
+nothing_known starts part = record {
   few = omega arith;
   first = refl;
   second = refl;
   room = omega arith;
   fresh = λ k past. refl;
   entries = λ k. unknown_entry [] 65535 refl;
-  hold = nothing_said part [] [] (λ k. refl);
+  hold = nothing_said (part_for starts part) [] [] (λ k. refl);
 }
 
-pub first_two : (part : Part) (states : List (List (Option ℕ))) (table : List ℕ) → states ≡ [] ∷ [] ∷ [] →
-    table ≡ replicate 1024 65535 → Serves part states table
-first_two part states table is e =
+pub first_two : (starts : Starts) (part : Part) (states : List (List (Option ℕ))) (table : List ℕ) →
+    states ≡ first_row starts ∷ first_row starts ∷ [] → table ≡ replicate 1024 65535 → Serves starts part states table
+first_two starts part states table is e =
     let unknown = unknown_everywhere 1024 table e in
     let size : length table ≡ 1024 = ap length e ∙ length-replicate {A = ℕ} 1024 65535 in
     let two : length states ≡ 2 = ap length is in
     record {
       few = omega arith;
-      first = ap (λ (l : List (List (Option ℕ))). get_or l 0 []) is;
-      second = ap (λ (l : List (List (Option ℕ))). get_or l 1 []) is;
+      first = ap (λ (l : List (List (Option ℕ))). get_or l 0 (first_row starts)) is;
+      second = ap (λ (l : List (List (Option ℕ))). get_or l 1 (first_row starts)) is;
       room = omega arith;
       fresh = λ k past. unknown k;
       entries = λ k. unknown_entry states (get_or table k 65535) (unknown k);
-      hold = nothing_said part states table unknown;
+      hold = nothing_said (part_for starts part) states table unknown;
     }
 
-pub forgotten : (part : Part) (old states : List (List (Option ℕ))) (before table : List ℕ) (n : ℕ) → Serves part old before →
-    states ≡ take 2 old → n ≡ length before → table ≡ replicate n 65535 → Serves part states table
-forgotten part old states before table n h is m e =
+pub forgotten : (starts : Starts) (part : Part) (old states : List (List (Option ℕ))) (before table : List ℕ) (n : ℕ) →
+    Serves starts part old before → states ≡ take 2 old → n ≡ length before → table ≡ replicate n 65535 →
+    Serves starts part states table
+forgotten starts part old states before table n h is m e =
     let unknown = unknown_everywhere n table e in
     let size : length table ≡ n = ap length e ∙ length-replicate {A = ℕ} n 65535 in
     let two : length states ≡ min 2 (length old) = ap length is ∙ length-take 2 old in
@@ -218,72 +237,112 @@ forgotten part old states before table n h is m e =
     let room = h.room in
     record {
       few = omega arith;
-      first = ap (λ (l : List (List (Option ℕ))). get_or l 0 []) is ∙ get_or-take 2 old 0 [] (omega arith) ∙ h.first;
-      second = ap (λ (l : List (List (Option ℕ))). get_or l 1 []) is ∙ get_or-take 2 old 1 [] (omega arith) ∙ h.second;
+      first =
+          ap (λ (l : List (List (Option ℕ))). get_or l 0 (first_row starts)) is
+          ∙ get_or-take 2 old 0 (first_row starts) (omega arith)
+          ∙ h.first;
+      second =
+          ap (λ (l : List (List (Option ℕ))). get_or l 1 (first_row starts)) is
+          ∙ get_or-take 2 old 1 (first_row starts) (omega arith)
+          ∙ h.second;
       room = omega arith;
       fresh = λ k past. unknown k;
       entries = λ k. unknown_entry states (get_or table k 65535) (unknown k);
-      hold = nothing_said part states table unknown;
+      hold = nothing_said (part_for starts part) states table unknown;
     }
 
 -- what an entry says
 
-pub meaning_of-state : (states : List (List (Option ℕ))) (entry : ℕ) → eqb entry 65535 ≡ false → eqb entry 65534 ≡ false →
-    meaning_of states entry ≡ Some (Some (get_or states entry []))
-meaning_of-state states entry e f = by_cases (eqb entry 65535) (eqb entry 65534) e f
-  where
-    by_cases : (a b : Bool) → a ≡ false → b ≡ false →
-        cond a None (cond b (Some None) (Some (Some (get_or states entry [])))) ≡ Some (Some (get_or states entry []))
-    by_cases true b e f = absurd (cc)
-    by_cases false true e f = absurd (cc)
-    by_cases false false e f = refl
-
--- an entry for what a step gave says what the transition is
-pub step_learned : (part : Part) (new made : List (List (Option ℕ))) (read marks before next : List (Option ℕ)) (s : List ℕ)
-    (x state entry : ℕ) (out : Option ℕ) → state < length made → Grows made new → read ≡ get_or made state read → marks ≡ read →
-    before ≡ [] → out ≡ peek (fill part (drop 0 marks)) s x (Some 0) →
-    next ≡ before ++ marks_of (step (fill part (drop 0 marks)) s x (Some 0)) →
-    meaning_of new entry ≡ Some (marks_unless out (as_state next)) →
-    meaning_of new entry ≡ Some (transition part (get_or new state []) s x)
-step_learned part new made read marks before next s x state entry out lt grows r m b o n e =
-    e
-    ∙ ap (λ w. Some (marks_unless w (as_state next))) o
-    ∙ ap (λ l. Some (marks_unless (peek (fill part marks) s x (Some 0)) (as_state l)))
-    (n ∙ ap (λ l. l ++ marks_of (step (fill part marks) s x (Some 0))) b)
-    ∙ ap (λ l. Some (transition part l s x)) (m ∙ get_or_read made state read lt r [] ∙ sym (grows.2 state lt))
+pub meaning_of-state : (states : List (List (Option ℕ))) (entry : ℕ) → eqb entry 65535 ≡ false →
+    meaning_of states entry ≡ Some (leb 256 entry, get_or states (state_in entry) [])
+meaning_of-state states entry e =
+    let p : Bool × List (Option ℕ) = (leb 256 entry, get_or states (state_in entry) []) in
+    ap (λ b. cond {A = Option (Bool × List (Option ℕ))} b None (Some p)) e
 
 -- an entry that says something is known
-pub meaning_is_known : (states : List (List (Option ℕ))) (entry : ℕ) (answer : Option (List (Option ℕ))) →
+pub meaning_is_known : (states : List (List (Option ℕ))) (entry : ℕ) (answer : Bool × List (Option ℕ)) →
     meaning_of states entry ≡ Some answer → entry ≢ 65535
 meaning_is_known states entry answer e f = let g = sym (ap (λ v. meaning_of states v) f) ∙ e in cc
 
-pub meaning_of-number : (states : List (List (Option ℕ))) (entry : ℕ) (marks : List (Option ℕ)) → entry < 128 →
-    get_or states entry [] ≡ marks → meaning_of states entry ≡ Some (marks_unless None marks)
-meaning_of-number states entry marks lt e =
-    meaning_of-state states entry (grind (arith, nat_tests)) (grind (arith, nat_tests)) ∙ ap (λ r. Some (Some r)) e
+pub entry_says : (states : List (List (Option ℕ))) (entry : ℕ) (is_end : Bool) (row : List (Option ℕ)) →
+    meaning_of states entry ≡ Some (is_end, row) → (leb 256 entry ≡ is_end) × (get_or states (state_in entry) [] ≡ row)
+entry_says states entry is_end row e =
+    let known = meaning_is_known states entry (is_end, row) e in
+    let both : (leb 256 entry, get_or states (state_in entry) []) ≡ (is_end, row) =
+    same_Some (leb 256 entry, get_or states (state_in entry) []) (is_end, row)
+    (sym (meaning_of-state states entry (grind (arith, nat_tests))) ∙ e) in
+    (ap (λ (p : Bool × List (Option ℕ)). p.0) both, ap (λ (p : Bool × List (Option ℕ)). p.1) both)
+
+pub entry_made : (states : List (List (Option ℕ))) (number entry : ℕ) (is_end : Bool) → number < 128 →
+    entry ≡ cond is_end (number + 256) number →
+    (meaning_of states entry ≡ Some (is_end, get_or states number [])) × (state_in entry ≡ number)
+entry_made states number entry true lt e =
+    let end : leb 256 entry ≡ true = grind (arith, nat_tests) in
+    let number_is : state_in entry ≡ number = omega arith in (
+      meaning_of-state states entry (grind (arith, nat_tests))
+          ∙ ap (λ b. Some (b, get_or states (state_in entry) [])) end
+          ∙ ap (λ i. Some (true, get_or states i [])) number_is,
+      number_is,
+    )
+entry_made states number entry false lt e =
+    let end : leb 256 entry ≡ false = grind (arith, nat_tests) in
+    let number_is : state_in entry ≡ number = omega arith in (
+      meaning_of-state states entry (grind (arith, nat_tests))
+          ∙ ap (λ b. Some (b, get_or states (state_in entry) [])) end
+          ∙ ap (λ i. Some (false, get_or states i [])) number_is,
+      number_is,
+    )
+
+-- A step of the part that an automaton goes through, by one of the pattern's own part
+
+pub no_byte : (byte : Option ℕ) → has_byte_in false [] byte ≡ false
+no_byte None = refl
+no_byte (Some b) = refl
+
+own_peek : (starts : Starts) (part : Part) (row : List (Option ℕ)) (s : List ℕ) (x : ℕ) →
+    peek (fill part (own_row starts row)) s x (own_weight starts row) ≡ peek (fill (part_for starts part) row) s x (Some 0)
+own_peek kind.Every part row s x = refl
+own_peek kind.First part row s x = refl
+
+own_marks : (starts : Starts) (part : Part) (row : List (Option ℕ)) (s : List ℕ) (x : ℕ) →
+    marks_before starts ++ marks_of (step (fill part (own_row starts row)) s x (own_weight starts row)) ≡
+    marks_of (step (fill (part_for starts part) row) s x (Some 0))
+own_marks kind.Every part row s x = refl
+own_marks kind.First part row s x =
+    ap (λ b. where_true b (Some 0) ∷ marks_of (step (fill part (other_marks row)) s x (first_mark row))) (sym (no_byte (slice_get s x)))
+
+-- an entry for what a step gave says what the transition is
+pub step_learned : (starts : Starts) (part : Part) (new made : List (List (Option ℕ)))
+    (read marks rest empty before next : List (Option ℕ)) (s : List ℕ) (x state entry : ℕ) (weight out : Option ℕ) →
+    state < length made → Grows made new → read ≡ get_or made state read → marks ≡ read → empty ≡ [] →
+    before ≡ empty ++ marks_before starts → weight ≡ own_weight starts marks → rest ≡ own_row starts marks →
+    out ≡ peek (fill part rest) s x weight → next ≡ before ++ marks_of (step (fill part rest) s x weight) →
+    meaning_of new entry ≡ Some (is_some out, as_state next) →
+    meaning_of new entry ≡ Some (transition (part_for starts part) (get_or new state []) s x)
+step_learned starts part new made read marks rest empty before next s x state entry weight out lt grows r m b c w k o n e =
+    e
+    ∙ ap (λ (v : Option ℕ). Some (is_some v, as_state next))
+    (o ∙ ap (λ v. peek (fill part rest) s x v) w ∙ ap (λ l. peek (fill part l) s x (own_weight starts marks)) k ∙ own_peek starts part marks s x)
+    ∙ ap (λ l. Some (is_some (peek (fill (part_for starts part) marks) s x (Some 0)), as_state l))
+    (n
+    ∙ ap (λ v. before ++ marks_of (step (fill part rest) s x v)) w
+    ∙ ap (λ l. before ++ marks_of (step (fill part l) s x (own_weight starts marks))) k
+    ∙ ap (λ l. l ++ marks_of (step (fill part (own_row starts marks)) s x (own_weight starts marks))) (c ∙ ap (λ l. l ++ marks_before starts) b)
+    ∙ own_marks starts part marks s x)
+    ∙ ap (λ l. Some (transition (part_for starts part) l s x)) (m ∙ get_or_read made state read lt r [] ∙ sym (grows.2 state lt))
 
 -- a known entry says what the transition is
-pub known_entry_holds : (part : Part) (s : List ℕ) (states : List (List (Option ℕ))) (table : List ℕ) (x state symbol slot entry : ℕ) →
-    x ≤ length s → Serves part states table → state < length states → eqb x 0 ≡ eqb state 0 → symbol ≤ 256 →
-    symbol_byte symbol ≡ slice_get s x → slot ≡ 512 * state + symbol → entry ≡ get_or table slot 65535 → entry ≢ 65535 →
-    meaning_of states entry ≡ Some (transition part (get_or states state []) s x)
-known_entry_holds part s states table x state symbol slot entry high h within start le at is e known =
-    by_cases (meaning_of states entry) refl
+pub known_entry_holds : (starts : Starts) (part : Part) (s : List ℕ) (states : List (List (Option ℕ))) (table : List ℕ)
+    (x state symbol slot entry : ℕ) → x ≤ length s → Serves starts part states table → state < length states → eqb x 0 ≡ eqb state 0 →
+    symbol ≤ 256 → symbol_byte symbol ≡ slice_get s x → slot ≡ 512 * state + symbol → entry ≡ get_or table slot 65535 →
+    entry ≢ 65535 → meaning_of states entry ≡ Some (transition (part_for starts part) (get_or states state []) s x)
+known_entry_holds starts part s states table x state symbol slot entry high h within start le at is e known =
+    let says = meaning_of-state states entry (grind (arith, nat_tests)) in
+    says ∙ ap Some (sym (h.hold state symbol _ s x within le (ap (λ v. meaning_of states v) here ∙ says) high (sym at) start))
   where
     here : entry_at table state symbol ≡ entry
     here = ap (λ j. get_or table j 65535) (sym is) ∙ sym e
 
-    by_cases : (o : Option (Option (List (Option ℕ)))) → meaning_of states entry ≡ o →
-        meaning_of states entry ≡ Some (transition part (get_or states state []) s x)
-    by_cases None f = absurd (something (eqb entry 65535) (eqb entry 65534) (grind (arith, nat_tests)) f)
-      where
-        something : (a b : Bool) → a ≡ false → cond a None (cond b (Some None) (Some (Some (get_or states entry [])))) ≡ None → ⊥
-        something true b g f = cc
-        something false true g f = cc
-        something false false g f = cc
-    by_cases (Some answer) f =
-        f ∙ ap Some (sym (h.hold state symbol answer s x within le (ap (λ v. meaning_of states v) here ∙ f) high (sym at) start))
-
-pub known_entry : (part : Part) (states : List (List (Option ℕ))) (table : List ℕ) (slot entry : ℕ) → Serves part states table →
-    entry ≡ get_or table slot 65535 → IsEntry states entry
-known_entry part states table slot entry h e = subst (λ v. IsEntry states v) (sym e) (h.entries slot)
+pub known_entry : (starts : Starts) (part : Part) (states : List (List (Option ℕ))) (table : List ℕ) (slot entry : ℕ) →
+    Serves starts part states table → entry ≡ get_or table slot 65535 → IsEntry states entry
+known_entry starts part states table slot entry h e = subst (λ v. IsEntry states v) (sym e) (h.entries slot)

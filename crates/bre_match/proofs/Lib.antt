@@ -29,3 +29,4 @@ pub mod RowEnds
 pub mod Automata
 pub mod AutomatonTables
 pub mod AutomatonRuns
+pub mod EndRuns

@@ -1,8 +1,9 @@
 -- An automaton: states by their numbers, and a table with an entry for each state and symbol.
-use Rattle.std.specs.Prelude.{◌≡◌, ℕ, ◌+◌, ◌*◌, ◌<◌, ◌≤◌, false, List, [], length, get_or, Option, Some, None, nat_eq, nat_lt, slice_get, if◌then◌else◌}
+use Rattle.std.specs.Prelude.{◌≡◌, ℕ, ◌+◌, ◌*◌, ◌%◌, ◌<◌, ◌≤◌, Bool, false, List, [], length, get_or, Option, Some, None, nat_eq, nat_le, nat_lt, slice_get, if◌then◌else◌}
 use Rattle.std.proofs.Props.{props}
+use Rattle.bre_match.specs.declared.state.Starts.{Starts}
 use Rattle.bre_match.specs.Parts.{Part}
-use Rattle.bre_match.specs.States.{transition}
+use Rattle.bre_match.specs.States.{part_for, first_row, transition}
 
 -- Symbols are the bytes, and 256 for the end of the text.
 abbrev pub symbol_byte : ℕ → Option ℕ
@@ -12,39 +13,43 @@ symbol_byte symbol = if nat_lt symbol 256 then Some symbol else None
 abbrev pub entry_at : (table : List ℕ) → (state symbol : ℕ) → ℕ
 entry_at table state symbol = get_or table (512 * state + symbol) 65535
 
--- An entry says nothing yet (65535), that a match ends (65534), or which state is next.
-abbrev pub meaning_of : (states : List (List (Option ℕ))) → (entry : ℕ) → Option (Option (List (Option ℕ)))
-meaning_of states entry =
-    if nat_eq entry 65535 then None else (if nat_eq entry 65534 then Some None else Some (Some (get_or states entry [])))
+-- the number of an entry's state: from 256 on entries say that a match ends, and 256 is added to the number
+abbrev pub state_in : (entry : ℕ) → ℕ
+state_in entry = entry % 256
 
--- An entry that is a state's number is that of a later state than the first, to which no transition leads.
+-- An entry says nothing yet (65535), or whether a match ends, and which state is next.
+abbrev pub meaning_of : (states : List (List (Option ℕ))) → (entry : ℕ) → Option (Bool × List (Option ℕ))
+meaning_of states entry =
+    if nat_eq entry 65535 then None else Some (nat_le 256 entry, get_or states (state_in entry) [])
+
+-- The state of an entry that says something is a later one than the first, to which no transition leads.
 abbrev pub IsEntry : (states : List (List (Option ℕ))) → (entry : ℕ) → Type 0
-IsEntry states entry =
-    nat_eq entry 65535 ≡ false → nat_eq entry 65534 ≡ false → (0 < entry) × (entry < length states)
+IsEntry states entry = nat_eq entry 65535 ≡ false → (0 < state_in entry) × (state_in entry < length states)
 
 -- What an entry says is the transition in each text, at each place with its symbol. The first state stands for the start of a text
 -- alone, where `^` holds, and the others for later places.
 abbrev pub EntriesHold : Part → (states : List (List (Option ℕ))) → (table : List ℕ) → Type 0
 EntriesHold part states table =
-    (state symbol : ℕ) (answer : Option (List (Option ℕ))) (text : List ℕ) (place : ℕ) →
+    (state symbol : ℕ) (answer : Bool × List (Option ℕ)) (text : List ℕ) (place : ℕ) →
     state < length states → symbol ≤ 256 → meaning_of states (entry_at table state symbol) ≡ Some answer →
     place ≤ length text → slice_get text place ≡ symbol_byte symbol → nat_eq place 0 ≡ nat_eq state 0 →
     transition part (get_or states state []) text place ≡ answer
 
--- States and their table serve a part: there are at most 128 states, of which the first two have no marks; the table has their entries,
--- and knows nothing of other states; and each entry holds.
-pub record Serves (part : Part) (states : List (List (Option ℕ))) (table : List ℕ) : Type 0 where
+-- States and their table serve a part, for these starts: there are at most 128 states, of which the first two have the first row; the
+-- table has their entries, and knows nothing of other states; and each entry holds.
+pub record Serves (starts : Starts) (part : Part) (states : List (List (Option ℕ))) (table : List ℕ) : Type 0 where
   pub few : length states ≤ 128
-  pub first : get_or states 0 [] ≡ []
-  pub second : get_or states 1 [] ≡ []
+  pub first : get_or states 0 (first_row starts) ≡ first_row starts
+  pub second : get_or states 1 (first_row starts) ≡ first_row starts
   pub room : 512 * length states ≤ length table
   pub fresh : (slot : ℕ) → 512 * length states ≤ slot → get_or table slot 65535 ≡ 65535
   pub entries : (slot : ℕ) → IsEntry states (get_or table slot 65535)
-  pub hold : EntriesHold part states table
+  pub hold : EntriesHold (part_for starts part) states table
 
 -- there is at most one proof that they do
-pub Serves-prop : (part : Part) (states : List (List (Option ℕ))) (table : List ℕ) → IsProp (Serves part states table)
-Serves-prop part states table = Prim.hlevel props
+pub Serves-prop : (starts : Starts) (part : Part) (states : List (List (Option ℕ))) (table : List ℕ) →
+    IsProp (Serves starts part states table)
+Serves-prop starts part states table = Prim.hlevel props
 
 -- at most one state came after the others
 abbrev pub Grows : List (List (Option ℕ)) → List (List (Option ℕ)) → Type 0

@@ -39,15 +39,15 @@ fn less_of(first: Option<usize>, second: Option<usize>) -> Option<usize>
     }
 }
 
-// The mark there, if there is one.
-fn mark_at(marks: &[Option<usize>], at: usize) -> Option<usize>
+/// The mark there, if there is one.
+pub(crate) fn mark_at(marks: &[Option<usize>], at: usize) -> Option<usize>
     ensures value { result ≡ first_mark (drop at marks.now) }
 {
     if at < marks.len() { marks[at] } else { None }
 }
 
-// The place after a mark.
-fn after_mark(marks: &[Option<usize>], at: usize) -> usize
+/// The place after a mark.
+pub(crate) fn after_mark(marks: &[Option<usize>], at: usize) -> usize
     ensures value { drop result marks.now ≡ other_marks (drop at marks.now) }
 {
     if at < marks.len() { at + 1 } else { at }

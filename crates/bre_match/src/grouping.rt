@@ -30,7 +30,7 @@ fn is_groupless(part: &Node) -> bool
 
 #[tactic(auto, using(crate::proofs::ColumnRows::refer_laws))]
 #[cycle(groupless)]
-fn all_groupless(items: &[Node]) -> bool
+pub(crate) fn all_groupless(items: &[Node]) -> bool
     ensures none { IsTrue result → number_of_groups (sequence_of items.now) ≡ 0 }
 {
     for item in items {

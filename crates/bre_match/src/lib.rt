@@ -13,6 +13,7 @@ mod ahead;
 mod automaton;
 mod backwards;
 mod column;
+mod ending;
 mod grouping;
 pub mod laws;
 mod narrow;

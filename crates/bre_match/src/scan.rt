@@ -4,24 +4,26 @@ ghost use Rattle.std.specs.Prelude.{◌≡◌, ◌≢◌, ◌<◌, ◌≤◌, []
 ghost use Rattle.bre_parse.specs.Tree.{sequence_of};
 ghost use Rattle.bre_parse.specs.WellFormed.{repeats_in_order};
 ghost use Rattle.bre_parse.specs.Groups.{refers};
+ghost use Rattle.bre_match.specs.declared.state.Starts.TheVariants as kind;
 ghost use Rattle.bre_match.specs.Parts.{part_of};
-ghost use Rattle.bre_match.specs.States.{transition};
+ghost use Rattle.bre_match.specs.States.{part_for, transition};
 ghost use Rattle.bre_match.specs.Automata.{meaning_of, IsEntry, Serves};
 ghost use Rattle.bre_match.specs.Scans.{IsTold};
 
 use crate::automaton::{FOUND, UNKNOWN, WIDTH, begin};
 use crate::pace::Pace;
-use crate::state::State;
+use crate::state::{Starts, State};
 use crate::transition::{learn, symbol_at};
 use bre_parse::tree::Node;
 use std::alloc::AllocError;
 
-// The entry for a state at a place, worked out where the table doesn't have it. None where that can't be paid.
+/// The entry for a state at a place, worked out where the table doesn't have it. None where that can't be paid.
 #[inline(always)]
-fn entry_at(
+pub(crate) fn entry_at(
     states: &mut Vec<State>,
     table: &mut Vec<u16>,
     pace: &mut Pace,
+    starts: Starts,
     items: &[Node],
     text: &[u8],
     place: usize,
@@ -31,10 +33,10 @@ fn entry_at(
     requires state { state < length states.old.items }
     requires start { nat_eq place 0 ≡ nat_eq state 0 }
     requires begun { 2 ≤ length states.old.items }
-    requires serves { Serves (part_of (sequence_of items.now)) states.old.items table.old.items }
+    requires serves { Serves starts (part_of (sequence_of items.now)) states.old.items table.old.items }
     ensures begun { 2 ≤ length states.new.items }
-    ensures serves { Serves (part_of (sequence_of items.now)) states.new.items table.new.items }
-    ensures value { IfOk result (λ known. IfSome known (λ entry. meaning_of states.new.items entry ≡ Some (transition (part_of (sequence_of items.now)) (get_or states.old.items state []) text.now place))) }
+    ensures serves { Serves starts (part_of (sequence_of items.now)) states.new.items table.new.items }
+    ensures value { IfOk result (λ known. IfSome known (λ entry. meaning_of states.new.items entry ≡ Some (transition (part_for starts (part_of (sequence_of items.now))) (get_or states.old.items state []) text.now place))) }
     ensures entry { IfOk result (λ known. IfSome known (λ entry. IsEntry states.new.items entry)) }
     ensures known { IfOk result (λ known. IfSome known (λ entry. entry ≢ 65535)) }
 {
@@ -46,12 +48,12 @@ fn entry_at(
     if !pace.pay(place) {
         return Ok(None);
     }
-    let entry = learn(states, table, items, text, place, state)?;
+    let entry = learn(states, table, starts, items, text, place, state)?;
     Ok(Some(entry))
 }
 
-// The state in which a scan begins at a place.
-fn first_state(from: usize) -> usize
+/// The state in which a run begins at a place.
+pub(crate) fn first_state(from: usize) -> usize
     ensures start { nat_eq from 0 ≡ nat_eq result 0 }
     ensures low { result < 2 }
 {
@@ -89,22 +91,31 @@ pub(crate) fn scan(
     requires place { from ≤ length text.now }
     requires free { refers (sequence_of items.now) ≡ false }
     requires in_order { repeats_in_order (sequence_of items.now) ≡ true }
-    requires serves { Serves (part_of (sequence_of items.now)) states.old.items table.old.items }
-    ensures serves { Serves (part_of (sequence_of items.now)) states.new.items table.new.items }
+    requires serves { Serves kind.Every (part_of (sequence_of items.now)) states.old.items table.old.items }
+    ensures serves { Serves kind.Every (part_of (sequence_of items.now)) states.new.items table.new.items }
     ensures told { IfOk result (IsTold (sequence_of items.now) text.now from) }
 {
-    begin(states, table)?;
+    begin(states, table, Starts::Every)?;
     let mut own = pace.begun(from);
     let mut state = first_state(from);
     let mut clean = from;
     let mut place = from;
     while place < text.len() {
-        let known = entry_at(states, table, &mut own, items, text, place, state)?;
+        let known = entry_at(
+            states,
+            table,
+            &mut own,
+            Starts::Every,
+            items,
+            text,
+            place,
+            state,
+        )?;
         let Some(entry) = known else {
             *pace = own.ended(place);
             return Ok(Scanned::Untold);
         };
-        if entry == FOUND {
+        if entry >= FOUND {
             *pace = own.ended(place);
             return Ok(Scanned::From(clean));
         }
@@ -112,12 +123,21 @@ pub(crate) fn scan(
         place = own.next_place(items, text, place + 1, state);
         clean = clean_place(state, place, clean);
     }
-    let known = entry_at(states, table, &mut own, items, text, place, state)?;
+    let known = entry_at(
+        states,
+        table,
+        &mut own,
+        Starts::Every,
+        items,
+        text,
+        place,
+        state,
+    )?;
     *pace = own.ended(place);
     let Some(entry) = known else {
         return Ok(Scanned::Untold);
     };
-    if entry == FOUND {
+    if entry >= FOUND {
         return Ok(Scanned::From(clean));
     }
     Ok(Scanned::Nowhere)

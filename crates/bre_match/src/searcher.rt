@@ -4,15 +4,18 @@ ghost use Rattle.std.specs.Prelude.{◌≡◌, false, true, IsSome};
 ghost use Rattle.bre_parse.specs.Bre.{bre_tree};
 ghost use Rattle.bre_parse.specs.Groups.{refers};
 ghost use Rattle.bre_parse.specs.Literal.{literal};
+ghost use Rattle.bre_match.specs.declared.state.Starts.TheVariants as kind;
 ghost use Rattle.bre_match.specs.Parts.{part_of};
 ghost use Rattle.bre_match.specs.Automata.{Serves, Serves-prop};
 
+use crate::ending::{Found, start_and_end};
+use crate::grouping::{all_groupless, set_row};
 use crate::needed::{lacks_needed, needs_ranges};
 use crate::pace::Pace;
-use crate::row::has_wide_states;
+use crate::row::{has_wide_states, is_told_in_order};
 use crate::scan::{Scanned, scan};
 use crate::state::State;
-use crate::{Match, find, matches};
+use crate::{Match, find, match_here, matches};
 use bre_parse::Bre;
 use std::alloc::{AllocError, Global};
 
@@ -38,28 +41,35 @@ fn is_plain(pattern: &Bre) -> bool
 /// text serves the next ones: take a searcher for the lines of a file or a buffer, and `find` or `matches` for a single text.
 ///
 /// A byte of a text then costs one look into a table, whatever the pattern, and less where bytes that the pattern needs are lacking or
-/// far away. Where there is a match, `find` takes the time of `crate::find` from the last place before the match's end at which no start
-/// led on. Without an automaton, in the time of `crate::find` and `crate::matches`, a searcher looks for literal patterns, and for patterns
+/// far away. Where there is a match, each of its bytes costs one look more, for its end; its groups are read off as by `crate::find`.
+/// Without an automaton, in the time of `crate::find` and `crate::matches`, a searcher looks for literal patterns, and for patterns
 /// with back-references or with more than 256 byte sets (the turns of counted repeats written out); and so it searches the first 256 bytes,
 /// and texts of which too many steps would have to be worked out, since the pattern's states seldom recur.
 ///
-/// An automaton has at most 128 states: once they are used up, all but three are forgotten. Its table takes at most 128 KB, and a state
-/// 16 bytes for each byte set. After an `Err` a searcher may be used as before: it looks for the same pattern, and all that it has
+/// There are two automata, for the matches of a text and for the ends of matches. Each has at most 128 states: once they are used up,
+/// all but three are forgotten. Its table takes at most 128 KB, and a state 16 bytes for each byte set. After an `Err` a searcher may be used as before: it looks for the same pattern, and all that it has
 /// worked out still holds.
 #[derive(Drop)]
 pub struct Searcher<'a> {
     pattern: &'a Bre,
     is_plain: bool,
+    // Whether a match with groups is told soonest item by item, from its start.
+    is_told: bool,
     // Whether a text is first searched for the bytes that the pattern needs.
     needs: bool,
     states: Vec<State>,
     table: Vec<u16>,
     pace: Pace,
+    // The same for the ends of matches, by runs from a start.
+    end_states: Vec<State>,
+    end_table: Vec<u16>,
+    end_pace: Pace,
     // How many bytes are still searched without an automaton.
     wait: usize,
     ghost free: { is_plain ≡ false → refers (bre_tree pattern.now) ≡ false },
     ghost word: { IsSome (literal (bre_tree pattern.now)) → is_plain ≡ true },
-    ghost serves: { Serves (part_of (bre_tree pattern.now)) states.items table.items } by { Serves-prop (part_of (bre_tree pattern.now)) states.items table.items },
+    ghost serves: { Serves kind.Every (part_of (bre_tree pattern.now)) states.items table.items } by { Serves-prop kind.Every (part_of (bre_tree pattern.now)) states.items table.items },
+    ghost ends_serve: { Serves kind.First (part_of (bre_tree pattern.now)) end_states.items end_table.items } by { Serves-prop kind.First (part_of (bre_tree pattern.now)) end_states.items end_table.items },
 }
 
 impl<'a> Searcher<'a> {
@@ -74,13 +84,18 @@ impl<'a> Searcher<'a> {
     pub fn new(alloc: Global, pattern: &'a Bre) -> Self
         ensures value { searched result ≡ bre_tree pattern.now }
     {
+        let items = pattern.items();
         Searcher {
             pattern,
             is_plain: is_plain(pattern),
-            needs: needs_ranges(pattern.items()),
+            is_told: !all_groupless(items) && is_told_in_order(items),
+            needs: needs_ranges(items),
             states: Vec::new(alloc),
             table: Vec::new(alloc),
-            pace: Pace::first(pattern.items()),
+            pace: Pace::first(items),
+            end_states: Vec::new(alloc),
+            end_table: Vec::new(alloc),
+            end_pace: Pace::first(items),
             wait: FIRST_BYTES,
         }
     }
@@ -91,6 +106,7 @@ impl<'a> Searcher<'a> {
         ensures told { IfOk result (IsTold (searched self.old) text.now from) }
         ensures pattern { searched self.new ≡ searched self.old }
         ensures plain { IsSome (literal (searched self.old)) → IsOk result }
+        ensures kind { self.new.is_plain ≡ self.old.is_plain }
     {
         if self.is_plain {
             return Ok(Scanned::Untold);
@@ -146,16 +162,49 @@ impl<'a> Searcher<'a> {
     // The match by an automaton. It is apart from `find`, so that a literal pattern doesn't pay for its locals.
     fn find_scanned(&mut self, text: &[u8], from: usize) -> Result<Option<Match>, AllocError>
         requires place { from ≤ length text.now }
+        requires general { self.old.is_plain ≡ false }
         ensures value { IfOk result (λ found. option_map spans found ≡ match_from (searched self.old) text.now from) }
         ensures within { IfOk result (λ found. IfSome found (LiesWithin from (length text.now))) }
-        ensures without_memory { IsSome (literal (searched self.old)) → IsOk result }
         ensures pattern { searched self.new ≡ searched self.old }
     {
         let alloc = *self.table.allocator();
         match self.scan(text, from)? {
             Scanned::Untold => find(alloc, self.pattern, text, from),
             Scanned::Nowhere => Ok(None),
-            Scanned::From(start) => find(alloc, self.pattern, text, start),
+            Scanned::From(start) => self.find_after(text, start),
+        }
+    }
+
+    // The match at or after a place, where one is known to be there: its end by a run from its start, and its groups between both.
+    fn find_after(&mut self, text: &[u8], from: usize) -> Result<Option<Match>, AllocError>
+        requires place { from ≤ length text.now }
+        requires general { self.old.is_plain ≡ false }
+        ensures value { IfOk result (λ found. option_map spans found ≡ match_from (searched self.old) text.now from) }
+        ensures within { IfOk result (λ found. IfSome found (LiesWithin from (length text.now))) }
+        ensures pattern { searched self.new ≡ searched self.old }
+    {
+        let alloc = *self.table.allocator();
+        let items = self.pattern.items();
+        if self.is_told {
+            if let Some(found) = match_here(alloc, items, text, from)? {
+                return Ok(Some(found));
+            }
+        }
+        let span = start_and_end(
+            &mut self.end_states,
+            &mut self.end_table,
+            &mut self.end_pace,
+            items,
+            text,
+            from,
+        )?;
+        match span {
+            Found::NotBefore(start) => find(alloc, self.pattern, text, start),
+            Found::At(start, end) => {
+                let mut groups = [None; 9];
+                set_row(&mut groups, alloc, items, text, start, end)?;
+                Ok(Some(Match { start, end, groups }))
+            }
         }
     }
 }

@@ -1,9 +1,16 @@
 //! A state of an automaton: the marks of a pattern at a place.
 
-ghost use Rattle.std.specs.Prelude.{◌≡◌, true};
+ghost use Rattle.std.specs.Prelude.{◌≡◌, [], true};
 ghost use Rattle.bre_match.specs.States.{none_marked, as_state};
 
 use std::marker::Model;
+
+/// The starts for which an automaton goes through a text: every place, or only the first one that it comes to.
+#[derive(Clone, Copy)]
+pub(crate) enum Starts {
+    Every,
+    First,
+}
 
 /// A mark for each byte set of a pattern, or none at all where no set is marked.
 #[derive(Drop)]
@@ -33,6 +40,13 @@ impl State {
         ensures value { result.now ≡ self.now }
     {
         self.marks.as_slice()
+    }
+
+    /// Whether it has no marks at all. It tells no more than its clause.
+    pub(crate) fn is_empty(&self) -> bool
+        ensures sound { result ≡ true → self.now ≡ [] }
+    {
+        self.marks.is_empty()
     }
 
     /// Whether both are the same state. It tells no more than its clause: where it is false they may still be.

@@ -18,7 +18,7 @@ struct Row {
 }
 
 #[rattlefmt::skip]
-static ROWS: [Row; 5] = [
+static ROWS: [Row; 7] = [
     Row { pattern: b"x.*y.*z", texts: &[
         Text { bytes: b"axbyczd", from: 0, spans: Some((1, 6)) },
         Text { bytes: b"zyx", from: 0, spans: None },
@@ -48,6 +48,20 @@ static ROWS: [Row; 5] = [
         Text { bytes: b"\xffa", from: 0, spans: None },
         Text { bytes: b"\0\xff\xff\xff", from: 0, spans: Some((1, 3)) },
         Text { bytes: b"\x7f\x80\xff", from: 0, spans: None },
+    ] },
+    // The first start that is tried leads on past the match's start, but has no way.
+    Row { pattern: b"aba*\\(c\\)", texts: &[
+        Text { bytes: b"ababac", from: 0, spans: Some((2, 6)) },
+        Text { bytes: b"abab", from: 0, spans: None },
+        Text { bytes: b"ababac", from: 1, spans: Some((2, 6)) },
+        Text { bytes: b"abaabcabc", from: 0, spans: Some((3, 6)) },
+    ] },
+    // So do nine of them, and the longest way ends after others.
+    Row { pattern: b"a\\{3\\}b.*\\(c\\)*c", texts: &[
+        Text { bytes: b"aaaaaaaaaaaabxcyc-", from: 0, spans: Some((9, 17)) },
+        Text { bytes: b"aaab", from: 0, spans: None },
+        Text { bytes: b"aaaaabcaaabcc-", from: 0, spans: Some((2, 13)) },
+        Text { bytes: b"aaaaabcaaabcc-", from: 3, spans: Some((7, 13)) },
     ] },
 ];
 

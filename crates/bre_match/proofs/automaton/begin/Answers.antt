@@ -3,5 +3,5 @@ use Rattle.bre_match.proofs.automaton.begin.Goals as goal
 
 pub returns-clause-serves : goal.returns-clause-serves
 returns-clause-serves c = λ part h.
-    first_two part c.in_ok-first.first.items c.in_ok-unknown.unknown.items
+    first_two c.args.starts part c.in_ok-first.first.items c.in_ok-unknown.unknown.items
     c.in_ok-first.ensures.value c.in_ok-unknown.ensures.value

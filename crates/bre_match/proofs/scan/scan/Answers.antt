@@ -14,11 +14,11 @@ loop-place-init c =
 pub returns-in_err-begin-clause-serves : goal.returns-in_err-begin-clause-serves
 returns-in_err-begin-clause-serves c = c.begin.ensures.serves (part_of (sequence_of c.args.items.now)) c.requires.serves
 
-pub returns-then-entry-clause-told : goal.returns-then-entry-clause-told
-returns-then-entry-clause-told c =
+pub returns-then-entry-ge-FOUND-clause-told : goal.returns-then-entry-ge-FOUND-clause-told
+returns-then-entry-ge-FOUND-clause-told c =
     run_finds (sequence_of c.args.items.now) c.args.text.now c.args.from c.entry_at.new.states.items c.loop-place.states.items
     c.loop-place.table.items c.loop-place.place c.loop-place.clean c.loop-place.state c.in-Some.entry c.requires.free
-    c.requires.in_order c.loop-place.invariant (rw c.in-Some.is at c.in_ok-known.ensures.value) c.if-entry.true
+    c.requires.in_order c.loop-place.invariant (rw c.in-Some.is at c.in_ok-known.ensures.value) c.if-entry-ge-FOUND.true
 
 pub loop-place-preserved : goal.loop-place-preserved
 loop-place-preserved c =
@@ -26,19 +26,19 @@ loop-place-preserved c =
     c.entry_at.new.table.items c.loop-place.table.items c.loop-place.place c.loop-place.clean c.loop-place.state c.in-Some.entry
     c.next_place-place.result c.clean_place-clean.result c.requires.free c.requires.in_order c.loop-place-test.true
     c.loop-place.invariant c.entry_at.ensures.begun c.in_ok-known.ensures.serves (rw c.in-Some.is at c.in_ok-known.ensures.entry)
-    (rw c.in-Some.is at c.in_ok-known.ensures.value) (rw c.in-Some.is at c.in_ok-known.ensures.known) c.if-entry.false
+    (rw c.in-Some.is at c.in_ok-known.ensures.value) c.if-entry-ge-FOUND.false
     c.next_place-place.ensures.after c.next_place-place.ensures.within c.next_place-place.ensures.stays
     c.next_place-place.ensures.same c.clean_place-clean.ensures.value
 
-pub returns-then-entry-2-clause-told : goal.returns-then-entry-2-clause-told
-returns-then-entry-2-clause-told c =
+pub returns-then-entry-ge-FOUND-2-clause-told : goal.returns-then-entry-ge-FOUND-2-clause-told
+returns-then-entry-ge-FOUND-2-clause-told c =
     run_finds (sequence_of c.args.items.now) c.args.text.now c.args.from c.entry_at-2.new.states.items c.loop-place.states.items
     c.loop-place.table.items c.loop-place.place c.loop-place.clean c.loop-place.state c.in-Some-known.entry c.requires.free
-    c.requires.in_order c.loop-place.invariant (rw c.in-Some-known.is at c.in_ok-known-2.ensures.value) c.if-entry-2.true
+    c.requires.in_order c.loop-place.invariant (rw c.in-Some-known.is at c.in_ok-known-2.ensures.value) c.if-entry-ge-FOUND-2.true
 
 pub returns-clause-told : goal.returns-clause-told
 returns-clause-told c =
     run_ends (sequence_of c.args.items.now) c.args.text.now c.args.from c.entry_at-2.new.states.items c.loop-place.states.items
     c.loop-place.table.items c.loop-place.place c.loop-place.clean c.loop-place.state c.in-Some-known.entry c.requires.free
     c.requires.in_order c.loop-place-test.false c.loop-place.invariant (rw c.in-Some-known.is at c.in_ok-known-2.ensures.value)
-    (rw c.in-Some-known.is at c.in_ok-known-2.ensures.known) c.if-entry-2.false
+    c.if-entry-ge-FOUND-2.false
