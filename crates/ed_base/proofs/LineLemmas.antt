@@ -46,6 +46,12 @@ lines_of-bytes_of (line ∷ lines) are_lines =
     lines_of-whole line (bytes_of lines) (All-head IsLine line lines are_lines)
     ∙ ap (λ later. line ∷ later) (lines_of-bytes_of lines (All-tail IsLine line lines are_lines))
 
+-- lines and further lines
+pub bytes_of-append : (lines more : List (List ℕ)) → bytes_of (lines ++ more) ≡ bytes_of lines ++ bytes_of more
+bytes_of-append [] more = refl
+bytes_of-append (line ∷ lines) more =
+    ap (λ bs. line ++ newline ∷ bs) (bytes_of-append lines more) ∙ sym (append_assoc line (newline ∷ bytes_of lines) (bytes_of more))
+
 -- bytes hold no lines but those of `lines_of`
 pub HoldsLines-only : {bytes : List ℕ} {lines : List (List ℕ)} → HoldsLines bytes lines → lines ≡ lines_of bytes
 HoldsLines-only empty = refl
@@ -82,6 +88,10 @@ HoldsLines-lines_of (byte ∷ bytes) =
     subst Q (sym (lines_of-other byte bytes other)) (HoldsLines-onto_first byte other (HoldsLines-lines_of bytes)))
     (cases_eq byte newline)
 
+-- each of these is a line
+pub AreLines-lines_of : (bytes : List ℕ) → AreLines (lines_of bytes)
+AreLines-lines_of bytes = HoldsLines-lines (HoldsLines-lines_of bytes)
+
 length-onto_first : (byte : ℕ) (lines : List (List ℕ)) → 0 < length lines → length (onto_first byte lines) ≡ length lines
 length-onto_first byte [] some = absurd (omega (arith, some))
 length-onto_first byte (line ∷ lines) some = refl
@@ -109,6 +119,45 @@ length-lines_of (byte ∷ front) last =
     ap length (lines_of-other byte (front ++ last ∷ []) other)
     ∙ length-onto_first byte (lines_of (front ++ last ∷ [])) (omega (arith, later)) ∙ omega (arith, none, count, later))
     (cases_eq byte newline)
+
+-- a byte that is no newline, before the first line
+bytes_of-onto_first : (byte : ℕ) (lines : List (List ℕ)) → 0 < length lines → bytes_of (onto_first byte lines) ≡ byte ∷ bytes_of lines
+bytes_of-onto_first byte [] some = absurd (omega (arith, some))
+bytes_of-onto_first byte (line ∷ lines) some = refl
+
+-- bytes that end in a newline are those of their lines
+pub bytes_of-ended : (front : List ℕ) → bytes_of (lines_of (front ++ newline ∷ [])) ≡ front ++ newline ∷ []
+bytes_of-ended [] = refl
+bytes_of-ended (byte ∷ front) =
+    let ended : List ℕ = front ++ newline ∷ [] in
+    let later : bytes_of (lines_of ended) ≡ ended = bytes_of-ended front in
+    ⊎_elim
+    (λ same. ap bytes_of (lines_of-newline byte ended same) ∙ ap (λ t. newline ∷ t) later ∙ ap (λ b. b ∷ ended) (sym same))
+    (λ other.
+    ap bytes_of (lines_of-other byte ended other)
+    ∙ bytes_of-onto_first byte (lines_of ended) (omega (arith, length-lines_of front newline)) ∙ ap (λ t. byte ∷ t) later)
+    (cases_eq byte newline)
+
+-- a newline after a last line that lacks it makes no other lines
+pub lines_of-ended : (front : List ℕ) (last : ℕ) → last ≢ newline → lines_of ((front ++ last ∷ []) ++ newline ∷ []) ≡ lines_of (front ++ last ∷ [])
+lines_of-ended [] last lacks = lines_of-other last (newline ∷ []) lacks ∙ sym (lines_of-other last [] lacks)
+lines_of-ended (byte ∷ front) last lacks =
+    let short : List ℕ = front ++ last ∷ [] in
+    let later : lines_of (short ++ newline ∷ []) ≡ lines_of short = lines_of-ended front last lacks in
+    ⊎_elim
+    (λ same. lines_of-newline byte (short ++ newline ∷ []) same ∙ ap (λ ls. [] ∷ ls) later ∙ sym (lines_of-newline byte short same))
+    (λ other.
+    lines_of-other byte (short ++ newline ∷ []) other ∙ ap (onto_first byte) later ∙ sym (lines_of-other byte short other))
+    (cases_eq byte newline)
+
+-- bytes that get the newline that they lack are those of their lines
+pub bytes_of-completed : (front : List ℕ) (last : ℕ) → last ≢ newline → (front ++ last ∷ []) ++ newline ∷ [] ≡ bytes_of (lines_of (front ++ last ∷ []))
+bytes_of-completed front last lacks =
+    sym (bytes_of-ended (front ++ last ∷ [])) ∙ ap bytes_of (lines_of-ended front last lacks)
+
+-- the bytes of lines that bytes have, and whose bytes they are
+pub lines_of-completed : (bytes completed : List ℕ) → completed ≡ bytes_of (lines_of bytes) → lines_of completed ≡ lines_of bytes
+lines_of-completed bytes completed is = ap lines_of is ∙ lines_of-bytes_of (lines_of bytes) (AreLines-lines_of bytes)
 
 -- the same for a list of places of newlines
 pub length-lines_of-places : (front : List ℕ) (last : ℕ) → length (lines_of (front ++ last ∷ [])) ≡ length (places (is_byte newline) front) + 1

@@ -1,6 +1,6 @@
 //! The lines of bytes, and the bytes of lines.
-ghost use Rattle.std.specs.Prelude.{◌≡◌, ◌↔◌, ◌≢◌, ◌<◌, ◌-◌, ◌^◌, ℕ, List, [], ◌∷◌, ◌++◌, length, min, IsNone, IfSome, IfOk};
-ghost use Rattle.ed_base.specs.Lines.{newline, IsLine, AreLines, HoldsLines, CutsFirst, lines_of, bytes_of};
+ghost use Rattle.std.specs.Prelude.{◌≡◌, ◌↔◌, ◌<◌, ℕ, List, [], ◌∷◌, ◌++◌, length, IsNone, IfSome, IfOk};
+ghost use Rattle.ed_base.specs.Lines.{IsLine, AreLines, HoldsLines, CutsFirst, lines_of, bytes_of};
 
 use crate::{Bytes, Text};
 use memchr::{memchr, memchr_iter};
@@ -27,13 +27,7 @@ pub fn next_line(bytes: &[u8]) -> Option<(&[u8], &[u8])>
 pub fn split_lines(alloc: Global, bytes: &[u8]) -> Result<Text, AllocError>
     ensures exact { IfOk result (λ lines. lines ≡ lines_of bytes.now) }
 {
-    let mut lines = Text::new(alloc);
-    let mut left = bytes;
-    while let Some((line, rest)) = next_line(left) {
-        lines.push(Bytes::from_slice(alloc, line)?)?;
-        left = rest;
-    }
-    Ok(lines)
+    Text::of_file(alloc, Bytes::from_slice(alloc, bytes)?)
 }
 
 /// The file of these lines, each with a newline after it. It allocates once.
@@ -41,24 +35,7 @@ pub fn join_lines(alloc: Global, lines: &Text) -> Result<Bytes, AllocError>
     ensures exact { IfOk result (λ bytes. bytes ≡ bytes_of lines.now) }
     ensures read_back { IfOk result (λ bytes. lines_of bytes ≡ lines.now) }
 {
-    let mut bytes = Bytes::new(alloc);
-    bytes.reserve(file_size(lines.as_slice()))?;
-    for line in lines.as_slice() {
-        bytes.extend_from_slice(line.as_slice())?;
-        bytes.push(b'\n')?;
-    }
-    Ok(bytes)
-}
-
-// The bytes of a file of these lines, or the greatest `usize` where there are more.
-fn file_size(lines: &[Bytes]) -> usize
-    ensures value { result ≡ min (length (bytes_of lines.now)) (2 ^ 64 - 1) }
-{
-    let mut size: usize = 0;
-    for line in lines {
-        size = size.saturating_add(line.len()).saturating_add(1);
-    }
-    size
+    Bytes::from_slice(alloc, lines.as_bytes())
 }
 
 /// How many lines a file has. It takes no memory.

@@ -1,6 +1,5 @@
 pub mod Commanding
 pub mod Blocks
-pub mod Carrying
 pub mod Changes
 pub mod Filing
 pub mod Globals

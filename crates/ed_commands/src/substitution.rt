@@ -12,7 +12,7 @@ ghost use Rattle.ed_commands.specs.Scans.{left, left_from, scan_after, passed_ov
 
 use bre_match::{Match, Searcher};
 use bre_parse::{Bre, matches_lie_within};
-use ed_base::{Bytes, Text, next_line, split_lines};
+use ed_base::{Bytes, Text, next_line};
 use ed_syntax::{Part, Replacement, Which};
 use std::alloc::{AllocError, Global};
 
@@ -102,17 +102,12 @@ fn replace_all(
     Ok(Some(text))
 }
 
-// The lines of a text that was split at its newlines. One without a newline isn't copied.
+// The lines of a text that was split at its newlines.
 fn split(alloc: Global, mut text: Bytes) -> Result<Text, AllocError>
     ensures value { IfOk result (λ lines. lines ≡ split_at_newlines text) }
 {
-    if is_one_line(text.as_slice()) {
-        let mut lines = Text::new(alloc);
-        lines.push(text)?;
-        return Ok(lines);
-    }
     text.push(b'\n')?;
-    split_lines(alloc, text.as_slice())
+    Text::of_file(alloc, text)
 }
 
 /// No newline stands in the text.

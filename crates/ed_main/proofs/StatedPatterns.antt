@@ -1,21 +1,15 @@
 -- The patterns that a start has to match, and the first that none of its lines does.
-use Rattle.std.proofs.Common.{◌≡◌, ◌∙◌, ℕ, Bool, true, false, List, [], ◌∷◌, length, Option, Some, None, Result, Ok, Err, refl, sym, ap, subst, ◌==◌}
-use Rattle.std.proofs.lemmas.List.{nil_from_length}
+use Rattle.std.proofs.Common.{◌≡◌, ℕ, Bool, true, false, List, [], ◌∷◌, length, Option, Some, None, refl, sym}
 use Rattle.std.specs.Prelude.{not, find, IfSome, IsSomeAnd}
 use Rattle.std.specs.List.{list_all, list_any}
-use Rattle.std.specs.Option.{is_some}
-use Rattle.std.proofs.lemmas.Bool.{and_from, and_parts, eqb-true}
-use Rattle.bre_parse.specs.Tree.{Tree}
-use Rattle.bre_parse.specs.Match.{match_from}
-use Rattle.bre_parse.specs.Grammar.{pattern}
-use Rattle.bre_parse.specs.declared.fault.BreFault.{BreFault}
+use Rattle.std.proofs.lemmas.Bool.{and_from, and_parts}
 use Rattle.ed_syntax.specs.meaning.Values.{matches}
 use Rattle.ed_rules.specs.LineBounds.{IsWithin}
 use Rattle.cert_check.specs.Certificates.{Certificate}
 use Rattle.cert_check.specs.checker.Opening.{Match}
 use Rattle.cert_check.specs.checker.Sound.{IsAllowed, stated}
 use Rattle.ed_main.specs.Run.{LiesOutside}
-use Rattle.ed_main.specs.StartTest.{first_unmatched, unmatched_of}
+use Rattle.ed_main.specs.StartTest.{unmatched_of}
 
 module _ {X : Type 0} (test : X → Bool) where
   -- where none is the first to fail a test, all pass it
@@ -39,9 +33,6 @@ pub none_stated : (lines : Option (List (List ℕ))) → None ≡ unmatched_of [
 none_stated None = refl
 none_stated (Some lines) = refl
 
-pub none_unmatched : (patterns lines : List (List ℕ)) → true ≡ (length patterns == 0) → None ≡ first_unmatched patterns lines
-none_unmatched patterns lines e = subst (λ ps. None ≡ first_unmatched ps lines) (sym (nil_from_length patterns (eqb-true (length patterns) 0 (sym e)))) refl
-
 -- a start of another number of lines
 pub outside_by_size : (c : Certificate) (lines : Option (List (List ℕ))) → IsSomeAnd lines (λ l. IsWithin c.min c.max (length l) → ⊥) → LiesOutside c lines
 outside_by_size c None other = other
@@ -56,12 +47,3 @@ outside_by_pattern c (Some lines) text found = λ allowed. one_fails (λ t. list
 pub inside_by_both : (c : Certificate) (lines : Option (List (List ℕ))) → IfSome lines (λ l. IsWithin c.min c.max (length l)) → None ≡ unmatched_of (stated c) lines → IfSome lines (IsAllowed c)
 inside_by_both c None within none = tt
 inside_by_both c (Some lines) within none = (within, all_pass (λ t. list_any (matches t) lines) (stated c) (sym none))
-
--- a text that is no pattern is matched by no line
-matched_by_none : (text : List ℕ) (fault : BreFault) → pattern text ≡ Err fault → (line : List ℕ) → matches text line ≡ false
-matched_by_none text fault is line =
-    ap (λ (r : Result Tree BreFault). elim r as (λ _. Bool) [ Ok tree ↦ is_some (match_from tree line 0) | Err f ↦ false ]) is
-
-pub no_line : (text : List ℕ) (fault : BreFault) (lines : List (List ℕ)) → pattern text ≡ Err fault → list_any (matches text) lines ≡ false
-no_line text fault [] is = refl
-no_line text fault (line ∷ lines) is = rw (matched_by_none text fault is line) (no_line text fault lines is)

@@ -1,21 +1,14 @@
 //! The patterns that a certificate states of its start, each of which some line has to match.
 ghost use Rattle.std.specs.Prelude.{◌≡◌, option_map, IfOk};
-ghost use Rattle.std.specs.List.{list_any};
-ghost use Rattle.std.specs.Option.{is_some};
 ghost use Rattle.ed_base.specs.Lines.{lines_of};
-ghost use Rattle.bre_parse.specs.Bre.{bre_tree};
-ghost use Rattle.bre_parse.specs.Match.{match_from};
-ghost use Rattle.ed_syntax.specs.meaning.Values.{matches};
 ghost use Rattle.cert_check.specs.Certificates.{certificate_value};
 ghost use Rattle.cert_check.specs.checker.Sound.{stated};
 ghost use Rattle.ed_main.specs.RunOver.{lines_told};
 ghost use Rattle.ed_main.specs.StartTest.{first_unmatched, unmatched_of};
 
-use bre_match::Searcher;
-use bre_parse::Bre;
-use bre_parse::fault::BreFault;
 use cert_check::{Certificate, Version};
-use ed_base::{Bytes, split_lines};
+use ed_base::Bytes;
+use ed_rules::some_line_matches;
 use ed_syntax::Answer;
 use std::alloc::{AllocError, Global};
 
@@ -51,64 +44,20 @@ fn unmatched_at<'p>(
     }
 }
 
-// The first of these patterns that no line of a file matches. Where there is no pattern, no memory is taken for the lines.
+// The first of these patterns that no line of a file matches.
 fn unmatched_over<'p>(
     alloc: Global,
     patterns: &'p [Bytes],
-    bytes: &[u8],
+    file: &[u8],
 ) -> Result<Option<&'p Bytes>, AllocError>
     ensures value { IfOk result (λ found. option_map (λ pattern. pattern.now) found
-        ≡ first_unmatched patterns.now (lines_of bytes.now)) }
-{
-    if patterns.is_empty() {
-        return Ok(None);
-    }
-    let lines = split_lines(alloc, bytes)?;
-    first_without_a_line(alloc, patterns, lines.as_slice())
-}
-
-// The first of these patterns that none of the lines matches.
-fn first_without_a_line<'p>(
-    alloc: Global,
-    patterns: &'p [Bytes],
-    lines: &[Bytes],
-) -> Result<Option<&'p Bytes>, AllocError>
-    ensures value { IfOk result (λ found. option_map (λ pattern. pattern.now) found
-        ≡ first_unmatched patterns.now lines.now) }
+        ≡ first_unmatched patterns.now (lines_of file.now)) }
 {
     for pattern in patterns {
-        let has_one = has_a_line(alloc, pattern.as_slice(), lines)?;
-        if !has_one {
+        let is_matched = some_line_matches(alloc, pattern.as_slice(), file)?;
+        if !is_matched {
             return Ok(Some(pattern));
         }
     }
     Ok(None)
-}
-
-// Whether some line matches a pattern. A text that is no pattern is matched by none.
-fn has_a_line(alloc: Global, pattern: &[u8], lines: &[Bytes]) -> Result<bool, AllocError>
-    ensures value { IfOk result (λ any. any ≡ list_any (matches pattern.now) lines.now) }
-{
-    match Bre::read(alloc, pattern) {
-        Ok(bre) => any_matches(alloc, &bre, lines),
-        Err(fault) => match fault {
-            BreFault::Memory => Err(AllocError),
-            _ => Ok(false),
-        },
-    }
-}
-
-// Whether a pattern matches some line. One searcher looks through them all.
-fn any_matches(alloc: Global, pattern: &Bre, lines: &[Bytes]) -> Result<bool, AllocError>
-    ensures value { IfOk result (λ any. any ≡
-        list_any (λ line. is_some (match_from (bre_tree pattern.now) line 0)) lines.now) }
-{
-    let mut searcher = Searcher::new(alloc, pattern);
-    for line in lines {
-        let matched = searcher.matches(line.as_slice())?;
-        if matched {
-            return Ok(true);
-        }
-    }
-    Ok(false)
 }

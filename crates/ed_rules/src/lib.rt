@@ -12,6 +12,7 @@ mod laws;
 mod line_bounds;
 mod lines;
 mod marks;
+mod matched;
 mod matching;
 mod moves;
 mod order;
@@ -34,6 +35,7 @@ pub use laws::{
 };
 pub use line_bounds::LineBounds;
 pub use marks::Marks;
+pub use matched::some_line_matches;
 pub use rules::{after, needs, outcome_into};
 pub use state::{Changed, Old, Replacements, State, Undo};
 pub use texts::Texts;

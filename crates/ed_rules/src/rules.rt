@@ -26,7 +26,7 @@ use zones::Name;
 fn text_is_lines(text: &Text)
     ensures lines { are_lines text.now ≡ true }
 {
-    let _lines = text.as_slice();
+    let _bytes = text.as_bytes();
 }
 
 /// What a command enters are lines, since each text holds nothing else.

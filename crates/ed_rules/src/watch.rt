@@ -1,20 +1,15 @@
 //! The patterns that are watched for: a script's searches look for them, or its start says that some line matches them.
 
 ghost use Rattle.std.specs.Prelude.{◌≡◌, [], map, option_map, IfOk, OnOk};
-ghost use Rattle.std.specs.List.{list_any, flat_map};
-ghost use Rattle.std.specs.Option.{is_some};
-ghost use Rattle.bre_parse.specs.Bre.{bre_tree};
-ghost use Rattle.bre_parse.specs.Match.{match_from};
+ghost use Rattle.std.specs.List.{flat_map};
 ghost use Rattle.ed_syntax.specs.PublicScript.{script_value};
 ghost use Rattle.ed_syntax.specs.PublicTypes.{base_value, address_value, addresses_value, command_value, step_value};
-ghost use Rattle.ed_syntax.specs.meaning.Values.{matches};
 ghost use Rattle.ed_rules.specs.Texts.{with_texts};
 ghost use Rattle.ed_rules.specs.Matched.{gained, sought_at, sought_by, sought_at_target, sought, sought_by_step, watched};
 
+use crate::matched::some_line_matches;
 use crate::texts::Texts;
-use bre_parse::Bre;
-use bre_parse::fault::BreFault;
-use ed_base::{Bytes, Text};
+use ed_base::Text;
 use ed_syntax::{Address, Addresses, Base, Command, Script};
 use std::alloc::{AllocError, Global};
 use std::marker::Model;
@@ -31,32 +26,6 @@ impl Model for Watch {
     ghost Value = { List (List ℕ) };
 
     ghost view = { λ watch. watch.patterns };
-}
-
-/// Whether a pattern matches one of these lines.
-fn any_matches(alloc: Global, pattern: &Bre, lines: &[Bytes]) -> Result<bool, AllocError>
-    ensures value { IfOk result (λ any. any ≡
-        list_any (λ line. is_some (match_from (bre_tree pattern.now) line 0)) lines.now) }
-{
-    for line in lines {
-        if bre_match::matches(alloc, pattern, line.as_slice())? {
-            return Ok(true);
-        }
-    }
-    Ok(false)
-}
-
-/// Whether the pattern of a text does; a text that is no pattern matches none.
-fn text_matches(alloc: Global, text: &[u8], lines: &[Bytes]) -> Result<bool, AllocError>
-    ensures value { IfOk result (λ any. any ≡ list_any (matches text.now) lines.now) }
-{
-    match Bre::read(alloc, text) {
-        Ok(bre) => any_matches(alloc, &bre, lines),
-        Err(fault) => match fault {
-            BreFault::Memory => Err(AllocError),
-            _ => Ok(false),
-        },
-    }
 }
 
 /// The pattern that a search is given.
@@ -151,7 +120,7 @@ impl Watch {
         let alloc = self.patterns.allocator();
         let mut some = Vec::new(alloc);
         for text in self.patterns.members() {
-            if text_matches(alloc, text.as_slice(), entered.as_slice())? {
+            if some_line_matches(alloc, text.as_slice(), entered.as_bytes())? {
                 some.push(text.try_copy()?)?;
             }
         }

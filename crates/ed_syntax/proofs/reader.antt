@@ -29,6 +29,7 @@ pub mod JoinedLemmas
 pub mod ListSteps
 pub mod ScriptSteps
 pub mod LawLemmas
+pub mod TextCuts
 pub mod TextLemmas
 pub mod Fronts
 pub mod OffsetSteps

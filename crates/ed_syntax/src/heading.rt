@@ -99,7 +99,7 @@ fn verb_at(alloc: Global, bytes: &[u8]) -> Parsed<'_, Verb>
             Some((target, rest)) => Ok(Some((Verb::Copy(target), rest))),
             None => Ok(None),
         },
-        letter => match plain_verb(alloc, letter) {
+        letter => match plain_verb(letter) {
             Some(verb) => Ok(Some((verb, rest))),
             None => file_verb(alloc, letter, rest),
         },
@@ -107,14 +107,14 @@ fn verb_at(alloc: Global, bytes: &[u8]) -> Parsed<'_, Verb>
 }
 
 // A command whose letter has no parameters on its line.
-fn plain_verb(alloc: Global, letter: u8) -> Option<Verb>
+fn plain_verb(letter: u8) -> Option<Verb>
     ensures value { optional_verb result ≡ beside_letter letter plain_verbs }
 {
     match letter {
-        b'a' => Some(Verb::Append(Text::new(alloc))),
-        b'c' => Some(Verb::Change(Text::new(alloc))),
+        b'a' => Some(Verb::Append(Text::new())),
+        b'c' => Some(Verb::Change(Text::new())),
         b'd' => Some(Verb::Delete),
-        b'i' => Some(Verb::Insert(Text::new(alloc))),
+        b'i' => Some(Verb::Insert(Text::new())),
         b'j' => Some(Verb::Join),
         b'l' => Some(Verb::Write(Form::Unambiguous)),
         b'n' => Some(Verb::Write(Form::Numbered)),

@@ -58,19 +58,34 @@ impl<'a> ScriptLines<'a> {
         Some(line)
     }
 
-    /// The lines of a text, up to a line that is `.` or to the end of the script or list.
+    /// The lines of a text, up to a line that is `.` or to the end of the script or list. Their bytes are copied all at once.
     pub fn read_text(&mut self, alloc: Global) -> Result<Text, AllocError>
         ensures value { IfOk result (λ entered. text self.old.lines ≡ (entered, self.new.lines)) }
         ensures number { self.new.number + length self.new.lines ≡ self.old.number + length self.old.lines }
         ensures later { length self.new.lines ≤ length self.old.lines }
     {
-        let mut entered = Text::new(alloc);
-        'lines: while let Some(line) = self.next() {
-            if line == b".".as_slice() {
-                break;
-            }
-            entered.push(Bytes::from_slice(alloc, line)?)?;
-        }
+        let (entered, rest, passed) = cut_text(self.left);
+        let entered = Text::of_file(alloc, Bytes::from_slice(alloc, entered)?)?;
+        self.left = rest;
+        self.number += passed;
         Ok(entered)
     }
+}
+
+// The bytes of the text that begins here, those after the line `.` that ends it, and how many lines were passed, that one too.
+fn cut_text(bytes: &[u8]) -> (&[u8], &[u8], usize)
+    ensures value { text (lines_of bytes.now) ≡ (lines_of result.0.now, lines_of result.1.now) }
+    ensures number { result.2 + length (lines_of result.1.now) ≡ length (lines_of bytes.now) }
+    ensures size { result.2 + length result.1.now ≤ length bytes.now }
+{
+    let mut left = bytes;
+    let mut passed = 0;
+    while let Some((line, rest)) = next_line(left) {
+        passed += 1;
+        if line == b".".as_slice() {
+            return (&bytes[..bytes.len() - left.len()], rest, passed);
+        }
+        left = rest;
+    }
+    (bytes, &[], passed)
 }

@@ -4,6 +4,7 @@ use crate::expected::{are_lines, bytes};
 use ed_base::{Bytes, Fault, Letter, Text, count_lines, join_lines, push_number, split_lines};
 use std::alloc::{AllocError, Global};
 use std::process::Abort;
+use std::rc::Rc;
 
 struct Row {
     bytes: &'static [u8],
@@ -34,6 +35,8 @@ fn check(rt: &impl Abort, alloc: Global, row: &Row) {
     same(rt, count_lines(row.bytes), row.lines.len(), row.bytes);
     let written = join_lines(alloc, &lines).expect(rt, "memory");
     same(rt, written.as_slice(), row.written, row.bytes);
+    let text = Text::of_file(alloc, bytes(rt, alloc, row.bytes)).expect(rt, "memory");
+    same(rt, text.as_bytes(), row.written, row.bytes);
 }
 
 #[test]
@@ -69,15 +72,17 @@ fn bytes_are_built_copied_and_compared(rt: HostRuntime) {
 }
 
 #[test]
-fn lists_of_lines_are_built_copied_and_compared(rt: HostRuntime) {
-    let mut lines = Text::new(rt.alloc());
-    assert!(rt; lines.is_empty());
-    lines.push(Bytes::new(rt.alloc())).expect(&rt, "memory");
+fn lists_of_lines_are_made_copied_and_compared(rt: HostRuntime) {
+    let none = Text::new();
+    assert!(rt; none.is_empty());
+    assert!(rt; none.block().is_none());
+    let lines = Text::of_file(rt.alloc(), bytes(&rt, rt.alloc(), b"\n\n")).expect(&rt, "memory");
+    assert!(rt; lines.len() == 2);
+    assert!(rt; lines != none);
     let copy = lines.try_copy().expect(&rt, "memory");
     assert!(rt; copy == lines);
-    lines.push(Bytes::new(rt.alloc())).expect(&rt, "memory");
-    assert!(rt; lines.len() == 2);
-    assert!(rt; copy != lines);
+    let owners = lines.block().map(Rc::strong_count);
+    same(&rt, owners, Some(2), "those that share the block");
 }
 
 static NUMBERS: [u64; 3] = [0, 10, 18_446_744_073_709_551_615];

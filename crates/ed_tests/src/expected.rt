@@ -1,6 +1,6 @@
 //! Values that tests expect of a script. A `static` holds nothing that is dropped: its rows have an address as a `Place` and those of a
 //! command as `Given`, and the values that these stand for are made when they are compared.
-use ed_base::{Bytes, Letter, Text};
+use ed_base::{Bytes, Letter, Text, next_line};
 use ed_syntax::{Address, Addresses, Base, Command, Pattern, Script, read_script};
 use std::alloc::Global;
 use std::process::Abort;
@@ -83,6 +83,12 @@ pub(crate) fn only<'a>(rt: &impl Abort, script: &'a Script) -> &'a Command {
 }
 
 pub(crate) fn are_lines(text: &Text, lines: &[&[u8]]) -> bool {
-    let same = |(line, expected): (&Bytes, &&[u8])| line.as_slice() == *expected;
-    text.len() == lines.len() && text.as_slice().iter().zip(lines).all(same)
+    let mut left = text.as_bytes();
+    for expected in lines {
+        match next_line(left) {
+            Some((line, rest)) if line == *expected => left = rest,
+            _ => return false,
+        }
+    }
+    left.is_empty() && text.len() == lines.len()
 }

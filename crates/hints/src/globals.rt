@@ -3,7 +3,7 @@
 use crate::bytes::{after_blanks, before, between, first, from, joined};
 use crate::commands::first_line;
 use crate::patterns::{addresses_len, pattern_at};
-use ed_base::Bytes;
+use ed_base::{Bytes, Text, next_line};
 use ed_syntax::{Verb, read_script};
 use std::alloc::{AllocError, Global};
 
@@ -43,13 +43,15 @@ pub(crate) fn is_search(alloc: Global, command: &[u8]) -> Result<bool, AllocErro
 
 /// Appends the lines of a text as a list has them: each but the last ends in a backslash, and no period comes after them. False where
 /// a list can't have the text so.
-fn push_text(list: &mut Bytes, text: &[Bytes]) -> Result<bool, AllocError> {
-    for line in text {
-        if line.as_slice().ends_with(b"\\") {
+fn push_text(list: &mut Bytes, text: &Text) -> Result<bool, AllocError> {
+    let mut left = text.as_bytes();
+    while let Some((line, rest)) = next_line(left) {
+        if line.ends_with(b"\\") {
             return Ok(false);
         }
         list.extend_from_slice(b"\\\n")?;
-        list.extend_from_slice(line.as_slice())?;
+        list.extend_from_slice(line)?;
+        left = rest;
     }
     Ok(!text.is_empty())
 }
@@ -60,7 +62,7 @@ fn push_lines(alloc: Global, list: &mut Bytes, command: &[u8]) -> Result<bool, A
     match script.commands.as_slice() {
         [only] => match &only.verb {
             Verb::Append(text) | Verb::Change(text) | Verb::Insert(text) => {
-                push_text(list, text.as_slice())
+                push_text(list, text)
             }
             _ => Ok(first_line(command).len() == command.len()),
         },

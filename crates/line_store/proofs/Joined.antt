@@ -223,3 +223,28 @@ rest-and-last [] n x h e = absurd (omega arith)
 rest-and-last (y ∷ []) zero x h e = ap (λ t. t ∷ []) (sym e)
 rest-and-last (y ∷ z ∷ list) zero x h e = absurd (omega arith)
 rest-and-last (y ∷ list) (suc n) x h e = ap (λ t. y ∷ t) (rest-and-last list n x (omega arith) e)
+
+-- the chunks of two lists
+pub joined-append : {X : Type 0} (xs ys : List (List X)) → joined (xs ++ ys) ≡ joined xs ++ joined ys
+joined-append [] ys = refl
+joined-append (x ∷ xs) ys = ap (λ t. x ++ t) (joined-append xs ys) ∙ sym (append_assoc x (joined xs) (joined ys))
+
+-- what stands before a chunk is what those before it have
+pub before-take : {X : Type 0} (k : ℕ) (chunks : List (List X)) → length (joined (take k chunks)) ≡ lines_before k chunks
+before-take zero chunks = refl
+before-take (suc k) [] = refl
+before-take (suc k) (chunk ∷ chunks) = length-append chunk (joined (take k chunks)) ∙ ap (λ n. length chunk + n) (before-take k chunks)
+
+pub before-later : {X : Type 0} (j k : ℕ) (chunks : List (List X)) → j ≤ k → lines_before j chunks ≤ lines_before k chunks
+before-later zero k chunks h = omega arith
+before-later (suc j) zero chunks h = absurd (omega arith)
+before-later (suc j) (suc k) [] h = omega arith
+before-later (suc j) (suc k) (chunk ∷ chunks) h = omega (arith, before-later j k chunks (omega arith))
+
+-- a chunk is joined with the next one
+pub joined-merge : {X : Type 0} (chunks : List (List X)) (k : ℕ) → k + 1 < length chunks →
+    joined (set (remove chunks k) k (get_or chunks k [] ++ get_or (remove chunks k) k [])) ≡ joined chunks
+joined-merge [] k h = absurd (omega arith)
+joined-merge (chunk ∷ []) k h = absurd (omega arith)
+joined-merge (chunk ∷ next ∷ chunks) zero h = append_assoc chunk next (joined chunks)
+joined-merge (chunk ∷ next ∷ chunks) (suc k) h = ap (λ t. chunk ++ t) (joined-merge (next ∷ chunks) k (omega arith))

@@ -5,6 +5,9 @@ pub mod Turns
 pub mod Own
 mod Cuts
 mod MarkRows
+pub mod Swapped
+pub mod SwappedMarks
 pub mod Joined
+pub mod SwappedChunks
 pub mod Near
 pub mod Offsets

@@ -1,7 +1,7 @@
--- A line of a chunk that was made the near one: told, exchanged, flagged, taken out, put.
+-- A line of a chunk: told, exchanged, flagged; and, where its chunk was made the near one, taken out and put.
 use Rattle.std.proofs.Common.{◌≡◌, ℕ, ◌+◌, ◌-◌, ◌<◌, ◌≤◌, Bool, List, [], length, get_or, set, insert, remove, sym, ap, ◌∙◌, arith, length-set}
 use Rattle.ed_base.specs.Buffer.{Line, plain_line, with_flag, flagged_at}
-use Rattle.line_store.specs.Chunks.{ChunksValue, StandsIn, Touches, joined, lines_before, near_chunk, with_near, room_among}
+use Rattle.line_store.specs.Chunks.{ChunksValue, StandsIn, Touches, joined, lines_before, near_chunk, with_chunk, with_near, room_among}
 use Rattle.line_store.proofs.Joined.{get_or-joined, joined-set, joined-remove, joined-insert}
 use Rattle.line_store.proofs.Offsets.{room-least}
 
@@ -23,24 +23,48 @@ reached i k start old mid stands near begins =
       there = omega (arith, stands.low);
     }
 
+-- the line stands at this place of this chunk
+pub record Found (i k place : ℕ) (v : ChunksValue) : Type 0 where
+  pub chunk : k < length v.chunks
+  pub inner : place < length (get_or v.chunks k [])
+  pub there : i ≡ lines_before k v.chunks + place
+
+pub found : (i k start : ℕ) (v : ChunksValue) → StandsIn i k v.chunks → start ≡ lines_before k v.chunks → Found i k (i - start) v
+found i k start v stands begins = record {
+  chunk = stands.chunk;
+  inner = omega (arith, stands.low, stands.high);
+  there = omega (arith, stands.low);
+}
+
 -- it is the line of all chunks
+pub line-found : {i k place : ℕ} {v : ChunksValue} (d : Line) → Found i k place v → get_or (get_or v.chunks k []) place d ≡ get_or (joined v.chunks) i d
+line-found {i} {k} {place} {v} d f = sym (get_or-joined v.chunks k place i d f.chunk f.inner f.there)
+
+-- another line in its place
+pub exchanged-found : {i k place : ℕ} {v : ChunksValue} (new : ChunksValue) (line : Line) → Found i k place v →
+    new ≡ with_chunk k (set (get_or v.chunks k []) place line) v → joined new.chunks ≡ set (joined v.chunks) i line
+exchanged-found {i} {k} {place} {v} new line f put =
+    ap (λ w. joined w.chunks) put ∙ joined-set v.chunks k place i line f.chunk f.inner f.there
+
+-- the line with another flag
+pub flagged-found : {i k place : ℕ} {v : ChunksValue} (new : ChunksValue) (flag : Bool) → Found i k place v →
+    new ≡ with_chunk k (flagged_at place flag (get_or v.chunks k [])) v → joined new.chunks ≡ flagged_at i flag (joined v.chunks)
+flagged-found {i} {k} {place} {v} new flag f put =
+    exchanged-found new (with_flag flag (get_or (get_or v.chunks k []) place (plain_line []))) f put
+    ∙ ap (λ l. set (joined v.chunks) i (with_flag flag l)) (line-found (plain_line []) f)
+
+-- there is as much room then
+pub room-found : {i k place : ℕ} {v : ChunksValue} (new : ChunksValue) (line : Line) → Found i k place v →
+    new ≡ with_chunk k (set (get_or v.chunks k []) place line) v → room_among v.chunks ≤ room_among new.chunks
+room-found {i} {k} {place} {v} new line f put =
+    room-least v.chunks new.chunks
+    (omega (arith, ap (λ w. length w.chunks) put, length-set v.chunks k (set (get_or v.chunks k []) place line)))
+    (omega (arith, ap length (exchanged-found new line f put), length-set (joined v.chunks) i line))
+
+-- it is the line of all chunks, in the chunk that was made the near one
 pub line-reached : {i k place : ℕ} {old mid : ChunksValue} (d : Line) → Reached i k place old mid → get_or (near_chunk mid) place d ≡ get_or (joined old.chunks) i d
 line-reached {i} {k} {place} {old} {mid} d r =
     ap (λ v. get_or (near_chunk v) place d) r.near ∙ sym (get_or-joined old.chunks k place i d r.chunk r.inner r.there)
-
--- another line in its place
-pub exchanged-reached : {i k place : ℕ} {old mid : ChunksValue} (new : ChunksValue) (line : Line) → Reached i k place old mid →
-    new ≡ with_near (set (near_chunk mid) place line) mid → joined new.chunks ≡ set (joined old.chunks) i line
-exchanged-reached {i} {k} {place} {old} {mid} new line r put =
-    ap (λ v. joined v.chunks) (put ∙ ap (λ v. with_near (set (near_chunk v) place line) v) r.near)
-    ∙ joined-set old.chunks k place i line r.chunk r.inner r.there
-
--- the line with another flag
-pub flagged-reached : {i k place : ℕ} {old mid : ChunksValue} (new : ChunksValue) (flag : Bool) → Reached i k place old mid →
-    new ≡ with_near (flagged_at place flag (near_chunk mid)) mid → joined new.chunks ≡ flagged_at i flag (joined old.chunks)
-flagged-reached {i} {k} {place} {old} {mid} new flag r put =
-    exchanged-reached new (with_flag flag (get_or (near_chunk mid) place (plain_line []))) r put
-    ∙ ap (λ l. set (joined old.chunks) i (with_flag flag l)) (line-reached (plain_line []) r)
 
 -- all but the line
 pub removed-reached : {i k place : ℕ} {old mid : ChunksValue} (new : ChunksValue) → Reached i k place old mid →
@@ -60,11 +84,3 @@ inserted-reached at k start old mid new line touches near begins put =
 pub length-reached : (k : ℕ) (old mid new : ChunksValue) (chunk : List Line) → mid ≡ record old { near = k } → new ≡ with_near chunk mid → length new.chunks ≡ length old.chunks
 length-reached k old mid new chunk near put =
     ap (λ v. length v.chunks) put ∙ length-set mid.chunks mid.near chunk ∙ ap (λ v. length v.chunks) near
-
--- and there is as much room, where another line is in place of one
-pub room-exchanged : {i k place : ℕ} {old mid : ChunksValue} (new : ChunksValue) (line : Line) → Reached i k place old mid →
-    new ≡ with_near (set (near_chunk mid) place line) mid → room_among old.chunks ≤ room_among new.chunks
-room-exchanged {i} {k} {place} {old} {mid} new line r put =
-    room-least old.chunks new.chunks
-    (omega (arith, length-reached k old mid new (set (near_chunk mid) place line) r.near put))
-    (omega (arith, ap length (exchanged-reached new line r put), length-set (joined old.chunks) i line))

@@ -2,7 +2,7 @@
 use Rattle.std.proofs.Common.{◌≡◌, ℕ, ◌+◌, ◌-◌, ◌<◌, ◌≤◌, List, [], length, min, max, get_or, set, ap, ◌∙◌, sym, arith, length-set, ⊎_elim}
 use Rattle.std.proofs.lemmas.Bool.{cases_lt}
 use Rattle.ed_base.specs.Buffer.{Line}
-use Rattle.line_store.specs.Chunks.{ChunksValue, joined, with_near, room_among, Known, Starts}
+use Rattle.line_store.specs.Chunks.{ChunksValue, joined, lines_before, with_near, room_among, Known, Starts}
 use Rattle.line_store.proofs.Joined.{before-most, before-set_low, before-set_high, length-joined-set}
 
 -- an offset is at most the number of all lines
@@ -56,6 +56,28 @@ known-set near count new offsets chunks chunk known inside more =
       after = λ k h l.
           let e = known.after k h (omega arith) in
           omega (arith, before-set_high k near chunks chunk h inside, before-most k chunks, before-most k (set chunks near chunk), known.all);
+    }
+
+-- where a chunk has as many lines as the one in whose place it comes, each chunk begins where it did
+pub before-exchanged : (j k : ℕ) (chunks : List (List Line)) (chunk : List Line) → k < length chunks → length chunk ≡ length (get_or chunks k []) →
+    lines_before j (set chunks k chunk) ≡ lines_before j chunks
+before-exchanged j k chunks chunk inside same = ⊎_elim
+    (λ l. let e = before-set_high j k chunks chunk l inside in omega arith)
+    (λ l. before-set_low j k chunks chunk l)
+    (cases_lt k j)
+
+-- and the same is known
+pub known-exchanged : (near k count : ℕ) (offsets : List ℕ) (chunks : List (List Line)) (chunk : List Line) → Known near count offsets chunks → k < length chunks →
+    length chunk ≡ length (get_or chunks k []) → Known near count offsets (set chunks k chunk)
+known-exchanged near k count offsets chunks chunk known inside same =
+    let long = length-set chunks k chunk in
+    let all = length-joined-set k chunks chunk inside in
+    record {
+      all = omega (arith, known.all);
+      long = known.long ∙ sym long;
+      within = omega (arith, known.within);
+      before = λ j h l. known.before j h (omega arith) ∙ sym (before-exchanged j k chunks chunk inside same);
+      after = λ j h l. known.after j h (omega arith) ∙ ap (λ n. count - n) (sym (before-exchanged j k chunks chunk inside same));
     }
 
 -- one chunk is another

@@ -26,9 +26,13 @@ pub record ChunksValue : Type 0 where
 abbrev pub near_chunk : ChunksValue → List Line
 near_chunk v = slice_index_or v.chunks v.near []
 
+-- other lines in a chunk
+abbrev pub with_chunk : (k : ℕ) → List Line → ChunksValue → ChunksValue
+with_chunk k chunk v = record v { chunks = slice_set v.chunks k chunk }
+
 -- other lines in the near chunk
 abbrev pub with_near : List Line → ChunksValue → ChunksValue
-with_near chunk v = record v { chunks = slice_set v.chunks v.near chunk }
+with_near chunk v = with_chunk v.near chunk v
 
 -- for how many lines there is room
 abbrev pub room_among : List (List Line) → ℕ

@@ -1,4 +1,4 @@
--- Where letters are after a line has come in or gone out, and which of them mark one of the first lines.
+-- Where letters are after a line has come in or gone out or two blocks have changed places, and which mark one of the first lines.
 use Rattle.std.specs.Prelude.{ℕ, ◌+◌, ◌-◌, List, Bool, true, false, if◌then◌else◌, map, nat_eq, nat_lt, Option, Some, None, slice_index_or}
 use Rattle.line_store.specs.Marks.{all_letters}
 
@@ -29,3 +29,14 @@ below count (Some place) = if nat_lt place count then Some place else None
 -- where the letters are that mark one of the first so many lines
 abbrev pub places_below : (count : ℕ) → List (Option ℕ) → List (Option ℕ)
 places_below count marks = map (λ letter. below count (slice_index_or marks letter None)) all_letters
+
+-- where a letter is after the lines from place `low` up to `middle` and those from there up to `high` have changed places
+abbrev pub place_swapped : (low middle high : ℕ) → Option ℕ → Option ℕ
+place_swapped low middle high None = None
+place_swapped low middle high (Some place) =
+    if nat_lt place low then Some place else if nat_lt place middle then Some (place + (high - middle))
+    else if nat_lt place high then Some (place - (middle - low)) else Some place
+
+-- where the letters are then
+abbrev pub places_swapped : (low middle high : ℕ) → List (Option ℕ) → List (Option ℕ)
+places_swapped low middle high marks = map (λ letter. place_swapped low middle high (slice_index_or marks letter None)) all_letters

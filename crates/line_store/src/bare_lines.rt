@@ -1,6 +1,8 @@
 //! Lists of lines without letters, however they are kept.
 ghost use Rattle.std.specs.Prelude.{◌≡◌, ◌+◌, ◌<◌, ◌≤◌, ℕ, List, [], length, insert, remove, slice_index_or, slice_set, IfOk, IfErr, OnOk, OnErr, IsOk};
+ghost use Rattle.std.specs.Bool.{OnTrue, OnFalse};
 ghost use Rattle.ed_base.specs.Buffer.{Line, flagged_at};
+ghost use Rattle.line_store.specs.Swaps.{swapped};
 
 use crate::BareLine;
 use std::alloc::{AllocError, Global};
@@ -71,6 +73,16 @@ pub trait BareLines: Drop {
         ensures flagged { items self.new ≡ flagged_at i flag (items self.old) }
         ensures keeps_room { spare self.old ≤ spare self.new };
 
+    /// Has the lines from place `low` up to `middle` and those from there up to `high` change places, where it has a shorter way
+    /// to do so than line by line, and tells whether it did.
+    fn swap_blocks(&mut self, low: usize, middle: usize, high: usize) -> bool
+        requires first { low ≤ middle }
+        requires second { middle ≤ high }
+        requires last { high ≤ length (items self.old) }
+        ensures swapped { OnTrue result (items self.new ≡ swapped low middle high (items self.old)) }
+        ensures unchanged { OnFalse result (items self.new ≡ items self.old) }
+        ensures keeps_room { spare self.old ≤ spare self.new };
+
     /// The same lines once more, which share their bytes.
     fn try_copy(&self) -> Result<Self, AllocError>
         ensures value { IfOk result (λ copy. items copy ≡ items self.now) };
@@ -117,6 +129,11 @@ impl BareLines for Vec<BareLine> {
 
     fn set_flag(&mut self, i: usize, flag: bool) {
         self[i].set_flag(flag);
+    }
+
+    fn swap_blocks(&mut self, low: usize, middle: usize, high: usize) -> bool {
+        self[low..high].rotate_left(middle - low);
+        true
     }
 
     fn try_copy(&self) -> Result<Self, AllocError> {

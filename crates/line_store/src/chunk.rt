@@ -81,6 +81,9 @@ impl Chunk {
         requires room { length self.old < full }
         ensures inserted { self.new ≡ insert self.old at line }
     {
+        if at == self.ring.len() {
+            return self.push(line);
+        }
         match self.ring.insert(at, line) {
             Ok(()) => {}
             Err(_refused) => unreachable!(),
@@ -115,6 +118,15 @@ impl Chunk {
         ensures kept { length self.new ≡ at }
     {
         give(&mut self.ring, at, &mut other.ring);
+    }
+
+    /// Gives all of its lines to a chunk that has room for them, where they come before all others.
+    pub(crate) fn give_all(&mut self, other: &mut Chunk)
+        requires room { length self.old + length other.old ≤ full }
+        ensures given { other.new ≡ self.old ++ other.old }
+        ensures empty { self.new ≡ [] }
+    {
+        give(&mut self.ring, 0, &mut other.ring);
     }
 
     /// Puts a line in place of another, which comes back.

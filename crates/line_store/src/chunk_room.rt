@@ -57,6 +57,18 @@ pub(crate) fn split_chunk(chunks: &mut Vec<Chunk>, k: usize, keep: usize) -> Res
     }
 }
 
+/// Joins a chunk with the next one, for whose lines and its own a chunk has room. One that then has none comes after all others.
+pub(crate) fn join_chunks(chunks: &mut Vec<Chunk>, k: usize)
+    requires chunk { k + 1 < length chunks.old.items }
+    requires room { length (slice_index_or chunks.old.items k []) + length (slice_index_or chunks.old.items (k + 1) []) ≤ full }
+    ensures joined { joined chunks.new.items ≡ joined chunks.old.items }
+    ensures length { length chunks.new.items ≡ length chunks.old.items }
+{
+    let mut first = chunks.remove(k);
+    first.give_all(&mut chunks[k]);
+    chunks.push_reserved(first);
+}
+
 // Moves the last line of a chunk to the next one, where there is a line and room for it.
 fn pass_on(chunks: &mut Vec<Chunk>, k: usize)
     requires chunk { k + 1 < length chunks.old.items }

@@ -1,7 +1,9 @@
 //! Lines in chunks.
 ghost use Rattle.std.specs.Prelude.{ℕ, ◌≡◌, ◌↔◌, ◌+◌, ◌-◌, ◌*◌, ◌<◌, ◌≤◌, [], length, ◌^◌, slice_index_or, slice_set, insert, remove, IfOk, IsOk, IsTrue, OnOk};
 ghost use Rattle.ed_base.specs.Buffer.{flagged_at};
-ghost use Rattle.line_store.specs.Chunks.{ChunksValue, Fits, StandsIn, Touches, full, joined, lines_before, near_chunk, with_near};
+ghost use Rattle.line_store.specs.Chunks.{ChunksValue, Fits, StandsIn, Touches, full, joined, lines_before, near_chunk, with_chunk, with_near};
+
+mod swaps;
 
 use crate::chunk::{Chunk, FULL};
 use crate::chunk_room::{add_chunks, make_room_at, make_room_first, split_chunk};
@@ -249,23 +251,23 @@ impl ChunkLines {
         line
     }
 
-    // Puts a line in place of another of the near chunk.
-    fn exchange_near(&mut self, place: usize, line: BareLine) -> BareLine
-        requires chunk { self.old.near < length self.old.chunks }
-        requires place { place < length (near_chunk self.old) }
-        ensures value { result ≡ slice_index_or (near_chunk self.old) place result }
-        ensures exchanged { self.new ≡ with_near (slice_set (near_chunk self.old) place line) self.old }
+    // Puts a line in place of another of a chunk. No chunk's place changes, so the near one stays near.
+    fn exchange_in(&mut self, k: usize, place: usize, line: BareLine) -> BareLine
+        requires chunk { k < length self.old.chunks }
+        requires place { place < length (slice_index_or self.old.chunks k []) }
+        ensures value { result ≡ slice_index_or (slice_index_or self.old.chunks k []) place result }
+        ensures exchanged { self.new ≡ with_chunk k (slice_set (slice_index_or self.old.chunks k []) place line) self.old }
     {
-        self.chunks[self.near].exchange(place, line)
+        self.chunks[k].exchange(place, line)
     }
 
-    // Flags a line of the near chunk, or takes its flag.
-    fn flag_near(&mut self, place: usize, flag: bool)
-        requires chunk { self.old.near < length self.old.chunks }
-        requires place { place < length (near_chunk self.old) }
-        ensures flagged { self.new ≡ with_near (flagged_at place flag (near_chunk self.old)) self.old }
+    // Flags a line of a chunk, or takes its flag.
+    fn flag_in(&mut self, k: usize, place: usize, flag: bool)
+        requires chunk { k < length self.old.chunks }
+        requires place { place < length (slice_index_or self.old.chunks k []) }
+        ensures flagged { self.new ≡ with_chunk k (flagged_at place flag (slice_index_or self.old.chunks k [])) self.old }
     {
-        self.chunks[self.near].set_flag(place, flag);
+        self.chunks[k].set_flag(place, flag);
     }
 
     // Puts a chunk that has no lines after all others.
@@ -351,15 +353,26 @@ impl BareLines for ChunkLines {
     }
 
     fn exchange(&mut self, i: usize, line: BareLine) -> BareLine {
-        let k = self.go_to_line(i);
+        let k = self.chunk_of(i);
         let place = i - self.start(k);
-        self.exchange_near(place, line)
+        self.exchange_in(k, place, line)
     }
 
     fn set_flag(&mut self, i: usize, flag: bool) {
-        let k = self.go_to_line(i);
+        let k = self.chunk_of(i);
         let place = i - self.start(k);
-        self.flag_near(place, flag);
+        self.flag_in(k, place, flag);
+    }
+
+    fn swap_blocks(&mut self, low: usize, middle: usize, high: usize) -> bool {
+        // Where few lines move, it is not worth it to split chunks.
+        if (middle - low).min(high - middle) < FULL {
+            return false;
+        }
+        match self.swap_whole(low, middle, high) {
+            Ok(()) => true,
+            Err(_no_memory) => false,
+        }
     }
 
     fn try_copy(&self) -> Result<Self, AllocError> {

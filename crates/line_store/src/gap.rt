@@ -111,6 +111,10 @@ impl BareLines for GapLines {
         self.ring[place].set_flag(flag);
     }
 
+    fn swap_blocks(&mut self, _low: usize, _middle: usize, _high: usize) -> bool {
+        false
+    }
+
     fn try_copy(&self) -> Result<Self, AllocError> {
         let mut ring = VecDeque::with_capacity(*self.ring.allocator(), self.ring.len())?;
         for place in 0..self.ring.len() {

@@ -1,9 +1,11 @@
 //! Stores: a list of lines without letters, and apart from it where each letter's line is.
-ghost use Rattle.std.specs.Prelude.{◌≡◌, ℕ, ◌<◌, ◌≤◌, ◌-◌, ◌^◌, Bool, List, [], length, true, insert, remove, slice_index_or, slice_set};
+ghost use Rattle.std.specs.Prelude.{◌≡◌, ℕ, ◌<◌, ◌≤◌, ◌-◌, ◌^◌, Bool, List, [], length, min, true, IsOk, OnErr, OnOk, insert, remove, slice_index_or, slice_set};
 ghost use Rattle.ed_base.specs.Buffer.{Line, plain_line};
-ghost use Rattle.line_store.specs.Kept.{Unflagged, flag_count};
+ghost use Rattle.line_store.specs.Kept.{Unflagged, flag_count, lines_of};
+ghost use Rattle.line_store.specs.Swaps.{swapped};
 
 use crate::marks::Marks;
+use crate::swaps::swap_blocks;
 use crate::{BareLine, BareLines, Line, LineStore};
 use ed_base::{Letter, Pieces};
 use std::alloc::{AllocError, Global};
@@ -80,6 +82,24 @@ fn place_exchanged(place: usize, i: usize, flag: bool) -> usize
     if flag { place.min(i) } else { place }
 }
 
+// The same, once the lines from place `low` up to `middle` and those from there up to `high` have changed places.
+fn place_swapped(place: usize, low: usize, middle: usize, high: usize) -> usize
+    requires first { low ≤ middle }
+    requires second { middle ≤ high }
+    ensures { (lines : List Line) → high ≤ length lines → Unflagged place lines → Unflagged result (swapped low middle high lines) }
+{
+    if place <= low {
+        return place;
+    }
+    if place < middle {
+        return low;
+    }
+    if place < high {
+        return place - (middle - low);
+    }
+    place
+}
+
 // How many lines have the flag, once a line has come in.
 fn flags_with(flags: usize, flag: bool) -> usize
     requires room { flags < 2 ^ 64 - 1 }
@@ -110,6 +130,24 @@ fn flags_exchanged(flags: usize, before: bool, flag: bool) -> usize
         flags.saturating_add(1)
     } else {
         flags.saturating_sub(1)
+    }
+}
+
+impl<L: BareLines> Store<L> {
+    // The lines from place `low` up to `middle` and those from there up to `high` change places, with their letters and flags.
+    fn swap_blocks(&mut self, low: usize, middle: usize, high: usize) -> Result<(), AllocError>
+        requires first { low ≤ middle }
+        requires second { middle ≤ high }
+        requires last { high ≤ length self.old.items }
+        ensures swapped { OnOk result (lines_of self.new ≡ swapped low middle high (lines_of self.old)) }
+        ensures unchanged { OnErr result (lines_of self.new ≡ lines_of self.old) }
+        ensures keeps_room { OnErr result (self.old.room ≤ self.new.room) }
+        ensures room { min (middle - low) (high - middle) ≤ self.old.room → IsOk result }
+    {
+        swap_blocks(&mut self.lines, low, middle, high)?;
+        self.marks.swap_places(low, middle, high);
+        self.unflagged = place_swapped(self.unflagged, low, middle, high);
+        Ok(())
     }
 }
 
@@ -190,6 +228,17 @@ impl<L: BareLines> LineStore for Store<L> {
             bare: before,
             letters,
         }
+    }
+
+    fn carry(&mut self, from: usize, to: usize, place: usize) -> Result<(), AllocError> {
+        // The proof reads off the count of lines that the sum fits.
+        let _ = self.len();
+        // How far no line has the flag is told best where the search has gone on to the next one that has it.
+        let _ = self.next_flagged();
+        if place <= from {
+            return self.swap_blocks(place, from, to);
+        }
+        self.swap_blocks(from, to, place + (to - from))
     }
 
     fn mark(&mut self, i: usize, letter: Letter) {

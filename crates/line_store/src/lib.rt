@@ -6,12 +6,14 @@ mod chunk;
 mod chunk_room;
 mod chunk_starts;
 mod chunks;
+mod extent;
 mod gap;
 mod kept;
 mod line;
 mod marks;
 mod shared;
 mod store;
+mod swaps;
 
 pub use bare_lines::BareLines;
 pub use chunks::{ChunkLines, ChunkStore};

@@ -1,7 +1,7 @@
 //! Where the lines are that letters mark.
-ghost use Rattle.std.specs.Prelude.{◌≡◌, ◌-◌, ◌<◌, ◌^◌, Some, None, length, replicate, slice_index_or, slice_set, IfSome};
+ghost use Rattle.std.specs.Prelude.{◌≡◌, ◌-◌, ◌<◌, ◌≤◌, ◌^◌, Some, None, length, replicate, slice_index_or, slice_set, IfSome};
 ghost use Rattle.line_store.specs.Marks.{AllBelow, lettered, letters_at, marks_of};
-ghost use Rattle.line_store.specs.Shifts.{below, closed, opened, places_below, with_line, without_line};
+ghost use Rattle.line_store.specs.Shifts.{below, closed, opened, place_swapped, places_below, places_swapped, with_line, without_line};
 
 use crate::LineStore;
 use ed_base::Letter;
@@ -58,6 +58,20 @@ fn place_passed_on(at: usize, comes: bool, place: Option<usize>) -> Option<usize
     match place {
         _ if comes => Some(at),
         Some(old) if old == at => None,
+        _ => place,
+    }
+}
+
+// Where a letter is after the lines from place `low` up to `middle` and those from there up to `high` have changed places.
+fn place_swapped(low: usize, middle: usize, high: usize, place: Option<usize>) -> Option<usize>
+    requires first { low ≤ middle }
+    requires second { middle ≤ high }
+    ensures value { result ≡ place_swapped low middle high place }
+{
+    match place {
+        Some(other) if other < low => place,
+        Some(other) if other < middle => Some(other + (high - middle)),
+        Some(other) if other < high => Some(other - (middle - low)),
         _ => place,
     }
 }
@@ -136,6 +150,17 @@ impl Marks {
         ensures count { length self.old ≡ 26 }
     {
         self.places[letter.place()] = Some(place);
+    }
+
+    /// The lines from place `low` up to `middle` and those from there up to `high` have changed places.
+    pub(crate) fn swap_places(&mut self, low: usize, middle: usize, high: usize)
+        requires first { low ≤ middle }
+        requires second { middle ≤ high }
+        ensures value { self.new ≡ places_swapped low middle high self.old }
+    {
+        for letter in 0..LETTERS {
+            self.places[letter] = place_swapped(low, middle, high, self.places[letter]);
+        }
     }
 
     /// A line has come in at this place, which these letters mark.

@@ -1,34 +1,43 @@
 //! Lines without letters, which may share the block that their bytes stand in.
-ghost use Rattle.std.specs.Prelude.{◌≡◌, ◌↔◌, [], ◌∷◌, ◌++◌, IsNone, IfOk, IfSome, OnOk, OnErr};
+ghost use Rattle.std.specs.Prelude.{◌≡◌, ◌↔◌, ◌+◌, ◌≤◌, [], ◌∷◌, ◌++◌, length, slice_range, IsNone, IfOk, IfSome, OnOk, OnErr};
 ghost use Rattle.ed_base.specs.Lines.{newline, IsLine, lines_of};
 ghost use Rattle.ed_base.specs.Buffer.{plain_line, with_flag};
 
 use crate::Line;
+use crate::extent::{Extent, WHOLE};
 use ed_base::{Bytes, Pieces, next_line};
 use std::alloc::{AllocError, Global};
 use std::marker::Model;
 use std::rc::Rc;
 
 /// A line without the letters that mark it: its bytes, any but a newline, and its flag. The bytes are a part of a block that
-/// other lines may share, and which goes with the last of them. A line takes 32 bytes beside its block.
+/// other lines may share, and which goes with the last of them. A line takes 16 bytes beside its block.
 #[derive(Drop)]
 pub struct BareLine {
     block: Rc<Bytes>,
-    start: usize,
-    end: usize,
-    flag: bool,
+    start: u32,
+    extent: Extent,
 }
+
+const _: () = prove!(size_of::<BareLine>() == 16);
 
 impl Model for BareLine {
     ghost use Rattle.std.specs.Prelude.{◌≤◌, length, slice_range};
     ghost use Rattle.ed_base.specs.Lines.{IsLine};
     ghost use Rattle.ed_base.specs.Buffer.{Line, no_letters};
+    ghost use Rattle.line_store.specs.Extents.{line_end};
 
     ghost Value = { Line };
 
-    ghost view = { λ b. record { bytes = slice_range b.block.value b.start b.end; letters = no_letters; flag = b.flag } };
+    ghost view = { λ b. record {
+      bytes = slice_range b.block.value b.start (line_end b.start b.extent.size (length b.block.value));
+      letters = no_letters;
+      flag = b.extent.flag;
+    } };
 
-    ghost invariant = { λ b. (b.start ≤ b.end) × (b.end ≤ length b.block.value) × IsLine (slice_range b.block.value b.start b.end) };
+    ghost invariant = { λ b. (b.start ≤ line_end b.start b.extent.size (length b.block.value))
+        × (line_end b.start b.extent.size (length b.block.value) ≤ length b.block.value)
+        × IsLine (slice_range b.block.value b.start (line_end b.start b.extent.size (length b.block.value))) };
 }
 
 impl BareLine {
@@ -37,20 +46,37 @@ impl BareLine {
         requires line { IsLine bytes }
         ensures value { IfOk result (λ line. line ≡ plain_line bytes) }
     {
-        let end = bytes.len();
         Ok(BareLine {
             block: Rc::new(alloc, bytes)?,
             start: 0,
-            end,
-            flag: false,
+            extent: Extent::new(WHOLE, false),
         })
+    }
+
+    /// The line of a part of a block, without the flag. It shares the block or, where the part begins or reaches too far for
+    /// that, has a copy of its bytes.
+    fn part(alloc: Global, block: &Rc<Bytes>, start: usize, size: usize) -> Result<Self, AllocError>
+        requires within { start + size ≤ length block.now.value }
+        requires line { IsLine (slice_range block.now.value start (start + size)) }
+        ensures value { IfOk result (λ line. line ≡ plain_line (slice_range block.now.value start (start + size))) }
+    {
+        if start <= u32::MAX as usize && size < WHOLE as usize {
+            return Ok(BareLine {
+                block: block.clone()?,
+                start: start as u32,
+                extent: Extent::new(size as u32, false),
+            });
+        }
+        let bytes = &block.as_slice()[start..start + size];
+        BareLine::new(alloc, Bytes::from_slice(alloc, bytes)?)
     }
 
     pub(crate) fn as_slice(&self) -> &[u8]
         ensures value { result.now ≡ self.now.bytes }
         ensures line { IsLine result.now }
     {
-        &self.block.as_slice()[self.start..self.end]
+        let block = self.block.as_slice();
+        &block[self.start as usize..self.extent.end(self.start, block.len())]
     }
 
     /// Appends its bytes and a newline, which share its block as far as they stand there.
@@ -59,24 +85,26 @@ impl BareLine {
         ensures line { IsLine self.now.bytes }
     {
         let block = self.block.as_slice();
-        if self.end < block.len() && block[self.end] == b'\n' {
-            return output.extend_from_block(&self.block, self.start, self.end + 1);
+        let start = self.start as usize;
+        let end = self.extent.end(self.start, block.len());
+        if end < block.len() && block[end] == b'\n' {
+            return output.extend_from_block(&self.block, start, end + 1);
         }
-        output.extend_from_block(&self.block, self.start, self.end)?;
+        output.extend_from_block(&self.block, start, end)?;
         output.extend_from_slice(b"\n")
     }
 
     pub(crate) fn flag(&self) -> bool
         ensures value { result ≡ self.now.flag }
     {
-        self.flag
+        self.extent.flag()
     }
 
     /// The line with the flag or without it.
     pub(crate) fn set_flag(&mut self, flag: bool)
         ensures value { self.new ≡ with_flag flag self.old }
     {
-        self.flag = flag;
+        self.extent = self.extent.with_flag(flag);
     }
 
     /// A line of the same bytes, which both share, without the flag.
@@ -86,8 +114,7 @@ impl BareLine {
         Ok(BareLine {
             block: self.block.clone()?,
             start: self.start,
-            end: self.end,
-            flag: false,
+            extent: self.extent.with_flag(false),
         })
     }
 
@@ -98,8 +125,7 @@ impl BareLine {
         Ok(BareLine {
             block: self.block.clone()?,
             start: self.start,
-            end: self.end,
-            flag: self.flag,
+            extent: self.extent.copy(),
         })
     }
 }
@@ -108,6 +134,7 @@ impl BareLine {
 /// the lines is gone. A contract sees the bytes whose lines are still to come.
 #[derive(Drop)]
 pub struct FileLines {
+    alloc: Global,
     block: Rc<Bytes>,
     next: usize,
 }
@@ -127,14 +154,23 @@ impl FileLines {
     pub fn new(alloc: Global, bytes: Bytes) -> Result<Self, AllocError>
         ensures value { IfOk result (λ file. file ≡ bytes) }
     {
-        Ok(FileLines {
-            block: Rc::new(alloc, bytes)?,
-            next: 0,
-        })
+        Ok(FileLines::shared(alloc, Rc::new(alloc, bytes)?))
     }
 
-    /// The next line, without letters or flag; none after the last one, which may lack its newline. It copies no bytes. An
-    /// `Err` comes only where more lines share the bytes than can be counted, and leaves the lines as they are.
+    /// All lines of a block's bytes are to come. It shares the block, and takes no memory.
+    pub fn shared(alloc: Global, block: Rc<Bytes>) -> Self
+        ensures value { result ≡ block.value }
+    {
+        FileLines {
+            alloc,
+            block,
+            next: 0,
+        }
+    }
+
+    /// The next line, without letters or flag; none after the last one, which may lack its newline. It copies no bytes but those
+    /// of a line that begins after the first four gibibytes or is longer than two. An `Err` comes only where there is no memory
+    /// for such a copy, or where more lines share the bytes than can be counted, and leaves the lines as they are.
     pub fn next_line(&mut self) -> Result<Option<Line>, AllocError>
         ensures ended { IfOk result (λ next. IsNone next ↔ (self.old ≡ [])) }
         ensures first { IfOk result (λ next. IfSome next (λ line.
@@ -145,16 +181,9 @@ impl FileLines {
         let Some((text, rest)) = next_line(&bytes[self.next..]) else {
             return Ok(None);
         };
-        let start = self.next;
-        let end = start + text.len();
         let after = bytes.len() - rest.len();
-        let block = self.block.clone()?;
+        let line = BareLine::part(self.alloc, &self.block, self.next, text.len())?;
         self.next = after;
-        Ok(Some(Line::of(BareLine {
-            block,
-            start,
-            end,
-            flag: false,
-        })))
+        Ok(Some(Line::of(line)))
     }
 }

@@ -1,7 +1,8 @@
 //! A list of lines, however it is kept.
-ghost use Rattle.std.specs.Prelude.{◌≡◌, ◌+◌, ◌<◌, ◌≤◌, ◌++◌, ℕ, List, [], ◌∷◌, true, false, count_by, length, insert, remove, slice_index_or, slice_set, IfOk, IfErr, OnOk, OnErr, IsOk};
+ghost use Rattle.std.specs.Prelude.{◌≡◌, ◌+◌, ◌-◌, ◌<◌, ◌≤◌, ◌++◌, ℕ, List, [], ◌∷◌, true, false, count_by, length, insert, remove, slice_index_or, slice_set, IfOk, IfErr, OnOk, OnErr, IsOk};
 ghost use Rattle.ed_base.specs.Lines.{newline, IsLine};
 ghost use Rattle.ed_base.specs.Buffer.{Line, plain_line, marked_at, marked_place, flagged_at, flagged_place, AtMostOnce, KnowLetters, SharesNoLetter};
+ghost use Rattle.ed_base.specs.Parts.{carried};
 ghost use Rattle.line_store.specs.Marks.{lettered};
 
 use crate::{Line, Marks};
@@ -76,6 +77,19 @@ pub trait LineStore: Drop {
         ensures value { result ≡ slice_index_or (lines self.old) i (plain_line []) }
         ensures exchanged { lines self.new ≡ slice_set (lines self.old) i line }
         ensures keeps_room { spare self.old ≤ spare self.new };
+
+    /// Carries the lines from place `from` up to `to`, with their letters and flags, to a place among the others. Where they
+    /// stand there already, nothing happens.
+    fn carry(&mut self, from: usize, to: usize, place: usize) -> Result<(), AllocError>
+        requires order { from ≤ to }
+        requires last { to ≤ length (lines self.old) }
+        requires place { place + (to - from) ≤ length (lines self.old) }
+        ensures carried { OnOk result (lines self.new ≡ carried from to place (lines self.old)) }
+        ensures unchanged { OnErr result (lines self.new ≡ lines self.old) }
+        ensures keeps_room { OnErr result (spare self.old ≤ spare self.new) }
+
+        // Where there is room for as many lines, nothing is refused.
+        ensures room { to - from ≤ spare self.old → IsOk result };
 
     /// Marks a line by a letter, which from then on marks no other.
     fn mark(&mut self, i: usize, letter: Letter)

@@ -38,7 +38,7 @@ const SOME: Start = lines!(1, None);
 const ANY: Start = lines!(0, None);
 
 #[rattlefmt::skip]
-static ROWS: [Row; 17] = [
+static ROWS: [Row; 28] = [
     // A pattern of the start.
     Row { script: b"/foo/p\nQ\n", start: SOME, has: Some(&[b"foo"]), cannot: None },
     Row { script: b"/foo/p\nQ\n", start: SOME, has: Some(&[]), cannot: no_match!(1, None) },
@@ -60,6 +60,20 @@ static ROWS: [Row; 17] = [
     // A list that may take away what matches, so that it isn't known at the second turn.
     Row { script: b"g/bar/?foo?p\\\nd\nQ\n", start: SOME, has: Some(&[b"foo"]), cannot: no_match!(1, Some(1)) },
     Row { script: b"g/bar/?foo?p\\\n.t0\nQ\n", start: SOME, has: Some(&[b"foo"]), cannot: None },
+    // A list that takes lines away, and a pattern that is remembered and not given.
+    Row { script: b"g/bar/d\n/foo/p\nQ\n", start: SOME, has: Some(&[b"foo"]), cannot: no_match!(2, None) },
+    Row { script: b"g/foo/p\ng//?foo?p\nQ\n", start: ANY, has: Some(&[]), cannot: no_match!(2, Some(1)) },
+    // Lines that are changed, joined, or read.
+    Row { script: b"s/^/x/\n/foo/p\nQ\n", start: SOME, has: Some(&[b"foo"]), cannot: no_match!(2, None) },
+    Row { script: b"1,2j\n/foo/p\nQ\n", start: lines!(2, None), has: Some(&[b"foo"]), cannot: no_match!(2, None) },
+    Row { script: b"1,$j\n/foo/p\nQ\n", start: SOME, has: Some(&[b"foo"]), cannot: no_match!(2, None) },
+    Row { script: b"1j\n/foo/p\nQ\n", start: SOME, has: Some(&[b"foo"]), cannot: None },
+    Row { script: b"$r G\n/foo/p\nQ\n", start: SOME, has: Some(&[]), cannot: no_match!(2, None) },
+    Row { script: b"e G\n/foo/p\nQ\n", start: SOME, has: Some(&[b"foo"]), cannot: no_match!(2, None) },
+    Row { script: b"E G\n/foo/p\nQ\n", start: SOME, has: Some(&[b"foo"]), cannot: no_match!(2, None) },
+    // Earlier lines, which undo brings back, and which it leaves to be brought back.
+    Row { script: b"$a\nfoo\n.\nu\n/foo/p\nQ\n", start: SOME, has: Some(&[]), cannot: no_match!(3, None) },
+    Row { script: b"$a\nfoo\n.\nu\nu\n/foo/p\nQ\n", start: SOME, has: Some(&[]), cannot: None },
 ];
 
 /// Each way out of a function that owns what it makes is proved with all that is dropped there, so the members are put in here.

@@ -1,5 +1,5 @@
 //! Blocks of lines of a store: made, exchanged, carried to another place. A block is the lines after line `from` up to line `to`.
-ghost use Rattle.std.specs.Prelude.{◌≡◌, ◌≢◌, ◌+◌, ◌-◌, ◌^◌, ◌<◌, ◌≤◌, [], length, map, min, max, insert, remove, slice_index_or, IfOk, IfErr, OnOk, OnErr, MatchResult};
+ghost use Rattle.std.specs.Prelude.{◌≡◌, ◌≢◌, ◌+◌, ◌-◌, ◌^◌, ◌<◌, ◌≤◌, [], length, map, min, max, IfOk, IfErr, OnOk, OnErr, MatchResult};
 ghost use Rattle.std.specs.List.{concat};
 ghost use Rattle.ed_base.specs.Lines.{AreLines, bytes_of, lines_of};
 ghost use Rattle.ed_base.specs.Buffer.{plain_line, texts};
@@ -9,16 +9,9 @@ ghost use Rattle.ed_commands.specs.Editors.{AreNew, place_beside, span_value};
 
 use crate::editor::addressing::Span;
 use crate::substitution::is_one_line;
-use ed_base::{Bytes, Pieces, Text, join_lines};
+use ed_base::{Bytes, Pieces};
 use line_store::{FileLines, Line, LineStore};
 use std::alloc::{AllocError, Global};
-
-/// New lines of these texts, which share one copy of their bytes.
-pub fn new_lines(alloc: Global, texts: &Text) -> Result<Vec<Line>, AllocError>
-    ensures value { IfOk result (λ lines. lines.items ≡ map plain_line texts.now) }
-{
-    file_lines(alloc, join_lines(alloc, texts)?)
-}
 
 /// The bytes of a file that has the lines of a block. They are shared with the lines as far as these lie in blocks.
 pub fn file_of<S: LineStore>(
@@ -50,15 +43,14 @@ pub fn split_text(alloc: Global, mut text: Bytes) -> Result<Vec<Line>, AllocErro
         return Ok(lines);
     }
     text.push(b'\n')?;
-    file_lines(alloc, text)
+    file_lines(alloc, FileLines::new(alloc, text)?)
 }
 
-/// New lines of a file's bytes, which they share.
-pub fn file_lines(alloc: Global, bytes: Bytes) -> Result<Vec<Line>, AllocError>
-    ensures value { IfOk result (λ lines. lines.items ≡ map plain_line (lines_of bytes)) }
+/// New lines, those of a file.
+pub fn file_lines(alloc: Global, mut file: FileLines) -> Result<Vec<Line>, AllocError>
+    ensures value { IfOk result (λ lines. lines.items ≡ map plain_line (lines_of file)) }
 {
     let mut lines = Vec::new(alloc);
-    let mut file = FileLines::new(alloc, bytes)?;
     while let Some(line) = file.next_line()? {
         lines.push(line)?;
     }
@@ -224,54 +216,11 @@ pub fn carry<S: LineStore>(span: Span, target: usize, store: &mut S) -> Result<u
     ensures unchanged { OnErr result (S.lines store.new ≡ S.lines store.old) }
 {
     let from = span.first - 1;
-    let count = span.last - from;
-    store.reserve(count)?;
-    if target <= from {
-        carry_up(from, span.last, target, store);
-        return Ok(target);
-    }
-    carry_down(from, span.last, target, store);
-    Ok(target - count)
-}
-
-/// Carries a block after a line in front of it, its first line first. There is room for its lines.
-pub fn carry_up<S: LineStore>(from: usize, to: usize, place: usize, store: &mut S)
-    requires place { place ≤ from }
-    requires order { from ≤ to }
-    requires last { to ≤ length (S.lines store.old) }
-    requires room { to - from ≤ S.spare store.old }
-    ensures carried { S.lines store.new ≡ carried from to place (S.lines store.old) }
-{
-    for i in from..to {
-        carry_line(i, place + (i - from), store);
-    }
-}
-
-/// Carries a block after a line that follows it, its last line first. There is room for its lines.
-pub fn carry_down<S: LineStore>(from: usize, to: usize, target: usize, store: &mut S)
-    requires order { from ≤ to }
-    requires target { to ≤ target }
-    requires last { target ≤ length (S.lines store.old) }
-    requires room { to - from ≤ S.spare store.old }
-    ensures carried { S.lines store.new ≡ carried from to (target - (to - from)) (S.lines store.old) }
-{
-    for i in (from..to).rev() {
-        carry_line(i, target - (to - i), store);
-    }
-}
-
-// Carries one line to another place, counted without it. There is room for one.
-fn carry_line<S: LineStore>(from: usize, to: usize, store: &mut S)
-    requires from { from < length (S.lines store.old) }
-    requires to { to < length (S.lines store.old) }
-    requires room { 0 < S.spare store.old }
-    ensures carried { S.lines store.new
-        ≡ insert (remove (S.lines store.old) from) to (slice_index_or (S.lines store.old) from (plain_line [])) }
-    ensures spends_one { S.spare store.old ≤ S.spare store.new + 1 }
-{
-    let line = store.take(from);
-    match store.put(to, line) {
-        Ok(()) => {}
-        Err(_refused) => unreachable!(),
-    }
+    let place = if target <= from {
+        target
+    } else {
+        target - (span.last - from)
+    };
+    store.carry(from, span.last, place)?;
+    Ok(place)
 }

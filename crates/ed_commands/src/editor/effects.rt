@@ -12,7 +12,7 @@ use crate::editor::Editor;
 use crate::editor::addressing::{Addressed, Span};
 use crate::editor::lines::write_lines;
 use crate::editor::past::Before;
-use ed_base::{Bytes, Fault, Letter, Pieces, Text, join_lines, push_number};
+use ed_base::{Bytes, Fault, Letter, Pieces, Text, push_number};
 use ed_syntax::{Answer, Form, Verb};
 use line_store::LineStore;
 use std::alloc::AllocError;
@@ -73,8 +73,13 @@ impl<S: LineStore> Editor<S> {
             (self.new.state ≡ left_by before self.old.state (effect.append text.now (span_value span) self.old.state)) }
         ensures failed { self.new.failed ≡ self.old.failed }
     {
-        let bytes = join_lines(self.alloc, text)?;
-        self.enter(span.first, bytes, before)
+        match text.block() {
+            Some(block) => self.enter(span.first, block.clone()?, before),
+            None => {
+                self.current = span.first;
+                Ok(())
+            }
+        }
     }
 
     /// `d`: the lines of the span go out, into what undo keeps.

@@ -9,12 +9,13 @@ ghost use Rattle.ed_commands.specs.Editors.{AreNew, left_by, span_value};
 
 use crate::editor::Editor;
 use crate::editor::addressing::Span;
-use crate::editor::blocks::{exchange, new_lines};
+use crate::editor::blocks::{exchange, file_lines};
 use crate::editor::lines::put_file;
 use crate::editor::past::{Before, Change};
-use ed_base::{Bytes, Text, join_lines};
-use line_store::{Line, LineStore, Marks};
+use ed_base::{Bytes, Text};
+use line_store::{FileLines, Line, LineStore, Marks};
 use std::alloc::AllocError;
+use std::rc::Rc;
 
 impl<S: LineStore> Editor<S> {
     /// Puts new lines in place of those after line `from` up to line `to`, which undo keeps. The last new line is current or,
@@ -49,27 +50,28 @@ impl<S: LineStore> Editor<S> {
         Ok(())
     }
 
-    /// Puts the lines of a file's bytes, which they share, after line `place`, the last one current. Without any that line is
-    /// current, and nothing has changed.
+    /// Puts the lines of a block, which they share, after line `place`, the last one current. Without any that line is current,
+    /// and nothing has changed.
     pub(crate) fn enter(
         &mut self,
         place: usize,
-        bytes: Bytes,
+        block: Rc<Bytes>,
         before: Before,
     ) -> Result<(), AllocError>
         requires place { place ≤ last self.old.state }
         ensures exact { OnOk result
-            (self.new.state ≡ left_by before self.old.state (entered place (lines_of bytes) self.old.state)) }
+            (self.new.state ≡ left_by before self.old.state (entered place (lines_of block.value) self.old.state)) }
         ensures failed { self.new.failed ≡ self.old.failed }
     {
-        if bytes.is_empty() {
+        if block.is_empty() {
             self.current = place;
             return Ok(());
         }
         self.past.reserve()?;
         let marks = Marks::of(&self.store);
         let count = self.store.len();
-        put_file(self.alloc, bytes, place, &mut self.store)?;
+        let file = FileLines::shared(self.alloc, block);
+        put_file(file, place, &mut self.store)?;
         let now = self.store.len();
         self.current = now - (count - place);
         self.changed = true;
@@ -95,12 +97,13 @@ impl<S: LineStore> Editor<S> {
             (self.new.state ≡ left_by before self.old.state (effect.insert text.now (span_value span) self.old.state)) }
         ensures failed { self.new.failed ≡ self.old.failed }
     {
-        if text.is_empty() {
-            self.current = span.first.min(self.store.len());
-            return Ok(());
+        match text.block() {
+            Some(block) => self.enter(span.first - 1, block.clone()?, before),
+            None => {
+                self.current = span.first.min(self.store.len());
+                Ok(())
+            }
         }
-        let bytes = join_lines(self.alloc, text)?;
-        self.enter(span.first - 1, bytes, before)
     }
 
     /// `c`: the text comes in place of the lines of the span.
@@ -117,10 +120,11 @@ impl<S: LineStore> Editor<S> {
             (self.new.state ≡ left_by before self.old.state (effect.change text.now (span_value span) self.old.state)) }
         ensures failed { self.new.failed ≡ self.old.failed }
     {
-        if text.is_empty() {
+        let Some(block) = text.block() else {
             return self.delete(span, before);
-        }
-        let lines = new_lines(self.alloc, text)?;
+        };
+        let file = FileLines::shared(self.alloc, block.clone()?);
+        let lines = file_lines(self.alloc, file)?;
         self.replace(span.first - 1, span.last, lines, before)
     }
 }

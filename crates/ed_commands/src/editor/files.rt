@@ -18,6 +18,7 @@ use ed_base::{Bytes, Fault, Pieces};
 use ed_syntax::{Answer, Command, Pattern, Request, Verb};
 use line_store::LineStore;
 use std::alloc::AllocError;
+use std::rc::Rc;
 
 // The bytes of a file that was read; one that is missing is refused.
 fn bytes_read(answer: Answer) -> Result<Bytes, Fault>
@@ -125,7 +126,7 @@ impl<S: LineStore> Editor<S> {
     {
         self.name_first(path)?;
         let bytes = bytes_read(answer)?;
-        self.enter(span.first, bytes, before)?;
+        self.enter(span.first, Rc::new(self.alloc, bytes)?, before)?;
         Ok(())
     }
 

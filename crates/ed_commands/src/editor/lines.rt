@@ -76,24 +76,23 @@ pub fn file_store<S: LineStore>(alloc: Global, bytes: Bytes) -> Result<S, AllocE
     ensures value { IfOk result (λ store. S.lines store ≡ map plain_line (lines_of bytes)) }
 {
     let mut store = S::empty(alloc)?;
-    put_file(alloc, bytes, 0, &mut store)?;
+    let file = FileLines::new(alloc, bytes)?;
+    put_file(file, 0, &mut store)?;
     Ok(store)
 }
 
-/// Puts the lines of a file's bytes, which they share, after line `place`. After an `Err` the store may have some of them.
+/// Puts the lines of a file after line `place`. After an `Err` the store may have some of them.
 pub fn put_file<S: LineStore>(
-    alloc: Global,
-    bytes: Bytes,
+    mut file: FileLines,
     place: usize,
     store: &mut S,
 ) -> Result<(), AllocError>
     requires place { place ≤ length (S.lines store.old) }
-    ensures put { OnOk result (S.lines store.new ≡ inserted place (map plain_line (lines_of bytes)) (S.lines store.old)) }
+    ensures put { OnOk result (S.lines store.new ≡ inserted place (map plain_line (lines_of file)) (S.lines store.old)) }
     ensures no_fewer { length (S.lines store.old) ≤ length (S.lines store.new) }
 {
     // Places are counted from the end, where no sum can be too great.
     let after = store.len() - place;
-    let mut file = FileLines::new(alloc, bytes)?;
     while let Some(line) = file.next_line()? {
         match store.put(store.len() - after, line) {
             Ok(()) => {}

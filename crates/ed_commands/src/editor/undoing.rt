@@ -9,7 +9,7 @@ ghost use Rattle.ed_commands.specs.Earlier.{rewound, texts_before};
 ghost use Rattle.ed_commands.specs.Editors.{Tells};
 
 use crate::editor::Editor;
-use crate::editor::blocks::{carry_down, carry_up, exchange};
+use crate::editor::blocks::exchange;
 use crate::editor::past::Change;
 use ed_base::Fault;
 use line_store::{Line, LineStore};
@@ -109,12 +109,7 @@ fn carry_back<S: LineStore>(
     let end = place.saturating_add(to.saturating_sub(from)).min(last);
     let count = end - start;
     let target = from.min(last - count);
-    store.reserve(count)?;
-    if target <= start {
-        carry_up(start, end, target, store);
-    } else {
-        carry_down(start, end, target + count, store);
-    }
+    store.carry(start, end, target)?;
     Ok(Change::Moved {
         from: start,
         to: end,

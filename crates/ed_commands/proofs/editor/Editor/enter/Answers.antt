@@ -20,12 +20,13 @@ returns-clause-exact g c =
     let old = c.args.self.now.state in
     let is : s ≡ old = ap (λ v. v.state) c.self.view_is in
     let place = c.args.place in
-    let text = lines_of c.args.bytes in
+    let text = lines_of c.args.block.value in
     let new = map plain_line text in
     let after = g.S.LineStore.lines c.put_file.new.store in
     let entered = c.len-now.result - c.len-count.result in
     let within : place ≤ length lines = omega (arith, c.requires.place, ap (λ t. length t.lines) is) in
-    let put = c.in_ok-put_file.ensures.put in
+    let put : after ≡ inserted place new lines =
+    c.in_ok-put_file.ensures.put ∙ ap (λ b. inserted place (map plain_line (lines_of b)) lines) c.shared-file.ensures.value in
     let longer = length-exchanged place place new lines (omega arith) within in
     let many : length new ≡ entered = omega (arith, ap length put, longer, c.len-count.ensures.value, c.len-now.ensures.value) in
     let back : exchanged place (place + entered) c.new.result.items after ≡ lines =
@@ -36,4 +37,4 @@ returns-clause-exact g c =
     c.of-marks.ensures.own (sym (c.reserve.ensures.unchanged (texts lines))) (c.keep.ensures.kept (texts after))
     ∙ ap (λ t. left_by c.args.before t (altered (inserted place new t.lines) (place + length text) t)) is
     ∙ ap (left_by c.args.before old)
-    (sym (entered-text place text old (some-lines c.args.bytes (λ none. cc (c.is_empty.ensures.value.1 none, c.if-is_empty.false)))))
+    (sym (entered-text place text old (some-lines c.args.block.value (λ none. cc (c.is_empty.ensures.value.1 (c.deref.ensures ∙ none), c.if-is_empty.false)))))

@@ -4,8 +4,8 @@ use Rattle.ed_base.specs.Lines.{lines_of}
 use Rattle.ed_base.specs.Buffer.{plain_line}
 use Rattle.ed_commands.proofs.editor.blocks.file_lines.Given as goal
 
-abbrev pub invariant-loop-file : goal.invariant-loop-file
-invariant-loop-file l = l.lines.items ++ map plain_line (lines_of l.file) ≡ map plain_line (lines_of l.fn.bytes)
+abbrev pub invariant-loop-lines : goal.invariant-loop-lines
+invariant-loop-lines l = l.lines.items ++ map plain_line (lines_of l.file) ≡ map plain_line (lines_of l.fn.file)
 
-abbrev pub decreases-loop-file : goal.decreases-loop-file
-decreases-loop-file l = length (lines_of l.file)
+abbrev pub decreases-loop-lines : goal.decreases-loop-lines
+decreases-loop-lines l = length (lines_of l.file)

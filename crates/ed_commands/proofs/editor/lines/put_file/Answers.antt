@@ -15,8 +15,7 @@ loop-file-init g c =
     let before = g.S.LineStore.lines c.args.store.now in
     let at : length before - (c.len.result - c.args.place) ≡ c.args.place = omega (arith, c.len.ensures.value, c.requires.place) in
     record {
-      all = ap (λ n. inserted n (map plain_line (lines_of c.in_ok-file.file)) before) at
-          ∙ ap (λ b. inserted c.args.place (map plain_line (lines_of b)) before) c.in_ok-file.ensures.value;
+      all = ap (λ n. inserted n (map plain_line (lines_of c.args.file)) before) at;
       after = omega (arith, c.len.ensures.value);
       no_fewer = omega arith;
     }

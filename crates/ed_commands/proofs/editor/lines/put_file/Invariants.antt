@@ -9,7 +9,7 @@ abbrev pub invariant-loop-file : goal.invariant-loop-file
 invariant-loop-file g l =
     let lines = g.S.LineStore.lines in
     record {
-      all : inserted (length (lines l.store) - l.after) (map plain_line (lines_of l.file)) (lines l.store) ≡ inserted l.place (map plain_line (lines_of l.fn.bytes)) (lines l.fn.store);
+      all : inserted (length (lines l.store) - l.after) (map plain_line (lines_of l.file)) (lines l.store) ≡ inserted l.place (map plain_line (lines_of l.fn.file)) (lines l.fn.store);
       after : l.after ≤ length (lines l.store);
       no_fewer : length (lines l.fn.store) ≤ length (lines l.store);
     }

@@ -8,7 +8,6 @@ use Rattle.ed_commands.proofs.Changes.{moved-back}
 use Rattle.ed_commands.proofs.Texts.{texts-carried}
 use Rattle.ed_commands.proofs.Undoing.{carried-cut}
 use Rattle.ed_commands.proofs.editor.undoing.carry_back.Goals as goal
-use Rattle.ed_commands.proofs.editor.undoing.carry_back.Goals.{then-target-start, else-target-start}
 
 pub returns-clause-texts : goal.returns-clause-texts
 returns-clause-texts g c =
@@ -23,31 +22,19 @@ returns-clause-texts g c =
     let j : end ≡ min later (length (texts before)) = omega (arith, long, c.len-last.type_inv, c.saturating_add.ensures, c.saturating_sub.ensures) in
     let p : target ≡ min c.args.from (length (texts before) - (end - start)) = omega (arith, long) in
     let order : start ≤ end = omega (arith, i, j) in
-    let is : lines c.if-target-start.store ≡ carried start end target before =
-    elim c.if-target-start.branch [
-      | then-target-start w ↦ ap lines w.store-is ∙ w.carry_up.ensures.carried ∙ ap (carried start end target) c.in_ok-reserve.ensures.unchanged
-      | else-target-start w ↦ ap lines w.store-is ∙ w.carry_down.ensures.carried
-          ∙ ap (λ n. carried start end n (lines c.reserve.new.self)) (let e : target + (end - start) - (end - start) ≡ target = omega arith in e)
-          ∙ ap (carried start end target) c.in_ok-reserve.ensures.unchanged
-    ] in
+    let is = c.in_ok-carry.ensures.carried in
     ap texts is ∙ texts-carried start end target before ∙ carried-cut c.args.place later c.args.from start end target (texts before) i j order p
 
 pub returns-clause-again : goal.returns-clause-again
 returns-clause-again g c =
     let lines = g.S.LineStore.lines in
     let before = lines c.args.store.now in
-    let after = lines c.if-target-start.store in
+    let after = lines c.carry.new.self in
     let start = c.min-start.result in
     let end = c.min-end.result in
     let target = c.min-target.result in
     let order : start ≤ end = omega (arith, c.len-last.type_inv, c.saturating_add.ensures) in
-    let is : after ≡ carried start end target before =
-    elim c.if-target-start.branch [
-      | then-target-start w ↦ ap lines w.store-is ∙ w.carry_up.ensures.carried ∙ ap (carried start end target) c.in_ok-reserve.ensures.unchanged
-      | else-target-start w ↦ ap lines w.store-is ∙ w.carry_down.ensures.carried
-          ∙ ap (λ n. carried start end n (lines c.reserve.new.self)) (let e : target + (end - start) - (end - start) ≡ target = omega arith in e)
-          ∙ ap (carried start end target) c.in_ok-reserve.ensures.unchanged
-    ] in
+    let is = c.in_ok-carry.ensures.carried in
     moved-back target (target + (end - start)) start after before
     (ap (carried target (target + (end - start)) start) is
     ∙ carried-back start end target before order (omega (arith, c.len-last.ensures.value)) (omega (arith, c.len-last.ensures.value)))
