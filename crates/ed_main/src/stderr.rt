@@ -5,4 +5,5 @@ mod file_name;
 pub mod hinted;
 pub mod pattern;
 pub mod refusals;
+mod stopped;
 pub mod usage;

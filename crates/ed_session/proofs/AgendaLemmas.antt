@@ -32,11 +32,13 @@ stepped_there (x ∷ xs) = grind (arith, nat_tests)
 less_than : (n m : ℕ) → nat_lt 0 (m - n) ≡ nat_lt n m
 less_than n m = grind (arith, nat_tests)
 
+-- so many are left as are counted
+pub list_length : (list : List Command) (n : ℕ) → n ≤ length list → length (last_of n list) ≡ n
+list_length list n h = omega (arith, length-drop (length list - n) list)
+
 -- in a list
 pub list_has : (list : List Command) (n : ℕ) → n ≤ length list → nat_lt 0 n ≡ is_some (first_listed (last_of n list))
-list_has list n h =
-    let same : length (last_of n list) ≡ n = omega (arith, length-drop (length list - n) list) in
-    ap (λ k. nat_lt 0 k) (sym same) ∙ sym (listed_there (last_of n list))
+list_has list n h = ap (λ k. nat_lt 0 k) (sym (list_length list n h)) ∙ sym (listed_there (last_of n list))
 
 -- in a script
 pub script_has : (xs : List rust.Command) (n : ℕ) → nat_lt n (length xs) ≡ is_some (first_command (steps_value (drop n xs)))

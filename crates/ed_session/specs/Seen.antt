@@ -12,11 +12,11 @@ use Rattle.ed_session.specs.declared.seen.SeenRequest.TheVariants as seen_reques
 -- the request that was seen
 abbrev pub request_seen : SeenRequest → Request
 request_seen (seen_request.Read path) = request.Read path
-request_seen (seen_request.Write path bytes) = request.Write path bytes
+request_seen (seen_request.Write path bytes) = request.Write path bytes.value
 
 -- the answer that was seen
 abbrev pub answer_seen : SeenAnswer → Answer
-answer_seen (seen_answer.Bytes bytes) = answer.Bytes bytes
+answer_seen (seen_answer.Bytes bytes) = answer.Bytes bytes.value
 answer_seen seen_answer.Missing = answer.Missing
 answer_seen seen_answer.Refused = answer.Refused
 answer_seen seen_answer.Done = answer.Done

@@ -1,5 +1,5 @@
 -- A session as a value, and what is left of its run (our shape of a run that stops for its files).
-use Rattle.std.specs.Prelude.{ℕ, Bool, true, false, List, [], Option, Some, None}
+use Rattle.std.specs.Prelude.{ℕ, Bool, true, false, List, [], length, Option, Some, None}
 use Rattle.ed_syntax.specs.declared.options.Options.{Options}
 use Rattle.ed_syntax.specs.declared.request.Request.{Request}
 use Rattle.ed_syntax.specs.Commands.{Command, Step, Script}
@@ -14,6 +14,11 @@ pub record RunningList : Type 0 where
   pub left : List Command
   pub list : List Command
   pub lines : ℕ
+
+-- how many commands of the list of an open global command are left for the line that was taken, the one being done among them
+abbrev pub listed_left : Option RunningList → ℕ
+listed_left None = 0
+listed_left (Some turns) = length turns.left
 
 -- A session: where it is, what it holds, what is left of a global command that is open, the steps that are left after it, output that
 -- wasn't handed out, and whether its end was told.

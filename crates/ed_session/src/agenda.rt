@@ -2,6 +2,7 @@
 ghost use Rattle.std.specs.Prelude.{◌≡◌, ◌<◌, ◌^◌, Some, None, IsSome, is_some, length};
 ghost use Rattle.ed_syntax.specs.PublicTypes.{command_value, steps_value};
 ghost use Rattle.ed_session.specs.Agendas.{lines_of, next_command, opened_for, passed, repeated};
+ghost use Rattle.ed_session.specs.Sessions.{listed_left};
 
 use ed_syntax::Command;
 use std::marker::Model;
@@ -62,6 +63,16 @@ impl Agenda {
         ensures value { result ≡ length self.now.steps }
     {
         self.commands.len() - self.next
+    }
+
+    /// How many commands of the list of an open global command are left for the line that was taken.
+    pub(crate) fn left_in_list(&self) -> usize
+        ensures value { result ≡ listed_left self.now.running_list }
+    {
+        match self.countdown {
+            Some(countdown) => countdown.left,
+            None => 0,
+        }
     }
 
     /// A command is left: of the list, where a global command is open, else of the script.

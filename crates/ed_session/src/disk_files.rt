@@ -16,6 +16,7 @@ use std::fs::{File, OpenFile, OpenOptions};
 use std::io;
 use std::io::{ErrorKind, Read, Write};
 use std::rt::Files;
+use std::snapshot::Snapshot;
 
 /// An outside whose files are those of the system.
 ///
@@ -75,7 +76,7 @@ impl<R: Files<File = File> + Drop> Outside for DiskFiles<R> {
         let asked = SeenRequest::Read(SeenBytes::of(self.alloc, path)?);
         let mut reason = None;
         let answer = read_answer(self.alloc, &self.files, path, &mut reason)?;
-        let seen = SeenAnswer::of(self.alloc, &answer)?;
+        let seen = SeenAnswer::of(&answer);
         self.log.push((asked, seen))?;
         self.reason = reason;
         if matches!(answer, Answer::Refused) {
@@ -87,13 +88,10 @@ impl<R: Files<File = File> + Drop> Outside for DiskFiles<R> {
     #[tactic(auto, using(crate::proofs::Refusing::reason_kept))]
     fn write(&mut self, path: &[u8], bytes: &Pieces) -> Result<Answer, AllocError> {
         self.log.reserve(1)?;
-        let asked = SeenRequest::Write(
-            SeenBytes::of(self.alloc, path)?,
-            SeenBytes::of_pieces(self.alloc, bytes)?,
-        );
+        let asked = SeenRequest::Write(SeenBytes::of(self.alloc, path)?, Snapshot::of(bytes));
         let mut reason = None;
         let answer = write_answer(self.alloc, &self.files, path, bytes, &mut reason)?;
-        let seen = SeenAnswer::of(self.alloc, &answer)?;
+        let seen = SeenAnswer::of(&answer);
         self.log.push((asked, seen))?;
         self.reason = reason;
         if matches!(answer, Answer::Refused) {

@@ -1,13 +1,13 @@
 //! Requests and answers that only clauses see, for a log that keeps no copy of a file.
 ghost use Rattle.std.specs.Prelude.{◌≡◌, IfOk};
 
-use ed_base::Pieces;
+use ed_base::{Bytes, Pieces};
 use ed_syntax::Answer;
 use std::alloc::{AllocError, Global};
 use std::marker::Model;
 use std::snapshot::Snapshot;
 
-/// Bytes as clauses see them. They can't be read, and take no memory, however many there are.
+/// The bytes of a path as clauses see them. They can't be read, and take no memory, however many there are.
 #[derive(Drop)]
 pub(crate) struct SeenBytes {
     items: Vec<Snapshot<u8>>,
@@ -31,31 +31,19 @@ impl SeenBytes {
         }
         Ok(SeenBytes { items })
     }
-
-    pub(crate) fn of_pieces(alloc: Global, bytes: &Pieces) -> Result<SeenBytes, AllocError>
-        ensures value { IfOk result (λ seen. seen ≡ bytes.now) }
-    {
-        let mut items = Vec::new(alloc);
-        let mut walk = bytes.walk();
-        'pieces: while let Some(piece) = walk.next_piece() {
-            let SeenBytes { items: mut more } = SeenBytes::of(alloc, piece)?;
-            items.append(&mut more)?;
-        }
-        Ok(SeenBytes { items })
-    }
 }
 
 /// A request as clauses see it.
 #[derive(Drop)]
 pub(crate) enum SeenRequest {
     Read(SeenBytes),
-    Write(SeenBytes, SeenBytes),
+    Write(SeenBytes, Snapshot<Pieces>),
 }
 
 /// An answer as clauses see it.
 #[derive(Drop)]
 pub(crate) enum SeenAnswer {
-    Bytes(SeenBytes),
+    Bytes(Snapshot<Bytes>),
     Missing,
     Refused,
     Done,
@@ -64,14 +52,15 @@ pub(crate) enum SeenAnswer {
 impl SeenAnswer {
     ghost use Rattle.ed_session.specs.Seen.{answer_seen};
 
-    pub(crate) fn of(alloc: Global, answer: &Answer) -> Result<SeenAnswer, AllocError>
-        ensures value { IfOk result (λ seen. answer_seen seen ≡ answer.now) }
+    /// It looks at no byte.
+    pub(crate) fn of(answer: &Answer) -> SeenAnswer
+        ensures value { answer_seen result ≡ answer.now }
     {
-        Ok(match answer {
-            Answer::Bytes(bytes) => SeenAnswer::Bytes(SeenBytes::of(alloc, bytes.as_slice())?),
+        match answer {
+            Answer::Bytes(bytes) => SeenAnswer::Bytes(Snapshot::of(bytes)),
             Answer::Missing => SeenAnswer::Missing,
             Answer::Refused => SeenAnswer::Refused,
             Answer::Done => SeenAnswer::Done,
-        })
+        }
     }
 }

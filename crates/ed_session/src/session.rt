@@ -1,11 +1,12 @@
 //! A run that stops for its output and its files.
-ghost use Rattle.std.specs.Prelude.{◌≡◌, ◌≢◌, ◌≤◌, List, [], Some, None, true, false, IfOk, IfErr, OnOk, IfSome, IfNone, IsSome, is_some, length};
+ghost use Rattle.std.specs.Prelude.{◌≡◌, ◌≢◌, ◌≤◌, List, [], Some, None, true, false, IfOk, IfErr, OnOk, IfSome, IsSome};
 ghost use Rattle.ed_base.specs.declared.fault.Fault.TheVariants.{File, Memory};
 ghost use Rattle.ed_commands.specs.Editors.{opening_value};
 ghost use Rattle.ed_session.specs.Insides.{counted, length_counted, state_loaded};
 
 mod advancing;
 mod globals;
+mod standing;
 
 use crate::agenda::Agenda;
 use crate::counts::{length_counted, with_count};
@@ -153,54 +154,13 @@ impl<S: LineStore> Session<S> {
         })
     }
 
-    /// It has been given its start file, or none. A session whose run is over counts as started.
-    pub fn started(&self) -> bool
-        ensures value { result ≡ is_started self.now.phase }
-    {
-        !matches!(&self.phase, Phase::Fresh(_))
-    }
-
-    /// How many commands of the script are left, that which is being done among them; those of the list of a global command that is
-    /// open don't count, nor does that command.
-    pub fn left(&self) -> usize
-        ensures value { result ≡ length self.now.steps }
-    {
-        self.agenda.left()
-    }
-
-    /// A global command is open: its list is run.
-    pub fn in_list(&self) -> bool
-        ensures value { result ≡ is_some self.now.running_list }
-    {
-        self.agenda.in_list()
-    }
-
-    /// It waits for the answer to a request.
-    pub fn waits(&self) -> bool
-        ensures value { result ≡ is_waiting self.now.phase }
-    {
-        matches!(&self.phase, Phase::Waiting)
-    }
-
-    // The path of the start file, till the session starts.
-    pub(crate) fn start_path(&self) -> Option<&[u8]>
-        ensures given { IfSome result (λ path. path_of self.now.phase ≡ Some path.now) }
-        ensures without { IfNone result (path_of self.now.phase ≡ None) }
-        ensures handed_out { is_started self.now.phase ≡ false → self.now.pending ≡ [] }
-    {
-        match &self.phase {
-            Phase::Fresh(Some(path)) => Some(path.as_slice()),
-            _ => None,
-        }
-    }
-
     pub(crate) fn allocator(&self) -> Global {
         self.alloc
     }
 
     /// Starts the run with the answer to the read of its start file, whose bytes are counted in the output unless the run is
-    /// silent; or, where it has no path, with an empty buffer: then the answer isn't looked at. A missing file is an empty buffer with its name; any other answer but the
-    /// file's bytes ends the run by `Fault::File`.
+    /// silent; or, where it has no path, with an empty buffer: then the answer isn't looked at. A missing file is an empty buffer with
+    /// its name; any other answer but the file's bytes ends the run by `Fault::File`.
     pub fn start(&mut self, answer: Answer)
         requires fresh { is_started self.old.phase ≡ false }
         ensures given { Starts (path_of self.old.phase) self.old answer self.new }

@@ -23,3 +23,5 @@ mod refused_in_turn;
 mod replacing;
 #[cfg(test)]
 mod runs;
+#[cfg(test)]
+mod stepping;

@@ -1,4 +1,5 @@
-//! All bytes of a source, up to a limit. What is told where there is no memory for them, `tests/refused` tries.
+//! All bytes of a source, up to a limit. That want of memory is told as such, `tests/refused/rows` tries with long scripts and
+//! certificates.
 use crate::asserting::same;
 use ed_base::Bytes;
 use sources::{In, ReadFault, Source, SourceFault, read_all};
@@ -66,6 +67,25 @@ fn check(rt: &impl Abort, alloc: Global, row: &Row) {
 fn a_source_is_read_up_to_the_limit_and_one_byte_beyond(rt: HostRuntime) {
     for row in &ROWS {
         check(&rt, rt.alloc(), row);
+    }
+}
+
+// Whether what is read of a row's source is what the row says, or there is no memory for it.
+fn is_read_as_it_may(alloc: Global, row: &Row) -> bool {
+    let mut source = In::new(row.bytes);
+    match (&read_all(alloc, &mut source, row.limit), row.read) {
+        (Err(ReadFault::Memory), _) => true,
+        (Ok(bytes), Ok(expected)) => bytes.as_slice() == expected,
+        (Err(fault), Err(expected)) => *fault == expected,
+        _ => false,
+    }
+}
+
+// To be run with each allocation refused in turn (`rt try --test --fail-alloc N`): the answer is want of memory or the right one.
+#[test]
+fn a_source_for_which_there_is_no_memory_is_refused_for_no_other_reason(rt: HostRuntime) {
+    for row in &ROWS {
+        assert!(rt; is_read_as_it_may(rt.alloc(), row), "{:?}", row.bytes);
     }
 }
 

@@ -1,9 +1,8 @@
 //! What a run writes where files, output or memory are refused, and how it ends then.
 use crate::asserting::same;
 use crate::driving::{ABC, ARROW, Case, UNREFUSED, files, lines, run_plain, session};
-use ed_base::{Bytes, Fault, Pieces};
-use ed_session::{Ask, Out, Session, drive};
-use ed_syntax::Answer;
+use ed_base::Fault;
+use ed_session::{Out, drive};
 use line_store::PlainStore;
 use std::alloc::Global;
 use std::process::Abort;
@@ -96,33 +95,4 @@ fn a_writer_takes_the_output_till_it_is_full(rt: HostRuntime) {
     same(&rt, lines(end), Err(Fault::Output), "the end");
     drop(sink);
     same(&rt, room.as_slice(), b"a\nc".as_slice(), "the room");
-}
-
-fn output(rt: &impl Abort, alloc: Global, bytes: &[u8]) -> Ask {
-    let bytes = Bytes::from_slice(alloc, bytes).expect(rt, "memory");
-    Ask::Output(Pieces::from_bytes(alloc, bytes))
-}
-
-fn check_step(rt: &impl Abort, session: &mut Session<PlainStore>, ask: Ask) {
-    assert!(rt; session.started() && !session.waits());
-    same(rt, session.step(), ask, "a step");
-}
-
-#[test]
-fn a_session_without_a_path_is_stepped_to_its_end(rt: HostRuntime) {
-    let case = Case {
-        script: b"a\nx\n.\np\nx\n",
-        edited: None,
-        ..UNREFUSED
-    };
-    let mut session = session(rt.alloc(), case).expect(&rt, "memory");
-    assert!(rt; !session.started());
-    session.start(Answer::Refused);
-    check_step(&rt, &mut session, output(&rt, rt.alloc(), b"x\n"));
-    check_step(&rt, &mut session, output(&rt, rt.alloc(), b"?\n"));
-    for _ in 0..2 {
-        check_step(&rt, &mut session, Ask::Ended(Err(Fault::Syntax)));
-        session.fail_output();
-    }
-    drop(session);
 }

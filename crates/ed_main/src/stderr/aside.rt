@@ -1,7 +1,8 @@
 //! What a person is told of a job beside its output. No clause speaks of these lines.
 
-use crate::stderr::command_line::{line_of_command, quoted};
+use crate::stderr::command_line::quoted;
 use crate::stderr::file_name::{quoted_name, shell_option, shell_word, start_name};
+use crate::stderr::stopped::{listed_text, stopped_text};
 use cert_check::{CertFault, Certificate, Place, Verdict, Version, wanted};
 use ed_base::{Bytes, Fault, count_lines};
 use ed_session::Session;
@@ -63,7 +64,8 @@ impl<'a> Aside<'a> {
             if fault.status() == FAULT_STATUS {
                 let left = commands.saturating_sub(session.left());
                 let lines = if session.in_list() {
-                    listed_text(self.alloc, self.script, left, *fault)
+                    let left_in_list = session.left_in_list();
+                    listed_text(self.alloc, self.script, left, left_in_list, *fault)
                 } else {
                     stopped_text(self.alloc, self.script, left.saturating_add(1), *fault)
                 };
@@ -109,55 +111,6 @@ impl<'a> Aside<'a> {
     pub fn unmatched(&mut self, path: &Option<Bytes>, pattern: &Bytes) {
         let lines = unmatched_text(self.alloc, path, pattern.as_slice());
         self.add(lines);
-    }
-}
-
-// A command of the list of the global command of this number is at fault.
-fn listed_text(
-    alloc: Global,
-    script: &[u8],
-    number: usize,
-    fault: Fault,
-) -> Result<String, AllocError> {
-    let fault = fault.text();
-    match line_of_command(alloc, script, number)? {
-        Some(command) => {
-            let line = command.number;
-            let text = command.text.as_str();
-            Ok(format!(in alloc; "error: line {line}: in the list of {text}: {fault}\n")?)
-        }
-        None => Ok(format!(in alloc; "error: {fault}\n")?),
-    }
-}
-
-// The command of this number is at fault, or after the last one the end.
-fn stopped_text(
-    alloc: Global,
-    script: &[u8],
-    number: usize,
-    fault: Fault,
-) -> Result<String, AllocError> {
-    match line_of_command(alloc, script, number)? {
-        Some(command) => {
-            let line = command.number;
-            let text = command.text.as_str();
-            let fault = fault.text();
-            Ok(format!(in alloc; "error: line {line}: {text}: {fault}\n")?)
-        }
-        None => end_text(alloc, script, number.saturating_sub(1), fault),
-    }
-}
-
-// The end is at fault, after the command of this number.
-fn end_text(alloc: Global, script: &[u8], last: usize, fault: Fault) -> Result<String, AllocError> {
-    let lines = count_lines(script);
-    let fault = fault.text();
-    match line_of_command(alloc, script, last)? {
-        Some(command) => {
-            let text = command.text.as_str();
-            Ok(format!(in alloc; "error: the script ends after line {lines}: {text}: {fault}\n")?)
-        }
-        None => Ok(format!(in alloc; "error: the script ends after line {lines}: {fault}\n")?),
     }
 }
 
