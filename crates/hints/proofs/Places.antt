@@ -1,5 +1,5 @@
 -- The order of places, and what gets past one of them.
-use Rattle.std.proofs.Common.{◌≡◌, ◌<◌, ◌≤◌, ◌⊎◌, ◌↔◌, refl, ℕ, Bool, true, false, IsTrue, List, Option, Some, None, inl, inr, arith, subst, sym}
+use Rattle.std.proofs.Common.{◌≡◌, ◌<◌, ◌≤◌, ◌↔◌, refl, ℕ, Bool, true, false, IsTrue, List, Option, Some, None, inl, inr, arith, subst}
 use Rattle.std.proofs.Math.Nat.{eq-or-lt_of_le}
 use Rattle.std.specs.Option.{unwrap_or}
 use Rattle.std.specs.declared.alloc.AllocError.{AllocError}

@@ -7,17 +7,19 @@ use Rattle.analyser.specs.declared.analysis.Start.{Start}
 use Rattle.analyser.specs.Analysis.{IsFailure}
 use Rattle.hints.specs.declared.hint.Hint.{Hint}
 use Rattle.hints.specs.declared.refusing.Refusal.{Refusal}
-use Rattle.hints.specs.Passing.{IsAllowed, GetsPast}
+use Rattle.hints.specs.Passing.{IsAllowed, Keeps, GetsPast}
 
--- A hint was tried: the script as it reads by it, over the start that it names, gets past the place.
-pub record IsTried (place : Place) (h : Hint) : Type 0 where
+-- A hint on a script over a start was tried: the script as it reads by it, over the start that it names, gets past the place. That start
+-- keeps what the first one says of the file.
+pub record IsTried (start : Start) (place : Place) (h : Hint) : Type 0 where
+  pub kept : Keeps start h.start
   pub allowed : IsAllowed h.start
   pub past : GetsPast (script_of h.script) h.start place
 
 -- A refusal is the first need that fails of its script over its start, and its hints were tried.
 pub record IsRefusal (r : Refusal) : Type 0 where
   pub fails : IsFailure (script_of r.script) r.start r.place r.why (map note_value r.notes.items)
-  pub tried : All (IsTried r.place) r.hints.items
+  pub tried : All (IsTried r.start r.place) r.hints.items
 
 -- Refusals that were mended, each as its first hint says, and what script and start came of it. The first is one of this script over
 -- this start, each later one of what the one before it left.

@@ -3,9 +3,11 @@ use Rattle.std.specs.Prelude.{◌≡◌, ◌<◌, ◌≤◌, ◌⊎◌, ℕ, Lis
 use Rattle.ed_base.specs.declared.fault.Fault.{Fault}
 use Rattle.ed_syntax.specs.Commands.{Script}
 use Rattle.ed_rules.specs.LineBounds.{most_lines, IsAtMost}
+use Rattle.ed_rules.specs.Texts.{with_texts}
 use Rattle.cert_check.specs.declared.checker.verdict.Place.{Place}
 use Rattle.cert_check.specs.Certificates.{Note, Certificate}
 use Rattle.analyser.specs.declared.analysis.Start.{Start}
+use Rattle.analyser.specs.Following.{stated_of}
 use Rattle.analyser.specs.Analysis.{IsCertificate, IsFailure}
 
 -- the bounds of a start are those of some start file: in order, and at most most_lines
@@ -25,6 +27,15 @@ with_min start min = record { path = start.path; min = min; max = start.max; has
 -- a start with this greatest number of lines
 abbrev pub with_max : Start → ℕ → Start
 with_max start most = record { path = start.path; min = start.min; max = Some most; has = start.has }
+
+-- What is stated is the same, or these patterns are put in.
+abbrev pub IsStating : (has now : Option (List (List ℕ))) → Type 0
+IsStating has now = (now ≡ has) ⊎ ((patterns : List (List ℕ)) × (now ≡ Some (with_texts patterns (stated_of has))))
+
+-- A start says of its file what another one says, and maybe more: the path is the same, and no pattern is left out that is stated there.
+pub record Keeps (start then : Start) : Type 0 where
+  pub path : then.path ≡ start.path
+  pub stated : IsStating start.has then.has
 
 -- In one command: its own needs come first, and then those of its list's commands in their order.
 abbrev pub IsLaterInside : (next place : Option ℕ) → Type 0

@@ -12,10 +12,13 @@ use crate::further::with_more_lines;
 use crate::hint::{Advice, Hint, Remark};
 use crate::passing::gets_past_all;
 use crate::searches::{push_blank, push_offset, push_searching};
+use crate::sought::unmatched_at;
 use crate::starts::{copy_of, greatest_start, least_start, with_bounds};
+use crate::stating::with_stated;
 use analyser::Start;
-use cert_check::Place;
+use cert_check::{Note, Place};
 use ed_base::{Bytes, Fault};
+use ed_rules::Texts;
 use std::alloc::{AllocError, Global};
 
 /// What may help at a place, the best first.
@@ -68,7 +71,7 @@ pub(crate) fn first_past(
     requires ordered { IsAtMost start.now.min start.now.max }
     requires low { start.now.min ≤ most_lines }
     requires high { IfSome start.now.max (λ most. most ≤ most_lines) }
-    ensures tried { IfOk result (λ found. IfSome found (IsTried place)) }
+    ensures tried { IfOk result (λ found. IfSome found (IsTried start.now place)) }
 {
     for draft in drafts {
         let Draft {
@@ -92,18 +95,19 @@ pub(crate) fn first_past(
     Ok(None)
 }
 
-/// The least number of lines under which the script is vouched for.
-fn at_least(
+/// The least number of lines under which the script is vouched for, beside what more is told.
+pub(crate) fn at_least(
     alloc: Global,
     script: &[u8],
     start: &Start,
     place: Place,
     line: usize,
+    more: &str,
 ) -> Result<Option<Hint>, AllocError>
     requires ordered { IsAtMost start.now.min start.now.max }
     requires low { start.now.min ≤ most_lines }
     requires high { IfSome start.now.max (λ most. most ≤ most_lines) }
-    ensures tried { IfOk result (λ found. IfSome found (IsTried place)) }
+    ensures tried { IfOk result (λ found. IfSome found (IsTried start.now place)) }
 {
     let Some(min) = least_start(alloc, script, start)? else {
         return Ok(None);
@@ -111,7 +115,7 @@ fn at_least(
     Ok(Some(Hint {
         advice: Advice::AtLeast,
         line,
-        text: format!(in alloc; "vouched for with --min {min}")?,
+        text: format!(in alloc; "vouched for with --min {min}{more}")?,
         script: Bytes::from_slice(alloc, script)?,
         start: with_bounds(start, min, start.max)?,
     }))
@@ -128,7 +132,7 @@ fn at_most(
     requires ordered { IsAtMost start.now.min start.now.max }
     requires low { start.now.min ≤ most_lines }
     requires high { IfSome start.now.max (λ most. most ≤ most_lines) }
-    ensures tried { IfOk result (λ found. IfSome found (IsTried place)) }
+    ensures tried { IfOk result (λ found. IfSome found (IsTried start.now place)) }
 {
     match greatest_start(alloc, script, start)? {
         Some(most) if most > 0 => Ok(Some(Hint {
@@ -143,10 +147,15 @@ fn at_most(
 }
 
 /// Puts a hint after those that were found.
-fn push_hint(found: &mut Vec<Hint>, place: Place, hint: Option<Hint>) -> Result<(), AllocError>
-    requires found { All (IsTried place) found.old.items }
-    requires hint { IfSome hint (IsTried place) }
-    ensures tried { OnOk result (All (IsTried place) found.new.items) }
+fn push_hint(
+    found: &mut Vec<Hint>,
+    start: &Start,
+    place: Place,
+    hint: Option<Hint>,
+) -> Result<(), AllocError>
+    requires found { All (IsTried start.now place) found.old.items }
+    requires hint { IfSome hint (IsTried start.now place) }
+    ensures tried { OnOk result (All (IsTried start.now place) found.new.items) }
 {
     if let Some(hint) = hint {
         found.push(hint)?;
@@ -164,47 +173,77 @@ fn or_further(
     found: Vec<Hint>,
 ) -> Result<Vec<Hint>, AllocError>
     requires high { IfSome start.now.max (λ most. most ≤ most_lines) }
-    requires found { All (IsTried place) found.items }
-    ensures tried { IfOk result (λ found. All (IsTried place) found.items) }
+    requires found { All (IsTried start.now place) found.items }
+    ensures tried { IfOk result (λ found. All (IsTried start.now place) found.items) }
 {
     if !found.is_empty() {
         return Ok(found);
     }
     let mut found = found;
-    let more = with_more_lines(alloc, script, start, place, line)?;
-    push_hint(&mut found, place, more)?;
+    let more = with_more_lines(alloc, script, start, place, line, "")?;
+    push_hint(&mut found, start, place, more)?;
     Ok(found)
 }
 
-/// What to write where a need of a script fails at a place by a fault: the best hint first. Each gets past the place.
+/// The hints that were found, and the one to state these patterns, which are those that are looked for at the place.
+fn and_stated(
+    alloc: Global,
+    script: &[u8],
+    start: &Start,
+    place: Place,
+    line: usize,
+    patterns: &Texts,
+    found: Vec<Hint>,
+) -> Result<Vec<Hint>, AllocError>
+    requires ordered { IsAtMost start.now.min start.now.max }
+    requires low { start.now.min ≤ most_lines }
+    requires high { IfSome start.now.max (λ most. most ≤ most_lines) }
+    requires found { All (IsTried start.now place) found.items }
+    ensures tried { IfOk result (λ found. All (IsTried start.now place) found.items) }
+{
+    if patterns.members().is_empty() {
+        return Ok(found);
+    }
+    let mut found = found;
+    let alone = found.is_empty();
+    let stated = with_stated(alloc, script, start, place, line, patterns, alone)?;
+    push_hint(&mut found, start, place, stated)?;
+    Ok(found)
+}
+
+/// What to write where a need of a script fails at a place by a fault, before which this is known: the best hint first. Each gets past
+/// the place.
 pub fn hints(
     alloc: Global,
     script: &[u8],
     start: &Start,
     place: Place,
     why: Fault,
+    notes: &[Note],
 ) -> Result<Vec<Hint>, AllocError>
     requires ordered { IsAtMost start.now.min start.now.max }
     requires low { start.now.min ≤ most_lines }
     requires high { IfSome start.now.max (λ most. most ≤ most_lines) }
-    ensures tried { IfOk result (λ found. All (IsTried place) found.items) }
+    ensures tried { IfOk result (λ found. All (IsTried start.now place) found.items) }
 {
     let line = number_at(alloc, script, place)?;
     let drafts = drafts_at(alloc, script, place, why)?;
     let written = first_past(alloc, start, place, line, drafts)?;
-    let fewest = at_least(alloc, script, start, place, line)?;
+    let fewest = at_least(alloc, script, start, place, line, "")?;
     let most = at_most(alloc, script, start, place, line)?;
+    let patterns = unmatched_at(alloc, script, place, why, notes)?;
     let mut found = Vec::new(alloc);
     if why == Fault::Address {
-        push_hint(&mut found, place, fewest)?;
-        push_hint(&mut found, place, most)?;
-        push_hint(&mut found, place, written)?;
-        return or_further(alloc, script, start, place, line, found);
+        push_hint(&mut found, start, place, fewest)?;
+        push_hint(&mut found, start, place, most)?;
+        push_hint(&mut found, start, place, written)?;
+        let found = or_further(alloc, script, start, place, line, found)?;
+        return and_stated(alloc, script, start, place, line, &patterns, found);
     }
-    push_hint(&mut found, place, written)?;
-    push_hint(&mut found, place, fewest)?;
-    push_hint(&mut found, place, most)?;
-    Ok(found)
+    push_hint(&mut found, start, place, written)?;
+    push_hint(&mut found, start, place, fewest)?;
+    push_hint(&mut found, start, place, most)?;
+    and_stated(alloc, script, start, place, line, &patterns, found)
 }
 
 /// What may be told beside hints of a need that fails at a place by a fault.

@@ -2,7 +2,7 @@
 
 use crate::bytes::{before, between, from, place_of};
 use cert_check::Place;
-use ed_syntax::{Command, Script, Verb, first_lines, read_script};
+use ed_syntax::{Address, Addresses, Command, Script, Verb, first_lines, read_script};
 use std::alloc::{AllocError, Global};
 
 /// A command's bytes in a script, with the newline after its last line.
@@ -104,6 +104,22 @@ pub(crate) fn command_of(script: &Script, place: Place) -> Option<&Command> {
         Some(inner) => command.list().get(inner.saturating_sub(1)),
         None => Some(command),
     }
+}
+
+/// The two addresses of a command, of which one may be missing.
+pub(crate) fn pair(addresses: &Addresses) -> (Option<&Address>, Option<&Address>) {
+    match addresses {
+        Addresses::Without => (None, None),
+        Addresses::One(only) => (Some(only), None),
+        Addresses::Comma(first, second) => (Some(first), Some(second)),
+        Addresses::Semicolon(first, second) => (Some(first), second.as_ref()),
+    }
+}
+
+/// The addresses of a command in the order in which they are evaluated, the target last. Each may be missing.
+pub(crate) fn addresses_of(command: &Command) -> [Option<&Address>; 3] {
+    let (first, second) = pair(&command.addresses);
+    [first, second, command.verb.takes().target]
 }
 
 /// How many lines a command of a list takes: one, and those of its text with the period after it.

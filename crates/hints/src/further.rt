@@ -66,7 +66,7 @@ fn is_least(min: u64, max: Option<u64>) -> bool
         }
 }
 
-/// The hint to ask for so many lines at least, where the script gets past the place by that.
+/// The hint to ask for so many lines at least, beside what more is told, where the script gets past the place by that.
 fn with_lines(
     alloc: Global,
     script: &[u8],
@@ -74,30 +74,33 @@ fn with_lines(
     place: Place,
     line: usize,
     min: u64,
+    more: &str,
 ) -> Result<Option<Hint>, AllocError>
     requires low { min ≤ most_lines }
     requires ordered { IsAtMost min start.now.max }
     requires high { IfSome start.now.max (λ most. most ≤ most_lines) }
-    ensures tried { IfOk result (λ found. IfSome found (IsTried place)) }
+    ensures tried { IfOk result (λ found. IfSome found (IsTried start.now place)) }
 {
     let bounded = with_bounds(start, min, start.max)?;
-    let text = format!(in alloc; "gets further with --min {min}")?;
+    let text = format!(in alloc; "gets further with --min {min}{more}")?;
     let same = Bytes::from_slice(alloc, script)?;
     let mut drafts = Vec::new(alloc);
     drafts.push(drafted(Advice::AtLeast, text, same, 0))?;
     first_past(alloc, &bounded, place, line, drafts)
 }
 
-/// The hint to ask for as many lines at least as a command names, or some more, where the script gets past the place by that.
+/// The hint to ask for as many lines at least as a command names, or some more, beside what more is told, where the script gets past the
+/// place by that.
 pub(crate) fn with_more_lines(
     alloc: Global,
     script: &[u8],
     start: &Start,
     place: Place,
     line: usize,
+    more: &str,
 ) -> Result<Option<Hint>, AllocError>
     requires high { IfSome start.now.max (λ most. most ≤ most_lines) }
-    ensures tried { IfOk result (λ found. IfSome found (IsTried place)) }
+    ensures tried { IfOk result (λ found. IfSome found (IsTried start.now place)) }
 {
     let Some(needed) = needed_at(alloc, script, place)? else {
         return Ok(None);
@@ -105,7 +108,7 @@ pub(crate) fn with_more_lines(
     for extra in 0..MOST_EXTRA {
         let min = needed.saturating_add(extra);
         if start.min < min && is_least(min, start.max) {
-            let found = with_lines(alloc, script, start, place, line, min)?;
+            let found = with_lines(alloc, script, start, place, line, min, more)?;
             if found.is_some() {
                 return Ok(found);
             }

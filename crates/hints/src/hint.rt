@@ -11,10 +11,12 @@ use ed_base::Bytes;
 pub enum Advice {
     /// To write the command as a `g`.
     Global,
-    /// To ask for more lines at least, by `--min`.
+    /// To ask for more lines at least, by `--min`, maybe with patterns to state too.
     AtLeast,
     /// To ask for fewer lines at most, by `--max`.
     AtMost,
+    /// To state by `--has` that some line matches a pattern.
+    State,
     /// To write the changes before they would be lost.
     Save,
     /// To close the text of a command by its `.`.
@@ -27,8 +29,8 @@ pub enum Advice {
     Semicolon,
 }
 
-/// What to write where a script isn't vouched for: a script, mostly with another command, or a start with other bounds. It is made
-/// only where that was tried.
+/// What to write where a script isn't vouched for: a script, mostly with another command, or a start with other bounds or with
+/// more patterns that some line matches. It is made only where that was tried.
 #[derive(Debug, Drop)]
 pub struct Hint {
     pub(crate) advice: Advice,

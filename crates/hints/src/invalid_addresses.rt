@@ -1,5 +1,6 @@
 //! Why a command's addresses may be invalid: they are evaluated as its rule does, up to the first one that isn't surely there.
 
+use crate::commands::pair;
 use ed_syntax::{Address, Addresses, Base, Command, DefaultAddresses, Taking};
 use std::alloc::{AllocError, Global};
 use zones::{Name, Zone};
@@ -92,16 +93,6 @@ fn short_text(
         _ => beside_text(alloc, count, "after", line)?,
     };
     Ok(Some(text))
-}
-
-/// The two addresses of a command, of which one may be missing.
-fn pair(addresses: &Addresses) -> (Option<&Address>, Option<&Address>) {
-    match addresses {
-        Addresses::Without => (None, None),
-        Addresses::One(only) => (Some(only), None),
-        Addresses::Comma(first, second) => (Some(first), Some(second)),
-        Addresses::Semicolon(first, second) => (Some(first), second.as_ref()),
-    }
 }
 
 /// Places an address, and tells why it need not be in the buffer.

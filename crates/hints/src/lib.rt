@@ -12,12 +12,15 @@ mod further;
 mod globals;
 mod hint;
 mod invalid_addresses;
+mod known;
 mod passing;
 mod patterns;
 mod reasons;
 mod refusing;
 mod searches;
+mod sought;
 mod starts;
+mod stating;
 mod telling;
 mod words;
 

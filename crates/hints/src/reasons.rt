@@ -1,20 +1,47 @@
 //! Why a need may fail, in a few words after its fault. No clause speaks of them.
 
 use crate::bytes::between;
-use crate::commands::command_of;
+use crate::commands::{addresses_of, command_of};
 use crate::invalid_addresses::address_text;
 use crate::patterns::patterns_of;
+use crate::sought::{count_of_found, count_of_searches};
 use crate::words::quoted;
 use cert_check::Place;
 use ed_base::{Fault, Letter};
 use ed_rules::KeptState;
-use ed_syntax::{Address, Addresses, Base, Command, Verb, read_script};
+use ed_syntax::{Address, Base, Command, Script, Verb, read_script};
 use std::alloc::{AllocError, Global};
 
-/// The pattern that no line need match, where the line at a place has one.
-fn match_text(alloc: Global, line: &[u8], place: Place) -> Result<Option<String>, AllocError> {
-    // The first command of a list stands on the line of its global command, after whose pattern its own come.
-    let index: usize = if place.inner == Some(1) { 1 } else { 0 };
+/// How many patterns stand on the line of a command before its own. The first command of a list stands on the line of its global
+/// command, after whose patterns its own come.
+fn patterns_before(script: &Script, place: Place) -> usize {
+    if place.inner != Some(1) {
+        return 0;
+    }
+    let outer = Place {
+        command: place.command,
+        inner: None,
+    };
+    match command_of(script, outer) {
+        Some(global) => count_of_searches(global).saturating_add(1),
+        None => 1,
+    }
+}
+
+/// The pattern that no line need match, where the line at a place has one: that of the first search that need not find a line, or the
+/// one after all searches.
+fn match_text(
+    alloc: Global,
+    script: &Script,
+    line: &[u8],
+    place: Place,
+    state: Option<&KeptState>,
+) -> Result<Option<String>, AllocError> {
+    let found = match (state, command_of(script, place)) {
+        (Some(state), Some(command)) => count_of_found(alloc, command, state)?,
+        _ => 0,
+    };
+    let index = patterns_before(script, place).saturating_add(found);
     match patterns_of(alloc, line)?.as_slice().get(index) {
         Some(pattern) if pattern.low < pattern.high => {
             let shown = quoted(alloc, between(line, pattern.low, pattern.high))?;
@@ -34,13 +61,7 @@ fn unsure(state: &KeptState, address: Option<&Address>) -> Option<Letter> {
 
 /// The first letter of a command's addresses that need not mark a line.
 fn unsure_letter(state: &KeptState, command: &Command) -> Option<Letter> {
-    let (first, second) = match &command.addresses {
-        Addresses::Without => (None, None),
-        Addresses::One(only) => (Some(only), None),
-        Addresses::Comma(first, second) => (Some(first), Some(second)),
-        Addresses::Semicolon(first, second) => (Some(first), second.as_ref()),
-    };
-    for address in [first, second, command.verb.takes().target] {
+    for address in addresses_of(command) {
         if let Some(letter) = unsure(state, address) {
             return Some(letter);
         }
@@ -93,12 +114,13 @@ pub(crate) fn reason(
     why: Fault,
     state: Option<&KeptState>,
 ) -> Result<Option<String>, AllocError> {
-    match why {
-        Fault::NoMatch => return match_text(alloc, line, place),
-        Fault::Unsaved => return Ok(Some(String::from_str(alloc, UNSAVED)?)),
-        _ => {}
+    if why == Fault::Unsaved {
+        return Ok(Some(String::from_str(alloc, UNSAVED)?));
     }
     let read = read_script(alloc, script)?;
+    if why == Fault::NoMatch {
+        return match_text(alloc, &read, line, place, state);
+    }
     match (state, command_of(&read, place)) {
         (Some(state), Some(command)) => command_text(alloc, state, command, why),
         _ => Ok(None),

@@ -64,7 +64,7 @@ pub fn first_refusal(
     match analyse(&read, copy_of(start)?)? {
         Analysis::Vouched(_) => Ok(None),
         Analysis::Cannot { place, why, notes } => {
-            let hints = hints(alloc, script, start, place, why)?;
+            let hints = hints(alloc, script, start, place, why, notes.as_slice())?;
             let remarks = remarks(alloc, script, place, why)?;
             Ok(Some(Refusal {
                 place,

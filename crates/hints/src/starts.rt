@@ -9,12 +9,9 @@ ghost use Rattle.hints.specs.Passing.{IsVouched, with_min, with_max};
 use crate::passing::is_vouched;
 use analyser::Start;
 use ed_base::Bytes;
-use ed_rules::Texts;
+use ed_rules::{LineBounds, Texts};
 use ed_syntax::{Script, read_script};
 use std::alloc::{AllocError, Global};
-
-/// The most lines that a start may have.
-const MOST_LINES: u64 = 1_000_000_000_000;
 
 fn copy_of_path(path: &Option<Bytes>) -> Result<Option<Bytes>, AllocError>
     ensures value { IfOk result (λ copy. copy ≡ path.now) }
@@ -75,7 +72,7 @@ fn top_of(max: Option<u64>) -> u64
 {
     match max {
         Some(most) => most,
-        None => MOST_LINES,
+        None => LineBounds::MOST,
     }
 }
 
@@ -187,7 +184,7 @@ fn refused_of(max: Option<u64>) -> u64
 {
     match max {
         Some(most) => most,
-        None => MOST_LINES + 1,
+        None => LineBounds::MOST + 1,
     }
 }
 

@@ -6,13 +6,13 @@ ghost use Rattle.ed_rules.specs.LineBounds.{most_lines, IsAtMost};
 use crate::advising::{hints, remarks};
 use crate::commands::{Span, command_at, count_of_lines, line_at};
 use crate::hint::{Hint, Remark};
+use crate::known::state_at;
 use crate::reasons::reason;
 use crate::refusing::Refusal;
 use crate::words::quoted;
 use analyser::Start;
 use cert_check::{Note, Place};
 use ed_base::Fault;
-use ed_rules::KeptState;
 use std::alloc::{AllocError, Global};
 use zones::{Name, Zone};
 
@@ -134,15 +134,6 @@ fn current_text(alloc: Global, zone: &Zone) -> Result<String, AllocError> {
     }
 }
 
-/// What is known before the command at a place: of a list, before its last command that was noted.
-fn state_at(place: Place, notes: &[Note]) -> Option<&KeptState> {
-    let note = notes.get(place.command.saturating_sub(1))?;
-    match place.inner {
-        None => Some(&note.state),
-        Some(_) => note.looped.as_ref()?.inner.as_slice().last(),
-    }
-}
-
 fn known_text(alloc: Global, place: Place, notes: &[Note]) -> Result<String, AllocError> {
     let Some(state) = state_at(place, notes) else {
         return Ok(String::new(alloc));
@@ -191,7 +182,7 @@ pub fn told(
     requires low { start.now.min ≤ most_lines }
     requires high { IfSome start.now.max (λ most. most ≤ most_lines) }
 {
-    let hints = hints(alloc, script, start, place, why)?;
+    let hints = hints(alloc, script, start, place, why, notes)?;
     let remarks = remarks(alloc, script, place, why)?;
     lines_of(
         alloc,

@@ -4,7 +4,7 @@ use Rattle.hints.proofs.advising.push_hint.Goals as goal
 
 pub returns-in_ok-push : goal.returns-in_ok-push
 returns-in_ok-push c =
-    let tried : IsTried c.args.place c.in-Some.hint = rw c.in-Some.is at c.requires.hint in
+    let tried : IsTried c.args.start.now c.args.place c.in-Some.hint = rw c.in-Some.is at c.requires.hint in
     record {
-      tried = All-same (IsTried c.args.place) _ _ c.in_ok-push.ensures.items (All-push (IsTried c.args.place) c.args.found.now.items c.in-Some.hint c.requires.found tried);
+      tried = All-same (IsTried c.args.start.now c.args.place) _ _ c.in_ok-push.ensures.items (All-push (IsTried c.args.start.now c.args.place) c.args.found.now.items c.in-Some.hint c.requires.found tried);
     }

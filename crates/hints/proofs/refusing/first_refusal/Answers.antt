@@ -2,6 +2,7 @@ use Rattle.ed_syntax.specs.PublicScript.{script_value}
 use Rattle.ed_syntax.specs.reading.Reading.{script_of}
 use Rattle.cert_check.specs.Certificates.{certificate_value}
 use Rattle.hints.proofs.Places.{vouched-as}
+use Rattle.hints.proofs.Chains.{refused-as}
 use Rattle.hints.proofs.refusing.first_refusal.Goals as goal
 
 pub returns-in-Vouched : goal.returns-in-Vouched
@@ -9,4 +10,11 @@ returns-in-Vouched c = record {
   exact =
       vouched-as (script_value c.in_ok-read.read) (script_of c.args.script.now) c.in_ok-copy_of.field-0 c.args.start.now (certificate_value c.in-Vouched.field-0)
       c.in_ok-read.ensures.value c.in_ok-copy_of.ensures.value (rw c.in-Vouched.is at c.in_ok-analyse.ensures.exact);
+}
+
+pub returns : goal.returns
+returns c = record {
+  exact =
+      refused-as _ c.args.script.now c.args.start.now (script_value c.in_ok-read.read) c.in_ok-copy_of.field-0 c.in_ok-read.ensures.value c.in_ok-copy_of.ensures.value
+      c.in_ok-from_slice-in-Cannot.ensures.value c.in_ok-copy_of-in-Cannot.ensures.value (rw c.in-Cannot.is at c.in_ok-analyse.ensures.exact) c.in_ok-hints-in-Cannot.ensures.tried;
 }

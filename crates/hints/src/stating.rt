@@ -1,0 +1,123 @@
+//! The patterns that a start has to state, so that a script gets past its searches.
+
+ghost use Rattle.std.specs.Prelude.{◌≡◌, ◌≤◌, Some, IfOk, IfSome};
+ghost use Rattle.ed_rules.specs.LineBounds.{most_lines, IsAtMost};
+ghost use Rattle.ed_rules.specs.Texts.{with_texts};
+ghost use Rattle.analyser.specs.Following.{stated_of};
+ghost use Rattle.hints.specs.Hints.{IsTried};
+
+use crate::advising::{at_least, first_past};
+use crate::drafts::drafted;
+use crate::further::with_more_lines;
+use crate::hint::{Advice, Hint};
+use crate::starts::copy_of;
+use crate::words::shell_word;
+use analyser::Start;
+use cert_check::Place;
+use ed_base::Bytes;
+use ed_rules::Texts;
+use std::alloc::{AllocError, Global};
+
+/// The patterns that are stated.
+fn stated_of(alloc: Global, has: &Option<Texts>) -> Result<Texts, AllocError>
+    ensures value { IfOk result (λ stated. stated ≡ stated_of has.now) }
+{
+    match has {
+        Some(has) => has.try_copy(),
+        None => Ok(Texts::none(alloc)),
+    }
+}
+
+/// A start that states these patterns too.
+fn with_patterns(alloc: Global, start: &Start, patterns: &Texts) -> Result<Start, AllocError>
+    ensures value { IfOk result (λ opened. opened ≡ record {
+      path = start.now.path;
+      min = start.now.min;
+      max = start.now.max;
+      has = Some (with_texts patterns.now (stated_of start.now.has));
+    }) }
+{
+    let mut all = stated_of(alloc, &start.has)?;
+    'patterns: for pattern in patterns.members() {
+        all.add(pattern.as_slice())?;
+    }
+    let Start { path, min, max, .. } = copy_of(start)?;
+    Ok(Start {
+        path,
+        min,
+        max,
+        has: Some(all),
+    })
+}
+
+/// The options that state these patterns, each with a space before it. None where one of them can't be typed.
+fn options_of(alloc: Global, patterns: &Texts) -> Result<Option<String>, AllocError> {
+    let mut options = String::new(alloc);
+    for pattern in patterns.members() {
+        let Some(word) = shell_word(alloc, pattern.as_slice())? else {
+            return Ok(None);
+        };
+        // What begins with a hyphen isn't read as the word of an option that stands before it.
+        let option = match pattern.as_slice() {
+            [b'-', ..] => " --has=",
+            _ => " --has ",
+        };
+        options.push_str(option)?;
+        options.push_str(word.as_str())?;
+    }
+    Ok(Some(options))
+}
+
+/// The hint to take a start that states patterns, by these options: with as many lines as it needs to be vouched for, or as it is. Where
+/// it stands alone, it may only get further with more lines.
+fn over_stated(
+    alloc: Global,
+    script: &[u8],
+    opened: &Start,
+    place: Place,
+    line: usize,
+    options: &str,
+    alone: bool,
+) -> Result<Option<Hint>, AllocError>
+    requires ordered { IsAtMost opened.now.min opened.now.max }
+    requires low { opened.now.min ≤ most_lines }
+    requires high { IfSome opened.now.max (λ most. most ≤ most_lines) }
+    ensures tried { IfOk result (λ found. IfSome found (IsTried opened.now place)) }
+{
+    let fewest = at_least(alloc, script, opened, place, line, options)?;
+    if fewest.is_some() {
+        return Ok(fewest);
+    }
+    let or = if alone { "" } else { "or " };
+    let text = format!(in alloc; "{or}vouch with{options}, which run then tests")?;
+    let same = Bytes::from_slice(alloc, script)?;
+    let mut drafts = Vec::new(alloc);
+    drafts.push(drafted(Advice::State, text, same, 0))?;
+    let past = first_past(alloc, opened, place, line, drafts)?;
+    if past.is_some() || !alone {
+        return Ok(past);
+    }
+    with_more_lines(alloc, script, opened, place, line, options)
+}
+
+/// The hint to state these patterns too, where the script gets past the place by that.
+pub(crate) fn with_stated(
+    alloc: Global,
+    script: &[u8],
+    start: &Start,
+    place: Place,
+    line: usize,
+    patterns: &Texts,
+    alone: bool,
+) -> Result<Option<Hint>, AllocError>
+    requires ordered { IsAtMost start.now.min start.now.max }
+    requires low { start.now.min ≤ most_lines }
+    requires high { IfSome start.now.max (λ most. most ≤ most_lines) }
+    ensures tried { IfOk result (λ found. IfSome found (IsTried start.now place)) }
+{
+    let Some(options) = options_of(alloc, patterns)? else {
+        return Ok(None);
+    };
+    let opened = with_patterns(alloc, start, patterns)?;
+    over_stated(alloc, script, &opened, place, line, options.as_str(), alone)
+}
