@@ -100,6 +100,9 @@ on '/^a/d\ng/./p\n/^b/s/b/c/\nq\n' --min 1 --max any
 on '/foo/p\nQ\n' --min 1 --max any --has foo
 on '/foo/p\nQ\n' --min 1 --max any --patterns
 on '$a\nfoo\n.\n/foo/p\nQ\n' --min 0 --max any --patterns
+on '$a\nfoo\n.\n1d\n/foo/p\nQ\n' --min 0 --max any --patterns
+on '$a\nfoo\n.\n1d\nu\n/foo/p\nQ\n' --min 0 --max any --patterns
+on 'g/foo/?foo?p\nQ\n' --min 0 --max any --patterns
 on 'v/foo/?foo?p\nQ\n' --min 0 --max any --patterns
 # A certificate that is refused, or is none, stays so or isn't told.
 printf '1d\nw\nq\n' > script
