@@ -22,6 +22,9 @@ import tempfile
 OURS, WORDS = sys.argv[1], sys.argv[2:]
 RUNS = 3
 
+# The program by which apt applies updates. It takes the hunks that `diff -e` writes and nothing else.
+RRED = "/usr/lib/apt/methods/rred"
+
 # In seconds of processor time: a run that takes longer is ended.
 LIMIT = 20
 
@@ -29,9 +32,10 @@ LIMIT = 20
 class Work:
     """One piece of work at one size: the file, the script, and how often it is run. Lines and script come in small pieces."""
 
-    def __init__(self, folder, name, size, lines, script, repeat=1, sed=None, busybox=None, perl=None, vim=False, patch=False):
+    def __init__(self, folder, name, size, lines, script, repeat=1, sed=None, busybox=None, perl=None, tac=False, vim=False, patch=False,
+                 rred=None):
         self.name, self.size, self.repeat = name, size, repeat
-        self.sed, self.busybox, self.perl, self.vim, self.patch = sed, busybox, perl, vim, patch
+        self.sed, self.busybox, self.perl, self.tac, self.vim, self.patch, self.rred = sed, busybox, perl, tac, vim, patch, rred
         self.file = os.path.join(folder, f"{name}-{size}")
         self.script = self.file + ".ed"
         with open(self.file, "wb") as out:
@@ -118,6 +122,11 @@ def change_at_random(folder, n):
     return Work(folder, "random", n, text_lines(n), [b"%dc\nx\n.\n" % line for line in lines] + [b"Q\n"], vim=True)
 
 
+def move_all(folder, n):
+    """All lines go to where they stand, which is the move of one block."""
+    return Work(folder, "block", n, text_lines(n), [b"1,$m0\nQ\n"], vim=True)
+
+
 def move_to_front(folder, n):
     return Work(folder, "front", n, text_lines(n), [b"%dm0\n" % line for line in range(1, n + 1)] + [b"Q\n"])
 
@@ -166,7 +175,10 @@ def update(folder, hunks):
     script = []
     for number, line in enumerate(reversed(changed_lines(300_000, hunks))):
         script.append((b"%dc\nx\n.\n", b"%dd\n", b"%da\nx\ny\n.\n")[number % 3] % line)
-    return Work(folder, "update", hunks, text_lines(300_000), script + [b"Q\n"], vim=True, patch=True)
+    update = os.path.join(folder, f"update-{hunks}.diff")
+    with open(update, "wb") as out:
+        out.writelines(script)
+    return Work(folder, "update", hunks, text_lines(300_000), script + [b"Q\n"], vim=True, patch=True, rred=update)
 
 
 def things(count):
@@ -184,7 +196,7 @@ def delete_matching(folder, n):
 
 
 def reverse(folder, n):
-    return Work(folder, "g-m0", n, things(n), [b"g/^/m0\nQ\n"], vim=True, perl=["perl", "-e", "print reverse <>"])
+    return Work(folder, "g-m0", n, things(n), [b"g/^/m0\nQ\n"], tac=True, vim=True, perl=["perl", "-e", "print reverse <>"])
 
 
 def join_pairs(folder, n):
@@ -243,6 +255,11 @@ def programs_for(work):
         programs["busybox"] = work.busybox
     if work.perl and shutil.which("perl"):
         programs["perl"] = work.perl
+    if work.tac and shutil.which("tac"):
+        programs["tac"] = ["tac"]
+    if work.rred and os.access(RRED, os.X_OK):
+        # It reads the file as standard input.
+        programs["rred"] = ["sh", "-c", f'exec {RRED} -f "$1" <"$2"', "rred", work.rred]
     if work.patch and shutil.which("patch"):
         # It takes the last line, which is none of diff's, for what stands after the update.
         programs["patch"] = ["patch", "-s", "-e", "-o", os.devnull]
@@ -287,6 +304,7 @@ WORKS = (
     ("change 10,000 lines at rising places (lines)", change_rising, (250_000, 500_000, 1_000_000)),
     ("change 10,000 lines in random order (lines)", change_at_random, (250_000, 500_000, 1_000_000)),
     ("move each line to the front (lines)", move_to_front, (12_500, 25_000, 50_000)),
+    ("move all lines to the front by 1,$m0 (lines)", move_all, (500_000, 1_000_000, 2_000_000)),
     ("double 1,000 lines by 1,$t$ (lines)", double, (512_000, 1_024_000, 2_048_000)),
     ("exchange two fields of each line by s (lines)", swap_fields, (50_000, 100_000, 200_000)),
     ("replace bytes in one line by s (MiB)", replace_in_a_long_line, (5, 10, 20, 50)),
@@ -302,8 +320,8 @@ WORKS = (
     ("an update of 300,000 lines as diff -e makes it (hunks)", update, (5_000, 10_000, 20_000)),
     ("global: replace a word in each second line, g/foo[0-9]*/s//x/ (lines)", substitute_matching, (250_000, 500_000, 1_000_000)),
     ("global: delete each second line, g/foo/d (lines)", delete_matching, (100_000, 200_000, 400_000)),
-    ("global: move each line to the front, g/^/m0 (lines)", reverse, (50_000, 100_000, 200_000)),
-    ("global: join lines in pairs, g/^/.,+1j (lines)", join_pairs, (50_000, 100_000, 200_000)),
+    ("global: move each line to the front, g/^/m0 (lines)", reverse, (100_000, 200_000, 400_000)),
+    ("global: join lines in pairs, g/^/.,+1j (lines)", join_pairs, (100_000, 200_000, 400_000)),
     ("global: 10,000 of one line each, Ng/^/s/^/x/, at rising places (lines)", globals_of_one_line, (250_000, 500_000, 1_000_000)),
     ("global: delete each second line, and undo that three times (lines)", undo_of_a_global, (50_000, 100_000, 200_000)),
     ("undo: 5,000 times Nd and u, at random places (lines)", delete_and_undo, (50_000, 100_000, 200_000)),

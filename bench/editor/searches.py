@@ -1,27 +1,33 @@
 #!/usr/bin/env python3
 """Measures searches by a pattern through the editor beside GNU ed, sed and vim, on 1,000,000 lines of 50 bytes made by
 bench/patterns/lines.awk: the search that finds the last line, `g` that prints, `g` with `s`, and `s` on all lines. Processor seconds of
-user and system, the least of two runs; what takes more than 20 seconds is left out, and so is GNU ed where `g` changes lines, which takes
-it a time that grows with their square. It runs the program that `make` built."""
+user and system, the least of two runs; what takes more than 20 of them is left out, and so is GNU ed where `g` changes lines, which takes
+it a time that grows with their square. The last table is of 10,000 searches by one pattern. It runs the program that `make` built, or
+another one that is named."""
 import os
 import resource
 import subprocess
+import sys
 import tempfile
 
 HERE = os.path.dirname(os.path.abspath(__file__))
-PROGRAM = os.path.join(HERE, "../../crates/ed_main/out/ed_main")
+PROGRAM = sys.argv[1] if len(sys.argv) > 1 else os.path.join(HERE, "../../crates/ed_main/out/ed_main")
+# In seconds of processor time, whatever else the machine does: a run that takes longer is ended.
+LIMIT = 20
 PATTERNS = [r"needle", r"[0-9][0-9]*", r"x.*y.*z", r"[0-9]\{3,5\} [a-z]*$", r"\([a-z]*\) \([a-z]*\) foo"]
 
 
 def seconds(words, script):
+    """The least processor time of two runs; None where a run was ended, or there is no such program."""
+    limited = lambda: resource.setrlimit(resource.RLIMIT_CPU, (LIMIT, LIMIT))
     least = None
     for _ in range(2):
         before = resource.getrusage(resource.RUSAGE_CHILDREN)
         try:
-            subprocess.run(words, input=script, stdout=subprocess.DEVNULL, stderr=subprocess.DEVNULL, timeout=20)
-        except subprocess.TimeoutExpired:
-            return None
+            done = subprocess.run(words, input=script, stdout=subprocess.DEVNULL, stderr=subprocess.DEVNULL, preexec_fn=limited)
         except FileNotFoundError:
+            return None
+        if done.returncode < 0:
             return None
         after = resource.getrusage(resource.RUSAGE_CHILDREN)
         took = after.ru_utime - before.ru_utime + after.ru_stime - before.ru_stime
@@ -38,6 +44,22 @@ def rows(pattern):
     yield f"g/{pattern}/p", f"g/{pattern}/p\nQ\n", f"/{pattern}/p", f"g/{pattern}/p"
     yield f"g/{pattern}/s//x/", f"g/{pattern}/s//x/\nQ\n", f"s/{pattern}/x/", f"g/{pattern}/s//x/"
     yield f"1,$s/{pattern}/x/", f"1,$s/{pattern}/x/\nQ\n", f"s/{pattern}/x/", f"%s/{pattern}/x/"
+
+
+# Which every second line matches, which every twelfth, and every forty-third.
+OFTEN = [r"x.*y", r"x.*y.*z.*q", r"zx.*q"]
+
+
+def repeated(lines):
+    """10,000 searches, each from the line that the one before has found."""
+    for pattern in OFTEN:
+        script = "1\n" + f"/{pattern}/\n" * 10_000 + "Q\n"
+        ours = seconds([PROGRAM, "edit", "-s", lines], script.encode())
+        ed = seconds(["ed", "-s", lines], script.encode())
+        vim = seconds(["vim", "-es", "-u", "NONE", "-N", lines], script.replace("Q\n", "q!\n").encode())
+        print(f"{shown(ours)} {shown(None)} {shown(ed)} {shown(vim)}  10,000 times /{pattern}/", flush=True)
+    started = seconds([PROGRAM, "edit", "-s", lines], b"Q\n"), seconds(["ed", "-s", lines], b"Q\n")
+    print(f"{shown(started[0])} {shown(None)} {shown(started[1])} {shown(None)}  no command", flush=True)
 
 
 def main():
@@ -57,6 +79,7 @@ def main():
                 ed = None if "/s//" in name else seconds(["ed", "-s", lines], script.encode())
                 vim = seconds(["vim", "-es", "-u", "NONE", "-N", "-c", by_vim, "-c", "q!", lines], b"")
                 print(f"{shown(ours)} {shown(sed)} {shown(ed)} {shown(vim)}  {name}", flush=True)
+        repeated(lines)
 
 
 main()
