@@ -37,7 +37,7 @@ pub record AreListed (writes : List (List ℕ)) (paths : List Choice) : Type 0 w
   pub just : (path : List ℕ) → Contains writes path ↔ Contains paths (Some path)
   pub rising : IsStrictlySortedBy (slice_cmp nat_cmp) writes
 
--- The certificate of a script in which no need fails: of the version and the start that were asked for, with what follows from there, and
+-- The certificate of a script in which no need fails: it has the version and the start that were asked for, what follows from there, and
 -- the known bounds of the number of lines left.
 pub record IsCertificate (script : Script) (start : Start) (c : Certificate) : Type 0 where
   pub version : c.version ≡ version_of start.has

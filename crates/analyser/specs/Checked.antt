@@ -22,7 +22,7 @@ IsBefore place other = (place.command < other.command) ⊎ ((place.command ≡ o
 
 -- Of the checks of a certificate with these notes, each at a place before this one holds, whatever list has all paths that the noted commands
 -- may write. The shape isn't checked: a note for each counted command is asked there. The notes end at the place or with the last counted
--- command, so the checks of the end stand at no place before it, and are left out. The checks at the place itself aren't spoken of.
+-- command, so no check of the end stands at a place before it, and these are left out. Nothing is said of the checks at the place itself.
 abbrev pub ChecksHoldBefore : Place → Script → Start → List Note → Type 0
 ChecksHoldBefore place script start notes =
     (writes : List (List ℕ)) → ((path : List ℕ) → Contains (paths_from (counted script.steps) notes) (Some path) → Contains writes path) →

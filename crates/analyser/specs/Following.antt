@@ -90,7 +90,7 @@ paths_from (x ∷ xs) (n ∷ ns) = (written_paths x.command.verb n.state ++ loop
 
 -- A SCRIPT
 
--- the version of the certificate that is asked for: where patterns are given, also none, it tells of matches
+-- the version of the certificate that is asked for: where a set of patterns is given, even an empty one, it tells of matches
 abbrev pub version_of : (has : Option (List (List ℕ))) → Version
 version_of None = version.One
 version_of (Some has) = version.Two

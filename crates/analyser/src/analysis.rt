@@ -13,8 +13,8 @@ pub struct Start {
     pub min: u64,
     /// The most lines that the start may have; with none there is no limit.
     pub max: Option<u64>,
-    /// The patterns that some line of the start matches, maybe none: a certificate of version two is made, which states them. With
-    /// `None` it is one of version one, which tells nothing of what lines match.
+    /// The patterns that some line of the start matches, maybe none: then a certificate of version 2 is made, which states them. With
+    /// `None` it is one of version 1, which tells nothing of what lines match.
     pub has: Option<Texts>,
 }
 

@@ -8,7 +8,7 @@ pub fn ends_ignore_groups()
     ensures law { EndsIgnoreGroups }
 {}
 
-/// Putting ways in order of their ends changes no first way to an end.
+/// Putting ways in order of their ends doesn't change which way to an end is the first.
 #[tactic(auto, using(crate::proofs::SameEnds::order_keeps_first))]
 pub fn order_keeps_first()
     ensures law { OrderKeepsFirst }
@@ -30,14 +30,14 @@ pub fn literals_match_themselves()
     ensures law { LiteralsMatchThemselves }
 {}
 
-/// The counts by which reading ends bound nothing: greater ones give the same reading of each text.
+/// The counts that make reading end don't limit it: greater ones give the same reading of each text.
 pub fn readings_ignore_counts()
     ensures elements { ElementsIgnoreCount }
     ensures repeats { RepeatsIgnoreCount }
     ensures items { ItemsIgnoreCount }
 {}
 
-/// The count of turns bounds nothing: a greater one gives a repeat the same ways.
+/// The count of turns is no limit: a greater one gives a repeat the same ways.
 pub fn ways_ignore_count()
     ensures law { WaysIgnoreCount }
 {}

@@ -17,8 +17,8 @@ pub struct Sight {
 }
 
 impl Sight {
-    /// That of a script with a certificate of this version, which states these patterns of its start. In version 1 they don't
-    /// count. It takes no memory then.
+    /// The sight of a script with a certificate of this version, which states these patterns of its start. In version 1 they don't
+    /// count, and no memory is taken.
     pub fn of(script: &Script, version: Version, has: &Texts) -> Result<Sight, AllocError>
         ensures value { IfOk result (λ sight. sight ≡ sight_of (script_value script.now) version has.now) }
     {
@@ -36,8 +36,7 @@ impl Sight {
         &self.watch
     }
 
-    /// Leaves of a state that a rule gave what the version tells of it: in version 1 it forgets what lines match. It takes no
-    /// memory.
+    /// Leaves in a rule's state only what the version tells: in version 1 what lines match is forgotten. It takes no memory.
     pub fn tell(&self, state: &mut State)
         ensures value { state.new ≡ told self.now state.old }
     {

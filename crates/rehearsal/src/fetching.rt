@@ -19,7 +19,7 @@ pub(crate) fn fetch<O: Outside>(
     requires holds { Holds (O.log real.old) (files_of files.old) (written (log_of files.old)) }
     ensures no_write { ReadsAtMost path.now (O.log real.old) (O.log real.new) }
 
-    // What is held stays that of the writes and of the real files, also where there was no memory.
+    // What is held is still that of the writes and of the real files, also if there was no memory.
     ensures holds { Holds (O.log real.new) (files_of files.new) (written (log_of files.new)) }
 
     // The file that is held now is what a read is to show, unless it was refused.
@@ -47,7 +47,7 @@ pub(crate) fn fetch<O: Outside>(
     }
 }
 
-/// The number of this call where it is to be refused, or 0.
+/// The number of this call if it is to be refused, or 0.
 pub(crate) fn call_refused(refused: bool, call: u64) -> u64
     ensures value { result ≡ call_if refused call }
 {

@@ -92,7 +92,7 @@ impl<O: Outside + Drop> Outside for Rehearsal<O> {
         ensures refused { IfOk result (λ a. a ≡ answer.Refused → refusals self.old.files < refusals self.new.files) }
         ensures not_done { IfOk result (λ a. a ≢ answer.Done) }
 
-        // Beside what any outside ensures: what is asked of the real files,
+        // In addition to what any outside ensures: what is asked of the real files,
         ensures no_write { ReadsAtMost path.now (O.log self.old.real) (O.log self.new.real) }
         ensures asked_once { file_at path.now (files_of self.old.files) ≢ None → O.log self.new.real ≡ O.log self.old.real }
 
@@ -121,7 +121,7 @@ impl<O: Outside + Drop> Outside for Rehearsal<O> {
         ensures refused { IfOk result (λ a. a ≡ answer.Refused → refusals self.old.files < refusals self.new.files) }
         ensures done_or_refused { IfOk result (λ a. (a ≡ answer.Done) ⊎ (a ≡ answer.Refused)) }
 
-        // Beside what any outside ensures: the real files are asked nothing, and the write is done.
+        // In addition to what any outside ensures: the real files are asked nothing, and the write is done.
         ensures no_write { O.log self.new.real ≡ O.log self.old.real }
         ensures done { IfOk result (λ a. a ≡ answer.Done) }
     {

@@ -77,7 +77,7 @@ impl<R: io::Read + Drop> Model for In<R> {
 }
 
 impl<R: io::Read + Drop> In<R> {
-    /// A source over this reader, which wasn't read yet. It takes no memory.
+    /// A source over this reader, which hasn't been read yet. It takes no memory.
     pub fn new(reader: R) -> Self
         ensures value { result ≡ record { remaining = R.remaining reader; reads = 0; failures = 0 } }
     {
@@ -118,7 +118,7 @@ impl<R: io::Read + Drop> Source for In<R> {
 /// How many bytes one read asks for at most.
 const PIECE: usize = 65536;
 
-/// All bytes of a source, which may be at most `limit`. After an `Err` those that were taken are gone.
+/// All bytes of a source, of which there may be at most `limit`. After an `Err` those that were taken are gone.
 pub fn read_all<S: Source>(alloc: Global, source: &mut S, limit: usize) -> Result<Bytes, ReadFault>
     requires count { S.failures source.old < 2 ^ 64 - 1 }
     ensures value { IfOk result (λ bytes. IsAll (S.remaining source.old) (S.remaining source.new) limit bytes) }

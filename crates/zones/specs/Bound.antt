@@ -18,7 +18,7 @@ abbrev pub IsKept : Option ℤ → Type 0
 IsKept None = Unit {0}
 IsKept (Some c) = (lowest ≤ℤ c) × (c ≤ℤ highest)
 
--- A number as a zone keeps it, always to the weaker side: above the highest any, below the lowest the lowest.
+-- A number as a zone keeps it, always to the weaker side: one above the highest is any, one below the lowest is the lowest.
 abbrev pub clip : ℤ → Option ℤ
 clip c = if int_lt highest c then None else if int_lt c lowest then Some lowest else Some c
 

@@ -62,7 +62,7 @@ widening_bound old new p q =
 unfoldable pub widening_of : Bounds → Bounds → Bounds
 widening_of old new = zone_by (widening_bound old new)
 
--- One bound is replaced, as a zone keeps it. This builds a zone and is no step.
+-- One bound is replaced, as a zone keeps it. This builds a zone and isn't a step.
 unfoldable pub put_bound : Bounds → ℕ → ℕ → Option ℤ → ℕ → ℕ → Option ℤ
 put_bound zone x y replacement p q =
     if p == x then (if q == y then clip_bound replacement else bound zone p q) else bound zone p q

@@ -31,7 +31,7 @@ impl Model for KeptEntry {
 }
 
 impl KeptEntry {
-    /// The bound of `x - y`, clipped as ever.
+    /// The bound of `x - y`, clipped as always.
     pub fn new(x: Name, y: Name, bound: Option<i64>) -> Self
         ensures value { result ≡ record { place = 32 * x + y; bound = clip_bound bound } }
     {
@@ -78,7 +78,7 @@ impl KeptEntry {
     }
 
     /// The number that `x - y` is at most, if there is one. Among the known bounds of a zone it is missing only for a name with
-    /// itself, of which the zone then says less than that of nothing known.
+    /// itself, if the zone says less of that than the zone in which nothing is known.
     pub fn bound(self) -> Option<i64>
         ensures value { result ≡ self.bound }
         ensures kept { IsKept result }

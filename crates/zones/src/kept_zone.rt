@@ -121,7 +121,7 @@ impl KeptZone {
         zone
     }
 
-    /// Has a zone become the one that is kept. It takes no memory.
+    /// Makes a zone the one that is kept. It takes no memory.
     pub fn restore(&self, zone: &mut Zone)
         ensures value { zone.new ≡ self.now }
     {

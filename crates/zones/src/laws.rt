@@ -129,7 +129,7 @@ pub fn numbers_are_updated()
         Holds zone before → Holds zone after }
 {}
 
-/// Of a name of which nothing is known nothing becomes known by a step on other names.
+/// If nothing is known of a name, a step on other names doesn't make anything known of it.
 pub fn isolated_names_stay_isolated()
     ensures any { (x : ℕ) → x < 32 → IsIsolated any_zone x }
     ensures guard { (zone : Bounds) (x y z : ℕ) (c : ℤ) → x < 32 → y < 32 → z < 32 → y ≢ x →

@@ -44,7 +44,7 @@ impl Name {
     /// How many names there are.
     pub const COUNT: usize = 32;
 
-    /// The names that are no marks, in their order.
+    /// The names that aren't marks, in their order.
     pub fn unmarked() -> [Name; 6]
         ensures value { result ≡ zero ∷ current_line ∷ last_line ∷ first_address ∷ second_address ∷
             target_address ∷ [] }
@@ -68,7 +68,7 @@ impl Name {
         }
     }
 
-    /// The letter that marks the line; `None` of a name that is no mark.
+    /// The letter that marks the line; `None` for a name that isn't a mark.
     pub fn letter(self) -> Option<Letter>
         ensures value { IfSome result (λ letter. mark letter ≡ self) }
         ensures unmarked { IfNone result (self < 6) }

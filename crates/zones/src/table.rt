@@ -127,7 +127,7 @@ fn row_of(table: &Table, most: usize, y: usize) -> Line
     row
 }
 
-/// Takes up that the difference of the names at `x` and `y` is at most `c`.
+/// Adds that the difference of the names at `x` and `y` is at most `c`.
 pub(crate) fn guard_table(table: &mut Table, most: usize, x: usize, y: usize, c: i64)
     requires most_in_range { most ≤ 32 }
     requires x_in_range { x < most }
@@ -198,7 +198,7 @@ fn clear_row(table: &mut Table, most: usize, p: usize)
     }
 }
 
-/// Makes a table that in which nothing is known.
+/// Makes a table the one in which nothing is known.
 pub(crate) fn clear_table(table: &mut Table, most: usize)
     requires most_in_range { most ≤ 32 }
     requires unknown { AreUnknown table.old most }

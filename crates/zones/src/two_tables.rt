@@ -69,7 +69,7 @@ fn copy_row(table: &mut Table, other: &Table, most: usize, p: usize)
     }
 }
 
-/// Makes a table another.
+/// Makes a table equal to another.
 pub(crate) fn copy_table(table: &mut Table, other: &Table, most: usize)
     requires most_in_range { most ≤ 32 }
     requires unknown { AreUnknown table.old most }

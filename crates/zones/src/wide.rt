@@ -33,7 +33,7 @@ impl Zone {
         }
     }
 
-    /// Takes up that `x - y` is at most `c`.
+    /// Adds that `x - y` is at most `c`.
     pub fn guard_wide(&mut self, x: Name, y: Name, c: i128)
         ensures exact { self.new ≡ after_guard self.old x y c }
         ensures sound { (number : Numbers) → Holds self.old number → (number x -ℤ number y) ≤ℤ c →

@@ -104,7 +104,7 @@ impl Zone {
         self.table[32 * x.place() + y.place()].get()
     }
 
-    /// Takes up that `x - y` is at most `c`.
+    /// Adds that `x - y` is at most `c`.
     pub fn guard(&mut self, x: Name, y: Name, c: i64)
         ensures exact { self.new ≡ after_guard self.old x y c }
         ensures sound { (number : Numbers) → Holds self.old number → (number x -ℤ number y) ≤ℤ c →
@@ -196,8 +196,8 @@ impl Zone {
         table_covers(&self.table, &other.table, self.reach.max(other.reach))
     }
 
-    /// Replaces the bound of `x - y`, clipped as ever. This builds a zone and is no step: what it
-    /// claims is the caller's.
+    /// Replaces the bound of `x - y`, clipped as always. This builds a zone and isn't a step: the
+    /// caller answers for what it claims.
     pub fn put(&mut self, x: Name, y: Name, number: Option<i64>)
         ensures exact { self.new ≡ after_put self.old x y number }
         ensures sound { (numbers : Numbers) → Holds self.old numbers →

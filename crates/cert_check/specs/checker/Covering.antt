@@ -38,7 +38,7 @@ old_covers (Some weak) (Some strong) = zone_covers weak.zone strong.zone && are_
 abbrev pub undo_covers : (weak strong : Undo) → Bool
 undo_covers weak strong = allows weak.nothing strong.nothing && (allows weak.same strong.same && old_covers weak.was strong.was)
 
--- where the strong state has an earlier buffer, what some of its lines match by the weak one they match by the strong one
+-- where the strong state has an earlier buffer, the patterns that its lines match by the weak state are among those of the strong one
 abbrev pub old_has_covers : {A : Type 0} → Option A → (weak strong : List (List ℕ)) → Bool
 old_has_covers None weak strong = true
 old_has_covers (Some old) weak strong = are_members weak strong

@@ -36,7 +36,7 @@ start_lines (Some path) _ = None
 abbrev pub stated : Certificate → List (List ℕ)
 stated c = elim c.version [ version.One ↦ [] | version.Two ↦ c.has ]
 
--- a start that a certificate allows: as many lines as its bounds say, and for each pattern that it states one that matches
+-- a start that a certificate allows: its number of lines lies within the bounds, and each pattern that is stated is matched by one of them
 abbrev pub IsAllowed : Certificate → (lines : List (List ℕ)) → Type 0
 IsAllowed c lines = IsWithin c.min c.max (length lines) × Match (stated c) lines
 

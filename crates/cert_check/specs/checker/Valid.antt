@@ -57,8 +57,8 @@ abbrev pub counted : List Step → List Step
 counted [] = []
 counted (x ∷ xs) = x ∷ (elim (ends_run x.command.verb) [ true ↦ [] | false ↦ counted xs ])
 
--- What a script is judged by, beside what is known: the version of its certificate, and the patterns that are watched for, of which the
--- certificate states some of its start. Version 1 watches for none.
+-- What a script is judged by, beside what is known: the version of its certificate, and the patterns that are watched for, those that the
+-- certificate states of its start among them. Version 1 watches for none.
 abbrev pub sight_of : Script → Version → (has : List (List ℕ)) → Sight
 sight_of script version.One has = record { version = version.One; watch = [] }
 sight_of script version.Two has = record { version = version.Two; watch = watched script has }
@@ -66,7 +66,7 @@ sight_of script version.Two has = record { version = version.Two; watch = watche
 abbrev pub seen_by : Script → Certificate → Sight
 seen_by script c = sight_of script c.version c.has
 
--- A state that a rule gives, as far as the version tells of it. What version 1 tells is emptied of matches.
+-- A state that a rule gives, as far as the version tells it: version 1 tells nothing of matches.
 abbrev pub told_by : Version → State → State
 told_by version.One s = record s { has = []; old_has = [] }
 told_by version.Two s = s

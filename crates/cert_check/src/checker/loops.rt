@@ -41,8 +41,8 @@ fn go_through_list(
     Ok(None)
 }
 
-/// Goes through the list of a global command, of which `known` is known before it. From the state before its first line, `coming`
-/// becomes the state after the command, where no check fails.
+/// Goes through the list of a global command, before which `known` is known. From the state before its first line, `coming` becomes the
+/// state after the command, if no check fails.
 pub(crate) fn pass_loop(
     sight: &Sight,
     number: usize,

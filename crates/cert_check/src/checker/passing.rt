@@ -53,7 +53,7 @@ pub(crate) fn is_covered(known: &KeptState, strong: &State) -> bool
     known.covers(strong)
 }
 
-/// Goes over to the state after a command, where all its needs hold, and says whether they do.
+/// Goes on to the state after a command, if all its needs hold, and says whether they do.
 fn leave(
     sight: &Sight,
     command: &Command,
@@ -129,7 +129,7 @@ pub(crate) fn passes(
     leave(sight, command, before, coming)
 }
 
-/// Something is known of a list just where the command is global, and before each command of it.
+/// Something is known of a list exactly if the command is global, and before each command of the list.
 fn fits(command: &Command, note: &Note) -> bool
     ensures value { result ≡ fits (step_value command.now) (note_value note.now) }
 {
@@ -140,7 +140,7 @@ fn fits(command: &Command, note: &Note) -> bool
     }
 }
 
-/// The notes are in the shape that goes with the commands, of which `number` are counted.
+/// The notes have the shape that goes with the commands, of which `number` are counted.
 pub(crate) fn are_shaped(commands: &[Command], number: usize, notes: &[Note]) -> bool
     requires counted { number ≡ length (counted (steps_value commands.now)) }
     ensures value { result ≡

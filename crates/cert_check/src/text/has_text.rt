@@ -17,7 +17,7 @@ use ed_rules::{
 use std::cmp::Ordering;
 use zones::{KeptZone, Name};
 
-/// Whether a name is no letter's and not that of an address of one command: no text has those.
+/// Whether a name is neither a letter's nor that of an address of one command, which no text has.
 fn is_fixed(name: Name) -> bool
     ensures value { result ≡ nat_lt name 3 }
 {
@@ -240,9 +240,9 @@ pub(crate) fn paths_rise(paths: &[Bytes]) -> bool
 }
 
 impl Certificate {
-    /// Whether the certificate has a text: its start has at least as few lines as it has many, no bound on lines is above
-    /// 10^12, each zone speaks of the letters beside it only, the paths that may be written rise, and nothing is said
-    /// of what some line matches where the version doesn't, or where undo has no earlier buffer.
+    /// Whether the certificate has a text: the fewest lines of its start aren't above the most, no bound on lines is above 10^12, each
+    /// zone speaks only of the letters beside it, the paths that may be written rise, and nothing is said of what some line matches if
+    /// the version says nothing of that, or if undo has no earlier buffer.
     pub fn has_text(&self) -> bool
         ensures exact { IsTrue result ↔ HasText (certificate_value self.now) }
     {

@@ -87,8 +87,8 @@ impl Certificate {
     }
 }
 
-/// The line of a [`CertFault::Line`], and which kind of line could stand there; `None` of bytes that have no such fault. It reads
-/// them again: whoever tells people of a fault asks for it.
+/// The line of a [`CertFault::Line`], and which kind of line could stand there; `None` for bytes that have no such fault. It reads
+/// them once more, so it is called only where people are told of a fault.
 pub fn wanted(alloc: Global, bytes: &[u8]) -> Result<Option<Wanted>, AllocError>
     ensures exact { IfOk result (λ wanted. MatchOption wanted ((number : ℕ) → IsLineFault number bytes.now → ⊥)
         (λ wanted. IsWanted wanted bytes.now)) }

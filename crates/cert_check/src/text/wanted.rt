@@ -1,4 +1,4 @@
-//! Which line is wanted where one stands that may not stand there.
+//! Which line is wanted in place of one that may not stand where it stands.
 
 ghost use Rattle.std.specs.Prelude.{◌≡◌};
 ghost use Rattle.cert_check.specs.text.Wanted.{key, keys, told_words};

@@ -28,7 +28,7 @@ fn push_signed(out: &mut Bytes, number: i64) -> Result<(), AllocError>
     push_number(out, number.unsigned_abs())
 }
 
-/// The byte of a name. Of the addresses of one command there is none, and no text names them.
+/// The byte of a name. The addresses of one command have none, and no text names them.
 pub(crate) fn name_byte(name: Name) -> u8
     ensures value { name_word name ≡ result ∷ [] }
 {
@@ -72,7 +72,7 @@ fn push_bound(out: &mut Bytes, x: Name, y: Name, bound: Option<i64>) -> Result<(
     push_signed(out, number)
 }
 
-/// All that a zone says. Of a bound that isn't known nothing is written.
+/// All that a zone says. Nothing is written of a bound that isn't known.
 pub(crate) fn push_zone(out: &mut Bytes, zone: &KeptZone) -> Result<(), AllocError>
     ensures appended { OnOk result (out.new ≡ out.old ++ spaced (bounds_words 0 zone.now)) }
 {
