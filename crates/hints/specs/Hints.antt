@@ -10,7 +10,7 @@ use Rattle.hints.specs.declared.refusing.Refusal.{Refusal}
 use Rattle.hints.specs.Passing.{IsAllowed, Keeps, GetsPast}
 
 -- A hint on a script over a start was tried: the script as it reads by it, over the start that it names, gets past the place. That start
--- keeps what the first one says of the file.
+-- keeps the path of the first one and the patterns that it states.
 pub record IsTried (start : Start) (place : Place) (h : Hint) : Type 0 where
   pub kept : Keeps start h.start
   pub allowed : IsAllowed h.start

@@ -32,7 +32,7 @@ with_max start most = record { path = start.path; min = start.min; max = Some mo
 abbrev pub IsStating : (has now : Option (List (List ℕ))) → Type 0
 IsStating has now = (now ≡ has) ⊎ ((patterns : List (List ℕ)) × (now ≡ Some (with_texts patterns (stated_of has))))
 
--- A start says of its file what another one says, and maybe more: the path is the same, and no pattern is left out that is stated there.
+-- A start has the path of another one, and no pattern is left out that is stated there. Nothing is said of the bounds.
 pub record Keeps (start then : Start) : Type 0 where
   pub path : then.path ≡ start.path
   pub stated : IsStating start.has then.has
