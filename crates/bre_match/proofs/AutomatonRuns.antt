@@ -1,6 +1,7 @@
 -- How a scan by an automaton goes on, and what it tells where it ends.
-use Rattle.std.proofs.Common.{◌≡◌, ℕ, zero, suc, ◌+◌, ◌-◌, ◌<◌, ◌≤◌, ◌⊎◌, inl, inr, List, [], ◌∷◌, length, get_or, Option, Some, None, Bool, true, false, cond, eqb, leb, refl, ap, sym, ◌∙◌, subst, arith}
+use Rattle.std.proofs.Common.{◌≡◌, ℕ, zero, suc, ◌+◌, ◌*◌, ◌-◌, ◌<◌, ◌≤◌, ◌⊎◌, inl, inr, List, [], ◌∷◌, length, get_or, Option, Some, None, Bool, true, false, cond, eqb, leb, refl, ap, sym, ◌∙◌, subst, arith, slice_get}
 use Rattle.std.proofs.lemmas.Bool.Decides.{nat_tests}
+use Rattle.std.proofs.lemmas.List.{get_or_read}
 use Rattle.std.specs.Prelude.{is_some}
 use Rattle.bre_parse.specs.Tree.{Tree}
 use Rattle.bre_parse.specs.Groups.{refers}
@@ -12,12 +13,12 @@ use Rattle.bre_match.specs.Columns.{peek, step}
 use Rattle.bre_match.specs.Marks.{fill, past, marks_of}
 use Rattle.bre_match.specs.Ends.{columns, out_of}
 use Rattle.bre_match.specs.States.{any_start, as_state, none_marked, transition}
-use Rattle.bre_match.specs.Automata.{state_in, meaning_of, IsEntry, Serves}
+use Rattle.bre_match.specs.Automata.{symbol_byte, state_in, meaning_of, IsEntry, Serves}
 use Rattle.bre_match.proofs.Automata.{out_is_match, none_out_no_match, none_before, passed_over}
 use Rattle.bre_match.proofs.ColumnRuns.{unmarked_part}
 use Rattle.bre_match.proofs.ColumnRows.{column_of_row}
 use Rattle.bre_match.proofs.ColumnSearch.{no_marks}
-use Rattle.bre_match.proofs.AutomatonTables.{meaning_is_known, entry_says}
+use Rattle.bre_match.proofs.AutomatonTables.{meaning_is_known, entry_says, known_entry, known_entry_holds}
 
 -- A part with marks as a state has them
 
@@ -230,6 +231,29 @@ run_goes_on t s from states old table before x clean state entry next new free o
           column = both.1;
           none = both.0;
         }))
+
+-- a byte with a known entry that isn't that of a match's end
+pub run_passes : (t : Tree) (s : List ℕ) (from : ℕ) (states : List (List (Option ℕ))) (table : List ℕ)
+    (x clean state symbol slot entry next new : ℕ) → refers t ≡ false → repeats_in_order t ≡ true → x < length s →
+    Run t s from states table x clean state → symbol ≤ 256 → symbol_byte symbol ≡ slice_get s x → slot ≡ 512 * state + symbol →
+    entry ≡ get_or table slot entry → entry < 256 → next ≡ x + 1 → new ≡ cond (eqb entry 1) next clean →
+    Run t s from states table next new entry
+run_passes t s from states table x clean state symbol slot entry next new free order lt h low at is e on there f =
+    run_goes_on t s from states states table table x clean state entry next new free order lt h h.begun h.serves
+    (known_entry kind.Every (part_of t) states table slot entry h.serves read)
+    (known_entry_holds kind.Every (part_of t) s states table x state symbol slot entry (omega arith) h.serves h.within h.start low at is
+    read (λ g. omega arith))
+    on (omega arith) (omega arith) (λ g. there) (ap (λ z. match_from t s z) there) f
+  where
+    within : slot < length table
+    within =
+        let serves = h.serves in
+        let room = serves.room in
+        let inside = h.within in
+        omega arith
+
+    read : entry ≡ get_or table slot 65535
+    read = get_or_read table slot entry within e 65535
 
 pub run_ends : (t : Tree) (s : List ℕ) (from : ℕ) (states old : List (List (Option ℕ))) (table : List ℕ) (x clean state entry : ℕ) →
     refers t ≡ false → repeats_in_order t ≡ true → length s ≤ x → Run t s from old table x clean state →

@@ -2,6 +2,8 @@
 pub mod Answer
 -- what a searcher looks for
 pub mod Searchers
+-- what is kept from one searcher to the next, tied to what they look for by a law: `resume` takes it, `of` and `leave` give it
+pub mod Learning
 -- laws of first ways
 pub mod Laws
 -- these only serve clauses inside the crate

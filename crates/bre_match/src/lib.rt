@@ -16,6 +16,7 @@ mod column;
 mod ending;
 mod grouping;
 pub mod laws;
+mod learned;
 mod narrow;
 mod needed;
 mod order;
@@ -44,6 +45,7 @@ use crate::start::{begins_at_start, longest_from, starts_without};
 use crate::word::find_word;
 use bre_parse::Bre;
 use bre_parse::tree::{Groups, Node};
+pub use learned::Learned;
 pub use searcher::Searcher;
 use std::alloc::{AllocError, Global};
 

@@ -78,6 +78,16 @@ impl Pace {
         credit >= PRICE
     }
 
+    /// The place before which a scan goes from byte to byte, without asking where it goes on: up to there no jump is due, and the text
+    /// doesn't end.
+    #[inline(always)]
+    pub(crate) fn plain_until(&self, text: &[u8]) -> usize
+        requires some { 0 < length text.now }
+        ensures within { result < length text.now }
+    {
+        self.jump.min(text.len()).saturating_sub(1)
+    }
+
     /// Where a scan goes on that came to a state at a place: there, or at a later place, where the state has no marks and no start
     /// before it leads on. A byte costs one comparison, and the state is looked at where it is due: it can't be foretold.
     #[inline(always)]

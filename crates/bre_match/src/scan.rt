@@ -13,7 +13,7 @@ ghost use Rattle.bre_match.specs.Scans.{IsTold};
 use crate::automaton::{FOUND, UNKNOWN, WIDTH, begin};
 use crate::pace::Pace;
 use crate::state::{Starts, State};
-use crate::transition::{learn, symbol_at};
+use crate::transition::{learn, symbol_at, symbol_of};
 use bre_parse::tree::Node;
 use std::alloc::AllocError;
 
@@ -101,6 +101,17 @@ pub(crate) fn scan(
     let mut clean = from;
     let mut place = from;
     while place < text.len() {
+        // Most bytes are passed here. What is written below stays the same meanwhile, so that a byte costs less.
+        let plain = own.plain_until(text);
+        while place < plain {
+            let seen = table[WIDTH * state + symbol_of(text, place)];
+            if seen >= FOUND {
+                break;
+            }
+            state = seen as usize;
+            place += 1;
+            clean = clean_place(state, place, clean);
+        }
         let known = entry_at(
             states,
             table,

@@ -12,6 +12,16 @@ use crate::state::{Starts, State};
 use bre_parse::tree::Node;
 use std::alloc::AllocError;
 
+/// The symbol of a byte of a text.
+#[inline(always)]
+pub(crate) fn symbol_of(text: &[u8], place: usize) -> usize
+    requires place { place < length text.now }
+    ensures value { symbol_byte result ≡ slice_get text.now place }
+    ensures low { result ≤ 256 }
+{
+    text[place] as usize
+}
+
 /// The symbol at a place of a text: its byte, or the end.
 #[inline(always)]
 pub(crate) fn symbol_at(text: &[u8], place: usize) -> usize
@@ -20,7 +30,7 @@ pub(crate) fn symbol_at(text: &[u8], place: usize) -> usize
     ensures low { result ≤ 256 }
 {
     if place < text.len() {
-        text[place] as usize
+        symbol_of(text, place)
     } else {
         END
     }

@@ -6,4 +6,6 @@ mod matching;
 #[cfg(test)]
 mod reading;
 #[cfg(test)]
+mod resuming;
+#[cfg(test)]
 mod searching;

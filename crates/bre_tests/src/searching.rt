@@ -6,19 +6,19 @@ use std::alloc::{AllocError, Global};
 use std::test::Fail;
 
 // A text, the place to begin at, and where the match lies, found by hand.
-struct Text {
-    bytes: &'static [u8],
-    from: usize,
-    spans: Option<(usize, usize)>,
+pub(crate) struct Text {
+    pub(crate) bytes: &'static [u8],
+    pub(crate) from: usize,
+    pub(crate) spans: Option<(usize, usize)>,
 }
 
-struct Row {
-    pattern: &'static [u8],
-    texts: &'static [Text],
+pub(crate) struct Row {
+    pub(crate) pattern: &'static [u8],
+    pub(crate) texts: &'static [Text],
 }
 
 #[rattlefmt::skip]
-static ROWS: [Row; 7] = [
+pub(crate) static ROWS: [Row; 7] = [
     Row { pattern: b"x.*y.*z", texts: &[
         Text { bytes: b"axbyczd", from: 0, spans: Some((1, 6)) },
         Text { bytes: b"zyx", from: 0, spans: None },
@@ -78,7 +78,7 @@ fn finds(searcher: &mut Searcher<'_>, text: &Text) -> Result<bool, AllocError> {
 }
 
 // So many bytes that no pattern of these tests takes: an automaton is made only once some hundred were searched.
-fn filler(alloc: Global) -> Result<Vec<u8>, AllocError> {
+pub(crate) fn filler(alloc: Global) -> Result<Vec<u8>, AllocError> {
     Vec::from_elem(alloc, b'-', 300)
 }
 
@@ -110,7 +110,7 @@ fn a_searcher_finds_what_lies_in_each_text(rt: HostRuntime) -> Result<(), Fail> 
 }
 
 // The numbers below 256 by nine letters each, `a` for 1 and `c` for 0: an automaton for `a.\{8\}b` has a state for each of them.
-fn numbers(alloc: Global) -> Result<Vec<u8>, AllocError> {
+pub(crate) fn numbers(alloc: Global) -> Result<Vec<u8>, AllocError> {
     let mut text = Vec::new(alloc);
     for number in 0..256u32 {
         for place in 0..9u32 {
@@ -141,14 +141,14 @@ fn forgotten_states_are_met_again(rt: HostRuntime) -> Result<(), Fail> {
 }
 
 // A pattern, what stands after the filler, and where the match lies.
-struct Refused {
-    pattern: &'static [u8],
-    end: &'static [u8],
-    spans: (usize, usize),
+pub(crate) struct Refused {
+    pub(crate) pattern: &'static [u8],
+    pub(crate) end: &'static [u8],
+    pub(crate) spans: (usize, usize),
 }
 
 #[rattlefmt::skip]
-static REFUSED: [Refused; 5] = [
+pub(crate) static REFUSED: [Refused; 5] = [
     Refused { pattern: b"x.*y.*z", end: b"xayz", spans: (300, 304) },
     Refused { pattern: b"\\(ab*\\)*c[0-9]", end: b"abac7", spans: (300, 305) },
     Refused { pattern: b"\\(x\\)*[yz]$", end: b"xy", spans: (300, 302) },
@@ -156,7 +156,7 @@ static REFUSED: [Refused; 5] = [
     Refused { pattern: b"\\(a\\)*\\(bc\\)*d", end: b"aabcd", spans: (300, 305) },
 ];
 
-fn refused_text(alloc: Global, row: &Refused) -> Result<Vec<u8>, AllocError> {
+pub(crate) fn refused_text(alloc: Global, row: &Refused) -> Result<Vec<u8>, AllocError> {
     let mut text = filler(alloc)?;
     text.extend_from_slice(row.end)?;
     Ok(text)

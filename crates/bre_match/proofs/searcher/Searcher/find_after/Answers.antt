@@ -8,7 +8,7 @@ use Rattle.bre_match.proofs.searcher.Searcher.find_after.Goals as goal
 pub returns-in_ok-set_row-in-At-clause-value : goal.returns-in_ok-set_row-in-At-clause-value
 returns-in_ok-set_row-in-At-clause-value c =
     let t = sequence_of c.items-items.result.now in
-    let free = ap refers c.items-items.ensures.value ∙ c.args.self.now.free c.requires.general in
+    let free = ap refers c.items-items.ensures.value ∙ c.args.self.now.learns.free c.requires.general in
     let found = rw c.in-At.is at c.in_ok-span.ensures.found in
     let span : Option (ℕ × ℕ) = Some (c.in-At.start, c.in-At.end) in
     match_of_groups t c.args.text.now c.args.from c.in-At.start c.in-At.end c.set_row.new.groups span refl found.0
