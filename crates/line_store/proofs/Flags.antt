@@ -8,6 +8,7 @@ use Rattle.std.proofs.lemmas.List.Edits.{length-remove, get_or-insert_below, get
 use Rattle.ed_base.specs.Buffer.{Line, plain_line, with_flag, flagged_at, flagged_place, SharesNoLetter}
 use Rattle.line_store.specs.Marks.{lettered, letters_at, AllBelow}
 use Rattle.line_store.specs.Shifts.{with_line, without_line}
+use Rattle.line_store.specs.Flagged.{FirstFlagged}
 use Rattle.line_store.specs.Kept.{Unflagged, flag_count}
 use Rattle.line_store.proofs.Lettered.{line_with, length-lettered, get_or-lettered, lettered-insert, lettered-remove, HaveNoPlace, without_places, with_line-below, without_line-below}
 
@@ -158,3 +159,10 @@ none-flagged lines none place all i l =
     bare : (flag : Bool) → cond flag 1 0 ≤ 0 → flag ≡ false
     bare true h = absurd (omega arith)
     bare false h = refl
+
+-- how far no line has the flag, once the first one has been looked for from there, or from the end
+pub unflagged-found : (place from next : ℕ) (lines : List Line) → from ≤ place → Unflagged place lines → FirstFlagged from next lines → Unflagged next lines
+unflagged-found place from next lines h none found i l = ⊎_elim
+    (λ low. none i low)
+    (λ high. found.none i (omega arith) l)
+    (cases_lt i place)

@@ -7,7 +7,10 @@ mod Cuts
 mod MarkRows
 pub mod Swapped
 pub mod SwappedMarks
+pub mod Grouped
 pub mod Joined
 pub mod SwappedChunks
-pub mod Near
+pub mod Found
 pub mod Offsets
+pub mod Ranges
+pub mod Taken

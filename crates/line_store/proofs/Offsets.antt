@@ -1,61 +1,64 @@
--- What is known of the places of chunks, as lines come in and go out and another chunk is the near one.
-use Rattle.std.proofs.Common.{◌≡◌, ℕ, ◌+◌, ◌-◌, ◌<◌, ◌≤◌, List, [], length, min, max, get_or, set, ap, ◌∙◌, sym, arith, length-set, ⊎_elim}
+-- What is known of where chunks begin, as lines come in and go out.
+use Rattle.std.proofs.Common.{◌≡◌, ℕ, ◌+◌, ◌-◌, ◌^◌, ◌<◌, ◌≤◌, List, [], length, get_or, set, ◌∙◌, sym, arith, length-set, ⊎_elim}
 use Rattle.std.proofs.lemmas.Bool.{cases_lt}
 use Rattle.ed_base.specs.Buffer.{Line}
-use Rattle.line_store.specs.Chunks.{ChunksValue, joined, lines_before, with_near, room_among, Known, Starts}
-use Rattle.line_store.proofs.Joined.{before-most, before-set_low, before-set_high, length-joined-set}
-
--- an offset is at most the number of all lines
-pub offset-most : (near m count : ℕ) (offsets : List ℕ) (chunks : List (List Line)) → Known near count offsets chunks → m < length chunks → get_or offsets m 0 ≤ count
-offset-most near m count offsets chunks known h = ⊎_elim
-    (λ l. let e = known.before m (omega arith) h in omega (arith, before-most m chunks, known.all))
-    (λ l. let e = known.after m (omega arith) h in omega arith)
-    (cases_lt m (near + 1))
+use Rattle.line_store.specs.Starts.{StartsValue}
+use Rattle.line_store.specs.Chunks.{joined, lines_before, room_among, Known, Starts}
+use Rattle.line_store.proofs.Joined.{before-most, before-next, before-later, before-set_low, before-set_high, length-joined-set}
 
 -- each chunk's start was counted
-pub known-counted : (near count : ℕ) (starts : List ℕ) (chunks : List (List Line)) → near ≡ length chunks - 1 → count ≡ length (joined chunks) →
-    length starts ≡ length chunks → Starts starts chunks → Known near count starts chunks
-known-counted near count starts chunks last all long are = record {
-  all = all;
-  long = long;
-  within = omega arith;
-  before = λ k h l. are k l;
-  after = λ k h l. absurd (omega arith);
-}
+pub known-counted : (count : ℕ) (starts : StartsValue) (chunks : List (List Line)) → count ≡ length (joined chunks) → length chunks ≤ starts.room →
+    length starts.starts ≡ length chunks → Starts starts.starts chunks → Known count starts chunks
+known-counted count starts chunks all room long are = record { all = all; room = room; long = long; before = are }
 
--- another chunk is the near one, and what lies between was counted from the other end
-pub known-turned : (near k count : ℕ) (offsets now : List ℕ) (chunks : List (List Line)) → Known near count offsets chunks → k < length chunks → length now ≡ length offsets →
-    ((m : ℕ) → min near k + 1 ≤ m → m < max near k + 1 → get_or now m 0 ≡ count - get_or offsets m 0) →
-    ((m : ℕ) → m < min near k + 1 → get_or now m 0 ≡ get_or offsets m 0) →
-    ((m : ℕ) → max near k + 1 ≤ m → get_or now m 0 ≡ get_or offsets m 0) → Known k count now chunks
-known-turned near k count offsets now chunks known inside long turned below above = record {
-  all = known.all;
-  long = long ∙ known.long;
-  within = omega arith;
-  before = λ m h l. ⊎_elim
-      (λ a. let e = below m (omega arith) in let f = known.before m (omega arith) l in omega arith)
-      (λ a. let e = turned m (omega arith) (omega arith) in let f = known.after m (omega arith) l in omega (arith, before-most m chunks, known.all))
-      (cases_lt m (near + 1));
-  after = λ m h l. ⊎_elim
-      (λ a. let e = turned m (omega arith) (omega arith) in let f = known.before m (omega arith) l in omega arith)
-      (λ a. let e = above m (omega arith) in let f = known.after m (omega arith) l in omega arith)
-      (cases_lt m (near + 1));
-}
+-- where one more line can be counted, it can come in before each chunk
+pub start-fits : (m count : ℕ) (starts : StartsValue) (chunks : List (List Line)) → Known count starts chunks → m < length starts.starts →
+    length (joined chunks) + 1 < 2 ^ 64 → get_or starts.starts m 0 < 2 ^ 64 - 1
+start-fits m count starts chunks known h fits = omega (arith, known.before m (omega (arith, known.long)), before-most m chunks)
 
--- the near chunk is another
-pub known-set : (near count new : ℕ) (offsets : List ℕ) (chunks : List (List Line)) (chunk : List Line) → Known near count offsets chunks → near < length chunks →
-    new + length (get_or chunks near []) ≡ count + length chunk → Known near new offsets (set chunks near chunk)
-known-set near count new offsets chunks chunk known inside more =
-    let long = length-set chunks near chunk in
-    let all = length-joined-set near chunks chunk inside in
+-- a chunk that has lines begins before each later one
+pub start-more : (k m count : ℕ) (starts : StartsValue) (chunks : List (List Line)) → Known count starts chunks → k < m → m < length starts.starts →
+    0 < length (get_or chunks k []) → get_or starts.starts k 0 < get_or starts.starts m 0
+start-more k m count starts chunks known h l some =
+    let within : k < length chunks = omega (arith, known.long) in
+    omega (arith, known.before k within, known.before m (omega (arith, known.long)), before-next k chunks within, before-later (k + 1) m chunks (omega arith))
+
+-- a line more in a chunk
+pub known-raised : (k count : ℕ) (old new : StartsValue) (chunks : List (List Line)) (chunk : List Line) → Known count old chunks → k < length chunks →
+    length chunk ≡ length (get_or chunks k []) + 1 → length new.starts ≡ length old.starts → new.room ≡ old.room →
+    ((m : ℕ) → k < m → m < length old.starts → get_or new.starts m 0 ≡ get_or old.starts m 0 + 1) →
+    ((m : ℕ) → m ≤ k → get_or new.starts m 0 ≡ get_or old.starts m 0) → Known (count + 1) new (set chunks k chunk)
+known-raised k count old new chunks chunk known inside more long room later earlier =
+    let same = length-set chunks k chunk in
     record {
-      all = omega (arith, known.all);
-      long = known.long ∙ sym long;
-      within = omega (arith, known.within);
-      before = λ k h l. known.before k h (omega arith) ∙ sym (before-set_low k near chunks chunk h);
-      after = λ k h l.
-          let e = known.after k h (omega arith) in
-          omega (arith, before-set_high k near chunks chunk h inside, before-most k chunks, before-most k (set chunks near chunk), known.all);
+      all = omega (arith, known.all, length-joined-set k chunks chunk inside);
+      room = omega (arith, known.room);
+      long = long ∙ known.long ∙ sym same;
+      before = λ m h. ⊎_elim
+          (λ l.
+          let e = later m l (omega (arith, known.long)) in
+          omega (arith, known.before m (omega arith), before-set_high m k chunks chunk l inside))
+          (λ l. earlier m l ∙ known.before m (omega arith) ∙ sym (before-set_low m k chunks chunk l))
+          (cases_lt k m);
+    }
+
+-- a line less in a chunk
+pub known-lowered : (k count : ℕ) (old new : StartsValue) (chunks : List (List Line)) (chunk : List Line) → Known count old chunks → k < length chunks →
+    length chunk + 1 ≡ length (get_or chunks k []) → length new.starts ≡ length old.starts → new.room ≡ old.room →
+    ((m : ℕ) → k < m → m < length old.starts → get_or new.starts m 0 + 1 ≡ get_or old.starts m 0) →
+    ((m : ℕ) → m ≤ k → get_or new.starts m 0 ≡ get_or old.starts m 0) → Known (count - 1) new (set chunks k chunk)
+known-lowered k count old new chunks chunk known inside less long room later earlier =
+    let same = length-set chunks k chunk in
+    record {
+      all = omega (arith, known.all, length-joined-set k chunks chunk inside);
+      room = omega (arith, known.room);
+      long = long ∙ known.long ∙ sym same;
+      before = λ m h. ⊎_elim
+          (λ l.
+          let e = later m l (omega (arith, known.long)) in
+          omega (arith, known.before m (omega arith), before-set_high m k chunks chunk l inside))
+          (λ l. earlier m l ∙ known.before m (omega arith) ∙ sym (before-set_low m k chunks chunk l))
+          (cases_lt k m);
     }
 
 -- where a chunk has as many lines as the one in whose place it comes, each chunk begins where it did
@@ -67,22 +70,16 @@ before-exchanged j k chunks chunk inside same = ⊎_elim
     (cases_lt k j)
 
 -- and the same is known
-pub known-exchanged : (near k count : ℕ) (offsets : List ℕ) (chunks : List (List Line)) (chunk : List Line) → Known near count offsets chunks → k < length chunks →
-    length chunk ≡ length (get_or chunks k []) → Known near count offsets (set chunks k chunk)
-known-exchanged near k count offsets chunks chunk known inside same =
+pub known-exchanged : (k count : ℕ) (starts : StartsValue) (chunks : List (List Line)) (chunk : List Line) → Known count starts chunks → k < length chunks →
+    length chunk ≡ length (get_or chunks k []) → Known count starts (set chunks k chunk)
+known-exchanged k count starts chunks chunk known inside same =
     let long = length-set chunks k chunk in
-    let all = length-joined-set k chunks chunk inside in
     record {
-      all = omega (arith, known.all);
+      all = omega (arith, known.all, length-joined-set k chunks chunk inside);
+      room = omega (arith, known.room);
       long = known.long ∙ sym long;
-      within = omega (arith, known.within);
-      before = λ j h l. known.before j h (omega arith) ∙ sym (before-exchanged j k chunks chunk inside same);
-      after = λ j h l. known.after j h (omega arith) ∙ ap (λ n. count - n) (sym (before-exchanged j k chunks chunk inside same));
+      before = λ j h. known.before j (omega arith) ∙ sym (before-exchanged j k chunks chunk inside same);
     }
-
--- one chunk is another
-pub chunk-set : (old mid new : ChunksValue) (k : ℕ) (chunk : List Line) → mid ≡ record old { near = k } → new ≡ with_near chunk mid → new.chunks ≡ set old.chunks k chunk
-chunk-set old mid new k chunk e f = ap (λ v. v.chunks) f ∙ ap (λ m. set m.chunks m.near chunk) e
 
 -- where no chunk is lost and no line comes in, there is as much room
 pub room-least : (old new : List (List Line)) → length old ≤ length new → length (joined new) ≤ length (joined old) → room_among old ≤ room_among new

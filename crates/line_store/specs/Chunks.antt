@@ -1,6 +1,7 @@
 -- Lines in chunks, each of which holds up to so many.
 use Rattle.std.specs.Prelude.{ℕ, zero, suc, ◌+◌, ◌-◌, ◌*◌, ◌^◌, ◌<◌, ◌≤◌, ◌≡◌, List, [], ◌∷◌, ◌++◌, length, min, slice_index_or, slice_set}
 use Rattle.ed_base.specs.Buffer.{Line}
+use Rattle.line_store.specs.Starts.{StartsValue}
 
 -- how many lines a chunk holds when it is full
 abbrev pub full : ℕ
@@ -17,38 +18,28 @@ lines_before zero chunks = 0
 lines_before (suc k) [] = 0
 lines_before (suc k) (chunk ∷ chunks) = length chunk + lines_before k chunks
 
--- the chunks, and which of them is near: the one that was used last
+-- the chunks, each as its lines
 pub record ChunksValue : Type 0 where
   pub chunks : List (List Line)
-  pub near : ℕ
-
--- the lines of the near chunk
-abbrev pub near_chunk : ChunksValue → List Line
-near_chunk v = slice_index_or v.chunks v.near []
 
 -- other lines in a chunk
 abbrev pub with_chunk : (k : ℕ) → List Line → ChunksValue → ChunksValue
-with_chunk k chunk v = record v { chunks = slice_set v.chunks k chunk }
-
--- other lines in the near chunk
-abbrev pub with_near : List Line → ChunksValue → ChunksValue
-with_near chunk v = with_chunk v.near chunk v
+with_chunk k chunk v = record { chunks = slice_set v.chunks k chunk }
 
 -- for how many lines there is room
 abbrev pub room_among : List (List Line) → ℕ
 room_among chunks = min (full * length chunks - length (joined chunks)) (2 ^ 64 - 1 - length (joined chunks))
 
--- Of each chunk up to the near one it is known how many lines stand before it, and of each after that how many stand from it on.
-pub record Known (near count : ℕ) (offsets : List ℕ) (chunks : List (List Line)) : Type 0 where
-  pub all : count ≡ length (joined chunks)
-  pub long : length offsets ≡ length chunks
-  pub within : near ≤ length chunks - 1
-  pub before : (k : ℕ) → k ≤ near → k < length chunks → slice_index_or offsets k 0 ≡ lines_before k chunks
-  pub after : (k : ℕ) → near < k → k < length chunks → slice_index_or offsets k 0 ≡ count - lines_before k chunks
-
 -- how many lines stand before each chunk
 abbrev pub Starts : List ℕ → List (List Line) → Type 0
 Starts offsets chunks = (k : ℕ) → k < length chunks → slice_index_or offsets k 0 ≡ lines_before k chunks
+
+-- how many lines there are, and how many stand before each chunk
+pub record Known (count : ℕ) (starts : StartsValue) (chunks : List (List Line)) : Type 0 where
+  pub all : count ≡ length (joined chunks)
+  pub room : length chunks ≤ starts.room
+  pub long : length starts.starts ≡ length chunks
+  pub before : Starts starts.starts chunks
 
 -- a line stands in a chunk
 pub record StandsIn (i k : ℕ) (chunks : List (List Line)) : Type 0 where

@@ -1,10 +1,14 @@
 //! Lists of lines without letters, however they are kept.
-ghost use Rattle.std.specs.Prelude.{◌≡◌, ◌+◌, ◌<◌, ◌≤◌, ℕ, List, [], length, insert, remove, slice_index_or, slice_set, IfOk, IfErr, OnOk, OnErr, IsOk};
+ghost use Rattle.std.specs.Prelude.{◌≡◌, ◌+◌, ◌<◌, ◌≤◌, ℕ, List, [], length, insert, remove, slice_index_or, slice_set, IfOk, IfErr, IfNone, IfSome, OnOk, OnErr, OnSome, IsOk};
 ghost use Rattle.std.specs.Bool.{OnTrue, OnFalse};
-ghost use Rattle.ed_base.specs.Buffer.{Line, flagged_at};
+ghost use Rattle.ed_base.specs.Buffer.{Line, flagged_at, texts};
+ghost use Rattle.ed_base.specs.Parts.{block, exchanged};
+ghost use Rattle.line_store.specs.Blocks.{CameIn};
+ghost use Rattle.line_store.specs.Flagged.{FirstFlagged};
+ghost use Rattle.line_store.specs.Kept.{flag_count};
 ghost use Rattle.line_store.specs.Swaps.{swapped};
 
-use crate::BareLine;
+use crate::{BareLine, Block};
 use std::alloc::{AllocError, Global};
 use std::mem::replace;
 
@@ -73,6 +77,19 @@ pub trait BareLines: Drop {
         ensures flagged { items self.new ≡ flagged_at i flag (items self.old) }
         ensures keeps_room { spare self.old ≤ spare self.new };
 
+    /// The first place from `from` on where a line has the flag, or the number of lines where none has it.
+    fn first_flagged(&self, from: usize) -> usize
+        requires place { from ≤ length (items self.now) }
+        ensures first { FirstFlagged from result (items self.now) }
+    {
+        let count = self.len();
+        let mut next = from;
+        while next < count && !self.line(next).flag() {
+            next += 1;
+        }
+        next
+    }
+
     /// Has the lines from place `low` up to `middle` and those from there up to `high` change places, where it has a shorter way
     /// to do so than line by line, and tells whether it did.
     fn swap_blocks(&mut self, low: usize, middle: usize, high: usize) -> bool
@@ -82,6 +99,24 @@ pub trait BareLines: Drop {
         ensures swapped { OnTrue result (items self.new ≡ swapped low middle high (items self.old)) }
         ensures unchanged { OnFalse result (items self.new ≡ items self.old) }
         ensures keeps_room { spare self.old ≤ spare self.new };
+
+    /// Takes the lines from place `from` up to `to` out at once, where it has a shorter way to do so than line by line. No line
+    /// has the flag.
+    fn take_whole(&mut self, from: usize, to: usize) -> Option<Block>
+        requires order { from ≤ to }
+        requires last { to ≤ length (items self.old) }
+        requires unflagged { flag_count (items self.old) ≡ 0 }
+        ensures taken { IfSome result (λ taken. taken ≡ texts (block from to (items self.old))) }
+        ensures left { OnSome result (items self.new ≡ exchanged from to [] (items self.old)) }
+        ensures unchanged { IfNone result (items self.new ≡ items self.old) };
+
+    /// Puts the lines of a block before place `at` at once, where it has a shorter way to do so than line by line. Otherwise the
+    /// block comes back, and the list is as before.
+    fn put_whole(&mut self, at: usize, lines: Block) -> Result<(), Block>
+        requires place { at ≤ length (items self.old) }
+        ensures put { OnOk result (CameIn at lines (items self.old) (items self.new)) }
+        ensures handed_back { IfErr result (λ back. back ≡ lines) }
+        ensures unchanged { OnErr result (items self.new ≡ items self.old) };
 
     /// The same lines once more, which share their bytes.
     fn try_copy(&self) -> Result<Self, AllocError>
@@ -134,6 +169,14 @@ impl BareLines for Vec<BareLine> {
     fn swap_blocks(&mut self, low: usize, middle: usize, high: usize) -> bool {
         self[low..high].rotate_left(middle - low);
         true
+    }
+
+    fn take_whole(&mut self, _from: usize, _to: usize) -> Option<Block> {
+        None
+    }
+
+    fn put_whole(&mut self, _at: usize, lines: Block) -> Result<(), Block> {
+        Err(lines)
     }
 
     fn try_copy(&self) -> Result<Self, AllocError> {

@@ -1,10 +1,11 @@
 //! A chunk of lines.
-ghost use Rattle.std.specs.Prelude.{◌≡◌, ◌+◌, ◌<◌, ◌≤◌, [], ◌∷◌, ◌++◌, length, insert, remove, slice_index_or, slice_set, IfOk};
-ghost use Rattle.std.specs.VecDeque.{deque_len, deque_capacity};
+ghost use Rattle.std.specs.Prelude.{◌≡◌, ◌+◌, ◌<◌, ◌≤◌, [], ◌∷◌, ◌++◌, length, insert, remove, slice_index_or, slice_set, IfOk, OnOk};
 ghost use Rattle.ed_base.specs.Buffer.{flagged_at};
 ghost use Rattle.line_store.specs.Chunks.{full};
+ghost use Rattle.line_store.specs.Flagged.{FirstFlagged};
 
 use crate::BareLine;
+use crate::flag_counts::{flags_exchanged, flags_with, flags_without};
 use std::alloc::{AllocError, Global};
 use std::collections::VecDeque;
 use std::marker::Model;
@@ -17,36 +18,22 @@ pub(crate) const FULL: usize = 1024;
 #[derive(Drop)]
 pub struct Chunk {
     ring: VecDeque<BareLine>,
+    // How many of them have the flag.
+    flags: usize,
 }
 
 impl Model for Chunk {
-    ghost use Rattle.std.specs.Prelude.{◌≤◌, List, length};
+    ghost use Rattle.std.specs.Prelude.{◌≡◌, ◌≤◌, List, length};
     ghost use Rattle.std.specs.VecDeque.{deque_capacity};
     ghost use Rattle.ed_base.specs.Buffer.{Line};
     ghost use Rattle.line_store.specs.Chunks.{full};
+    ghost use Rattle.line_store.specs.Kept.{flag_count};
 
     ghost Value = { List Line };
 
     ghost view = { λ c. c.ring.items };
 
-    ghost invariant = { λ c. (full ≤ deque_capacity c.ring) × (length c.ring.items ≤ full) };
-}
-
-// Gives the lines from place `at` on to a ring that has room for them, where they come before all others.
-fn give(ring: &mut VecDeque<BareLine>, at: usize, other: &mut VecDeque<BareLine>)
-    requires place { at ≤ length ring.old.items }
-    requires room { length ring.old.items + length other.old.items ≤ deque_capacity other.old }
-    ensures same { ring.new.items ++ other.new.items ≡ ring.old.items ++ other.old.items }
-    ensures kept { length ring.new.items ≡ at }
-    ensures capacity { deque_capacity ring.new ≡ deque_capacity ring.old }
-    ensures other_capacity { deque_capacity other.new ≡ deque_capacity other.old }
-{
-    'moves: while at < ring.len() {
-        let Some(last) = ring.pop_back() else {
-            unreachable!()
-        };
-        other.push_front_reserved(last);
-    }
+    ghost invariant = { λ c. (full ≤ deque_capacity c.ring) × (length c.ring.items ≤ full) × (c.flags ≡ flag_count c.ring.items) };
 }
 
 impl Chunk {
@@ -56,6 +43,7 @@ impl Chunk {
     {
         Ok(Chunk {
             ring: VecDeque::with_capacity(alloc, FULL)?,
+            flags: 0,
         })
     }
 
@@ -84,6 +72,7 @@ impl Chunk {
         if at == self.ring.len() {
             return self.push(line);
         }
+        self.flags = flags_with(self.flags, line.flag());
         match self.ring.insert(at, line) {
             Ok(()) => {}
             Err(_refused) => unreachable!(),
@@ -97,7 +86,10 @@ impl Chunk {
         ensures removed { self.new ≡ remove self.old i }
     {
         match self.ring.remove(i) {
-            Some(line) => line,
+            Some(line) => {
+                self.flags = flags_without(self.flags, line.flag());
+                line
+            }
             None => unreachable!(),
         }
     }
@@ -107,7 +99,42 @@ impl Chunk {
         requires room { length self.old < full }
         ensures pushed { self.new ≡ self.old ++ line ∷ [] }
     {
+        self.flags = flags_with(self.flags, line.flag());
         self.ring.push_back_reserved(line);
+    }
+
+    // Puts a line before all others.
+    fn push_first(&mut self, line: BareLine)
+        requires room { length self.old < full }
+        ensures pushed { self.new ≡ line ∷ self.old }
+    {
+        self.flags = flags_with(self.flags, line.flag());
+        self.ring.push_front_reserved(line);
+    }
+
+    // Takes out the last line.
+    fn pop(&mut self) -> BareLine
+        requires some { 0 < length self.old }
+        ensures popped { self.old ≡ self.new ++ result ∷ [] }
+    {
+        let Some(last) = self.ring.pop_back() else {
+            unreachable!()
+        };
+        self.flags = flags_without(self.flags, last.flag());
+        last
+    }
+
+    // Gives its lines from place `at` on to a chunk that has room for them, where they come before all others.
+    fn pass(&mut self, at: usize, other: &mut Chunk)
+        requires place { at ≤ length self.old }
+        requires room { length self.old + length other.old ≤ full }
+        ensures same { self.new ++ other.new ≡ self.old ++ other.old }
+        ensures kept { length self.new ≡ at }
+    {
+        'moves: while at < self.len() {
+            let last = self.pop();
+            other.push_first(last);
+        }
     }
 
     /// Gives its lines from place `at` on to a chunk that has none.
@@ -117,7 +144,9 @@ impl Chunk {
         ensures same { self.new ++ other.new ≡ self.old }
         ensures kept { length self.new ≡ at }
     {
-        give(&mut self.ring, at, &mut other.ring);
+        // The proof reads off the count of lines that they fit in a chunk.
+        let _ = self.len();
+        self.pass(at, other);
     }
 
     /// Gives all of its lines to a chunk that has room for them, where they come before all others.
@@ -126,7 +155,21 @@ impl Chunk {
         ensures given { other.new ≡ self.old ++ other.old }
         ensures empty { self.new ≡ [] }
     {
-        give(&mut self.ring, 0, &mut other.ring);
+        self.pass(0, other);
+    }
+
+    /// Puts its lines after others, one by one. After an `Err` some of them are lost.
+    pub(crate) fn unload(self, lines: &mut Vec<BareLine>) -> Result<(), AllocError>
+        ensures unloaded { OnOk result (lines.new.items ≡ lines.old.items ++ self) }
+    {
+        let mut ring = self.ring;
+        'moves: while ring.len() > 0 {
+            let Some(line) = ring.pop_front() else {
+                unreachable!()
+            };
+            lines.push(line)?;
+        }
+        Ok(())
     }
 
     /// Puts a line in place of another, which comes back.
@@ -135,7 +178,10 @@ impl Chunk {
         ensures value { result ≡ slice_index_or self.old i result }
         ensures exchanged { self.new ≡ slice_set self.old i line }
     {
-        replace(&mut self.ring[i], line)
+        let flag = line.flag();
+        let before = replace(&mut self.ring[i], line);
+        self.flags = flags_exchanged(self.flags, before.flag(), flag);
+        before
     }
 
     /// Flags a line, or takes its flag.
@@ -143,7 +189,24 @@ impl Chunk {
         requires place { i < length self.old }
         ensures flagged { self.new ≡ flagged_at i flag self.old }
     {
+        let before = self.ring[i].flag();
         self.ring[i].set_flag(flag);
+        self.flags = flags_exchanged(self.flags, before, flag);
+    }
+
+    /// The first place from `from` on where a line has the flag, or the number of lines. It looks at no line where none has it.
+    pub(crate) fn first_flagged(&self, from: usize) -> usize
+        requires place { from ≤ length self.now }
+        ensures first { FirstFlagged from result self.now }
+    {
+        if self.flags == 0 {
+            return self.ring.len();
+        }
+        let mut next = from;
+        while next < self.ring.len() && !self.ring[next].flag() {
+            next += 1;
+        }
+        next
     }
 
     /// The same lines once more, which share their bytes.
@@ -154,6 +217,9 @@ impl Chunk {
         for i in 0..self.ring.len() {
             ring.push_back(self.ring[i].try_copy()?)?;
         }
-        Ok(Chunk { ring })
+        Ok(Chunk {
+            ring,
+            flags: self.flags,
+        })
     }
 }

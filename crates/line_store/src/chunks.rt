@@ -1,14 +1,16 @@
 //! Lines in chunks.
 ghost use Rattle.std.specs.Prelude.{ℕ, ◌≡◌, ◌↔◌, ◌+◌, ◌-◌, ◌*◌, ◌<◌, ◌≤◌, [], length, ◌^◌, slice_index_or, slice_set, insert, remove, IfOk, IsOk, IsTrue, OnOk};
 ghost use Rattle.ed_base.specs.Buffer.{flagged_at};
-ghost use Rattle.line_store.specs.Chunks.{ChunksValue, Fits, StandsIn, Touches, full, joined, lines_before, near_chunk, with_chunk, with_near};
+ghost use Rattle.line_store.specs.Chunks.{ChunksValue, Fits, StandsIn, Touches, full, joined, lines_before, with_chunk};
+ghost use Rattle.line_store.specs.Flagged.{FirstFlagged};
 
+mod blocks;
 mod swaps;
 
 use crate::chunk::{Chunk, FULL};
 use crate::chunk_room::{add_chunks, make_room_at, make_room_first, split_chunk};
-use crate::chunk_starts::{count_starts, turn};
-use crate::{BareLine, BareLines, Store};
+use crate::chunk_starts::ChunkStarts;
+use crate::{BareLine, BareLines, Block, Store};
 use std::alloc::{AllocError, Global};
 use std::marker::Model;
 
@@ -20,10 +22,8 @@ pub type ChunkStore = Store<ChunkLines>;
 #[derive(Drop)]
 pub struct ChunkLines {
     chunks: Vec<Chunk>,
-    // Of each chunk up to the near one, how many lines stand before it; of each after that, how many stand from it on. So a
-    // line that comes in or goes out in the near chunk changes none of them.
-    offsets: Vec<usize>,
-    // The chunk that was used last.
+    starts: ChunkStarts,
+    // A chunk that was used lately, if there still are so many: a line is looked for there before the chunks are searched.
     near: usize,
     count: usize,
 }
@@ -33,9 +33,9 @@ impl Model for ChunkLines {
 
     ghost Value = { ChunksValue };
 
-    ghost view = { λ l. record { chunks = l.chunks.items; near = l.near } };
+    ghost view = { λ l. record { chunks = l.chunks.items } };
 
-    ghost invariant = { λ l. Known l.near l.count l.offsets.items l.chunks.items };
+    ghost invariant = { λ l. Known l.count l.starts l.chunks.items };
 }
 
 // How many lines a full chunk keeps when it is split for a line at one of its places. At an end of the chunk its lines stay
@@ -54,16 +54,19 @@ fn kept(place: usize) -> usize
     FULL / 2
 }
 
+// In which chunk a line is looked for after another was used. The first one is found without it, so that where each line goes to the
+// front the chunk that they come from stays known.
+fn hint(near: usize, used: usize) -> usize {
+    if used == 0 { near } else { used }
+}
+
 impl ChunkLines {
     // How many lines stand before a chunk.
     fn start(&self, k: usize) -> usize
         requires chunk { k < length self.now.chunks }
         ensures value { result ≡ lines_before k self.now.chunks }
     {
-        if k <= self.near {
-            return self.offsets[k];
-        }
-        self.count - self.offsets[k]
+        self.starts.start(k)
     }
 
     // Whether a line stands in a chunk.
@@ -78,7 +81,7 @@ impl ChunkLines {
     }
 
     // The chunk of a line. It is searched only where it is neither the one that it would be if all chunks were full, as they
-    // are in a file that was just read, nor the one that was used last.
+    // are in a file that was just read, nor the one that was used lately.
     fn chunk_of(&self, i: usize) -> usize
         requires place { i < length (joined self.now.chunks) }
         ensures chunk { StandsIn i result self.now.chunks }
@@ -123,31 +126,6 @@ impl ChunkLines {
         self.chunk_of(at - 1)
     }
 
-    // Makes a chunk the near one.
-    fn go_to(&mut self, k: usize)
-        requires chunk { k < length self.old.chunks }
-        ensures value { self.new ≡ record self.old { near = k } }
-    {
-        turn(
-            &mut self.offsets,
-            self.near.min(k) + 1,
-            self.near.max(k) + 1,
-            self.count,
-        );
-        self.near = k;
-    }
-
-    // Makes the chunk of a line the near one.
-    fn go_to_line(&mut self, i: usize) -> usize
-        requires place { i < length (joined self.old.chunks) }
-        ensures chunk { StandsIn i result self.old.chunks }
-        ensures value { self.new ≡ record self.old { near = result } }
-    {
-        let k = self.chunk_of(i);
-        self.go_to(k);
-        k
-    }
-
     // Splits a full chunk so that a line may come in at one of its places, and says in which chunk.
     fn split(&mut self, k: usize, place: usize) -> Result<usize, AllocError>
         requires chunk { k < length self.old.chunks }
@@ -158,10 +136,9 @@ impl ChunkLines {
         ensures no_fewer { length self.old.chunks ≤ length self.new.chunks }
     {
         let keep = kept(place);
-        self.offsets.reserve(1)?;
+        self.starts.reserve(1)?;
         split_chunk(&mut self.chunks, k, keep)?;
-        count_starts(&self.chunks, &mut self.offsets);
-        self.near = self.chunks.len() - 1;
+        self.starts.count(&self.chunks);
         // A chunk that keeps all of its lines has no room.
         if place <= keep.min(FULL - 1) {
             return Ok(k);
@@ -182,8 +159,7 @@ impl ChunkLines {
         }
         make_room_first(&mut self.chunks);
         let k = make_room_at(&mut self.chunks, at);
-        count_starts(&self.chunks, &mut self.offsets);
-        self.near = self.chunks.len() - 1;
+        self.starts.count(&self.chunks);
         Ok(k)
     }
 
@@ -197,10 +173,9 @@ impl ChunkLines {
         if count <= self.chunks.len() {
             return Ok(());
         }
-        self.offsets.reserve(count - self.chunks.len())?;
+        self.starts.reserve(count - self.chunks.len())?;
         let added = add_chunks(&mut self.chunks, count);
-        count_starts(&self.chunks, &mut self.offsets);
-        self.near = self.chunks.len().saturating_sub(1);
+        self.starts.count(&self.chunks);
         added
     }
 
@@ -227,37 +202,42 @@ impl ChunkLines {
         self.draw(at)
     }
 
-    // Puts a line in the near chunk.
-    fn put_near(&mut self, place: usize, line: BareLine)
-        requires chunk { self.old.near < length self.old.chunks }
-        requires place { place ≤ length (near_chunk self.old) }
-        requires room { length (near_chunk self.old) < full }
+    // Puts a line in a chunk.
+    fn put_in(&mut self, k: usize, place: usize, line: BareLine)
+        requires chunk { k < length self.old.chunks }
+        requires place { place ≤ length (slice_index_or self.old.chunks k []) }
+        requires room { length (slice_index_or self.old.chunks k []) < full }
         requires count { length (joined self.old.chunks) + 1 < 2 ^ 64 }
-        ensures inserted { self.new ≡ with_near (insert (near_chunk self.old) place line) self.old }
+        ensures inserted { self.new ≡ with_chunk k (insert (slice_index_or self.old.chunks k []) place line) self.old }
     {
-        self.chunks[self.near].insert(place, line);
+        self.near = hint(self.near, k);
+        self.chunks[k].insert(place, line);
+        self.starts.raise(k);
         self.count += 1;
     }
 
-    // Takes a line out of the near chunk.
-    fn take_near(&mut self, place: usize) -> BareLine
-        requires chunk { self.old.near < length self.old.chunks }
-        requires place { place < length (near_chunk self.old) }
-        ensures value { result ≡ slice_index_or (near_chunk self.old) place result }
-        ensures removed { self.new ≡ with_near (remove (near_chunk self.old) place) self.old }
+    // Takes a line out of a chunk.
+    fn take_in(&mut self, k: usize, place: usize) -> BareLine
+        requires chunk { k < length self.old.chunks }
+        requires place { place < length (slice_index_or self.old.chunks k []) }
+        ensures value { result ≡ slice_index_or (slice_index_or self.old.chunks k []) place result }
+        ensures removed { self.new ≡ with_chunk k (remove (slice_index_or self.old.chunks k []) place) self.old }
     {
-        let line = self.chunks[self.near].remove(place);
+        self.near = hint(self.near, k);
+        let line = self.chunks[k].remove(place);
+        self.starts.lower(k);
         self.count -= 1;
         line
     }
 
-    // Puts a line in place of another of a chunk. No chunk's place changes, so the near one stays near.
+    // Puts a line in place of another of a chunk.
     fn exchange_in(&mut self, k: usize, place: usize, line: BareLine) -> BareLine
         requires chunk { k < length self.old.chunks }
         requires place { place < length (slice_index_or self.old.chunks k []) }
         ensures value { result ≡ slice_index_or (slice_index_or self.old.chunks k []) place result }
         ensures exchanged { self.new ≡ with_chunk k (slice_set (slice_index_or self.old.chunks k []) place line) self.old }
     {
+        self.near = hint(self.near, k);
         self.chunks[k].exchange(place, line)
     }
 
@@ -267,7 +247,25 @@ impl ChunkLines {
         requires place { place < length (slice_index_or self.old.chunks k []) }
         ensures flagged { self.new ≡ with_chunk k (flagged_at place flag (slice_index_or self.old.chunks k [])) self.old }
     {
+        self.near = hint(self.near, k);
         self.chunks[k].set_flag(place, flag);
+    }
+
+    // The first place of a chunk from `from` on where a line has the flag, or the number of its lines.
+    fn flagged_in(&self, k: usize, from: usize) -> usize
+        requires chunk { k < length self.now.chunks }
+        requires place { from ≤ length (slice_index_or self.now.chunks k []) }
+        ensures first { FirstFlagged from result (slice_index_or self.now.chunks k []) }
+    {
+        self.chunks[k].first_flagged(from)
+    }
+
+    // How many lines a chunk has.
+    fn lines_in(&self, k: usize) -> usize
+        requires chunk { k < length self.now.chunks }
+        ensures value { result ≡ length (slice_index_or self.now.chunks k []) }
+    {
+        self.chunks[k].len()
     }
 
     // Puts a chunk that has no lines after all others.
@@ -279,8 +277,7 @@ impl ChunkLines {
     {
         let empty = self.chunks.remove(k);
         self.chunks.push_reserved(empty);
-        count_starts(&self.chunks, &mut self.offsets);
-        self.near = self.chunks.len() - 1;
+        self.starts.count(&self.chunks);
     }
 
     // Puts a chunk after all others if it has no lines.
@@ -305,7 +302,7 @@ impl BareLines for ChunkLines {
     fn empty(alloc: Global) -> Result<Self, AllocError> {
         Ok(ChunkLines {
             chunks: Vec::new(alloc),
-            offsets: Vec::new(alloc),
+            starts: ChunkStarts::new(alloc),
             near: 0,
             count: 0,
         })
@@ -339,15 +336,14 @@ impl BareLines for ChunkLines {
             return Err(line);
         };
         let place = at - self.start(k);
-        self.go_to(k);
-        self.put_near(place, line);
+        self.put_in(k, place, line);
         Ok(())
     }
 
     fn remove(&mut self, i: usize) -> BareLine {
-        let k = self.go_to_line(i);
+        let k = self.chunk_of(i);
         let place = i - self.start(k);
-        let line = self.take_near(place);
+        let line = self.take_in(k, place);
         self.tidy(k);
         line
     }
@@ -364,6 +360,24 @@ impl BareLines for ChunkLines {
         self.flag_in(k, place, flag);
     }
 
+    fn first_flagged(&self, from: usize) -> usize {
+        if from == self.count {
+            return from;
+        }
+        let mut k = self.chunk_of(from);
+        let mut next = from;
+        'chunks: while k < self.chunks.len() {
+            let start = self.start(k);
+            let place = self.flagged_in(k, next - start);
+            if place < self.lines_in(k) {
+                return start + place;
+            }
+            next = start + place;
+            k += 1;
+        }
+        next
+    }
+
     fn swap_blocks(&mut self, low: usize, middle: usize, high: usize) -> bool {
         // Where few lines move, it is not worth it to split chunks.
         if (middle - low).min(high - middle) < FULL {
@@ -375,6 +389,18 @@ impl BareLines for ChunkLines {
         }
     }
 
+    fn take_whole(&mut self, from: usize, to: usize) -> Option<Block> {
+        // Where few lines go out, it is not worth it to split chunks.
+        if to - from < FULL {
+            return None;
+        }
+        self.take_range(from, to).ok()
+    }
+
+    fn put_whole(&mut self, at: usize, lines: Block) -> Result<(), Block> {
+        self.put_block(at, lines)
+    }
+
     fn try_copy(&self) -> Result<Self, AllocError> {
         let count = self.count;
         let alloc = *self.chunks.allocator();
@@ -382,13 +408,13 @@ impl BareLines for ChunkLines {
         for chunk in &self.chunks {
             chunks.push(chunk.try_copy(alloc)?)?;
         }
-        let mut offsets = Vec::with_capacity(alloc, chunks.len())?;
-        count_starts(&chunks, &mut offsets);
-        let near = chunks.len().saturating_sub(1);
+        let mut starts = ChunkStarts::new(alloc);
+        starts.reserve(chunks.len())?;
+        starts.count(&chunks);
         Ok(ChunkLines {
             chunks,
-            offsets,
-            near,
+            starts,
+            near: self.near,
             count,
         })
     }

@@ -1,7 +1,7 @@
 //! Lines with a gap among them.
 ghost use Rattle.std.specs.Prelude.{◌≡◌, ◌+◌, ◌-◌, ◌<◌, ◌≤◌, if◌then◌else◌, length, nat_lt};
 
-use crate::{BareLine, BareLines, Store};
+use crate::{BareLine, BareLines, Block, Store};
 use std::alloc::{AllocError, Global};
 use std::collections::VecDeque;
 use std::marker::Model;
@@ -113,6 +113,14 @@ impl BareLines for GapLines {
 
     fn swap_blocks(&mut self, _low: usize, _middle: usize, _high: usize) -> bool {
         false
+    }
+
+    fn take_whole(&mut self, _from: usize, _to: usize) -> Option<Block> {
+        None
+    }
+
+    fn put_whole(&mut self, _at: usize, lines: Block) -> Result<(), Block> {
+        Err(lines)
     }
 
     fn try_copy(&self) -> Result<Self, AllocError> {

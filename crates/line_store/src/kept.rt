@@ -4,9 +4,10 @@ ghost use Rattle.ed_base.specs.Buffer.{Line, plain_line};
 ghost use Rattle.line_store.specs.Kept.{Unflagged, flag_count, lines_of};
 ghost use Rattle.line_store.specs.Swaps.{swapped};
 
+use crate::flag_counts::{flags_exchanged, flags_with, flags_without};
 use crate::marks::Marks;
 use crate::swaps::swap_blocks;
-use crate::{BareLine, BareLines, Line, LineStore};
+use crate::{BareLine, BareLines, Block, Line, LineStore};
 use ed_base::{Letter, Pieces};
 use std::alloc::{AllocError, Global};
 use std::marker::Model;
@@ -38,20 +39,6 @@ impl<L: BareLines> Model for Store<L> {
 
     ghost invariant = { λ s. AllBelow (length (L.items s.lines)) s.marks × Unflagged s.unflagged (L.items s.lines)
         × (s.flags ≡ flag_count (L.items s.lines)) };
-}
-
-// The first place from `place` on where a line has the flag, or one after all lines.
-fn flagged_from<L: BareLines>(lines: &L, place: usize) -> usize
-    requires before { Unflagged place (L.items lines.now) }
-    ensures before { Unflagged result (L.items lines.now) }
-    ensures flagged { result < length (L.items lines.now) → (slice_index_or (L.items lines.now) result (plain_line [])).flag ≡ true }
-{
-    let count = lines.len();
-    let mut next = place;
-    while next < count && !lines.line(next).flag() {
-        next += 1;
-    }
-    next
 }
 
 // Before which place no line has the flag, once a line has come in at `at`.
@@ -98,39 +85,6 @@ fn place_swapped(place: usize, low: usize, middle: usize, high: usize) -> usize
         return place - (middle - low);
     }
     place
-}
-
-// How many lines have the flag, once a line has come in.
-fn flags_with(flags: usize, flag: bool) -> usize
-    requires room { flags < 2 ^ 64 - 1 }
-    ensures { (lines : List Line) (at : ℕ) (new : Line) → new.flag ≡ flag → flags ≡ flag_count lines →
-        result ≡ flag_count (insert lines at new) }
-{
-    if flag { flags + 1 } else { flags }
-}
-
-// The same, once a line has gone out.
-fn flags_without(flags: usize, flag: bool) -> usize
-    ensures { (lines : List Line) (i : ℕ) → i < length lines → (slice_index_or lines i (plain_line [])).flag ≡ flag →
-        flags ≡ flag_count lines → result ≡ flag_count (remove lines i) }
-{
-    if flag { flags.saturating_sub(1) } else { flags }
-}
-
-// The same, once a line has come in place of another.
-fn flags_exchanged(flags: usize, before: bool, flag: bool) -> usize
-    ensures { (lines : List Line) (i : ℕ) (new : Line) → i < length lines → length lines < 2 ^ 64 →
-        (slice_index_or lines i (plain_line [])).flag ≡ before → new.flag ≡ flag → flags ≡ flag_count lines →
-        result ≡ flag_count (slice_set lines i new) }
-{
-    if before == flag {
-        return flags;
-    }
-    if flag {
-        flags.saturating_add(1)
-    } else {
-        flags.saturating_sub(1)
-    }
 }
 
 impl<L: BareLines> Store<L> {
@@ -241,6 +195,27 @@ impl<L: BareLines> LineStore for Store<L> {
         self.swap_blocks(from, to, place + (to - from))
     }
 
+    fn take_whole(&mut self, from: usize, to: usize) -> Option<Block> {
+        // Lines that have the flag are taken one by one, without it.
+        if self.flags > 0 {
+            return None;
+        }
+        let count = self.lines.len();
+        let taken = self.lines.take_whole(from, to)?;
+        self.marks.swap_places(from, to, count);
+        self.marks = self.marks.among(count - (to - from));
+        self.unflagged = 0;
+        Some(taken)
+    }
+
+    fn put_whole(&mut self, at: usize, new: Block) -> Result<(), Block> {
+        let count = self.lines.len();
+        self.lines.put_whole(at, new)?;
+        self.marks.swap_places(at, count, self.lines.len());
+        self.unflagged = self.unflagged.min(at);
+        Ok(())
+    }
+
     fn mark(&mut self, i: usize, letter: Letter) {
         self.marks.set(letter, i);
     }
@@ -280,7 +255,8 @@ impl<L: BareLines> LineStore for Store<L> {
             self.unflagged = self.lines.len();
             return None;
         }
-        let place = flagged_from(&self.lines, self.unflagged);
+        let from = self.unflagged.min(self.lines.len());
+        let place = self.lines.first_flagged(from);
         self.unflagged = place;
         if place < self.lines.len() {
             Some(place)

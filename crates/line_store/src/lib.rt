@@ -2,11 +2,14 @@
 #![tactic(auto)]
 
 mod bare_lines;
+mod block;
+mod blocks;
 mod chunk;
 mod chunk_room;
 mod chunk_starts;
 mod chunks;
 mod extent;
+mod flag_counts;
 mod gap;
 mod kept;
 mod line;
@@ -16,6 +19,8 @@ mod store;
 mod swaps;
 
 pub use bare_lines::BareLines;
+pub use block::Block;
+pub use blocks::{put_block, take_block};
 pub use chunks::{ChunkLines, ChunkStore};
 pub use gap::{GapLines, GapStore};
 pub use kept::{PlainStore, Store};

@@ -54,6 +54,17 @@ impl Line {
         }
     }
 
+    /// The line without the letters that mark it, and without the flag.
+    pub(crate) fn into_bare(self) -> BareLine
+        ensures value { result ≡ plain_line self.bytes }
+    {
+        let Line {
+            bare,
+            letters: _letters,
+        } = self;
+        bare.plain()
+    }
+
     /// Its bytes, without the newline.
     pub fn bytes(&self) -> &[u8]
         ensures value { result.now ≡ self.now.bytes }

@@ -1,5 +1,6 @@
 //! Where the lines are that letters mark.
-ghost use Rattle.std.specs.Prelude.{◌≡◌, ◌-◌, ◌<◌, ◌≤◌, ◌^◌, Some, None, length, replicate, slice_index_or, slice_set, IfSome};
+ghost use Rattle.std.specs.Prelude.{◌≡◌, ◌-◌, ◌<◌, ◌≤◌, ◌^◌, ◌↔◌, Some, None, length, replicate, slice_index_or, slice_set, IfSome, IsTrue};
+ghost use Rattle.ed_base.specs.Buffer.{no_letters};
 ghost use Rattle.line_store.specs.Marks.{AllBelow, lettered, letters_at, marks_of};
 ghost use Rattle.line_store.specs.Shifts.{below, closed, opened, place_swapped, places_below, places_swapped, with_line, without_line};
 
@@ -14,16 +15,33 @@ pub(crate) const LETTERS: usize = 26;
 #[derive(Drop)]
 pub struct Marks {
     places: [Option<usize>; LETTERS],
+    // Where this is true no letter marks a line, and a line that comes in or goes out costs no look at the places. Where it is
+    // false there may be none all the same.
+    unused: bool,
 }
 
 impl Model for Marks {
-    ghost use Rattle.std.specs.Prelude.{ℕ, ◌≡◌, List, Option, length};
+    ghost use Rattle.std.specs.Prelude.{ℕ, ◌≡◌, IsTrue, List, None, Option, length, replicate};
 
     ghost Value = { List (Option ℕ) };
 
     ghost view = { λ m. m.places };
 
-    ghost invariant = { λ m. length m.places ≡ 26 };
+    ghost invariant = { λ m. (length m.places ≡ 26) × (IsTrue m.unused → m.places ≡ replicate 26 None) };
+}
+
+// Whether none of these letters is set.
+fn has_no_letters(letters: &[bool; LETTERS]) -> bool
+    ensures exact { IsTrue result ↔ (letters.now ≡ no_letters) }
+{
+    *letters == [false; LETTERS]
+}
+
+// Whether no letter has a place here.
+fn has_no_places(places: &[Option<usize>; LETTERS]) -> bool
+    ensures exact { IsTrue result ↔ (places.now ≡ replicate 26 None) }
+{
+    *places == [None; LETTERS]
 }
 
 // Where a letter is after a line has come in with it or without it.
@@ -88,11 +106,12 @@ fn place_among(count: usize, place: Option<usize>) -> Option<usize>
 
 impl Marks {
     /// No letter marks a line.
-    pub(crate) fn none() -> Self
+    pub fn none() -> Self
         ensures value { result ≡ replicate 26 None }
     {
         Marks {
             places: [None; LETTERS],
+            unused: true,
         }
     }
 
@@ -129,6 +148,7 @@ impl Marks {
     {
         Marks {
             places: self.places,
+            unused: self.unused,
         }
     }
 
@@ -137,9 +157,13 @@ impl Marks {
         ensures value { result ≡ places_below count self.now }
     {
         let mut marks = self.copy();
+        if marks.unused {
+            return marks;
+        }
         for letter in 0..LETTERS {
             marks.places[letter] = place_among(count, marks.places[letter]);
         }
+        marks.unused = has_no_places(&marks.places);
         marks
     }
 
@@ -150,6 +174,7 @@ impl Marks {
         ensures count { length self.old ≡ 26 }
     {
         self.places[letter.place()] = Some(place);
+        self.unused = false;
     }
 
     /// The lines from place `low` up to `middle` and those from there up to `high` have changed places.
@@ -158,9 +183,20 @@ impl Marks {
         requires second { middle ≤ high }
         ensures value { self.new ≡ places_swapped low middle high self.old }
     {
+        if self.unused {
+            return;
+        }
         for letter in 0..LETTERS {
             self.places[letter] = place_swapped(low, middle, high, self.places[letter]);
         }
+    }
+
+    // Whether no letter is known to mark a line, and none of these is set.
+    fn none_with(&self, letters: &[bool; LETTERS]) -> bool
+        ensures places { IsTrue result → self.now ≡ replicate 26 None }
+        ensures letters { IsTrue result → letters.now ≡ no_letters }
+    {
+        self.unused && has_no_letters(letters)
     }
 
     /// A line has come in at this place, which these letters mark.
@@ -168,9 +204,13 @@ impl Marks {
         requires bound { AllBelow (2 ^ 64 - 1) self.old }
         ensures value { self.new ≡ with_line at letters.now self.old }
     {
+        if self.none_with(letters) {
+            return;
+        }
         for letter in 0..LETTERS {
             self.places[letter] = place_opened(at, letters[letter], self.places[letter]);
         }
+        self.unused = false;
     }
 
     /// A line has come in at this place among `count` others. After them all it moves no letter, so that one without letters,
@@ -181,7 +221,7 @@ impl Marks {
     {
         // The proof reads off the places how many they are.
         let _ = &self.places;
-        if at < count || *letters != [false; LETTERS] {
+        if at < count || !has_no_letters(letters) {
             self.open(at, letters);
         }
     }
@@ -192,6 +232,9 @@ impl Marks {
         ensures value { self.new ≡ without_line at self.old }
     {
         let mut letters = [false; LETTERS];
+        if self.unused {
+            return letters;
+        }
         for letter in 0..LETTERS {
             // Most letters mark no line, and then mark none afterwards.
             if self.places[letter].is_some() {
@@ -199,6 +242,7 @@ impl Marks {
                 self.places[letter] = place_closed(at, self.places[letter]);
             }
         }
+        self.unused = has_no_places(&self.places);
         letters
     }
 
@@ -208,10 +252,14 @@ impl Marks {
         ensures value { self.new ≡ with_line at letters.now (without_line at self.old) }
     {
         let mut before = [false; LETTERS];
+        if self.none_with(letters) {
+            return before;
+        }
         for letter in 0..LETTERS {
             before[letter] = self.places[letter] == Some(at);
             self.places[letter] = place_passed_on(at, letters[letter], self.places[letter]);
         }
+        self.unused = has_no_places(&self.places);
         before
     }
 }

@@ -107,6 +107,22 @@ impl BareLine {
         self.extent = self.extent.with_flag(flag);
     }
 
+    /// The line without the flag.
+    pub(crate) fn plain(self) -> Self
+        ensures value { result ≡ plain_line self.bytes }
+    {
+        let BareLine {
+            block,
+            start,
+            extent,
+        } = self;
+        BareLine {
+            block,
+            start,
+            extent: extent.with_flag(false),
+        }
+    }
+
     /// A line of the same bytes, which both share, without the flag.
     pub(crate) fn plain_copy(&self) -> Result<Self, AllocError>
         ensures value { IfOk result (λ copy. copy ≡ plain_line self.now.bytes) }

@@ -1,11 +1,11 @@
 //! A list of lines, however it is kept.
-ghost use Rattle.std.specs.Prelude.{◌≡◌, ◌+◌, ◌-◌, ◌<◌, ◌≤◌, ◌++◌, ℕ, List, [], ◌∷◌, true, false, count_by, length, insert, remove, slice_index_or, slice_set, IfOk, IfErr, OnOk, OnErr, IsOk};
+ghost use Rattle.std.specs.Prelude.{◌≡◌, ◌+◌, ◌-◌, ◌<◌, ◌≤◌, ◌++◌, ℕ, List, [], ◌∷◌, true, false, count_by, length, insert, remove, slice_index_or, slice_set, map, IfOk, IfErr, IfNone, IfSome, OnOk, OnErr, OnSome, IsOk};
 ghost use Rattle.ed_base.specs.Lines.{newline, IsLine};
-ghost use Rattle.ed_base.specs.Buffer.{Line, plain_line, marked_at, marked_place, flagged_at, flagged_place, AtMostOnce, KnowLetters, SharesNoLetter};
-ghost use Rattle.ed_base.specs.Parts.{carried};
+ghost use Rattle.ed_base.specs.Buffer.{Line, plain_line, marked_at, marked_place, texts, flagged_at, flagged_place, AtMostOnce, KnowLetters, SharesNoLetter};
+ghost use Rattle.ed_base.specs.Parts.{block, carried, exchanged, inserted};
 ghost use Rattle.line_store.specs.Marks.{lettered};
 
-use crate::{Line, Marks};
+use crate::{Block, Line, Marks};
 use ed_base::{Letter, Pieces};
 use std::alloc::{AllocError, Global};
 
@@ -90,6 +90,23 @@ pub trait LineStore: Drop {
 
         // Where there is room for as many lines, nothing is refused.
         ensures room { to - from ≤ spare self.old → IsOk result };
+
+    /// Takes the lines from place `from` up to `to` out at once, where it has a shorter way to do so than line by line. The
+    /// letters that mark them mark no line then.
+    fn take_whole(&mut self, from: usize, to: usize) -> Option<Block>
+        requires order { from ≤ to }
+        requires last { to ≤ length (lines self.old) }
+        ensures taken { IfSome result (λ taken. taken ≡ texts (block from to (lines self.old))) }
+        ensures left { OnSome result (lines self.new ≡ exchanged from to [] (lines self.old)) }
+        ensures unchanged { IfNone result (lines self.new ≡ lines self.old) };
+
+    /// Puts the lines of a block before place `at` at once, without letters, where it has a shorter way to do so than line by
+    /// line. Otherwise the block comes back, and the store is as before.
+    fn put_whole(&mut self, at: usize, new: Block) -> Result<(), Block>
+        requires place { at ≤ length (lines self.old) }
+        ensures put { OnOk result (lines self.new ≡ inserted at (map plain_line new) (lines self.old)) }
+        ensures handed_back { IfErr result (λ back. back ≡ new) }
+        ensures unchanged { OnErr result (lines self.new ≡ lines self.old) };
 
     /// Marks a line by a letter, which from then on marks no other.
     fn mark(&mut self, i: usize, letter: Letter)

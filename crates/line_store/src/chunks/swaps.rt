@@ -5,13 +5,12 @@ ghost use Rattle.line_store.specs.Swaps.{swapped};
 
 use crate::chunk::FULL;
 use crate::chunk_room::{join_chunks, split_chunk};
-use crate::chunk_starts::count_starts;
 use crate::chunks::ChunkLines;
 use std::alloc::AllocError;
 
 impl ChunkLines {
-    // Has a chunk begin at a place.
-    fn cut(&mut self, at: usize) -> Result<(), AllocError>
+    /// Has a chunk begin at a place.
+    pub(crate) fn cut(&mut self, at: usize) -> Result<(), AllocError>
         requires place { at ≤ length (joined self.old.chunks) }
         ensures unchanged { joined self.new.chunks ≡ joined self.old.chunks }
         ensures no_fewer { length self.old.chunks ≤ length self.new.chunks }
@@ -24,15 +23,14 @@ impl ChunkLines {
         if keep == self.chunks[k].len() {
             return Ok(());
         }
-        self.offsets.reserve(1)?;
+        self.starts.reserve(1)?;
         split_chunk(&mut self.chunks, k, keep)?;
-        count_starts(&self.chunks, &mut self.offsets);
-        self.near = self.chunks.len() - 1;
+        self.starts.count(&self.chunks);
         Ok(())
     }
 
-    // The chunk that begins at a place, or one after all that have lines; none where no chunk begins there.
-    fn chunk_from(&self, at: usize) -> Option<usize>
+    /// The chunk that begins at a place, or one after all that have lines; none where no chunk begins there.
+    pub(crate) fn chunk_from(&self, at: usize) -> Option<usize>
         requires place { at ≤ length (joined self.now.chunks) }
         ensures value { IfSome result (λ k. (k ≤ length self.now.chunks) × (lines_before k self.now.chunks ≡ at)) }
     {
@@ -57,12 +55,11 @@ impl ChunkLines {
         ensures length { length self.new.chunks ≡ length self.old.chunks }
     {
         self.chunks[low..high].rotate_left(middle - low);
-        count_starts(&self.chunks, &mut self.offsets);
-        self.near = self.chunks.len().saturating_sub(1);
+        self.starts.count(&self.chunks);
     }
 
-    // Joins a chunk with the one before it, where a chunk has room for the lines of both.
-    fn join_at(&mut self, k: usize)
+    /// Joins a chunk with the one before it, where a chunk has room for the lines of both.
+    pub(crate) fn join_at(&mut self, k: usize)
         ensures unchanged { joined self.new.chunks ≡ joined self.old.chunks }
         ensures length { length self.new.chunks ≡ length self.old.chunks }
     {
@@ -73,8 +70,7 @@ impl ChunkLines {
             return;
         }
         join_chunks(&mut self.chunks, k - 1);
-        count_starts(&self.chunks, &mut self.offsets);
-        self.near = self.chunks.len() - 1;
+        self.starts.count(&self.chunks);
     }
 
     /// The lines from place `low` up to `middle` and those from there up to `high` change places, chunk by chunk. Where no memory is

@@ -13,4 +13,4 @@ invariant_of-self c =
     let within : k < length chunks = omega (arith, c.requires.chunk, ap (λ v. length v.chunks) c.self.view_is) in
     let chunk : c.index_mut.result.now ≡ get_or chunks k [] = c.index_mut.ensures.value ∙ get_or_default chunks k c.index_mut.result.now [] within in
     let is = c.exchange.ensures.exchanged ∙ ap (λ t. set t place c.args.line) chunk in
-    known-exchanged e.near k e.count e.offsets.items chunks c.exchange.new.self c.self.invariant within (ap length is ∙ length-set (get_or chunks k []) place c.args.line)
+    known-exchanged k e.count e.starts chunks c.exchange.new.self c.self.invariant within (ap length is ∙ length-set (get_or chunks k []) place c.args.line)

@@ -14,5 +14,5 @@ invariant_of-self c =
     let within : k < length chunks = omega (arith, c.requires.chunk, ap (λ v. length v.chunks) c.self.view_is) in
     let chunk : c.index_mut.result.now ≡ get_or chunks k [] = c.index_mut.ensures.value ∙ get_or_default chunks k c.index_mut.result.now [] within in
     let is = c.set_flag.ensures.flagged ∙ ap (flagged_at place c.args.flag) chunk in
-    known-exchanged e.near k e.count e.offsets.items chunks c.set_flag.new.self c.self.invariant within
+    known-exchanged k e.count e.starts chunks c.set_flag.new.self c.self.invariant within
     (ap length is ∙ length-set (get_or chunks k []) place (with_flag c.args.flag (get_or (get_or chunks k []) place (plain_line []))))

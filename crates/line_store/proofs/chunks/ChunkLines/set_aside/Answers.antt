@@ -1,12 +1,13 @@
 -- The lines stay, since the chunk has none.
-use Rattle.std.proofs.Common.{◌≡◌, ◌-◌, ◌<◌, ◌∙◌, [], ap, sym, length, get_or, arith}
+use Rattle.std.proofs.Common.{◌≡◌, ◌<◌, ◌∙◌, [], ◌∷◌, ap, sym, length, length-append, get_or, arith}
+use Rattle.std.proofs.lemmas.List.Edits.{length-remove}
 use Rattle.line_store.specs.Chunks.{joined}
 use Rattle.line_store.proofs.Joined.{joined-aside}
 use Rattle.line_store.proofs.Offsets.{known-counted}
 use Rattle.line_store.proofs.chunks.ChunkLines.set_aside.Goals as goal
 
-pub count_starts-requires-clause-count : goal.count_starts-requires-clause-count
-count_starts-requires-clause-count c =
+pub count-requires-clause-count : goal.count-requires-clause-count
+count-requires-clause-count c =
     let e = c.self.inside in
     let chunks = e.chunks.items in
     let k = c.args.k in
@@ -27,8 +28,9 @@ invariant_of-self c =
     joined-aside chunks c.remove-empty.new.self.items c.push_reserved.new.self.items k c.remove-empty.result within
     c.remove-empty.ensures.items c.push_reserved.ensures.items c.remove-empty.ensures.value
     (ap (λ v. length (get_or v.chunks k [])) c.self.view_is ∙ c.requires.empty) in
-    known-counted (c.len.result - 1) e.count c.count_starts.new.starts.items c.push_reserved.new.self.items (omega arith)
-    (c.self.invariant.all ∙ sym (ap length same)) c.count_starts.ensures.length c.count_starts.ensures.starts
+    known-counted e.count c.count.new.self c.push_reserved.new.self.items (c.self.invariant.all ∙ sym (ap length same))
+    (omega (arith, c.count.ensures.room, c.self.invariant.room, ap length c.remove-empty.ensures.items, length-remove chunks k within, ap length c.push_reserved.ensures.items, length-append c.remove-empty.new.self.items (c.remove-empty.result ∷ [])))
+    c.count.ensures.length c.count.ensures.starts
 
 pub returns-clause-unchanged : goal.returns-clause-unchanged
 returns-clause-unchanged c =

@@ -7,8 +7,8 @@ use Rattle.line_store.proofs.SwappedChunks.{joined-swapped, length-joined-swappe
 use Rattle.line_store.proofs.Offsets.{known-counted}
 use Rattle.line_store.proofs.chunks.ChunkLines.swap_chunks.Goals as goal
 
-pub count_starts-requires-clause-count : goal.count_starts-requires-clause-count
-count_starts-requires-clause-count c =
+pub count-requires-clause-count : goal.count-requires-clause-count
+count-requires-clause-count c =
     let chunks = c.self.inside.chunks.items in
     let within : c.args.high ≤ length chunks = omega (arith, c.requires.last, ap (λ v. length v.chunks) c.self.view_is) in
     let is = rotated c.args.low c.args.middle c.args.high c.self.inside.chunks.len c.deref_mut.result.now chunks c.rotate_left.new.self c.deref_mut.ensures.value
@@ -23,10 +23,11 @@ invariant_of-self c =
     let long : e.chunks.len ≡ length chunks = sym c.deref_mut.ensures.len ∙ ap length c.deref_mut.ensures.value in
     let is = rotated c.args.low c.args.middle c.args.high e.chunks.len c.deref_mut.result.now chunks c.rotate_left.new.self c.deref_mut.ensures.value
     c.requires.first c.requires.second within long c.rotate_left.ensures.after in
-    known-counted c.saturating_sub-self-inside.result e.count c.count_starts.new.starts.items _
-    (omega (arith, ap length is, length-swapped c.args.low c.args.middle c.args.high chunks c.requires.first c.requires.second within, long, c.len.ensures, c.saturating_sub-self-inside.ensures))
+    let same = ap length is ∙ length-swapped c.args.low c.args.middle c.args.high chunks c.requires.first c.requires.second within in
+    known-counted e.count c.count.new.self _
     (omega (arith, ap (λ t. length (joined t)) is, length-joined-swapped c.args.low c.args.middle c.args.high chunks c.requires.first c.requires.second within, c.self.invariant.all))
-    c.count_starts.ensures.length c.count_starts.ensures.starts
+    (omega (arith, same, c.count.ensures.room, c.self.invariant.room))
+    c.count.ensures.length c.count.ensures.starts
 
 pub returns-clause-swapped : goal.returns-clause-swapped
 returns-clause-swapped c =

@@ -1,6 +1,6 @@
 -- A line of its chunk is another.
 use Rattle.std.proofs.Common.{◌∙◌}
-use Rattle.line_store.proofs.Near.{found, line-found, exchanged-found, room-found}
+use Rattle.line_store.proofs.Found.{found, line-found, exchanged-found, room-found}
 use Rattle.line_store.proofs.chunks.ChunkLinesBareLines.exchange.Goals as goal
 
 pub returns-clause-value : goal.returns-clause-value

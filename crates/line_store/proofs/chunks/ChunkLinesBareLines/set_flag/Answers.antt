@@ -1,7 +1,7 @@
 -- A line of its chunk has another flag.
 use Rattle.std.proofs.Common.{◌-◌, [], get_or}
 use Rattle.ed_base.specs.Buffer.{plain_line, with_flag}
-use Rattle.line_store.proofs.Near.{found, flagged-found, room-found}
+use Rattle.line_store.proofs.Found.{found, flagged-found, room-found}
 use Rattle.line_store.proofs.chunks.ChunkLinesBareLines.set_flag.Goals as goal
 
 pub returns-clause-flagged : goal.returns-clause-flagged

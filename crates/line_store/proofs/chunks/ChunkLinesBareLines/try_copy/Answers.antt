@@ -4,8 +4,8 @@ use Rattle.line_store.specs.Chunks.{joined}
 use Rattle.line_store.proofs.Joined.{joined-first}
 use Rattle.line_store.proofs.chunks.ChunkLinesBareLines.try_copy.Goals as goal
 
-pub count_starts-requires-clause-count : goal.count_starts-requires-clause-count
-count_starts-requires-clause-count c =
+pub count-requires-clause-count : goal.count-requires-clause-count
+count-requires-clause-count c =
     let n = c.loop-chunk.chunk-index in
     omega (
       arith,

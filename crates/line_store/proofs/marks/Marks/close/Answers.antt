@@ -8,7 +8,7 @@ use Rattle.line_store.proofs.marks.Marks.close.Goals as goal
 
 pub loop-letter-init : goal.loop-letter-init
 loop-letter-init c = record {
-  count = c.self.invariant;
+  count = c.self.invariant.0;
   long = refl;
   done = λ k h. absurd (omega arith);
   left = λ k h. ap (λ m. get_or m k None) c.self.view_is;

@@ -6,7 +6,8 @@ use Rattle.line_store.proofs.marks.Marks.swap_places.Goals as goal
 
 pub loop-letter-init : goal.loop-letter-init
 loop-letter-init c = record {
-  count = c.self.invariant;
+  count = c.self.invariant.0;
+  used = c.if-self.false;
   done = λ k h. absurd (omega arith);
   left = λ k h. ap (λ m. get_or m k None) c.self.view_is;
 }
