@@ -4,7 +4,7 @@ ghost use Rattle.std.specs.Prelude.{◌≡◌, ◌↔◌, IsTrue, IfOk};
 ghost use Rattle.ed_rules.specs.Order.{CoversOld};
 
 use crate::marks::Marks;
-use crate::state::{Old, Undo};
+use crate::state::{Old, Undo, find_no_old};
 use std::alloc::{AllocError, Global};
 use std::marker::Model;
 use zones::KeptZone;
@@ -87,12 +87,20 @@ impl KeptOld {
         old.marks = self.marks;
     }
 
+    /// Becomes what is known where nothing was. It has a function of its own since a function clears the room of its locals, here
+    /// that of a whole zone, at each call.
+    fn restore_new(&self, old: &mut Option<Old>)
+        ensures value { old.new ≡ Some self.now }
+    {
+        *old = Some(self.old());
+    }
+
     fn restore_into(&self, old: &mut Option<Old>)
         ensures value { old.new ≡ Some self.now }
     {
         match old {
             Some(old) => self.restore(old),
-            None => *old = Some(self.old()),
+            None => self.restore_new(old),
         }
     }
 }
@@ -120,7 +128,7 @@ fn restore_old(kept: &Option<KeptOld>, old: &mut Option<Old>)
 {
     match kept {
         Some(kept) => kept.restore_into(old),
-        None => *old = None,
+        None => find_no_old(old),
     }
 }
 

@@ -1,6 +1,6 @@
 //! What is known of an editor's state.
 
-ghost use Rattle.std.specs.Prelude.{◌≡◌, [], IfOk, OnOk};
+ghost use Rattle.std.specs.Prelude.{◌≡◌, [], None, IfOk, OnOk};
 ghost use Rattle.ed_rules.specs.States.{old_of, unchanged, changed, no_replacement, nothing_to_undo, start};
 ghost use Rattle.ed_rules.specs.declared.state.State.{State};
 
@@ -85,12 +85,21 @@ pub(crate) fn find_old(found: &mut Option<Old>, zone: &Zone, marks: &Marks)
     }
 }
 
+/// What undo finds becomes no earlier buffer. Where it is none already, nothing is written: that would clear the room of a whole zone.
+pub(crate) fn find_no_old(found: &mut Option<Old>)
+    ensures value { found.new ≡ None }
+{
+    if found.is_some() {
+        *found = None;
+    }
+}
+
 fn copy_found(found: &mut Option<Old>, other: &Option<Old>)
     ensures value { found.new ≡ other.now }
 {
     match other {
         Some(old) => find_old(found, &old.zone, &old.marks),
-        None => *found = None,
+        None => find_no_old(found),
     }
 }
 

@@ -1,6 +1,7 @@
 -- Each line of a text begins with a word of its kind.
 use Rattle.std.proofs.Common.{◌≡◌, ◌++◌, ◌∷◌, [], ℕ, Bool, true, false, List, map, Option, Some, inl, inr, refl, sym, subst}
-use Rattle.std.specs.Prelude.{decimal, codes}
+use Rattle.std.specs.Prelude.{decimal, codes, All}
+use Rattle.std.proofs.lemmas.List.Elements.{All-nil, All-cons}
 use Rattle.zones.specs.Zone.{Bounds}
 use Rattle.ed_rules.specs.declared.state.Changed.{Changed}
 use Rattle.ed_rules.specs.declared.state.Replacements.{Replacements}
@@ -10,9 +11,11 @@ use Rattle.cert_check.specs.declared.text.cursor.Head.TheVariants.{AnotherNote, 
 use Rattle.cert_check.specs.declared.text.lines.Found.{Found}
 use Rattle.cert_check.specs.declared.text.wanted.LineKind.{LineKind}
 use Rattle.cert_check.specs.declared.text.wanted.LineKind.TheVariants as kind
+use Rattle.cert_check.specs.text.Text as text
 use Rattle.cert_check.specs.text.Text.{Word, line_text, bounds_words, letter_a, sure_letters, letters_words, choice_word, possible, limit_word, zone_line, marks_line, choices_line, replacements_line, changed_line, path_line, texts_line}
-use Rattle.cert_check.specs.text.Pieces.{limits_line, found_line, either_line, head_line}
-use Rattle.cert_check.specs.text.Wanted.{key, other_keys, HasKey, HasSomeKey, IsOfKind}
+use Rattle.cert_check.specs.text.Pieces.{IsOf, MayStand, alone, limits_line, found_line, either_line, head_line}
+use Rattle.cert_check.specs.text.Wanted.{key, other_keys, HasKey, HasSomeKey, IsOfKind, SomeLine}
+use Rattle.cert_check.proofs.texts.Pieces.{AreBegun, begun-by}
 
 keyed : (word : Word) (words : List Word) → HasKey word (line_text (word ∷ words))
 keyed word words = record { words = words; is = refl }
@@ -61,3 +64,20 @@ pub head-keyed : (h : Head) → IsOfKind kind.NoteLoopOrEnd (line_text (head_lin
 head-keyed AnotherNote = first kind.NoteLoopOrEnd []
 head-keyed Loop = inr (inl (keyed (codes "loop") []))
 head-keyed End = inr (inr (inl (keyed (codes "end") [])))
+
+-- each word of a kind begins the line of a value
+abbrev IsBegun : {A : Type 0} → (spell : A → text.Line) → Word → Type 0
+IsBegun spell word = SomeLine (MayStand (IsOf (alone spell) (λ _. Unit {0})) []) word
+
+pub either-begun : (kind : LineKind) (other : Word) → other_keys kind ≡ other ∷ [] → AreBegun (either_line (key kind) other) (λ _. Unit {0}) kind
+either-begun kind other is =
+    let spell : Bool → text.Line = either_line (key kind) other in
+    subst (λ (words : List Word). All (IsBegun spell) (key kind ∷ words)) (sym is)
+    (All-cons (IsBegun spell) (key kind) (other ∷ []) (begun-by spell (λ _. Unit {0}) true (key kind) tt (keyed (key kind) []))
+    (All-cons (IsBegun spell) other [] (begun-by spell (λ _. Unit {0}) false other tt (keyed other [])) (All-nil (IsBegun spell))))
+
+pub head-begun : AreBegun head_line (λ _. Unit {0}) kind.NoteLoopOrEnd
+head-begun =
+    All-cons (IsBegun head_line) (codes "note") (codes "loop" ∷ codes "end" ∷ []) (begun-by head_line (λ _. Unit {0}) AnotherNote (codes "note") tt (keyed (codes "note") []))
+    (All-cons (IsBegun head_line) (codes "loop") (codes "end" ∷ []) (begun-by head_line (λ _. Unit {0}) Loop (codes "loop") tt (keyed (codes "loop") []))
+    (All-cons (IsBegun head_line) (codes "end") [] (begun-by head_line (λ _. Unit {0}) End (codes "end") tt (keyed (codes "end") [])) (All-nil (IsBegun head_line))))

@@ -1,16 +1,17 @@
 -- Pieces of a text: a piece that can't be read is a fault of the text in which it stands.
-use Rattle.std.proofs.Common.{◌≡◌, ◌++◌, ◌∷◌, [], ℕ, List, Option, Result, Ok, Err, None, Some, arith, refl, ◌∙◌, sym, ap, subst, append_assoc, append-nil, length-append}
-use Rattle.std.specs.Prelude.{IsErrAnd, MatchOption, option_map}
+use Rattle.std.proofs.Common.{◌≡◌, ◌++◌, ◌∷◌, [], ℕ, List, Option, Result, Ok, Err, None, Some, inl, inr, arith, refl, ◌∙◌, sym, ap, subst, append_assoc, append-nil, length-append}
+use Rattle.std.specs.Prelude.{IsErrAnd, MatchOption, option_map, All}
+use Rattle.std.proofs.lemmas.List.Elements.{All-nil, All-cons, All-weaker}
 use Rattle.ed_base.specs.Lines.{newline, IsLine, bytes_of}
 use Rattle.cert_check.specs.declared.text.fault.Unread.{Unread}
 use Rattle.cert_check.specs.declared.text.fault.Unread.TheVariants.{Version, Line, Size, Memory}
 use Rattle.cert_check.specs.declared.text.wanted.LineKind.{LineKind}
 use Rattle.cert_check.specs.declared.text.wanted.Wanted.{Wanted}
 use Rattle.cert_check.specs.text.Text as text
-use Rattle.cert_check.specs.text.Text.{line_text}
+use Rattle.cert_check.specs.text.Text.{Word, line_text}
 use Rattle.cert_check.specs.text.Reading.{ReadsAs}
-use Rattle.cert_check.specs.text.Pieces.{Left, IsNext, Took, texts, IsOf, IsStrange, IsShort, IsFault, Reads, same, alone}
-use Rattle.cert_check.specs.text.Wanted.{IsOfKind}
+use Rattle.cert_check.specs.text.Pieces.{Left, IsNext, Took, texts, IsOf, MayStand, IsStrange, IsShort, IsFault, Reads, same, alone}
+use Rattle.cert_check.specs.text.Wanted.{key, other_keys, keys, HasKey, HasSomeKey, IsOfKind, SomeLine}
 use Rattle.cert_check.proofs.texts.Separated.{AreLinesOfWords, line-same}
 
 pub first-of : {A : Type 0} {a b : A} {r s : List A} → a ∷ r ≡ b ∷ s → a ≡ b
@@ -68,6 +69,16 @@ begun-after kind front above more after =
     subst kind
     (append_assoc front (above ++ more) after ∙ ap (λ (ls : List (List ℕ)). front ++ ls) (append_assoc above more after) ∙ sym (append_assoc front above (more ++ after)))
 
+stands-after : (kind next : List (List ℕ) → Type 0) (front above : List (List ℕ)) (word : Word) → Expects kind front next → SomeLine (MayStand next above) word →
+    SomeLine (MayStand kind (front ++ above)) word
+stands-after kind next front above word e s =
+    let go = e.continued (above ++ s.line ∷ s.holds.more) s.holds.is in
+    record {
+      line = s.line;
+      key = s.key;
+      holds = record { more = s.holds.more ++ go.more; is = begun-after kind front above (s.line ∷ s.holds.more) go.more go.is };
+    }
+
 strange-after : (kind next : List (List ℕ) → Type 0) (front : List (List ℕ)) (old mid : Left) (wanted : Wanted) → Expects kind front next → Took front old mid →
     IsStrange next mid wanted → IsStrange kind old wanted
 strange-after kind next front old mid wanted e t f =
@@ -89,6 +100,7 @@ strange-after kind next front old mid wanted e t f =
       other = λ whole back after following k same.
           let on = e.goes_on whole back (f.above ++ following ∷ after) k (same ∙ append_assoc front f.above (following ∷ after)) in
           f.other on.here on.rest after following on.is (sym on.parted);
+      each = All-weaker (SomeLine (MayStand next f.above)) (SomeLine (MayStand kind (front ++ f.above))) (λ word s. stands-after kind next front f.above word e s) (keys wanted.kind) f.each;
     }
 
 short-after : (kind next : List (List ℕ) → Type 0) (front : List (List ℕ)) (old mid : Left) → Expects kind front next → Took front old mid →
@@ -137,10 +149,34 @@ line-short {A} spell Has v old h is = record {
       cc;
 }
 
+-- with each word of a kind begins the line of some value
+abbrev pub AreBegun : {A : Type 0} → (spell : A → text.Line) → (Has : A → Type 0) → LineKind → Type 0
+AreBegun spell Has kind = All (SomeLine (MayStand (IsOf (alone spell) Has) [])) (keys kind)
+
+pub begun-by : {A : Type 0} (spell : A → text.Line) (Has : A → Type 0) (v : A) (word : Word) → Has v → HasKey word (line_text (spell v)) →
+    SomeLine (MayStand (IsOf (alone spell) Has) []) word
+begun-by spell Has v word h k = record {
+  line = line_text (spell v);
+  key = k;
+  holds = record { more = []; is = record { value = v; has = h; is = refl } };
+}
+
+only-word : (word : Word) (words : List Word) (line : List ℕ) → words ≡ [] → HasSomeKey (word ∷ words) line → HasKey word line
+only-word word words line none (inl k) = k
+only-word word words line none (inr k) = absurd (subst (λ (ws : List Word). HasSomeKey ws line) none k)
+
+-- a kind with one word
+pub alone-begun : {A : Type 0} (spell : A → text.Line) (Has : A → Type 0) (v : A) (kind : LineKind) → Has v → other_keys kind ≡ [] →
+    ((a : A) → IsOfKind kind (line_text (spell a))) → AreBegun spell Has kind
+alone-begun spell Has v kind h none keyed =
+    subst (λ (words : List Word). All (SomeLine (MayStand (IsOf (alone spell) Has) [])) (key kind ∷ words)) (sym none)
+    (All-cons (SomeLine (MayStand (IsOf (alone spell) Has) [])) (key kind) []
+    (begun-by spell Has v (key kind) h (only-word (key kind) (other_keys kind) (line_text (spell v)) none (keyed v))) (All-nil (SomeLine (MayStand (IsOf (alone spell) Has) []))))
+
 line-strange : {A : Type 0} (spell : A → text.Line) (Has : A → Type 0) (v : A) (kind : LineKind) (old mid : Left) (line : List ℕ) → Has v →
-    ((a : A) → IsOfKind kind (line_text (spell a))) → IsNext line old mid → ReadsAs spell Has line None →
+    ((a : A) → IsOfKind kind (line_text (spell a))) → AreBegun spell Has kind → IsNext line old mid → ReadsAs spell Has line None →
     IsStrange (IsOf (alone spell) Has) old (record { line = mid.above; kind = kind })
-line-strange {A} spell Has v kind old mid line h keyed next none =
+line-strange {A} spell Has v kind old mid line h keyed each next none =
     let counted = next.counted in
     record {
       above = [];
@@ -157,6 +193,7 @@ line-strange {A} spell Has v kind old mid line h keyed next none =
       other = λ whole back after following k same.
           let e : line_text (spell k.value) ∷ back ≡ following ∷ after = ap (λ (w : List (List ℕ)). w ++ back) k.is ∙ same in
           subst (λ (l : List ℕ). IsOfKind kind l) (first-of e) (keyed k.value);
+      each = each;
     }
 
 line-read : {A : Type 0} (spell : A → text.Line) (Has : A → Type 0) (v : A) (old mid : Left) (line : List ℕ) → IsNext line old mid →
@@ -176,11 +213,11 @@ IsReadAsKind kind mid read r = MatchOption read (r ≡ Err (Line (record { line 
 
 -- a line that was read, as a value in memory or as none
 pub line-exact : {A B : Type 0} (value : A → B) (spell : B → text.Line) (Has : B → Type 0) (v : B) (kind : LineKind) (old mid : Left) (line : List ℕ) (read : Option A)
-    (r : Result A Unread) → Has v → ((b : B) → IsOfKind kind (line_text (spell b))) → IsNext line old mid → ReadsAs spell Has line (option_map value read) →
+    (r : Result A Unread) → Has v → ((b : B) → IsOfKind kind (line_text (spell b))) → AreBegun spell Has kind → IsNext line old mid → ReadsAs spell Has line (option_map value read) →
     IsReadAsKind kind mid read r → Reads value (alone spell) Has old mid r
-line-exact {A} value spell Has v kind old mid line None r h keyed next as_read is =
-    subst (λ (x : Result A Unread). Reads value (alone spell) Has old mid x) (sym is) (line-strange spell Has v kind old mid line h keyed next as_read)
-line-exact {A} value spell Has v kind old mid line (Some a) r h keyed next as_read is =
+line-exact {A} value spell Has v kind old mid line None r h keyed each next as_read is =
+    subst (λ (x : Result A Unread). Reads value (alone spell) Has old mid x) (sym is) (line-strange spell Has v kind old mid line h keyed each next as_read)
+line-exact {A} value spell Has v kind old mid line (Some a) r h keyed each next as_read is =
     subst (λ (x : Result A Unread). Reads value (alone spell) Has old mid x) (sym is) (line-read spell Has (value a) old mid line next as_read)
 
 same-read : {A : Type 0} (spell : A → text.Line) (Has : A → Type 0) (line : List ℕ) (read : Option A) → ReadsAs spell Has line read → ReadsAs spell Has line (option_map same read)
@@ -189,10 +226,10 @@ same-read spell Has line (Some a) h = h
 
 -- the same of a value that is as it is in memory
 pub line-itself : {A : Type 0} (spell : A → text.Line) (Has : A → Type 0) (v : A) (kind : LineKind) (old mid : Left) (line : List ℕ) (read : Option A)
-    (r : Result A Unread) → Has v → ((a : A) → IsOfKind kind (line_text (spell a))) → IsNext line old mid → ReadsAs spell Has line read →
+    (r : Result A Unread) → Has v → ((a : A) → IsOfKind kind (line_text (spell a))) → AreBegun spell Has kind → IsNext line old mid → ReadsAs spell Has line read →
     IsReadAsKind kind mid read r → Reads same (alone spell) Has old mid r
-line-itself spell Has v kind old mid line read r h keyed next as_read is =
-    line-exact same spell Has v kind old mid line read r h keyed next (same-read spell Has line read as_read) is
+line-itself spell Has v kind old mid line read r h keyed each next as_read is =
+    line-exact same spell Has v kind old mid line read r h keyed each next (same-read spell Has line read as_read) is
 
 -- no line is left
 pub line-none : {A B : Type 0} (value : A → B) (spell : B → text.Line) (Has : B → Type 0) (v : B) (old mid : Left) (r : Result A Unread) (fault : Unread) → Has v →

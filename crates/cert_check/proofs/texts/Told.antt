@@ -2,7 +2,7 @@
 use Rattle.std.proofs.Common.{◌≡◌, ◌≢◌, ◌++◌, ◌∷◌, [], ℕ, Bool, true, false, List, Result, Ok, Err, arith, refl, ◌∙◌, sym, ap, subst, append_assoc, append-nil}
 use Rattle.std.specs.Prelude.{codes, IsTrue, ◌↔◌, IsErrAnd}
 use Rattle.std.specs.List.{flat_map}
-use Rattle.std.proofs.lemmas.List.Elements.{All-nil, All-cons, All-head, All-tail, All-append}
+use Rattle.std.proofs.lemmas.List.Elements.{All-nil, All-cons, All-head, All-tail, All-append, All-weaker}
 use Rattle.ed_base.specs.Lines.{newline, IsLine, AreLines, bytes_of}
 use Rattle.cert_check.specs.declared.certificate.Version as versions
 use Rattle.cert_check.specs.declared.certificate.Version.TheVariants.{One, Two}
@@ -13,11 +13,11 @@ use Rattle.cert_check.specs.declared.text.fault.Unread.TheVariants.{Version, Lin
 use Rattle.cert_check.specs.declared.text.wanted.Wanted.{Wanted}
 use Rattle.cert_check.specs.Certificates.{Certificate}
 use Rattle.cert_check.specs.text.Text as text
-use Rattle.cert_check.specs.text.Text.{line_text, version_line, opening_lines, closing_lines, note_lines, matched_lines, state_lines, path_line, bounds_line, texts_line, text_of}
+use Rattle.cert_check.specs.text.Text.{Word, line_text, version_line, opening_lines, closing_lines, note_lines, matched_lines, state_lines, path_line, bounds_line, texts_line, text_of}
 use Rattle.cert_check.specs.text.HasText.{HasText, IsText}
 use Rattle.cert_check.specs.text.Faults.{Begins, IsWhole, IsVersionFault, IsLineFault, IsSizeFault, more, less, IsReading}
-use Rattle.cert_check.specs.text.Pieces.{Left, Took, texts, IsOf, IsStrange, IsShort, IsFault, fault_of, IsReadAs, rest_lines, HasTextIn}
-use Rattle.cert_check.specs.text.Wanted.{IsWanted}
+use Rattle.cert_check.specs.text.Pieces.{Left, Took, texts, IsOf, MayStand, IsStrange, IsShort, IsFault, fault_of, IsReadAs, rest_lines, HasTextIn}
+use Rattle.cert_check.specs.text.Wanted.{keys, SomeLine, IsWanted}
 use Rattle.cert_check.proofs.texts.Separated.{head-same, tail-same, Above, Above-line, AreLinesOfWords}
 use Rattle.cert_check.proofs.texts.OneText as one_text
 use Rattle.cert_check.proofs.texts.OneText.{version-same, certificate-words}
@@ -76,6 +76,10 @@ lines-equal (m ∷ all) (l ∷ lines) h k e =
 front-lines : (a b : List (List ℕ)) → AreLines (a ++ b) → AreLines a
 front-lines [] b h = All-nil IsLine
 front-lines (l ∷ a) b h = All-cons IsLine l a (All-head IsLine l (a ++ b) h) (front-lines a b (All-tail IsLine l (a ++ b) h))
+
+last-line : (a : List (List ℕ)) (l : List ℕ) → AreLines (a ++ l ∷ []) → IsLine l
+last-line [] l h = All-head IsLine l [] h
+last-line (m ∷ a) l h = last-line a l (All-tail IsLine m (a ++ l ∷ []) h)
 
 -- lines of words are lines
 line-above : (a : List ℕ) → Above 31 a → IsLine a
@@ -164,6 +168,21 @@ strange-line version bytes mid wanted e one f =
           (append-nil (texts (rest_lines b.certificate)) ∙ later-of goes.is ∙ append_assoc f.above (f.line ∷ []) goes.later);
     }
 
+-- a line that may stand below others of the lines after the first
+stands-told : (version : versions.Version) (above : List (List ℕ)) (word : Word) → SomeLine (MayStand (IsOf rest_lines (HasTextIn version)) above) word →
+    SomeLine (λ line. IsLine line × Begins (version_text version ∷ above ++ line ∷ [])) word
+stands-told version above word s =
+    let k = subst (IsOf rest_lines (HasTextIn version)) (sym (append_assoc above (s.line ∷ []) s.holds.more)) s.holds.is in
+    let are = begun-lines version (above ++ s.line ∷ []) s.holds.more k in
+    record {
+      line = s.line;
+      key = s.key;
+      holds = (
+        last-line (version_text version ∷ above) s.line are,
+        begins-from version (above ++ s.line ∷ []) s.holds.more k,
+      );
+    }
+
 strange-wanted : (version : versions.Version) (bytes : List ℕ) (mid : Left) (wanted : Wanted) → bytes ≡ version_text version ++ newline ∷ mid.bytes → mid.above ≡ 1 → IsStrange (IsOf rest_lines (HasTextIn version)) mid wanted →
     IsWanted wanted bytes
 unfolding strange-line
@@ -175,6 +194,9 @@ strange-wanted version bytes mid wanted e one f =
           let goes = begins-goes (version_text version ∷ f.above ++ line ∷ []) b (All-append IsLine (version_text version ∷ f.above) (line ∷ []) are (All-cons IsLine line [] is_line (All-nil IsLine))) in
           f.other (texts (rest_lines b.certificate)) [] goes.later line (record { value = b.certificate; has = (version-same b.certificate.version version (first-of goes.is), b.is.0); is = refl })
           (append-nil (texts (rest_lines b.certificate)) ∙ later-of goes.is ∙ append_assoc f.above (line ∷ []) goes.later);
+      each =
+          All-weaker (SomeLine (MayStand (IsOf rest_lines (HasTextIn version)) f.above)) (SomeLine (λ line. IsLine line × Begins (version_text version ∷ f.above ++ line ∷ [])))
+          (λ word s. stands-told version f.above word s) (keys wanted.kind) f.each;
     }
 
 short-lines : (version : versions.Version) (bytes : List ℕ) (mid : Left) → bytes ≡ version_text version ++ newline ∷ mid.bytes → IsShort (IsOf rest_lines (HasTextIn version)) mid → IsSizeFault bytes

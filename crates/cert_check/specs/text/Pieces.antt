@@ -27,7 +27,7 @@ use Rattle.cert_check.specs.text.Text.{Word, line_text, zone_line, marks_line, u
 use Rattle.cert_check.specs.text.Reading.{undo_words_line}
 use Rattle.cert_check.specs.text.HasText.{OldIsSaidIn, StateHasText, NoteHasText, HasText, IsText}
 use Rattle.cert_check.specs.text.Faults.{IsVersionFault, IsSizeFault}
-use Rattle.cert_check.specs.text.Wanted.{IsOfKind, IsWanted}
+use Rattle.cert_check.specs.text.Wanted.{keys, IsOfKind, SomeLine, IsWanted}
 
 -- where a reader stands: the bytes that are left, and how many lines stand above them
 pub record Left : Type 0 where
@@ -55,7 +55,13 @@ pub record IsOf {A : Type 0} (spell : A → List text.Line) (Has : A → Type 0)
   pub has : Has value
   pub is : texts (spell value) ≡ lines
 
--- a line that no text of the kind has where it stands, below lines that begin one; those that have one there have one of this kind of lines
+-- below these lines a text of the kind may go on with this line
+pub record MayStand (kind : List (List ℕ) → Type 0) (above : List (List ℕ)) (next : List ℕ) : Type 0 where
+  pub more : List (List ℕ)
+  pub is : kind (above ++ next ∷ more)
+
+-- a line that no text of the kind has where it stands, below lines that begin one; those that have one there have one of this kind of
+-- lines, and may have one that begins with each of its words
 pub record IsStrange (kind : List (List ℕ) → Type 0) (old : Left) (wanted : Wanted) : Type 0 where
   pub above : List (List ℕ)
   pub line : List ℕ
@@ -67,6 +73,7 @@ pub record IsStrange (kind : List (List ℕ) → Type 0) (old : Left) (wanted : 
   pub begun : kind (above ++ more)
   pub stuck : (whole back after : List (List ℕ)) → kind whole → whole ++ back ≡ above ++ line ∷ after → ⊥
   pub other : (whole back after : List (List ℕ)) (next : List ℕ) → kind whole → whole ++ back ≡ above ++ next ∷ after → IsOfKind wanted.kind next
+  pub each : All (SomeLine (MayStand kind above)) (keys wanted.kind)
 
 -- no whole line is left, and those that were there begin a text of the kind and are none
 pub record IsShort (kind : List (List ℕ) → Type 0) (old : Left) : Type 0 where

@@ -1,5 +1,5 @@
 -- Which line is wanted where one stands that may not stand there.
-use Rattle.std.specs.Prelude.{◌≡◌, ◌⊎◌, ℕ, List, [], ◌∷◌, ◌++◌, codes}
+use Rattle.std.specs.Prelude.{◌≡◌, ◌⊎◌, ℕ, List, [], ◌∷◌, ◌++◌, codes, All}
 use Rattle.ed_base.specs.Lines.{IsLine}
 use Rattle.cert_check.specs.declared.text.wanted.LineKind.{LineKind}
 use Rattle.cert_check.specs.declared.text.wanted.LineKind.TheVariants as kind
@@ -60,7 +60,15 @@ HasSomeKey (word ∷ words) line = HasKey word line ⊎ HasSomeKey words line
 abbrev pub IsOfKind : LineKind → (line : List ℕ) → Type 0
 IsOfKind kind line = HasSomeKey (keys kind) line
 
--- A line of the bytes is the first that may not stand where it stands, and each line that may stand there is of the kind.
+-- a line whose first word is this one, of which this holds
+pub record SomeLine (Holds : List ℕ → Type 0) (word : Word) : Type 0 where
+  pub line : List ℕ
+  pub key : HasKey word line
+  pub holds : Holds line
+
+-- A line of the bytes is the first that may not stand where it stands. Each line that may stand there is of the kind, and for each word of
+-- the kind some line that begins with it may stand there.
 pub record IsWanted (wanted : Wanted) (bytes : List ℕ) : Type 0 where
   pub fault : IsLineFault wanted.line bytes
   pub kind : (line : List ℕ) → IsLine line → Begins (fault.above ++ line ∷ []) → IsOfKind wanted.kind line
+  pub each : All (SomeLine (λ line. IsLine line × Begins (fault.above ++ line ∷ []))) (keys wanted.kind)

@@ -55,6 +55,7 @@ pub(crate) fn read_writes(alloc: Global, cursor: &mut Cursor<'_>) -> Result<Vec<
 }
 
 fn read_set(alloc: Global, kind: LineKind, cursor: &mut Cursor<'_>) -> Result<Texts, Unread>
+    requires alone { other_keys kind ≡ [] }
     ensures exact { Reads same (alone (texts_line (key kind))) TextsAreFormed cursor.old cursor.new result }
 {
     let line = cursor.line()?;
@@ -68,6 +69,7 @@ pub(crate) fn read_matched(
     kind: LineKind,
     cursor: &mut Cursor<'_>,
 ) -> Result<Texts, Unread>
+    requires alone { other_keys kind ≡ [] }
     ensures exact { Reads same (matched_lines version (key kind)) (IsSaidIn version) cursor.old cursor.new result }
 {
     match version {
@@ -82,6 +84,7 @@ pub(crate) fn read_zone(
     kind: LineKind,
     cursor: &mut Cursor<'_>,
 ) -> Result<KeptZone, Unread>
+    requires alone { other_keys kind ≡ [] }
     ensures exact { Reads same (alone (zone_line (key kind))) (ZoneIsFormed all_marks) cursor.old cursor.new result }
 {
     let line = cursor.line()?;
@@ -94,6 +97,7 @@ pub(crate) fn read_marks(
     zone: &KeptZone,
     cursor: &mut Cursor<'_>,
 ) -> Result<Marks, Unread>
+    requires alone { other_keys kind ≡ [] }
     requires formed { ZoneIsFormed all_marks zone.now }
     ensures exact { Reads same (alone (marks_line (key kind))) (λ marks. ZoneIsFormed marks zone.now) cursor.old cursor.new result }
 {
@@ -107,6 +111,7 @@ pub(crate) fn read_choices(
     kind: LineKind,
     cursor: &mut Cursor<'_>,
 ) -> Result<Choices, Unread>
+    requires alone { other_keys kind ≡ [] }
     ensures exact { Reads same (alone (choices_line (key kind))) SetIsFormed cursor.old cursor.new result }
 {
     let line = cursor.line()?;

@@ -1,9 +1,10 @@
 //! Reads what is known at one point of a script.
 
+ghost use Rattle.std.specs.Prelude.{◌≡◌, []};
 ghost use Rattle.cert_check.specs.text.HasText.{StateHasText};
 ghost use Rattle.cert_check.specs.text.Pieces.{Reads, same, marked_lines, marked_value, MarkedIsFormed, undo_lines, UndoIsFormed};
 ghost use Rattle.cert_check.specs.text.Text.{state_lines};
-ghost use Rattle.cert_check.specs.text.Wanted.{key};
+ghost use Rattle.cert_check.specs.text.Wanted.{key, other_keys};
 
 use crate::certificate::Version;
 use crate::text::cursor::Cursor;
@@ -29,6 +30,8 @@ fn read_marked(
     marks_kind: LineKind,
     cursor: &mut Cursor<'_>,
 ) -> Result<Marked, Unread>
+    requires zone_alone { other_keys zone_kind ≡ [] }
+    requires marks_alone { other_keys marks_kind ≡ [] }
     ensures exact { Reads marked_value (marked_lines (key zone_kind) (key marks_kind)) MarkedIsFormed cursor.old cursor.new result }
 {
     let zone = read_zone(alloc, zone_kind, cursor)?;

@@ -5,7 +5,7 @@ use Rattle.cert_check.specs.text.Reading.{ReadsAs}
 use Rattle.cert_check.specs.text.Wanted.{key}
 use Rattle.cert_check.proofs.texts.Plainest.{plain_set, plain-set}
 use Rattle.cert_check.specs.text.Pieces.{same}
-use Rattle.cert_check.proofs.texts.Pieces.{line-none, line-itself}
+use Rattle.cert_check.proofs.texts.Pieces.{line-none, line-itself, alone-begun}
 use Rattle.cert_check.proofs.texts.Keyed.{choices-keyed}
 use Rattle.cert_check.proofs.text.readers.read_choices.Goals as goal
 
@@ -20,5 +20,6 @@ pub returns : goal.returns
 returns c = record {
   exact =
       line-itself (choices_line (key c.args.kind)) SetIsFormed plain_set c.args.kind c.args.cursor.now c.line.new.self c.in_ok-line.line.now c.in_ok-choices_in.field-0 c.read_as.result plain-set (choices-keyed c.args.kind)
+      (alone-begun (choices_line (key c.args.kind)) SetIsFormed plain_set c.args.kind plain-set c.requires.alone (choices-keyed c.args.kind))
       c.in_ok-line.ensures.next (subst (λ (k : List ℕ). ReadsAs (choices_line k) SetIsFormed c.in_ok-line.line.now c.in_ok-choices_in.field-0) c.key.ensures.value c.in_ok-choices_in.ensures.exact) c.read_as.ensures.exact;
 }

@@ -3,7 +3,7 @@ use Rattle.cert_check.specs.declared.text.cursor.Head.TheVariants.{End}
 use Rattle.cert_check.specs.text.Pieces.{head_line}
 use Rattle.cert_check.specs.text.Pieces.{same}
 use Rattle.cert_check.proofs.texts.Pieces.{line-none, line-itself}
-use Rattle.cert_check.proofs.texts.Keyed.{head-keyed}
+use Rattle.cert_check.proofs.texts.Keyed.{head-keyed, head-begun}
 use Rattle.cert_check.proofs.text.readers.read_head.Goals as goal
 
 pub returns-in_err-line : goal.returns-in_err-line
@@ -17,5 +17,6 @@ pub returns : goal.returns
 returns c = record {
   exact =
       line-itself head_line (λ _. Unit {0}) End kind.NoteLoopOrEnd c.args.cursor.now c.line.new.self c.in_ok-line.line.now c.head_in.result c.read_as.result tt head-keyed
+      head-begun
       c.in_ok-line.ensures.next c.head_in.ensures.exact c.read_as.ensures.exact;
 }

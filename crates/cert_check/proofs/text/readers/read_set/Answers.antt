@@ -5,7 +5,7 @@ use Rattle.cert_check.specs.text.Reading.{ReadsAs}
 use Rattle.cert_check.specs.text.Wanted.{key}
 use Rattle.cert_check.proofs.texts.Certified.{no-paths}
 use Rattle.cert_check.specs.text.Pieces.{same}
-use Rattle.cert_check.proofs.texts.Pieces.{line-none, line-itself}
+use Rattle.cert_check.proofs.texts.Pieces.{line-none, line-itself, alone-begun}
 use Rattle.cert_check.proofs.texts.Keyed.{texts-keyed}
 use Rattle.cert_check.proofs.text.readers.read_set.Goals as goal
 
@@ -20,5 +20,6 @@ pub returns : goal.returns
 returns c = record {
   exact =
       line-itself (texts_line (key c.args.kind)) TextsAreFormed [] c.args.kind c.args.cursor.now c.line.new.self c.in_ok-line.line.now c.in_ok-set_in.field-0 c.read_as.result no-paths (texts-keyed c.args.kind)
+      (alone-begun (texts_line (key c.args.kind)) TextsAreFormed [] c.args.kind no-paths c.requires.alone (texts-keyed c.args.kind))
       c.in_ok-line.ensures.next (subst (λ (k : List ℕ). ReadsAs (texts_line k) TextsAreFormed c.in_ok-line.line.now c.in_ok-set_in.field-0) c.key.ensures.value c.in_ok-set_in.ensures.exact) c.read_as.ensures.exact;
 }

@@ -3,7 +3,7 @@ use Rattle.std.specs.Prelude.{codes}
 use Rattle.cert_check.specs.declared.text.wanted.LineKind.TheVariants as kind
 use Rattle.cert_check.specs.text.Pieces.{limits_line, AreStartLimits}
 use Rattle.cert_check.specs.text.Pieces.{same}
-use Rattle.cert_check.proofs.texts.Pieces.{line-none, line-itself}
+use Rattle.cert_check.proofs.texts.Pieces.{line-none, line-itself, alone-begun}
 use Rattle.cert_check.proofs.texts.Keyed.{start-keyed}
 use Rattle.cert_check.proofs.text.readers.read_start.Goals as goal
 
@@ -18,5 +18,6 @@ pub returns : goal.returns
 returns c = record {
   exact =
       line-itself (limits_line (codes "start")) AreStartLimits (0, None) kind.Start c.args.cursor.now c.line.new.self c.in_ok-line.line.now c.start_in.result c.read_as.result refl start-keyed
+      (alone-begun (limits_line (codes "start")) AreStartLimits (0, None) kind.Start refl refl start-keyed)
       c.in_ok-line.ensures.next c.start_in.ensures.exact c.read_as.ensures.exact;
 }

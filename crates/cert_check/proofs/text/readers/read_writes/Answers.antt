@@ -1,9 +1,9 @@
-use Rattle.std.proofs.Common.{[]}
+use Rattle.std.proofs.Common.{[], refl}
 use Rattle.std.specs.Prelude.{codes}
 use Rattle.ed_rules.specs.Formed.{TextsAreFormed}
 use Rattle.cert_check.specs.declared.text.wanted.LineKind.TheVariants as kind
 use Rattle.cert_check.specs.text.Text.{texts_line}
-use Rattle.cert_check.proofs.texts.Pieces.{line-none, line-exact}
+use Rattle.cert_check.proofs.texts.Pieces.{line-none, line-exact, alone-begun}
 use Rattle.cert_check.proofs.texts.Keyed.{texts-keyed}
 use Rattle.cert_check.proofs.texts.Certified.{no-paths}
 use Rattle.cert_check.proofs.text.readers.read_writes.Goals as goal
@@ -19,5 +19,6 @@ pub returns : goal.returns
 returns c = record {
   exact =
       line-exact (λ v. v.items) (texts_line (codes "writes")) TextsAreFormed [] kind.Writes c.args.cursor.now c.line.new.self c.in_ok-line.line.now c.in_ok-writes_in.field-0 c.read_as.result no-paths (texts-keyed kind.Writes)
+      (alone-begun (texts_line (codes "writes")) TextsAreFormed [] kind.Writes no-paths refl (texts-keyed kind.Writes))
       c.in_ok-line.ensures.next c.in_ok-writes_in.ensures.exact c.read_as.ensures.exact;
 }

@@ -6,7 +6,7 @@ use Rattle.cert_check.specs.text.Reading.{ReadsAs, all_marks}
 use Rattle.cert_check.specs.text.Wanted.{key}
 use Rattle.cert_check.proofs.texts.Plainest.{any-formed}
 use Rattle.cert_check.specs.text.Pieces.{same}
-use Rattle.cert_check.proofs.texts.Pieces.{line-none, line-itself}
+use Rattle.cert_check.proofs.texts.Pieces.{line-none, line-itself, alone-begun}
 use Rattle.cert_check.proofs.texts.Keyed.{zone-keyed}
 use Rattle.cert_check.proofs.text.readers.read_zone.Goals as goal
 
@@ -21,5 +21,6 @@ pub returns : goal.returns
 returns c = record {
   exact =
       line-itself (zone_line (key c.args.kind)) (ZoneIsFormed all_marks) any_zone c.args.kind c.args.cursor.now c.line.new.self c.in_ok-line.line.now c.in_ok-zone_in.field-0 c.read_as.result (any-formed all_marks refl) (zone-keyed c.args.kind)
+      (alone-begun (zone_line (key c.args.kind)) (ZoneIsFormed all_marks) any_zone c.args.kind (any-formed all_marks refl) c.requires.alone (zone-keyed c.args.kind))
       c.in_ok-line.ensures.next (subst (λ (k : List ℕ). ReadsAs (zone_line k) (ZoneIsFormed all_marks) c.in_ok-line.line.now c.in_ok-zone_in.field-0) c.key.ensures.value c.in_ok-zone_in.ensures.exact) c.read_as.ensures.exact;
 }
