@@ -1,5 +1,5 @@
 -- Refusals one after another.
-use Rattle.std.proofs.Common.{◌≡◌, ◌<◌, ◌≤◌, ◌+◌, ℕ, List, [], ◌∷◌, ◌++◌, length, drop, get_or, sym, subst, arith, ap, map, length-append}
+use Rattle.std.proofs.Common.{◌≡◌, ◌<◌, ◌+◌, ℕ, List, [], ◌∷◌, ◌++◌, length, drop, get_or, sym, subst, arith, ap, map, length-append}
 use Rattle.std.specs.List.{All}
 use Rattle.std.proofs.lemmas.List.Elements.{All-head, All-same}
 use Rattle.analyser.specs.declared.analysis.Start.{Start}
@@ -10,8 +10,8 @@ use Rattle.hints.specs.declared.hint.Hint.{Hint}
 use Rattle.hints.specs.declared.refusing.Refusal.{Refusal}
 use Rattle.ed_syntax.specs.reading.Reading.{script_of}
 use Rattle.cert_check.specs.declared.checker.verdict.Place.{Place}
-use Rattle.hints.specs.Passing.{IsAllowed, Keeps, GetsPast}
-use Rattle.hints.specs.Hints.{IsTried, IsRefusal, IsMended, none, more, AreRefusals, stopped}
+use Rattle.hints.specs.Passing.{IsAllowed, IsVouched, Keeps, GetsPast}
+use Rattle.hints.specs.Hints.{IsTried, IsRefusal, IsMended, none, more, AreRefusals, mended, stopped, cut}
 
 -- a list that isn't empty is its first element and the others
 pub front-of : {A : Type 0} → (xs : List A) (x : A) → 0 < length xs → x ≡ get_or xs 0 x → xs ≡ x ∷ drop 1 xs
@@ -21,24 +21,43 @@ front-of {A} (y ∷ ys) x lt is = ap (λ (z : A). z ∷ ys) (sym is)
 -- a refusal of what came of the earlier ones stands after them
 at-hand : (script : List ℕ) (start : Start) (told : List Refusal) (now : List ℕ) (opened : Start) (r : Refusal) → IsMended script start told now opened →
     r.script ≡ now → r.start ≡ opened → IsMended script start told r.script r.start
-at-hand script start told now opened r mended same also =
-    subst (λ (s : Start). IsMended script start told r.script s) (sym also) (subst (λ (s : List ℕ). IsMended script start told s opened) (sym same) mended)
+at-hand script start told now opened r is-mended same also =
+    subst (λ (s : Start). IsMended script start told r.script s) (sym also) (subst (λ (s : List ℕ). IsMended script start told s opened) (sym same) is-mended)
 
--- it may be the last one
+-- it is the last one where it has no hint
 pub stops : (script : List ℕ) (start : Start) (told all : List Refusal) (now : List ℕ) (opened : Start) (r : Refusal) → IsMended script start told now opened →
-    IsRefusal r → r.script ≡ now → r.start ≡ opened → all ≡ told ++ r ∷ [] → AreRefusals script start all
-stops script start told all now opened r mended is same also pushed =
-    subst (λ (rs : List Refusal). AreRefusals script start rs) (sym pushed) (stopped told r (at-hand script start told now opened r mended same also) is)
+    IsRefusal r → r.script ≡ now → r.start ≡ opened → r.hints.items ≡ [] → all ≡ told ++ r ∷ [] → AreRefusals script start all
+stops script start told all now opened r is-mended is same also hints pushed =
+    subst (λ (rs : List Refusal). AreRefusals script start rs) (sym pushed) (stopped told r (at-hand script start told now opened r is-mended same also) is hints)
+
+-- there is no further one where what came of the earlier ones is vouched for
+pub ends : (script : List ℕ) (start : Start) (told : List Refusal) (now read : List ℕ) (opened : Start) → IsMended script start told now opened → read ≡ now →
+    IsVouched (script_of read) opened → AreRefusals script start told
+ends script start told now read opened is-mended same vouched =
+    mended told now opened is-mended (subst (λ (s : List ℕ). IsVouched (script_of s) opened) same vouched)
+
+-- where none came, the script and the start are the first ones
+none-mended : (script : List ℕ) (start : Start) (told : List Refusal) (now : List ℕ) (then : Start) → IsMended script start told now then → told ≡ [] →
+    IsVouched (script_of now) then → IsVouched (script_of script) start
+none-mended script start told now then none over vouched = vouched
+none-mended script start told now then (more before r h hs is-mended is hints) over vouched =
+    absurd (omega (arith, simp length-append at (ap length over)))
+
+-- so there are none only where the script is vouched for
+pub none-told : (script : List ℕ) (start : Start) (told : List Refusal) → AreRefusals script start told → told ≡ [] → IsVouched (script_of script) start
+none-told script start told (mended all now then is-mended vouched) over = none-mended script start told now then is-mended over vouched
+none-told script start told (stopped before r is-mended is hints) over = absurd (omega (arith, simp length-append at (ap length over)))
+none-told script start told (cut all now then is-mended many) over = absurd (omega (arith, many, ap length over))
 
 -- or it is mended too, as its first hint says
 pub goes-on : (script : List ℕ) (start : Start) (told all : List Refusal) (now later : List ℕ) (opened bounded : Start) (r : Refusal) (h : Hint) (hs : List Hint) →
     IsMended script start told now opened → IsRefusal r → r.script ≡ now → r.start ≡ opened → r.hints.items ≡ h ∷ hs → all ≡ told ++ r ∷ [] →
     later ≡ h.script → bounded ≡ h.start → IsMended script start all later bounded
-goes-on script start told all now later opened bounded r h hs mended is same also hints pushed reads starts =
+goes-on script start told all now later opened bounded r h hs is-mended is same also hints pushed reads starts =
     subst (λ (s : Start). IsMended script start all later s) (sym starts)
     (subst (λ (s : List ℕ). IsMended script start all s h.start) (sym reads)
     (subst (λ (rs : List Refusal). IsMended script start rs h.script h.start) (sym pushed)
-    (more told r h hs (at-hand script start told now opened r mended same also) is hints)))
+    (more told r h hs (at-hand script start told now opened r is-mended same also) is hints)))
 
 -- what a first hint says has bounds that are allowed
 pub stays-allowed : (r : Refusal) (h : Hint) (hs : List Hint) (bounded : Start) → IsRefusal r → r.hints.items ≡ h ∷ hs → bounded ≡ h.start → IsAllowed bounded
@@ -81,9 +100,9 @@ begins script start told now opened over same also =
     (subst (λ (s : List ℕ). IsMended script start [] s opened) (sym same) (subst (λ (s : Start). IsMended script start [] script s) (sym also) none))
 
 -- and then there are none
-pub begins-few : (told : List Refusal) → told ≡ [] → length told ≤ 0
-begins-few told over = subst (λ (rs : List Refusal). length rs ≤ 0) (sym over) (omega arith)
+pub begins-count : (told : List Refusal) → told ≡ [] → length told ≡ 0
+begins-count told over = ap length over
 
 -- each one more counts one
-pub goes-on-few : (told all : List Refusal) (r : Refusal) (n : ℕ) → all ≡ told ++ r ∷ [] → length told ≤ n → length all ≤ n + 1
-goes-on-few told all r n pushed few = subst (λ (rs : List Refusal). length rs ≤ n + 1) (sym pushed) (simp length-append (omega arith))
+pub goes-on-count : (told all : List Refusal) (r : Refusal) (n : ℕ) → all ≡ told ++ r ∷ [] → length told ≡ n → length all ≡ n + 1
+goes-on-count told all r n pushed count = subst (λ (rs : List Refusal). length rs ≡ n + 1) (sym pushed) (simp length-append (omega arith))

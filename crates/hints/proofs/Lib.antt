@@ -1,3 +1,4 @@
 mod Places
 mod Keeping
 mod Chains
+mod Asking

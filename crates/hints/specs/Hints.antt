@@ -1,5 +1,5 @@
 -- What a hint promises, and which refusals are told of a script (our own).
-use Rattle.std.specs.Prelude.{◌≡◌, ℕ, List, [], ◌∷◌, ◌++◌, map, All}
+use Rattle.std.specs.Prelude.{◌≡◌, ◌-◌, ◌<◌, ℕ, List, [], ◌∷◌, ◌++◌, map, length, All}
 use Rattle.ed_syntax.specs.reading.Reading.{script_of}
 use Rattle.cert_check.specs.declared.checker.verdict.Place.{Place}
 use Rattle.cert_check.specs.Certificates.{note_value}
@@ -7,7 +7,7 @@ use Rattle.analyser.specs.declared.analysis.Start.{Start}
 use Rattle.analyser.specs.Analysis.{IsFailure}
 use Rattle.hints.specs.declared.hint.Hint.{Hint}
 use Rattle.hints.specs.declared.refusing.Refusal.{Refusal}
-use Rattle.hints.specs.Passing.{IsAllowed, Keeps, GetsPast}
+use Rattle.hints.specs.Passing.{IsAllowed, IsVouched, with_min, Keeps, GetsPast}
 
 -- A hint on a script over a start was tried: the script as it reads by it, over the start that it names, gets past the place. That start
 -- keeps the path of the first one and the patterns that it states.
@@ -15,6 +15,15 @@ pub record IsTried (start : Start) (place : Place) (h : Hint) : Type 0 where
   pub kept : Keeps start h.start
   pub allowed : IsAllowed h.start
   pub past : GetsPast (script_of h.script) h.start place
+
+-- A hint asks for more lines at least, with which the script is vouched for as it is. With one line less it isn't.
+pub record AsksForMore (script : List ℕ) (start : Start) (h : Hint) : Type 0 where
+  pub same : h.script ≡ script
+  pub min : ℕ
+  pub more : start.min < min
+  pub asks : h.start ≡ with_min start min
+  pub vouched : IsVouched (script_of script) (with_min start min)
+  pub least : IsVouched (script_of script) (with_min start (min - 1)) → ⊥
 
 -- A refusal is the first need that fails of its script over its start, and its hints were tried.
 pub record IsRefusal (r : Refusal) : Type 0 where
@@ -28,8 +37,16 @@ pub data IsMended (script : List ℕ) (start : Start) : (told : List Refusal) �
   more : (told : List Refusal) (r : Refusal) (h : Hint) (hs : List Hint) → IsMended script start told r.script r.start → IsRefusal r →
       r.hints.items ≡ h ∷ hs → IsMended script start (told ++ r ∷ []) h.script h.start
 
--- The refusals that are told of a script over a start: those that were mended, and maybe one more, of what came of it.
+-- at most so many refusals are told of one script
+abbrev pub most_refusals : ℕ
+most_refusals = 10
+
+-- The refusals that are told of a script over a start. They end where what came of them is vouched for, with one that has no hint, or where
+-- they are as many as are told.
 pub data AreRefusals (script : List ℕ) (start : Start) : List Refusal → Type 0 where
-  mended : (told : List Refusal) (now : List ℕ) (then : Start) → IsMended script start told now then → AreRefusals script start told
-  stopped : (told : List Refusal) (r : Refusal) → IsMended script start told r.script r.start → IsRefusal r →
+  mended : (told : List Refusal) (now : List ℕ) (then : Start) → IsMended script start told now then → IsVouched (script_of now) then →
+      AreRefusals script start told
+  stopped : (told : List Refusal) (r : Refusal) → IsMended script start told r.script r.start → IsRefusal r → r.hints.items ≡ [] →
       AreRefusals script start (told ++ r ∷ [])
+  cut : (told : List Refusal) (now : List ℕ) (then : Start) → IsMended script start told now then → length told ≡ most_refusals →
+      AreRefusals script start told

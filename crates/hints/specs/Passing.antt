@@ -28,6 +28,21 @@ with_min start min = record { path = start.path; min = min; max = start.max; has
 abbrev pub with_max : Start → ℕ → Start
 with_max start most = record { path = start.path; min = start.min; max = Some most; has = start.has }
 
+-- the most lines that a start may have
+abbrev pub most_of : Option ℕ → ℕ
+most_of None = most_lines
+most_of (Some most) = most
+
+-- More lines help a script: it isn't vouched for over the start, but is where there are as many lines as the start may have.
+pub record MoreLinesHelp (script : Script) (start : Start) : Type 0 where
+  pub refused : IsVouched script start → ⊥
+  pub vouched : IsVouched script (with_min start (most_of start.max))
+
+-- Fewer lines help a script: it isn't vouched for over the start, but is where there are as few lines as the start may have.
+pub record FewerLinesHelp (script : Script) (start : Start) : Type 0 where
+  pub refused : IsVouched script start → ⊥
+  pub vouched : IsVouched script (with_max start start.min)
+
 -- What is stated is the same, or these patterns are put in.
 abbrev pub IsStating : (has now : Option (List (List ℕ))) → Type 0
 IsStating has now = (now ≡ has) ⊎ ((patterns : List (List ℕ)) × (now ≡ Some (with_texts patterns (stated_of has))))

@@ -1,8 +1,10 @@
 //! Hints and remarks on a need that fails.
 
-ghost use Rattle.std.specs.Prelude.{◌≡◌, ◌≤◌, All, IfOk, IfSome, OnOk};
+ghost use Rattle.std.specs.Prelude.{◌≡◌, ◌∷◌, ◌++◌, ◌≤◌, [], All, Any, IfOk, IfSome, MatchOption, OnOk};
+ghost use Rattle.ed_syntax.specs.reading.Reading.{script_of};
 ghost use Rattle.ed_rules.specs.LineBounds.{most_lines, IsAtMost};
-ghost use Rattle.hints.specs.Hints.{IsTried};
+ghost use Rattle.hints.specs.Passing.{MoreLinesHelp};
+ghost use Rattle.hints.specs.Hints.{IsTried, AsksForMore};
 
 use crate::commands::{count_of_lines, line_at, line_of_span, span_of};
 use crate::drafts::Draft;
@@ -108,6 +110,7 @@ pub(crate) fn at_least(
     requires low { start.now.min ≤ most_lines }
     requires high { IfSome start.now.max (λ most. most ≤ most_lines) }
     ensures tried { IfOk result (λ found. IfSome found (IsTried start.now place)) }
+    ensures asks { IfOk result (λ found. MatchOption found (¬ MoreLinesHelp (script_of script.now) start.now) (AsksForMore script.now start.now)) }
 {
     let Some(min) = least_start(alloc, script, start)? else {
         return Ok(None);
@@ -156,6 +159,7 @@ fn push_hint(
     requires found { All (IsTried start.now place) found.old.items }
     requires hint { IfSome hint (IsTried start.now place) }
     ensures tried { OnOk result (All (IsTried start.now place) found.new.items) }
+    ensures pushed { OnOk result (MatchOption hint (found.new.items ≡ found.old.items) (λ more. found.new.items ≡ found.old.items ++ more ∷ [])) }
 {
     if let Some(hint) = hint {
         found.push(hint)?;
@@ -175,6 +179,7 @@ fn or_further(
     requires high { IfSome start.now.max (λ most. most ≤ most_lines) }
     requires found { All (IsTried start.now place) found.items }
     ensures tried { IfOk result (λ found. All (IsTried start.now place) found.items) }
+    ensures kept { IfOk result (λ all. Any (AsksForMore script.now start.now) found.items → Any (AsksForMore script.now start.now) all.items) }
 {
     if !found.is_empty() {
         return Ok(found);
@@ -200,6 +205,7 @@ fn and_stated(
     requires high { IfSome start.now.max (λ most. most ≤ most_lines) }
     requires found { All (IsTried start.now place) found.items }
     ensures tried { IfOk result (λ found. All (IsTried start.now place) found.items) }
+    ensures kept { IfOk result (λ all. Any (AsksForMore script.now start.now) found.items → Any (AsksForMore script.now start.now) all.items) }
 {
     if patterns.members().is_empty() {
         return Ok(found);
@@ -212,7 +218,7 @@ fn and_stated(
 }
 
 /// What to write where a need of a script fails at a place by a fault, before which this is known: the best hint first. Each gets past
-/// the place.
+/// the place. Where the script is vouched for with more lines, one hint asks for them.
 pub fn hints(
     alloc: Global,
     script: &[u8],
@@ -225,6 +231,9 @@ pub fn hints(
     requires low { start.now.min ≤ most_lines }
     requires high { IfSome start.now.max (λ most. most ≤ most_lines) }
     ensures tried { IfOk result (λ found. All (IsTried start.now place) found.items) }
+
+    // Where more lines help the script, one of the hints asks for them.
+    ensures asks { IfOk result (λ found. MoreLinesHelp (script_of script.now) start.now → Any (AsksForMore script.now start.now) found.items) }
 {
     let line = number_at(alloc, script, place)?;
     let drafts = drafts_at(alloc, script, place, why)?;

@@ -5,7 +5,7 @@ ghost use Rattle.ed_syntax.specs.reading.Reading.{script_of};
 ghost use Rattle.ed_rules.specs.LineBounds.{most_lines, IsAtMost};
 ghost use Rattle.hints.specs.declared.hint.Hint.{Hint};
 ghost use Rattle.hints.specs.Passing.{IsVouched};
-ghost use Rattle.hints.specs.Hints.{IsRefusal, AreRefusals};
+ghost use Rattle.hints.specs.Hints.{most_refusals, IsRefusal, AreRefusals};
 
 use crate::advising::{hints, remarks};
 use crate::hint::{Hint, Remark};
@@ -80,13 +80,14 @@ pub fn first_refusal(
 }
 
 /// The refusals of a script over a start, at most ten: each later one is found with the earlier ones mended, as the first hint of each
-/// says. A refusal without a hint is the last one.
+/// says. A refusal without a hint is the last one; else fewer than ten come only where what the last one's first hint says is vouched for.
 pub fn refusals(alloc: Global, script: &[u8], start: &Start) -> Result<Vec<Refusal>, AllocError>
     requires ordered { IsAtMost start.now.min start.now.max }
     requires low { start.now.min ≤ most_lines }
     requires high { IfSome start.now.max (λ most. most ≤ most_lines) }
     ensures each { IfOk result (λ found. AreRefusals script.now start.now found.items) }
-    ensures few { IfOk result (λ found. length found.items ≤ 10) }
+    ensures none { IfOk result (λ found. found.items ≡ [] → IsVouched (script_of script.now) start.now) }
+    ensures few { IfOk result (λ found. length found.items ≤ most_refusals) }
 {
     let mut found = Vec::new(alloc);
     let mut current = Bytes::from_slice(alloc, script)?;

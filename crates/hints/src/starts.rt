@@ -1,10 +1,10 @@
 //! The least and the most lines of a start under which a script is vouched for.
 
-ghost use Rattle.std.specs.Prelude.{◌≡◌, ◌+◌, ◌-◌, ◌<◌, ◌≤◌, ◌↔◌, IfOk, IfSome, IsTrue};
+ghost use Rattle.std.specs.Prelude.{◌≡◌, ◌+◌, ◌-◌, ◌<◌, ◌≤◌, ◌↔◌, IfOk, IfSome, IsSome, IsTrue};
 ghost use Rattle.ed_syntax.specs.PublicScript.{script_value};
 ghost use Rattle.ed_syntax.specs.reading.Reading.{script_of};
 ghost use Rattle.ed_rules.specs.LineBounds.{most_lines, IsAtMost};
-ghost use Rattle.hints.specs.Passing.{IsVouched, with_min, with_max};
+ghost use Rattle.hints.specs.Passing.{IsVouched, MoreLinesHelp, FewerLinesHelp, most_of, with_min, with_max};
 
 use crate::passing::is_vouched;
 use analyser::Start;
@@ -68,12 +68,28 @@ fn is_vouched_within(
 /// The most lines that a start of these bounds may have.
 fn top_of(max: Option<u64>) -> u64
     requires high { IfSome max (λ most. most ≤ most_lines) }
+    ensures value { result ≡ most_of max }
     ensures within { (result ≤ most_lines) × IsAtMost result max }
 {
     match max {
         Some(most) => most,
         None => LineBounds::MOST,
     }
+}
+
+/// Whether a script isn't vouched for over a start, but is with `top` lines at least, the most that the start may have.
+fn more_lines_help(script: &Script, start: &Start, top: u64) -> Result<bool, AllocError>
+    requires ordered { IsAtMost start.now.min start.now.max }
+    requires low { start.now.min ≤ most_lines }
+    requires high { IfSome start.now.max (λ most. most ≤ most_lines) }
+    requires top { top ≡ most_of start.now.max }
+    ensures exact { IfOk result (λ yes. IsTrue yes ↔ MoreLinesHelp (script_value script.now) start.now) }
+    ensures room { IfOk result (λ yes. IsTrue yes → start.now.min < top) }
+{
+    if top <= start.min || is_vouched_within(script, start, start.min, start.max)? {
+        return Ok(false);
+    }
+    is_vouched_within(script, start, top, start.max)
 }
 
 /// A step on from the lower number, no longer than half of the way to the upper one.
@@ -153,11 +169,12 @@ fn greatest_between(
 }
 
 /// The least number of lines, above the one that is given, under which a script is vouched for, with the same path, patterns and most
-/// lines. None where it is vouched for already, or isn't under as many lines as the start may have.
+/// lines. None just where it is vouched for already, or isn't under as many lines as the start may have.
 pub fn least_start(alloc: Global, script: &[u8], start: &Start) -> Result<Option<u64>, AllocError>
     requires ordered { IsAtMost start.now.min start.now.max }
     requires low { start.now.min ≤ most_lines }
     requires high { IfSome start.now.max (λ most. most ≤ most_lines) }
+    ensures exact { IfOk result (λ found. IsSome found ↔ MoreLinesHelp (script_of script.now) start.now) }
     ensures vouched { IfOk result (λ found. IfSome found (λ min. IsVouched (script_of script.now) (with_min start.now min))) }
 
     // With one line less it isn't vouched for.
@@ -167,10 +184,7 @@ pub fn least_start(alloc: Global, script: &[u8], start: &Start) -> Result<Option
 {
     let read = read_script(alloc, script)?;
     let top = top_of(start.max);
-    if top <= start.min
-        || is_vouched_within(&read, start, start.min, start.max)?
-        || !is_vouched_within(&read, start, top, start.max)?
-    {
+    if !more_lines_help(&read, start, top)? {
         return Ok(None);
     }
     Ok(Some(least_between(&read, start, start.min, top)?))
@@ -188,8 +202,24 @@ fn refused_of(max: Option<u64>) -> u64
     }
 }
 
+/// Whether a script isn't vouched for over a start, but is with the fewest lines that the start may have. `refused` is the most lines of the
+/// start, or a number that is too great for any.
+fn fewer_lines_help(script: &Script, start: &Start, refused: u64) -> Result<bool, AllocError>
+    requires ordered { IsAtMost start.now.min start.now.max }
+    requires low { start.now.min ≤ most_lines }
+    requires high { IfSome start.now.max (λ most. most ≤ most_lines) }
+    requires beyond { refused ≤ most_lines → start.now.max ≡ Some refused }
+    ensures exact { IfOk result (λ yes. IsTrue yes ↔ FewerLinesHelp (script_value script.now) start.now) }
+    ensures room { IfOk result (λ yes. IsTrue yes → start.now.min < refused) }
+{
+    if refused <= start.min || is_vouched_within(script, start, start.min, start.max)? {
+        return Ok(false);
+    }
+    is_vouched_within(script, start, start.min, Some(start.min))
+}
+
 /// The greatest number of lines, below the one that is given, under which a script is vouched for, with the same path, patterns and
-/// fewest lines. None where it is vouched for already, or isn't under as few lines as the start may have.
+/// fewest lines. None just where it is vouched for already, or isn't under as few lines as the start may have.
 pub fn greatest_start(
     alloc: Global,
     script: &[u8],
@@ -198,6 +228,7 @@ pub fn greatest_start(
     requires ordered { IsAtMost start.now.min start.now.max }
     requires low { start.now.min ≤ most_lines }
     requires high { IfSome start.now.max (λ most. most ≤ most_lines) }
+    ensures exact { IfOk result (λ found. IsSome found ↔ FewerLinesHelp (script_of script.now) start.now) }
     ensures vouched { IfOk result (λ found. IfSome found (λ most. IsVouched (script_of script.now) (with_max start.now most))) }
 
     // With one line more it isn't vouched for.
@@ -208,10 +239,7 @@ pub fn greatest_start(
 {
     let read = read_script(alloc, script)?;
     let refused = refused_of(start.max);
-    if refused <= start.min
-        || is_vouched_within(&read, start, start.min, start.max)?
-        || !is_vouched_within(&read, start, start.min, Some(start.min))?
-    {
+    if !fewer_lines_help(&read, start, refused)? {
         return Ok(None);
     }
     Ok(Some(greatest_between(&read, start, start.min, refused)?))

@@ -1,5 +1,5 @@
 //! Reading all of a source, up to a limit.
-ghost use Rattle.std.specs.Prelude.{◌≡◌, ◌<◌, ◌≤◌, ◌+◌, ◌-◌, ◌^◌, ◌⊎◌, ℕ, List, Option, length, Err, IfOk, OnOk};
+ghost use Rattle.std.specs.Prelude.{◌≡◌, ◌<◌, ◌≤◌, ◌+◌, ◌-◌, ◌^◌, ◌⊎◌, ◌↔◌, ℕ, List, Option, length, Err, IfOk, IsSome, OnOk};
 ghost use Rattle.std.specs.Io.{ReadsAtMost};
 ghost use Rattle.std.specs.Io.KnownBytes.{ReadConsumes};
 ghost use Rattle.sources.specs.Source.{failures_of_read, counted, IsAll, HasMore, TakesAtMost};
@@ -65,6 +65,7 @@ pub struct In<R: io::Read + Drop> {
 }
 
 impl<R: io::Read + Drop> Model for In<R> {
+    ghost use Rattle.std.specs.Prelude.{◌<◌, ◌↔◌, IsSome};
     ghost use Rattle.sources.specs.Source.{InValue};
 
     ghost Value = { InValue };
@@ -74,6 +75,9 @@ impl<R: io::Read + Drop> Model for In<R> {
       reads = source.reads;
       failures = source.failures;
     } };
+
+    // A reason is kept from the first failure on.
+    ghost invariant = { λ source. IsSome source.reason ↔ (0 < source.failures) };
 }
 
 impl<R: io::Read + Drop> In<R> {
@@ -89,8 +93,10 @@ impl<R: io::Read + Drop> In<R> {
         }
     }
 
-    /// Why the read failed that failed last.
-    pub fn reason(&self) -> Option<io::Error> {
+    /// Why the read failed that failed last; none where none has failed.
+    pub fn reason(&self) -> Option<io::Error>
+        ensures exact { IsSome result ↔ (0 < self.now.failures) }
+    {
         self.reason
     }
 }

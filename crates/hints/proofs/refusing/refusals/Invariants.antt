@@ -1,4 +1,4 @@
-use Rattle.std.proofs.Common.{◌≤◌, length}
+use Rattle.std.proofs.Common.{◌≡◌, length}
 use Rattle.hints.specs.Passing.{IsAllowed}
 use Rattle.hints.specs.Hints.{IsMended}
 use Rattle.hints.proofs.refusing.refusals.Given as goal
@@ -8,5 +8,5 @@ abbrev pub invariant-turns : goal.invariant-turns
 invariant-turns l = record {
   mended : IsMended l.script l.start l.found.items l.current l.opened;
   allowed : IsAllowed l.opened;
-  few : length l.found.items ≤ l.turn;
+  count : length l.found.items ≡ l.turn;
 }
