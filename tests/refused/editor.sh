@@ -101,7 +101,13 @@ on 'g/^/m0\n,p\nQ\n'
 on '1d\nq\n'
 on 'u\n'
 on 'g/z/d\nu\nq\n'
+# Of so many lines whole chunks move.
+many='1,$t$\n1,$t$\n1,$t$\n1,$t$\n1,$t$\n1,$t$\n1,$t$\n1,$t$\n1,$t$\n1,$t$\n'
+on "${many}1,2500d\nu\n\$p\nu\n\$=\nQ\n"
 on 'r OTHER\n,p\nw\nq\n' ''
+# Searches by one pattern, each going on with what the ones before it have learned, on lines that are long enough for an automaton.
+dashes=$(printf '%70s' '' | tr ' ' -)
+on "0a\nx${dashes}y1\ny${dashes}x2\nxy3\n${dashes}4\n-x-y${dashes}x-y5\n.\n/x.*y/;=\n//;=\n//;=\n??;=\n?x.*y?;=\n//p\nv//.=\ng//s//Z&/p\ng//.=\n2;//=\n/z/\n"
 has_file=no
 on 'a\nx\n.\nw\nq\n' ''
 echo "$passed passed, $failed failed"

@@ -105,6 +105,16 @@ taken-out a n removed new after xs none put h k =
     ∙ ap (λ t. exchanged a (a + n) t (inserted a new xs)) (sym (block-none a xs))
     ∙ put-back a a n new xs (omega arith) h k
 
+-- elements put after a part, which is the same and is then taken out
+pub block-before : {X : Type 0} (a b : ℕ) (new xs : List X) → b ≤ length xs → block a b (inserted b new xs) ≡ block a b xs
+block-before a b new xs h = ap (drop a) (take_at (take b xs) (new ++ drop b xs) b (length-take-le b xs h))
+
+pub taken-before : {X : Type 0} (a b : ℕ) (new xs : List X) → a ≤ b → b ≤ length xs → exchanged a b [] (inserted b new xs) ≡ exchanged a b new xs
+taken-before a b new xs h k =
+    let mid = inserted b new xs in
+    ap (λ t. t ++ drop b mid) (sym (take-take a b mid h) ∙ ap (take a) (take_at (take b xs) (new ++ drop b xs) b (length-take-le b xs k)) ∙ take-take a b xs h)
+    ∙ ap (λ t. take a xs ++ t) (drop_at (take b xs) (new ++ drop b xs) b (length-take-le b xs k))
+
 -- what comes out of a list of one is all that was in it
 pub only-one : {X : Type 0} (xs ys : List X) (out : Option X) (x : X) → xs ≡ ys ++ option_to_list out → out ≡ Some x → length xs ≡ 1 → xs ≡ x ∷ []
 only-one xs [] out x e f h = e ∙ ap option_to_list f
@@ -124,6 +134,11 @@ texts-more a i lines text h k e =
     ap texts (block-more a i lines (plain_line []) h k)
     ∙ map-append (λ l. l.bytes) (block a i lines) (get_or lines i (plain_line []) ∷ [])
     ∙ ap (λ t. texts (block a i lines) ++ t ∷ []) (sym e)
+
+-- the text of one line
+pub text-one : (i : ℕ) (lines : List Line) (line : Line) → i < length lines → line ≡ get_or lines i (plain_line []) → line.bytes ∷ [] ≡ texts (block i (i + 1) lines)
+text-one i lines line h e =
+    sym (texts-more i i lines line.bytes (omega arith) h (ap (λ l. l.bytes) e) ∙ ap (λ t. texts t ++ line.bytes ∷ []) (block-none i lines))
 
 -- one more line's text joined to the others
 pub joined-more : (a i : ℕ) (lines : List Line) (text : List ℕ) → a ≤ i → i < length lines → text ≡ (get_or lines i (plain_line [])).bytes →

@@ -6,7 +6,6 @@ use Rattle.ed_base.specs.Lines.{newline, lines_of, onto_first}
 use Rattle.ed_base.specs.Buffer.{Line, plain_line, texts, flagged_at, flagged_place}
 use Rattle.ed_base.specs.declared.fault.Fault.{Fault}
 use Rattle.ed_base.specs.declared.fault.Fault.TheVariants.{Destination}
-use Rattle.line_store.specs.Marks.{lettered}
 use Rattle.ed_base.specs.Parts.{between, block, carried, exchanged, inserted}
 use Rattle.ed_syntax.specs.meaning.States.{State}
 use Rattle.ed_syntax.specs.meaning.Globals.{next_taken, taken_at}
@@ -15,22 +14,22 @@ use Rattle.ed_syntax.specs.meaning.Effects as effect
 use Rattle.ed_syntax.specs.meaning.Effects.{Outcome, altered, entered}
 use Rattle.ed_commands.specs.declared.editor.past.Before.{Before}
 use Rattle.ed_commands.specs.declared.editor.past.Change.{Change}
-use Rattle.ed_commands.specs.Earlier.{PastValue, earlier_after, earlier_in, earlier_of, kept_of, texts_before, with_earlier}
+use Rattle.ed_commands.specs.Earlier.{Earlier, PastValue, earlier_after, earlier_in, earlier_of, kept_of, texts_before, with_earlier}
 use Rattle.ed_commands.specs.Editors.{AreNew, kept_at, left_by, place_beside}
-use Rattle.ed_commands.proofs.Blocks.{length-block}
-use Rattle.ed_commands.proofs.Kept.{kept-own}
+use Rattle.ed_commands.proofs.Blocks.{block-none, length-block, put-back}
 use Rattle.ed_commands.proofs.Texts.{texts-carried, texts-exchanged, texts-flagged_at}
 
 -- the lines become these, with what is kept of those before
 pub changing : (s : State) (p q : PastValue) (b : Before) (c : Change) (n count : ℕ) (lines new : List Line) (marks : List (Option ℕ)) →
-    texts_before c (texts lines) ≡ texts s.lines → lines ≡ new → n ≡ count → lettered marks 0 s.lines ≡ s.lines → earlier_in s ≡ earlier_of p (texts s.lines) →
+    texts_before c (texts lines) ≡ texts s.lines → lines ≡ new → n ≡ count →
+    ((e : Earlier) → earlier_after b.listed (kept_of b.current marks (texts s.lines)) e ≡ earlier_after b.listed (kept_at b.current s) e) → earlier_in s ≡ earlier_of p (texts s.lines) →
     earlier_of q (texts lines) ≡ earlier_after b.listed (kept_of b.current marks (texts_before c (texts lines))) (earlier_of p (texts_before c (texts lines))) →
     with_earlier (earlier_of q (texts lines)) (record s { lines = lines; current = n; changed = true }) ≡ left_by b s (altered new count s)
 changing s p q b c n count lines new marks back put at own was kept =
     let earlier : earlier_of q (texts lines) ≡ earlier_after b.listed (kept_at b.current s) (earlier_in s) =
     kept
     ∙ ap (λ t. earlier_after b.listed (kept_of b.current marks t) (earlier_of p t)) back
-    ∙ ap (λ k. earlier_after b.listed k (earlier_of p (texts s.lines))) (kept-own b.current marks s.lines own)
+    ∙ own (earlier_of p (texts s.lines))
     ∙ ap (earlier_after b.listed (kept_at b.current s)) (sym was) in
     ap (λ e. with_earlier e (record s { lines = lines; current = n; changed = true })) earlier
     ∙ ap (λ t. with_earlier (earlier_after b.listed (kept_at b.current s) (earlier_in s)) (record s { lines = t; current = n; changed = true })) put
@@ -56,6 +55,21 @@ next-one s old p place found lines is was next at put =
 pub replaced-back : (from entered : ℕ) (removed after before : List Line) → exchanged from (from + entered) removed after ≡ before →
     exchanged from (from + entered) (texts removed) (texts after) ≡ texts before
 replaced-back from entered removed after before back = sym (texts-exchanged from (from + entered) removed after) ∙ ap texts back
+
+-- the same of texts that were kept of the lines in whose place others came
+pub texts-back : (from to entered : ℕ) (removed : List (List ℕ)) (new after before : List Line) → from ≤ to → to ≤ length before → length new ≡ entered →
+    removed ≡ texts (block from to before) → after ≡ exchanged from to new before →
+    exchanged from (from + entered) removed (texts after) ≡ texts before
+texts-back from to entered removed new after before h k counted taken put =
+    ap (λ t. exchanged from (from + entered) t (texts after)) taken
+    ∙ replaced-back from entered (block from to before) after before
+    (ap (exchanged from (from + entered) (block from to before)) put ∙ put-back from to entered new before h k counted)
+
+-- and where no line went out
+pub texts-entered : (place entered : ℕ) (removed : List (List ℕ)) (new after before : List Line) → place ≤ length before → length new ≡ entered →
+    removed ≡ [] → after ≡ inserted place new before → exchanged place (place + entered) removed (texts after) ≡ texts before
+texts-entered place entered removed new after before h counted none put =
+    texts-back place place entered removed new after before (omega arith) h counted (none ∙ ap texts (sym (block-none place before))) put
 
 pub moved-back : (a b place : ℕ) (after before : List Line) → carried a b place after ≡ before → carried a b place (texts after) ≡ texts before
 moved-back a b place after before back = sym (texts-carried a b place after) ∙ ap texts back

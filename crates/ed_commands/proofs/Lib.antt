@@ -6,7 +6,6 @@ pub mod Globals
 pub mod Held
 pub mod Kept
 pub mod Placing
-pub mod Ranges
 pub mod Rewritten
 pub mod Searching
 pub mod Scanning

@@ -1,5 +1,5 @@
 -- `s` where a line was made: what is remembered, the lines that are left, and what the flag writes.
-use Rattle.std.proofs.Common.{◌≡◌, ℕ, ◌+◌, ◌-◌, true, List, Option, Some, None, option_map, sym, ap, ◌∙◌}
+use Rattle.std.proofs.Common.{◌≡◌, ℕ, ◌+◌, ◌-◌, true, List, [], Option, Some, None, option_map, sym, ap, ◌∙◌}
 use Rattle.std.specs.Prelude.{Result, Ok, Err, IsOkAnd}
 use Rattle.ed_base.specs.Buffer.{Line}
 use Rattle.ed_base.specs.Parts.{between, replaced}
@@ -66,9 +66,34 @@ substituted pattern replacement which flag x b s mid new text parts line output 
     used found sought s mid text parts (λ u parts text. made b.listed flag x u (results u parts text)) remembered patterned replaced in
     rw by (made-at (results mid parts text) flag x b s mid new line output (same found sought s mid remembered) is left written)
 
+-- no line was made, which is no fault in a list
+made-nowhere : (results : Results) (flag : Option Form) (x : Span) (b : Before) (s mid new : State) (output : List ℕ) → b.listed ≡ true →
+    None ≡ option_map (λ n. x.first - 1 + n) results.1 → new ≡ mid → output ≡ [] →
+    IsOkAnd (made b.listed flag x mid results) (λ o. (new ≡ left_by b s o) × (output ≡ o.output))
+made-nowhere (lines, None) flag x b s mid new output listed is same none = rw listed (same, none)
+made-nowhere (lines, Some n) flag x b s mid new output listed is same none = absurd cc
+
+pub unsubstituted : (pattern : Option (List ℕ)) (replacement : Option (List Part)) (which : Which) (flag : Option Form) (x : Span) (b : Before) (s mid new : State)
+    (text : List ℕ) (parts : List Part) (output : List ℕ) →
+    remembering b.listed pattern replacement s ≡ Ok mid → mid.pattern ≡ Some text → mid.replacement ≡ Some parts → b.listed ≡ true →
+    None ≡ option_map (λ n. x.first - 1 + n) (each (made_of text parts which) (between x.first x.last mid.lines)).1 → new ≡ mid → output ≡ [] →
+    IsOkAnd (substitute b.listed pattern replacement which flag x s) (λ o. (new ≡ left_by b s o) × (output ≡ o.output))
+unsubstituted pattern replacement which flag x b s mid new text parts output remembered patterned replaced listed is same none =
+    let found = used_replacement b.listed replacement s in
+    let sought = used_pattern pattern s in
+    let results : State → List Part → List ℕ → Results = λ u parts text. each (made_of text parts which) (between x.first x.last u.lines) in
+    let by : substitute b.listed pattern replacement which flag x s ≡ made b.listed flag x mid (results mid parts text) =
+    used found sought s mid text parts (λ u parts text. made b.listed flag x u (results u parts text)) remembered patterned replaced in
+    rw by (made-nowhere (results mid parts text) flag x b s mid new output listed is same none)
+
 -- the lines that were rewritten, with what is kept of those before
 pub rewritten-state : (mid : State) (b : Before) (e : Earlier) (lines all : List Line) (line : ℕ) → lines ≡ all → e ≡ earlier_after b.listed (kept_at b.current mid) (earlier_in mid) →
     with_earlier e (record mid { lines = lines; current = line; changed = true }) ≡ left_by b mid (altered all line mid)
 rewritten-state mid b e lines all line put kept =
     ap (λ e. with_earlier e (record mid { lines = lines; current = line; changed = true })) kept
     ∙ ap (λ l. with_earlier (earlier_after b.listed (kept_at b.current mid) (earlier_in mid)) (record mid { lines = l; current = line; changed = true })) put
+
+-- where none was rewritten all is as before
+pub unwritten-state : (mid : State) (e : Earlier) (lines : List Line) → lines ≡ mid.lines → e ≡ earlier_in mid → with_earlier e (record mid { lines = lines }) ≡ mid
+unwritten-state mid e lines same kept =
+    ap (λ e. with_earlier e (record mid { lines = lines })) kept ∙ ap (λ l. (let s : State = record mid { lines = l } in s)) same

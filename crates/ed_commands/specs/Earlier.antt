@@ -1,6 +1,6 @@
 -- Earlier buffers, told from the present one: the one that undo would bring back, and the one before a global command that is open.
 use Rattle.std.specs.Prelude.{ℕ, ◌≡◌, ◌+◌, ◌-◌, ◌≤◌, Bool, false, List, [], ◌∷◌, map, length, drop, min, Option, Some, None, option_map, IfSome}
-use Rattle.ed_base.specs.Buffer.{Line, plain_line, texts}
+use Rattle.ed_base.specs.Buffer.{Line, plain_line}
 use Rattle.ed_base.specs.Parts.{carried, exchanged}
 use Rattle.line_store.specs.Marks.{lettered}
 use Rattle.ed_syntax.specs.meaning.States as states
@@ -75,7 +75,7 @@ closing e = elim e.global [ None ↦ e | Some g ↦ record { past = past_of_glob
 
 -- The texts of the lines before a change, told from those after it. What was moved is carried back.
 abbrev pub texts_before : Change → List (List ℕ) → List (List ℕ)
-texts_before (change.Replaced from entered removed) now = exchanged from (from + entered) (texts removed.items) now
+texts_before (change.Replaced from entered removed) now = exchanged from (from + entered) removed now
 texts_before (change.Moved from to place) now = carried place (place + (to - from)) from now
 
 -- the texts before several changes, of which the last one is taken back first

@@ -1,5 +1,8 @@
--- The lines that a search looks at, one after another.
-use Rattle.std.specs.Prelude.{ℕ, zero, suc, ◌+◌, ◌-◌, true, false, List, [], ◌∷◌, nat_le}
+-- The lines that a search looks at, one after another, and what it learns of its pattern.
+use Rattle.std.specs.Prelude.{ℕ, zero, suc, ◌+◌, ◌-◌, true, false, List, [], ◌∷◌, IfOk, nat_le}
+use Rattle.bre_parse.specs.Grammar.{pattern}
+use Rattle.bre_match.specs.Learning.{Learns}
+use Rattle.bre_match.specs.declared.learned.Learned.{Learned}
 use Rattle.ed_syntax.specs.meaning.States.{State}
 use Rattle.ed_syntax.specs.meaning.Values.{lines_backward, lines_forward}
 use Rattle.ed_commands.specs.declared.editor.searching.Direction.{Direction}
@@ -19,3 +22,7 @@ line_after to.Backward last line = elim (nat_le line 1) [ true ↦ last | false 
 abbrev pub around : (next : ℕ → ℕ) → (line count : ℕ) → List ℕ
 around next line zero = []
 around next line (suc count) = next line ∷ around next (next line) count
+
+-- what was learned is true of the pattern of this text
+abbrev pub IsLearnedOf : Learned → (text : List ℕ) → Type 0
+IsLearnedOf learned text = IfOk (pattern text) (Learns learned)

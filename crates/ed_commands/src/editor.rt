@@ -20,17 +20,19 @@ mod globals;
 mod lines;
 mod past;
 mod rearranging;
+mod remembered;
 mod rewriting;
 mod searching;
 mod substituting;
 mod undoing;
 
 use ed_base::{Bytes, Fault, Pieces};
-use ed_syntax::{Answer, Command, Pattern, Replacement, Request};
+use ed_syntax::{Answer, Command, Replacement, Request};
 pub use globals::Begun;
 use line_store::LineStore;
 use lines::file_store;
 use past::{Before, Past};
+use remembered::Remembered;
 use std::alloc::{AllocError, Global};
 use std::marker::Model;
 
@@ -49,7 +51,7 @@ pub struct Editor<S: LineStore> {
     alloc: Global,
     store: S,
     current: usize,
-    pattern: Option<Pattern>,
+    pattern: Option<Remembered>,
     replacement: Option<Replacement>,
     name: Option<Bytes>,
     changed: bool,

@@ -6,6 +6,8 @@ mod applying;
 #[cfg(test)]
 mod asserting;
 #[cfg(test)]
+mod blocks;
+#[cfg(test)]
 mod bytes;
 #[cfg(test)]
 mod commands;

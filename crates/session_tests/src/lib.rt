@@ -24,4 +24,6 @@ mod replacing;
 #[cfg(test)]
 mod runs;
 #[cfg(test)]
+mod searches;
+#[cfg(test)]
 mod stepping;

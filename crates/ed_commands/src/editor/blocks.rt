@@ -10,7 +10,7 @@ ghost use Rattle.ed_commands.specs.Editors.{AreNew, place_beside, span_value};
 use crate::editor::addressing::Span;
 use crate::substitution::is_one_line;
 use ed_base::{Bytes, Pieces};
-use line_store::{FileLines, Line, LineStore};
+use line_store::{Block, FileLines, Line, LineStore, put_block, take_block};
 use std::alloc::{AllocError, Global};
 
 /// The bytes of a file that has the lines of a block. They are shared with the lines as far as these lie in blocks.
@@ -96,11 +96,11 @@ pub fn exchange<S: LineStore>(
     to: usize,
     lines: Vec<Line>,
     store: &mut S,
-) -> Result<Vec<Line>, AllocError>
+) -> Result<Block, AllocError>
     requires order { from ≤ to }
     requires last { to ≤ length (S.lines store.old) }
     requires new { AreNew lines.items }
-    ensures taken { IfOk result (λ taken. taken.items ≡ block from to (S.lines store.old)) }
+    ensures taken { IfOk result (λ taken. taken ≡ texts (block from to (S.lines store.old))) }
     ensures put { OnOk result (S.lines store.new ≡ exchanged from to lines.items (S.lines store.old)) }
     ensures unchanged { OnErr result (S.lines store.new ≡ S.lines store.old) }
 {
@@ -108,47 +108,96 @@ pub fn exchange<S: LineStore>(
         return Ok(exchange_one(from, lines, store));
     }
     store.reserve(lines.len())?;
-    let taken = take_lines(alloc, from, to, store)?;
-    put_lines(lines, from, store);
-    Ok(taken)
+    // A block that went out may leave less room, so the new lines come in first, after it.
+    let after = store.len() - to;
+    put_lines(lines, to, store);
+    match take_block(alloc, from, to, store) {
+        Ok(taken) => Ok(taken),
+        Err(no_memory) => {
+            drop_lines(to, store.len() - after, store);
+            Err(no_memory)
+        }
+    }
 }
 
 // Puts one new line in place of another, which is handed back. No other line moves.
-fn exchange_one<S: LineStore>(at: usize, mut lines: Vec<Line>, store: &mut S) -> Vec<Line>
+fn exchange_one<S: LineStore>(at: usize, mut lines: Vec<Line>, store: &mut S) -> Block
     requires place { at < length (S.lines store.old) }
     requires one { length lines.items ≡ 1 }
     requires new { AreNew lines.items }
-    ensures taken { result.items ≡ block at (at + 1) (S.lines store.old) }
+    ensures taken { result ≡ texts (block at (at + 1) (S.lines store.old)) }
     ensures put { S.lines store.new ≡ exchanged at (at + 1) lines.items (S.lines store.old) }
 {
     let Some(line) = lines.pop() else {
         unreachable!()
     };
-    lines.push_reserved(store.exchange(at, line));
-    lines
+    Block::of(store.exchange(at, line))
 }
 
-// Takes a block out, its last line first, so that at the end of a store nothing has to move. Where there is no room to hand
-// it back, the store is as before.
-fn take_lines<S: LineStore>(
+// Takes a block out and drops it, its last line first.
+fn drop_lines<S: LineStore>(from: usize, to: usize, store: &mut S)
+    requires order { from ≤ to }
+    requires last { to ≤ length (S.lines store.old) }
+    ensures left { S.lines store.new ≡ exchanged from to [] (S.lines store.old) }
+{
+    for i in (from..to).rev() {
+        let _ = store.take(i);
+    }
+}
+
+/// Puts the lines of a block in place of another, which is handed back. After an `Err` the store may have the lines of both.
+pub fn exchange_block<S: LineStore>(
     alloc: Global,
     from: usize,
     to: usize,
+    new: Block,
     store: &mut S,
-) -> Result<Vec<Line>, AllocError>
+) -> Result<Block, AllocError>
     requires order { from ≤ to }
     requires last { to ≤ length (S.lines store.old) }
-    ensures taken { IfOk result (λ taken. taken.items ≡ block from to (S.lines store.old)) }
-    ensures left { OnOk result (S.lines store.new ≡ exchanged from to [] (S.lines store.old)) }
-    ensures unchanged { OnErr result (S.lines store.new ≡ S.lines store.old) }
-    ensures keeps_room { S.spare store.old ≤ S.spare store.new }
+    ensures taken { IfOk result (λ taken. taken ≡ texts (block from to (S.lines store.old))) }
+    ensures put { OnOk result (S.lines store.new ≡ exchanged from to (map plain_line new) (S.lines store.old)) }
 {
-    let mut taken = Vec::with_capacity(alloc, to - from)?;
-    for i in (from..to).rev() {
-        taken.push_reserved(store.take(i));
+    if to - from == 1 {
+        return exchange_line(alloc, from, to, new, store);
     }
-    taken.reverse();
-    Ok(taken)
+    exchange_whole(alloc, from, to, new, store)
+}
+
+// The same for one line: no other line moves where another single one comes in its place.
+fn exchange_line<S: LineStore>(
+    alloc: Global,
+    from: usize,
+    to: usize,
+    new: Block,
+    store: &mut S,
+) -> Result<Block, AllocError>
+    requires one { to ≡ from + 1 }
+    requires last { to ≤ length (S.lines store.old) }
+    ensures taken { IfOk result (λ taken. taken ≡ texts (block from to (S.lines store.old))) }
+    ensures put { OnOk result (S.lines store.new ≡ exchanged from to (map plain_line new) (S.lines store.old)) }
+{
+    match new.into_line() {
+        Ok(line) => Ok(Block::of(store.exchange(from, line))),
+        Err(new) => exchange_whole(alloc, from, to, new, store),
+    }
+}
+
+// The same for any lines.
+fn exchange_whole<S: LineStore>(
+    alloc: Global,
+    from: usize,
+    to: usize,
+    new: Block,
+    store: &mut S,
+) -> Result<Block, AllocError>
+    requires order { from ≤ to }
+    requires last { to ≤ length (S.lines store.old) }
+    ensures taken { IfOk result (λ taken. taken ≡ texts (block from to (S.lines store.old))) }
+    ensures put { OnOk result (S.lines store.new ≡ exchanged from to (map plain_line new) (S.lines store.old)) }
+{
+    put_block(alloc, to, new, store)?;
+    take_block(alloc, from, to, store)
 }
 
 // Puts new lines after line `at`, the first one first. There is room for them.

@@ -13,7 +13,7 @@ use crate::editor::blocks::{exchange, file_lines};
 use crate::editor::lines::put_file;
 use crate::editor::past::{Before, Change};
 use ed_base::{Bytes, Text};
-use line_store::{FileLines, Line, LineStore, Marks};
+use line_store::{Block, FileLines, Line, LineStore};
 use std::alloc::AllocError;
 use std::rc::Rc;
 
@@ -35,7 +35,7 @@ impl<S: LineStore> Editor<S> {
         ensures failed { self.new.failed ≡ self.old.failed }
     {
         self.past.reserve()?;
-        let marks = Marks::of(&self.store);
+        let marks = before.marks(&self.store);
         let entered = lines.len();
         let after = self.store.len() - to;
         let removed = exchange(self.alloc, from, to, lines, &mut self.store)?;
@@ -68,7 +68,7 @@ impl<S: LineStore> Editor<S> {
             return Ok(());
         }
         self.past.reserve()?;
-        let marks = Marks::of(&self.store);
+        let marks = before.marks(&self.store);
         let count = self.store.len();
         let file = FileLines::shared(self.alloc, block);
         put_file(file, place, &mut self.store)?;
@@ -78,7 +78,7 @@ impl<S: LineStore> Editor<S> {
         let change = Change::Replaced {
             from: place,
             entered: now - count,
-            removed: Vec::new(self.alloc),
+            removed: Block::new(self.alloc),
         };
         self.past.keep(before, marks, change);
         Ok(())

@@ -14,8 +14,9 @@ use crate::editor::Editor;
 use crate::editor::addressing::Span;
 use crate::editor::blocks::file_of;
 use crate::editor::past::Before;
+use crate::editor::remembered::Remembered;
 use ed_base::{Bytes, Fault, Pieces};
-use ed_syntax::{Answer, Command, Pattern, Request, Verb};
+use ed_syntax::{Answer, Command, Request, Verb};
 use line_store::LineStore;
 use std::alloc::AllocError;
 use std::rc::Rc;
@@ -47,8 +48,8 @@ impl<S: LineStore> Editor<S> {
         Ok(request)
     }
 
-    // A copy of the remembered pattern.
-    fn pattern_copy(&self) -> Result<Option<Pattern>, AllocError>
+    // A copy of the remembered pattern, of which nothing is learned.
+    fn pattern_copy(&self) -> Result<Option<Remembered>, AllocError>
         ensures value { IfOk result (λ copy. copy ≡ self.now.state.pattern) }
     {
         match &self.pattern {

@@ -12,7 +12,7 @@ ghost use Rattle.ed_commands.specs.Editors.{Begins, Tells, failure_of, span_valu
 
 use crate::editor::Editor;
 use crate::editor::addressing::Span;
-use bre_match::Searcher;
+use crate::editor::remembered::Remembered;
 use ed_base::{Fault, Pieces};
 use ed_syntax::{Command, Pattern, Sense};
 use line_store::{LineStore, Marks};
@@ -41,7 +41,7 @@ fn is_wanted(sense: Sense, matched: bool) -> bool
 fn flag_block<S: LineStore>(
     alloc: Global,
     sense: Sense,
-    pattern: &Pattern,
+    pattern: &mut Remembered,
     from: usize,
     to: usize,
     store: &mut S,
@@ -49,10 +49,12 @@ fn flag_block<S: LineStore>(
     requires order { from ≤ to }
     requires last { to ≤ length (S.lines store.old) }
     ensures flagged { OnOk result (S.lines store.new
-        ≡ exchanged from to (map (flagged_line sense pattern.now) (block from to (S.lines store.old))) (S.lines store.old)) }
+        ≡ exchanged from to (map (flagged_line sense pattern.old) (block from to (S.lines store.old))) (S.lines store.old)) }
     ensures count { length (S.lines store.new) ≡ length (S.lines store.old) }
+    ensures kept { pattern.new ≡ pattern.old }
 {
-    let mut searcher = Searcher::new(alloc, pattern.bre());
+    let learned = pattern.take_learned(alloc);
+    let mut searcher = pattern.searcher(learned);
     for i in from..to {
         let matched = searcher.matches(store.text(i))?;
         if is_wanted(sense, matched) {
@@ -61,6 +63,8 @@ fn flag_block<S: LineStore>(
             store.unflag(i);
         }
     }
+    let learned = searcher.leave();
+    pattern.put_back(learned);
     Ok(())
 }
 
@@ -141,7 +145,7 @@ impl<S: LineStore> Editor<S> {
         ensures failed { self.new.failed ≡ self.old.failed }
     {
         self.remember(pattern)?;
-        let Some(pattern) = &self.pattern else {
+        let Some(pattern) = &mut self.pattern else {
             return Err(Fault::Pattern);
         };
         flag_block(

@@ -3,11 +3,11 @@ ghost use Rattle.std.specs.Prelude.{◌≡◌, ◌≢◌, ◌<◌, ◌≤◌, �
 ghost use Rattle.ed_base.specs.Buffer.{texts};
 ghost use Rattle.ed_base.specs.declared.fault.Fault.TheVariants.{Memory, Undo};
 ghost use Rattle.ed_syntax.specs.meaning.States.{Nothing};
-ghost use Rattle.ed_commands.specs.Earlier.{Restores, closing, earlier_after, earlier_of, kept_lines, kept_of, nothing_earlier, noting, opening_global, texts_before, undoing};
+ghost use Rattle.ed_commands.specs.Earlier.{Earlier, Restores, closing, earlier_after, earlier_of, kept_lines, kept_of, nothing_earlier, noting, opening_global, texts_before, undoing};
 
 use crate::editor::undoing::{rewind, take_flags};
 use ed_base::Fault;
-use line_store::{Line, LineStore, Marks};
+use line_store::{Block, LineStore, Marks};
 use std::alloc::{AllocError, Global};
 use std::marker::Model;
 
@@ -18,6 +18,19 @@ pub struct Before {
     pub current: usize,
     /// It stands in the list of a global command: undo keeps what it kept.
     pub listed: bool,
+}
+
+impl Before {
+    /// Where the letters are, for undo to keep. Of a listed command it keeps what it kept, and then it isn't looked where they are.
+    pub fn marks<S: LineStore>(self, store: &S) -> Marks
+        ensures kept { (earlier : Earlier) → earlier_after self.listed (kept_of self.current result (texts (S.lines store.now))) earlier
+            ≡ earlier_after self.listed (kept_lines self.current (S.lines store.now)) earlier }
+    {
+        if self.listed {
+            return Marks::none();
+        }
+        Marks::of(store)
+    }
 }
 
 /// What is held of an earlier buffer, beside the texts of its lines.
@@ -59,7 +72,7 @@ pub enum Change {
         /// How many lines came in.
         entered: usize,
         /// The lines that went out, in order.
-        removed: Vec<Line>,
+        removed: Block,
     },
     /// Lines went to another place.
     Moved {
@@ -115,7 +128,8 @@ impl Past {
         self.changes.reserve(1)
     }
 
-    /// Keeps what there was before a change, of which the letters were at `marks`; of a listed command, what it kept.
+    /// Keeps what there was before a change, of which the letters were at `marks`; of a listed command, what was kept, wherever they
+    /// were.
     pub fn keep(&mut self, before: Before, marks: Marks, change: Change)
         requires room { 0 < self.old.room }
         ensures kept { (now : List (List ℕ)) →

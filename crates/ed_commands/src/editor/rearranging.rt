@@ -10,7 +10,7 @@ use crate::editor::addressing::Span;
 use crate::editor::blocks::{carry, copy_block, join_block};
 use crate::editor::past::{Before, Change};
 use ed_base::Fault;
-use line_store::{LineStore, Marks};
+use line_store::{Block, LineStore};
 use std::alloc::AllocError;
 
 impl<S: LineStore> Editor<S> {
@@ -55,7 +55,7 @@ impl<S: LineStore> Editor<S> {
             return Err(Fault::Destination);
         }
         self.past.reserve()?;
-        let marks = Marks::of(&self.store);
+        let marks = before.marks(&self.store);
         let place = carry(span, target, &mut self.store)?;
         let from = span.first - 1;
         self.current = place + (span.last - from);
@@ -85,7 +85,7 @@ impl<S: LineStore> Editor<S> {
         ensures failed { self.new.failed ≡ self.old.failed }
     {
         self.past.reserve()?;
-        let marks = Marks::of(&self.store);
+        let marks = before.marks(&self.store);
         let from = span.first - 1;
         let after = self.store.len() - target;
         copy_block(from, span.last, target, &mut self.store)?;
@@ -94,7 +94,7 @@ impl<S: LineStore> Editor<S> {
         let change = Change::Replaced {
             from: target,
             entered: span.last - from,
-            removed: Vec::new(self.alloc),
+            removed: Block::new(self.alloc),
         };
         self.past.keep(before, marks, change);
         Ok(())

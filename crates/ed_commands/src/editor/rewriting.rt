@@ -12,9 +12,10 @@ ghost use Rattle.ed_commands.specs.Rewriting.{earlier_of_rewritten};
 use crate::editor::addressing::Span;
 use crate::editor::blocks::{exchange, split_text};
 use crate::editor::past::{Before, Change, Past};
+use crate::editor::remembered::Remembered;
 use crate::substitution::rewritten;
 use bre_match::Searcher;
-use ed_syntax::{Pattern, Replacement, Which};
+use ed_syntax::{Replacement, Which};
 use line_store::{Line, LineStore};
 use std::alloc::{AllocError, Global};
 
@@ -42,7 +43,7 @@ fn new_lines_of(
 /// was. A line that becomes one line is exchanged for it where it stands.
 pub fn rewrite_lines<S: LineStore>(
     alloc: Global,
-    pattern: &Pattern,
+    pattern: &mut Remembered,
     replacement: &Replacement,
     which: &Which,
     span: Span,
@@ -54,18 +55,20 @@ pub fn rewrite_lines<S: LineStore>(
     requires order { span.first ≤ span.last }
     requires last { span.last ≤ length (S.lines store.old) }
     ensures made { IfOk result (λ made. made
-        ≡ option_map (λ n. span.first - 1 + n) (each (made_of pattern.now replacement.now which.now) (between span.first span.last (S.lines store.old))).1) }
+        ≡ option_map (λ n. span.first - 1 + n) (each (made_of pattern.old replacement.now which.now) (between span.first span.last (S.lines store.old))).1) }
     ensures put { OnOk result (S.lines store.new
-        ≡ replaced span.first span.last (each (made_of pattern.now replacement.now which.now) (between span.first span.last (S.lines store.old))).0 (S.lines store.old)) }
+        ≡ replaced span.first span.last (each (made_of pattern.old replacement.now which.now) (between span.first span.last (S.lines store.old))).0 (S.lines store.old)) }
     ensures kept { IfOk result (λ made. earlier_of past.new (texts (S.lines store.new))
         ≡ earlier_of_rewritten made before.listed (kept_lines before.current (S.lines store.old)) (earlier_of past.old (texts (S.lines store.old)))) }
     ensures untouched { IfOk result (λ made. IfNone made (S.lines store.new ≡ S.lines store.old)) }
     ensures within { IfOk result (λ made. IfSome made (λ line. (1 ≤ line) × (line ≤ length (S.lines store.new)))) }
     ensures no_fewer { length (S.lines store.old) ≤ length (S.lines store.new) }
+    ensures remembered { pattern.new ≡ pattern.old }
 {
     let count = store.len();
     let mut made = None;
-    let mut searcher = Searcher::new(alloc, pattern.bre());
+    let learned = pattern.take_learned(alloc);
+    let mut searcher = pattern.searcher(learned);
     for i in span.first - 1..span.last {
         // The lines after this one are as they were, so that its place is counted from the end.
         let place = store.len() - (count - i);
@@ -80,6 +83,8 @@ pub fn rewrite_lines<S: LineStore>(
         rewrite_line(alloc, place, lines, store, past)?;
         made = Some(store.len() - (count - i - 1));
     }
+    let learned = searcher.leave();
+    pattern.put_back(learned);
     Ok(made)
 }
 

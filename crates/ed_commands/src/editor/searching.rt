@@ -1,11 +1,14 @@
 //! Searches for a line that a pattern matches (XCU ed, "Addresses in ed").
-ghost use Rattle.std.specs.Prelude.{◌≡◌, ◌≤◌, Some, length, find, IsTrue, IfOk, OnErr, OnOk};
+ghost use Rattle.std.specs.Prelude.{ℕ, List, ◌≡◌, ◌≤◌, Ok, Some, length, find, IsTrue, IfOk, OnErr, OnOk};
+ghost use Rattle.bre_parse.specs.Grammar.{pattern as pattern_of};
+ghost use Rattle.bre_match.specs.Searchers.{searched as searched_by};
 ghost use Rattle.ed_base.specs.Buffer.{Line};
 ghost use Rattle.ed_syntax.specs.meaning.Values.{matches_line, searched, sought};
 ghost use Rattle.ed_commands.specs.Editors.{TellsLine, SameButPattern, with_pattern};
 ghost use Rattle.ed_commands.specs.Searches.{around, line_after, lines_in};
 
 use crate::editor::Editor;
+use crate::editor::remembered::Remembered;
 use bre_match::Searcher;
 use ed_base::Fault;
 use ed_syntax::Pattern;
@@ -37,19 +40,40 @@ impl Direction {
     }
 }
 
-// The first line that a pattern matches, where a search goes once round from line `from`, which it looks at last.
+// The first line that the pattern matches, where a search goes once round from line `from`, which it looks at last.
 fn first_match<S: LineStore>(
     alloc: Global,
-    pattern: &Pattern,
+    pattern: &mut Remembered,
     direction: Direction,
     from: usize,
     store: &S,
 ) -> Result<Option<usize>, AllocError>
     requires from { from ≤ length (S.lines store.now) }
     ensures value { let last = length (S.lines store.now) in IfOk result (λ found.
-        found ≡ find (matches_line pattern.now (S.lines store.now)) (around (line_after direction last) from last)) }
+        found ≡ find (matches_line pattern.old (S.lines store.now)) (around (line_after direction last) from last)) }
+    ensures kept { pattern.new ≡ pattern.old }
 {
-    let mut searcher = Searcher::new(alloc, pattern.bre());
+    let learned = pattern.take_learned(alloc);
+    let mut searcher = pattern.searcher(learned);
+    let found = first_match_of(&mut searcher, direction, from, store);
+    let learned = searcher.leave();
+    pattern.put_back(learned);
+    found
+}
+
+// The same for the pattern of a searcher.
+fn first_match_of<S: LineStore>(
+    searcher: &mut Searcher<'_>,
+    direction: Direction,
+    from: usize,
+    store: &S,
+) -> Result<Option<usize>, AllocError>
+    requires from { from ≤ length (S.lines store.now) }
+    ensures value { (text : List ℕ) → pattern_of text ≡ Ok (searched_by searcher.old) →
+        let last = length (S.lines store.now) in IfOk result (λ found.
+        found ≡ find (matches_line text (S.lines store.now)) (around (line_after direction last) from last)) }
+    ensures pattern { searched_by searcher.new ≡ searched_by searcher.old }
+{
     let last = store.len();
     let mut line = from;
     for _ in 0..last {
@@ -63,11 +87,11 @@ fn first_match<S: LineStore>(
 }
 
 // Whether this pattern is the one that is remembered.
-fn is_remembered(remembered: &Option<Pattern>, own: &Pattern) -> bool
+fn is_remembered(remembered: &Option<Remembered>, own: &Pattern) -> bool
     ensures same { IsTrue result → remembered.now ≡ Some own.now }
 {
     match remembered {
-        Some(remembered) => remembered == own,
+        Some(remembered) => remembered.pattern() == own,
         None => false,
     }
 }
@@ -81,7 +105,7 @@ impl<S: LineStore> Editor<S> {
     {
         match own {
             Some(pattern) if !is_remembered(&self.pattern, pattern) => {
-                self.pattern = Some(pattern.try_copy()?);
+                self.pattern = Some(Remembered::of(pattern.try_copy()?));
             }
             _ => {}
         }
@@ -100,7 +124,7 @@ impl<S: LineStore> Editor<S> {
         ensures unchanged { SameButPattern self.old self.new }
     {
         self.remember(own)?;
-        let Some(pattern) = &self.pattern else {
+        let Some(pattern) = &mut self.pattern else {
             return Err(Fault::Pattern);
         };
         let found = first_match(self.alloc, pattern, direction, self.current, &self.store)?;

@@ -117,7 +117,10 @@ impl<S: LineStore> Editor<S> {
         ensures failed { self.new.failed ≡ self.old.failed }
     {
         self.remember_both(pattern, replacement, before.listed)?;
-        let (Some(pattern), Some(replacement)) = (&self.pattern, &self.replacement) else {
+        let Some(replacement) = &self.replacement else {
+            unreachable!()
+        };
+        let Some(pattern) = &mut self.pattern else {
             unreachable!()
         };
         let made = rewrite_lines(

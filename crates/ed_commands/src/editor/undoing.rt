@@ -9,10 +9,10 @@ ghost use Rattle.ed_commands.specs.Earlier.{rewound, texts_before};
 ghost use Rattle.ed_commands.specs.Editors.{Tells};
 
 use crate::editor::Editor;
-use crate::editor::blocks::exchange;
+use crate::editor::blocks::exchange_block;
 use crate::editor::past::Change;
 use ed_base::Fault;
-use line_store::{Line, LineStore};
+use line_store::{Block, LineStore};
 use std::alloc::{AllocError, Global};
 
 /// Takes back all changes but the first so many, the last one first, and appends those that would do them again. It
@@ -53,7 +53,7 @@ fn take_back<S: LineStore>(
             from,
             entered,
             removed,
-        } => put_back(alloc, *from, *entered, removed.as_slice(), store),
+        } => put_back(alloc, *from, *entered, removed, store),
         Change::Moved { from, to, place } => carry_back(*from, *to, *place, store),
     }
 }
@@ -63,35 +63,25 @@ fn put_back<S: LineStore>(
     alloc: Global,
     from: usize,
     entered: usize,
-    removed: &[Line],
+    removed: &Block,
     store: &mut S,
 ) -> Result<Change, AllocError>
     ensures texts { OnOk result
-        (texts (S.lines store.new) ≡ exchanged from (from + entered) (texts removed.now) (texts (S.lines store.old))) }
+        (texts (S.lines store.new) ≡ exchanged from (from + entered) removed.now (texts (S.lines store.old))) }
     ensures again { IfOk result (λ again. texts_before again (texts (S.lines store.new)) ≡ texts (S.lines store.old)) }
 {
     let last = store.len();
     let from = from.min(last);
     let to = from.saturating_add(entered).min(last);
-    let lines = plain_lines(alloc, removed)?;
-    let entered = lines.len();
-    let removed = exchange(alloc, from, to, lines, store)?;
+    let new = removed.try_copy(alloc)?;
+    let removed = exchange_block(alloc, from, to, new, store)?;
+    let reached = store.len() - (last - to);
+    let entered = reached - from;
     Ok(Change::Replaced {
         from,
         entered,
         removed,
     })
-}
-
-// New lines of the texts of others, which share their bytes.
-fn plain_lines(alloc: Global, lines: &[Line]) -> Result<Vec<Line>, AllocError>
-    ensures value { IfOk result (λ copies. copies.items ≡ map plain_line (texts lines.now)) }
-{
-    let mut copies = Vec::with_capacity(alloc, lines.len())?;
-    for line in lines {
-        copies.push(line.plain_copy()?)?;
-    }
-    Ok(copies)
 }
 
 // Carries lines that were carried from after line `from` up to line `to` back there from after line `place`.

@@ -2,12 +2,12 @@
 use Rattle.std.proofs.Common.{◌≡◌, ◌≤◌, ◌+◌, ◌-◌, ◌∙◌, map, sym, ap, arith, length}
 use Rattle.std.proofs.lemmas.List.{length-map}
 use Rattle.ed_base.specs.Buffer.{plain_line, texts}
-use Rattle.ed_base.specs.Parts.{block, exchanged, inserted}
+use Rattle.ed_base.specs.Parts.{block, inserted}
 use Rattle.ed_syntax.specs.meaning.Effects.{altered}
 use Rattle.ed_commands.specs.Editors.{left_by}
 use Rattle.ed_commands.specs.declared.editor.past.Change.TheVariants as change
-use Rattle.ed_commands.proofs.Blocks.{length-block, length-exchanged, taken-out}
-use Rattle.ed_commands.proofs.Changes.{changing, copied-some, replaced-back}
+use Rattle.ed_commands.proofs.Blocks.{length-block, length-exchanged}
+use Rattle.ed_commands.proofs.Changes.{changing, copied-some, texts-entered}
 use Rattle.ed_commands.proofs.Held.{held}
 use Rattle.ed_commands.proofs.editor.Editor.copy.Goals as goal
 
@@ -29,11 +29,9 @@ returns-clause-exact g c =
     let inside : target ≤ length lines = omega (arith, c.requires.target, ap (λ t. length t.lines) is) in
     let many : length copies ≡ entered =
     length-map (texts (block from to lines)) plain_line ∙ length-map (block from to lines) (λ line. line.bytes) ∙ length-block from to lines within in
-    let back : exchanged target (target + entered) c.new.result.items after ≡ lines =
-    taken-out target entered c.new.result.items copies after lines (cc) c.in_ok-copy_block.ensures.copied inside many in
-    changing s c.reserve.new.self c.keep.new.self c.args.before (change.Replaced target entered c.new.result) _ (target + entered) after (inserted target copies lines) c.of-marks.result
-    (replaced-back target entered c.new.result.items after lines back) c.in_ok-copy_block.ensures.copied
+    changing s c.reserve.new.self c.keep.new.self c.args.before (change.Replaced target entered c.new.result) _ (target + entered) after (inserted target copies lines) c.marks-marks.result
+    (texts-entered target entered c.new.result copies after lines inside many c.new.ensures.value c.in_ok-copy_block.ensures.copied) c.in_ok-copy_block.ensures.copied
     (omega (arith, ap length c.in_ok-copy_block.ensures.copied, length-exchanged target target copies lines (omega arith) inside, many, c.len.ensures.value, c.len-2.ensures.value))
-    c.of-marks.ensures.own (sym (c.reserve.ensures.unchanged (texts lines))) (c.keep.ensures.kept (texts after))
+    c.marks-marks.ensures.kept (sym (c.reserve.ensures.unchanged (texts lines))) (c.keep.ensures.kept (texts after))
     ∙ ap (λ t. left_by c.args.before t (altered (inserted target (map plain_line (texts (block from to t.lines))) t.lines) (target + entered) t)) is
     ∙ ap (left_by c.args.before old) (sym (copied-some a to target old c.requires.first c.requires.order c.requires.last))

@@ -3,12 +3,12 @@ use Rattle.std.proofs.Common.{◌≡◌, ◌≤◌, ◌+◌, ◌-◌, ◌∙◌,
 use Rattle.std.proofs.lemmas.List.{length-map}
 use Rattle.ed_base.specs.Lines.{lines_of}
 use Rattle.ed_base.specs.Buffer.{plain_line, texts}
-use Rattle.ed_base.specs.Parts.{exchanged, inserted}
+use Rattle.ed_base.specs.Parts.{inserted}
 use Rattle.ed_syntax.specs.meaning.Effects.{altered}
 use Rattle.ed_commands.specs.Editors.{left_by}
 use Rattle.ed_commands.specs.declared.editor.past.Change.TheVariants as change
-use Rattle.ed_commands.proofs.Blocks.{length-exchanged, taken-out}
-use Rattle.ed_commands.proofs.Changes.{changing, entered-text, replaced-back, some-lines}
+use Rattle.ed_commands.proofs.Blocks.{length-exchanged}
+use Rattle.ed_commands.proofs.Changes.{changing, entered-text, some-lines, texts-entered}
 use Rattle.ed_commands.proofs.Held.{held}
 use Rattle.ed_commands.proofs.editor.Editor.enter.Goals as goal
 
@@ -29,12 +29,10 @@ returns-clause-exact g c =
     c.in_ok-put_file.ensures.put ∙ ap (λ b. inserted place (map plain_line (lines_of b)) lines) c.shared-file.ensures.value in
     let longer = length-exchanged place place new lines (omega arith) within in
     let many : length new ≡ entered = omega (arith, ap length put, longer, c.len-count.ensures.value, c.len-now.ensures.value) in
-    let back : exchanged place (place + entered) c.new.result.items after ≡ lines =
-    taken-out place entered c.new.result.items new after lines (cc) put within many in
-    changing s c.reserve.new.self c.keep.new.self c.args.before (change.Replaced place entered c.new.result) _ (place + length text) after (inserted place new lines) c.of-marks.result
-    (replaced-back place entered c.new.result.items after lines back) put
+    changing s c.reserve.new.self c.keep.new.self c.args.before (change.Replaced place entered c.new.result) _ (place + length text) after (inserted place new lines) c.marks-marks.result
+    (texts-entered place entered c.new.result new after lines within many c.new.ensures.value put) put
     (omega (arith, ap length put, longer, length-map text plain_line, c.len-count.ensures.value, c.len-now.ensures.value))
-    c.of-marks.ensures.own (sym (c.reserve.ensures.unchanged (texts lines))) (c.keep.ensures.kept (texts after))
+    c.marks-marks.ensures.kept (sym (c.reserve.ensures.unchanged (texts lines))) (c.keep.ensures.kept (texts after))
     ∙ ap (λ t. left_by c.args.before t (altered (inserted place new t.lines) (place + length text) t)) is
     ∙ ap (left_by c.args.before old)
     (sym (entered-text place text old (some-lines c.args.block.value (λ none. cc (c.is_empty.ensures.value.1 (c.deref.ensures ∙ none), c.if-is_empty.false)))))

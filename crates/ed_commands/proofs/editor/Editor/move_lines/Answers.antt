@@ -31,7 +31,7 @@ returns-clause-exact g c =
     let now = held after (place + (to - from)) e.pattern e.replacement e.name true c.keep.new.self in
     subst (λ r. IsOkAnd r (λ outcome. now ≡ left_by c.args.before old outcome))
     (sym (moved-to a to c.args.target place old c.requires.first c.requires.order c.requires.last c.in_ok-place.ensures.place))
-    (changing s c.reserve.new.self c.keep.new.self c.args.before (change.Moved from to place) (place + (to - from)) (place + (to - from)) after (carried from to place lines) c.of-marks.result
-    (moved-back place (place + (to - from)) from after lines back) c.in_ok-place.ensures.carried refl c.of-marks.ensures.own
+    (changing s c.reserve.new.self c.keep.new.self c.args.before (change.Moved from to place) (place + (to - from)) (place + (to - from)) after (carried from to place lines) c.marks-marks.result
+    (moved-back place (place + (to - from)) from after lines back) c.in_ok-place.ensures.carried refl c.marks-marks.ensures.kept
     (sym (c.reserve.ensures.unchanged (texts lines))) (c.keep.ensures.kept (texts after))
     ∙ ap (λ t. left_by c.args.before t (altered (carried from to place t.lines) (place + (to - from)) t)) is)

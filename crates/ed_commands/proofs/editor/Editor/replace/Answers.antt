@@ -5,8 +5,8 @@ use Rattle.ed_base.specs.Parts.{exchanged}
 use Rattle.ed_syntax.specs.meaning.Effects.{altered}
 use Rattle.ed_commands.specs.Editors.{left_by}
 use Rattle.ed_commands.specs.declared.editor.past.Change.TheVariants as change
-use Rattle.ed_commands.proofs.Blocks.{length-exchanged, put-back}
-use Rattle.ed_commands.proofs.Changes.{changing, replaced-back}
+use Rattle.ed_commands.proofs.Blocks.{length-exchanged}
+use Rattle.ed_commands.proofs.Changes.{changing, texts-back}
 use Rattle.ed_commands.proofs.Held.{held}
 use Rattle.ed_commands.proofs.editor.Editor.replace.Goals as goal
 
@@ -24,10 +24,8 @@ returns-clause-exact g c =
     let after = g.S.LineStore.lines c.exchange.new.store in
     let within : to ≤ length lines = omega (arith, c.requires.last, ap (λ t. length t.lines) is) in
     let counted : length new ≡ entered = omega (arith, c.args.lines.ok.0, c.len-entered.ensures) in
-    let back : exchanged from (from + entered) removed.items after ≡ lines =
-    rw (c.in_ok-removed.ensures.put, c.in_ok-removed.ensures.taken) (put-back from to entered new lines c.requires.order within counted) in
-    changing s c.reserve.new.self c.keep.new.self c.args.before (change.Replaced from entered removed) _ (from + length new) after (exchanged from to new lines) c.of-marks.result
-    (replaced-back from entered removed.items after lines back) c.in_ok-removed.ensures.put
+    changing s c.reserve.new.self c.keep.new.self c.args.before (change.Replaced from entered removed) _ (from + length new) after (exchanged from to new lines) c.marks-marks.result
+    (texts-back from to entered removed new after lines c.requires.order within counted c.in_ok-removed.ensures.taken c.in_ok-removed.ensures.put) c.in_ok-removed.ensures.put
     (omega (arith, ap length c.in_ok-removed.ensures.put, length-exchanged from to new lines c.requires.order within, c.len.ensures.value, c.len-2.ensures.value))
-    c.of-marks.ensures.own (sym (c.reserve.ensures.unchanged (texts lines))) (c.keep.ensures.kept (texts after))
+    c.marks-marks.ensures.kept (sym (c.reserve.ensures.unchanged (texts lines))) (c.keep.ensures.kept (texts after))
     ∙ ap (λ t. left_by c.args.before t (altered (exchanged from to new t.lines) (from + length new) t)) is

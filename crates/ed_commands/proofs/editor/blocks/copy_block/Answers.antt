@@ -6,7 +6,7 @@ use Rattle.ed_base.specs.Buffer.{plain_line, texts}
 use Rattle.ed_base.specs.Parts.{block}
 use Rattle.line_store.proofs.Own.{plain_shares_none}
 use Rattle.ed_commands.proofs.Blocks.{length-block, texts-more, get_or-before, get_or-after}
-use Rattle.ed_commands.proofs.Ranges.{insert-between}
+use Rattle.line_store.proofs.Ranges.{insert-between}
 use Rattle.ed_commands.proofs.editor.blocks.copy_block.Goals as goal
 use Rattle.ed_commands.proofs.editor.blocks.copy_block.Goals.{then-i-target, else-i-target}
 

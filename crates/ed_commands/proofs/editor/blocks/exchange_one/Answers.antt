@@ -1,7 +1,7 @@
 -- The one new line is put in place of the other.
 use Rattle.std.proofs.Common.{◌+◌, ◌∙◌, ap, sym}
 use Rattle.ed_base.specs.Parts.{exchanged}
-use Rattle.ed_commands.proofs.Blocks.{only-one, set-one}
+use Rattle.ed_commands.proofs.Blocks.{only-one, set-one, text-one}
 use Rattle.ed_commands.proofs.editor.blocks.exchange_one.Goals as goal
 
 pub returns-clause-put : goal.returns-clause-put
@@ -11,3 +11,7 @@ returns-clause-put g c =
     c.exchange.ensures.exchanged
     ∙ set-one at c.in-Some.line old c.requires.place
     ∙ ap (λ t. exchanged at (at + 1) t old) (sym (only-one c.args.lines.items _ _ c.in-Some.line c.pop.ensures.items c.in-Some.is c.requires.one))
+
+pub returns-clause-taken : goal.returns-clause-taken
+returns-clause-taken g c =
+    c.of.ensures.value ∙ text-one c.args.at (g.S.LineStore.lines c.args.store.now) c.exchange.result c.requires.place c.exchange.ensures.value

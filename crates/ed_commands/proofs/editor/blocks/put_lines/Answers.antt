@@ -7,7 +7,7 @@ use Rattle.std.proofs.lemmas.List.Edits.{length-insert}
 use Rattle.ed_base.specs.Parts.{inserted}
 use Rattle.line_store.proofs.Own.{plain_shares_none}
 use Rattle.ed_commands.proofs.Changes.{new-one}
-use Rattle.ed_commands.proofs.Ranges.{insert-between}
+use Rattle.line_store.proofs.Ranges.{insert-between}
 use Rattle.ed_commands.proofs.editor.blocks.put_lines.Goals as goal
 
 pub put-requires-clause-letters : goal.put-requires-clause-letters

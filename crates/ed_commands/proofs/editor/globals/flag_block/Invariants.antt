@@ -12,7 +12,7 @@ invariant-loop-i g l =
     let now = g.S.LineStore.lines l.store in
     let old = g.S.LineStore.lines l.fn.store in
     record {
-      flagged : now ≡ exchanged l.from l.i (map (flagged_line l.sense l.pattern) (block l.from l.i old)) old;
+      flagged : now ≡ exchanged l.from l.i (map (flagged_line l.sense l.fn.pattern) (block l.from l.i old)) old;
       count : length now ≡ length old;
-      searches : pattern l.pattern ≡ Ok (searched l.searcher);
+      searches : pattern l.fn.pattern ≡ Ok (searched l.searcher);
     }

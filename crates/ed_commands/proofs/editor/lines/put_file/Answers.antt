@@ -7,7 +7,7 @@ use Rattle.ed_base.specs.Lines.{lines_of}
 use Rattle.ed_base.specs.Buffer.{plain_line}
 use Rattle.ed_base.specs.Parts.{inserted}
 use Rattle.line_store.proofs.Own.{plain_shares_none}
-use Rattle.ed_commands.proofs.Ranges.{put-next}
+use Rattle.line_store.proofs.Ranges.{put-next}
 use Rattle.ed_commands.proofs.editor.lines.put_file.Goals as goal
 
 pub loop-file-init : goal.loop-file-init

@@ -1,10 +1,9 @@
 -- What is taken back is the line that stood there.
 use Rattle.std.proofs.Common.{◌≡◌, ◌+◌, ◌∙◌, ap, arith, length}
 use Rattle.ed_base.specs.Buffer.{texts}
-use Rattle.ed_base.specs.Parts.{exchanged}
 use Rattle.ed_commands.specs.Earlier.{earlier_of}
-use Rattle.ed_commands.proofs.Blocks.{length-exchanged, put-back}
-use Rattle.ed_commands.proofs.Changes.{replaced-back}
+use Rattle.ed_commands.proofs.Blocks.{length-exchanged}
+use Rattle.ed_commands.proofs.Changes.{texts-back}
 use Rattle.ed_commands.proofs.editor.rewriting.rewrite_line.Goals as goal
 
 pub returns-clause-kept : goal.returns-clause-kept
@@ -14,12 +13,10 @@ returns-clause-kept g c =
     let place = c.args.place in
     let new = c.args.lines.items in
     let entered = c.len-entered.result in
-    let removed = c.in_ok-removed.removed.items in
+    let removed = c.in_ok-removed.removed in
     let counted : length new ≡ entered = omega (arith, c.args.lines.ok.0, c.len-entered.ensures) in
-    let back : exchanged place (place + entered) removed after ≡ lines =
-    rw (c.in_ok-removed.ensures.put, c.in_ok-removed.ensures.taken) (put-back place (place + 1) entered new lines (omega arith) (omega (arith, c.requires.place)) counted) in
     c.add.ensures.kept (texts after)
-    ∙ ap (earlier_of c.reserve.new.self) (replaced-back place entered removed after lines back)
+    ∙ ap (earlier_of c.reserve.new.self) (texts-back place (place + 1) entered removed new after lines (omega arith) (omega (arith, c.requires.place)) counted c.in_ok-removed.ensures.taken c.in_ok-removed.ensures.put)
     ∙ c.reserve.ensures.unchanged (texts lines)
 
 pub returns-clause-counted : goal.returns-clause-counted

@@ -2,6 +2,7 @@
 use Rattle.std.proofs.Common.{◌≡◌, ◌<◌, ◌+◌, ◌-◌, ◌++◌, ◌∙◌, [], not, true, false, Some, None, option_map, map, length, get_or, refl, sym, ap, subst, arith, rules}
 use Rattle.std.specs.Prelude.{is_some, Ok}
 use Rattle.std.proofs.lemmas.List.{take-append-drop, length-append}
+use Rattle.bre_parse.specs.Grammar.{pattern}
 use Rattle.ed_base.specs.Buffer.{plain_line, texts}
 use Rattle.ed_base.specs.Parts.{block, exchanged}
 use Rattle.ed_syntax.specs.meaning.SubstitutedLines.{each, made_of}
@@ -26,7 +27,7 @@ loop-i-init g c =
       untouched = refl;
       within = search rules;
       no_fewer = omega arith;
-      searches = c.bre.ensures.value ∙ ap Ok (sym c.new-searcher.ensures.value);
+      searches = ap pattern (sym c.take_learned-learned.ensures.kept) ∙ c.searcher-searcher.ensures.searches;
     }
 
 pub rewrite_line-requires-clause-new : goal.rewrite_line-requires-clause-new
@@ -136,4 +137,5 @@ returns g c =
       untouched = c.loop-i.invariant.untouched;
       within = c.loop-i.invariant.within;
       no_fewer = c.loop-i.invariant.no_fewer;
+      remembered = c.put_back.ensures.kept ∙ c.take_learned-learned.ensures.kept;
     }
