@@ -5,6 +5,7 @@ mod GivenPatterns
 mod Joining
 mod Rehearsing
 mod Sayings
+mod Scripts
 mod StatedPatterns
 mod Steps
 mod SubcommandLemmas

@@ -1,6 +1,6 @@
 -- The status that the program ends with, whatever its words, its script and its certificate are, and whatever the files answer (our
 -- choice; where memory ran out or an input isn't read, it is that of the editor's fault).
-use Rattle.std.specs.Prelude.{◌≡◌, ℕ, Bool, List, IsTrue}
+use Rattle.std.specs.Prelude.{◌≡◌, ℕ, ◌^◌, Bool, true, false, List, IsTrue}
 use Rattle.ed_base.specs.Fault.{status_of}
 use Rattle.ed_base.specs.declared.fault.Fault.TheVariants as fault
 use Rattle.ed_syntax.specs.declared.options.Options.{Options}
@@ -21,6 +21,18 @@ use Rattle.ed_main.specs.Rehearsed.{Rehearsed}
 use Rattle.ed_main.specs.Run.{Runs}
 use Rattle.ed_main.specs.Told.{Says}
 use Rattle.ed_main.specs.Vouch.{Vouches}
+
+-- how many bytes of standard input, and of a certificate, are read at most
+abbrev pub most_bytes : ℕ
+most_bytes = 2 ^ 30
+
+-- a job wants a script: each does but the test of a start
+abbrev pub wants_script : Job → Bool
+wants_script (job.Edit options rehearsed) = true
+wants_script (job.Vouch start all) = true
+wants_script (job.Check path) = true
+wants_script (job.Run path options rehearsed) = true
+wants_script (job.Fits certificate path) = false
 
 -- words that aren't understood have a status of their own
 abbrev pub status_of_words : WordsFault → ℕ
@@ -70,8 +82,8 @@ Does script (job.Check path) = WithCertificate (λ certificate. Somehow (λ met.
 Does script (job.Run path options rehearsed) = WithCertificate (λ certificate. Somehow (RunsOn script certificate options rehearsed))
 Does script (job.Fits certificate path) = WithCertificate (λ bytes. Somehow (λ met. Fits bytes path met.log met.sink))
 
--- the words weren't understood, the script wasn't read, or a job was done for a script
+-- the words weren't understood, the script wasn't read for a job that wants one, or a job was done for a script
 pub data IsEnding (status : ℕ) : Type 0 where
   refused : (fault : WordsFault) → status ≡ status_of_words fault → IsEnding status
-  unread : (fault : ReadFault) → status ≡ status_of_unread fault → IsEnding status
+  unread : (asked : Job) → IsGiven asked → IsTrue (wants_script asked) → (fault : ReadFault) → status ≡ status_of_unread fault → IsEnding status
   did : (script : List ℕ) (asked : Job) → IsGiven asked → Does script asked status → IsEnding status

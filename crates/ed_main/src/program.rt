@@ -1,14 +1,15 @@
 //! One run of the program: its words, its script, its files, and the status that it ends with.
-ghost use Rattle.std.specs.Prelude.{◌≡◌, ◌<◌, ◌≤◌, ◌-◌, ◌^◌, true, IfOk};
+ghost use Rattle.std.specs.Prelude.{◌≡◌, ◌<◌, ◌≤◌, ◌+◌, ◌-◌, ◌^◌, ◌⊎◌, [], true, Ok, Err, IfOk, IsTrue, IsFalse};
 ghost use Rattle.ed_session.specs.Drives.{added};
 ghost use Rattle.ed_main.specs.Check.{Checks};
 ghost use Rattle.ed_main.specs.Edit.{Correct};
 ghost use Rattle.ed_main.specs.Fits.{Fits};
 ghost use Rattle.ed_main.specs.Job.{IsGiven};
-ghost use Rattle.ed_main.specs.Program.{Does, Edits, IsEnding, RunsOn, RunsWith, Somehow, status_of_unread, status_of_words};
+ghost use Rattle.ed_main.specs.Program.{Does, Edits, IsEnding, RunsOn, RunsWith, Somehow, most_bytes, status_of_unread, status_of_words, wants_script};
 ghost use Rattle.ed_main.specs.Told.{Says};
 ghost use Rattle.ed_main.specs.Vouch.{Vouches};
 ghost use Rattle.ed_main.specs.declared.job.Job.TheVariants as job;
+ghost use Rattle.sources.specs.Source.{HasMore, IsAll};
 
 use crate::check::check_text;
 use crate::edit::edit;
@@ -20,14 +21,14 @@ use crate::stderr::aside::Aside;
 use crate::stderr::refusals::{Explains, Watched, show_input, show_output, show_unread};
 use crate::stderr::usage::USAGE;
 use crate::vouch::vouch_text;
-use crate::words::{WordsFault, read_words};
+use crate::words::{WordsFault, job_of_words};
 use analyser::Start;
 use ed_base::{Bytes, Fault};
 use ed_session::{DiskFiles, Out, Outside};
 use ed_syntax::Options;
 use rehearsal::Rehearsal;
 use sources::{In, ReadFault, Source, read_all};
-use std::alloc::{AllocError, Global};
+use std::alloc::Global;
 use std::fs::File;
 use std::rt::{Env, Files};
 use std::{env, io};
@@ -83,16 +84,22 @@ fn job_of_run<R: Env + AllocGlobal>(rt: &R) -> Result<Job, WordsFault>
             return Err(WordsFault::of(rt.alloc(), wrong, USAGE));
         }
     };
-    let mut texts = Vec::new(rt.alloc());
-    for word in words.as_slice() {
-        texts.push(word.as_str()).map_err(AllocError::from)?;
-    }
-    read_words(rt.alloc(), texts.as_slice())
+    job_of_words(rt.alloc(), words.as_slice())
 }
 
 // All bytes of standard input, or none for a job without a script.
 fn script_from<S: Source>(alloc: Global, input: &mut S, job: &Job) -> Result<Bytes, ReadFault>
     requires count { S.failures input.old < 2 ^ 64 - 1 }
+    ensures script { IsTrue (wants_script job.now) →
+        IfOk result (λ script. IsAll (S.remaining input.old) (S.remaining input.new) most_bytes script) }
+    ensures reads { S.reads input.new ≤ S.reads input.old + (most_bytes + 1) }
+
+    // A refusal has a reason: a read failed, or there was more than is read at most.
+    ensures only_if_refused { result ≡ Err ReadFault.Refused → (S.failures input.old < S.failures input.new)
+        ⊎ HasMore (S.remaining input.old) (S.remaining input.new) most_bytes }
+
+    // Where no script is wanted, nothing is read, and nothing can fail.
+    ensures unasked { IsFalse (wants_script job.now) → (input.new ≡ input.old) × (result ≡ Ok []) }
 {
     match job {
         Job::Fits { .. } => Ok(Bytes::new(alloc)),

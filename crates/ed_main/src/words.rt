@@ -1,5 +1,5 @@
 //! The words that the program is given, and the job that they give.
-ghost use Rattle.std.specs.Prelude.{◌≡◌, ◌≢◌, true, false, List, Some, None, if◌then◌else◌, map, codes, IfOk, IfErr, option_and_then, option_map};
+ghost use Rattle.std.specs.Prelude.{◌≡◌, ◌≢◌, true, false, List, Some, None, if◌then◌else◌, map, codes, string_bytes, IfOk, IfErr, option_and_then, option_map};
 ghost use Rattle.clap.specs.Words.{found_of, first_of, rows_of, subcommand_rows_of};
 ghost use Rattle.ed_rules.specs.LineBounds.{is_few};
 ghost use Rattle.ed_main.specs.Words as meaning;
@@ -63,6 +63,20 @@ pub fn read_words(alloc: Global, words: &[&str]) -> Result<Job, WordsFault>
         Ok(matches) => job_of_matches(alloc, &matches),
         Err(error) => Err(refused(alloc, &error, words)),
     }
+}
+
+/// The job that these words give, as `read_words` reads them.
+pub fn job_of_words(alloc: Global, words: &[String]) -> Result<Job, WordsFault>
+    ensures value { IfOk result (λ job. job_of (map (λ word. string_bytes word) words.now) ≡ Some job) }
+    ensures only_if_refused { IfErr result (λ fault. fault ≢ WordsFault.Memory →
+        job_of (map (λ word. string_bytes word) words.now) ≡ None) }
+    ensures given { IfOk result IsGiven }
+{
+    let mut texts = Vec::new(alloc);
+    'words: for word in words {
+        texts.push(word.as_str()).map_err(AllocError::from)?;
+    }
+    read_words(alloc, texts.as_slice())
 }
 
 fn job_of_matches(alloc: Global, matches: &ArgMatches<'_>) -> Result<Job, WordsFault>

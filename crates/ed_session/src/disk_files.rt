@@ -1,9 +1,8 @@
 //! Files on a disk, whose calls are logged.
-ghost use Rattle.std.specs.Prelude.{◌≡◌, ◌≢◌, ◌≤◌, ◌⊎◌, [], None, true, length, IfOk, IfSome, OnOk};
+ghost use Rattle.std.specs.Prelude.{◌≡◌, ◌≢◌, ◌≤◌, ◌⊎◌, [], None, length, is_some, IfOk, OnOk};
 ghost use Rattle.std.specs.Io.KnownBytes.{Appends};
 ghost use Rattle.ed_syntax.specs.declared.request.Answer.TheVariants as answer;
-ghost use Rattle.std.proofs.Props.{props};
-ghost use Rattle.ed_session.specs.Drives.{ends_refused};
+ghost use Rattle.ed_session.specs.Drives.{ends_refused, is_refusal};
 ghost use Rattle.ed_session.specs.Seen.{log_seen};
 
 use crate::Outside;
@@ -33,7 +32,7 @@ pub struct DiskFiles<R: Files<File = File> + Drop> {
     // Why the call was refused that came last, if it was.
     reason: Option<io::Error>,
     ghost few: { failures ≤ length log.items },
-    ghost refused: { IfSome reason (λ error. ends_refused (log_seen log.items) ≡ true) } by { Prim.hlevel props },
+    ghost refused: { is_some reason ≡ ends_refused (log_seen log.items) },
 }
 
 impl<R: Files<File = File> + Drop> DiskFiles<R> {
@@ -54,7 +53,7 @@ impl<R: Files<File = File> + Drop> DiskFiles<R> {
     /// Why the call that came last was refused, in the system's words, which no clause knows. None where it wasn't refused. A call that
     /// found no memory doesn't count.
     pub fn reason(&self) -> Option<io::Error>
-        ensures only_if_refused { IfSome result (λ error. ends_refused (log_seen self.now.log.items) ≡ true) }
+        ensures exact { is_some result ≡ ends_refused (log_seen self.now.log.items) }
     {
         self.reason
     }
@@ -115,7 +114,7 @@ fn read_answer<R: Files>(
 ) -> Result<Answer, AllocError>
     requires none { reason.old ≡ None }
     ensures not_done { IfOk result (λ a. a ≢ answer.Done) }
-    ensures only_if_refused { IfOk result (λ a. IfSome reason.new (λ error. a ≡ answer.Refused)) }
+    ensures exact { IfOk result (λ a. is_some reason.new ≡ is_refusal a) }
 {
     let Ok(path) = str::from_utf8(path) else {
         *reason = Some(not_text());
@@ -154,7 +153,7 @@ fn write_answer<R: Files<File = File>>(
 ) -> Result<Answer, AllocError>
     requires none { reason.old ≡ None }
     ensures done_or_refused { IfOk result (λ a. (a ≡ answer.Done) ⊎ (a ≡ answer.Refused)) }
-    ensures only_if_refused { IfOk result (λ a. IfSome reason.new (λ error. a ≡ answer.Refused)) }
+    ensures exact { IfOk result (λ a. is_some reason.new ≡ is_refusal a) }
 {
     let Ok(path) = str::from_utf8(path) else {
         *reason = Some(not_text());

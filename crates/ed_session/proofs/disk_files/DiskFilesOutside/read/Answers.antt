@@ -3,4 +3,4 @@ use Rattle.ed_session.proofs.disk_files.DiskFilesOutside.read.Goals as goal
 
 pub invariant_of-self-then-matches-clause-refused : goal.invariant_of-self-then-matches-clause-refused
 invariant_of-self-then-matches-clause-refused g c =
-    reason_kept c.read_answer.new.reason c.in_ok-answer.answer _ _ _ _ c.in_ok-answer.ensures.only_if_refused c.of-seen.ensures.value c.in_ok-push.ensures.items
+    reason_kept c.read_answer.new.reason c.in_ok-answer.answer _ _ _ _ c.in_ok-answer.ensures.exact c.of-seen.ensures.value c.in_ok-push.ensures.items
