@@ -17,4 +17,6 @@ pub use laws::{
 pub use sight::Sight;
 pub use text::fault::CertFault;
 pub use text::reading::wanted;
+pub use text::transcript::Transcript;
 pub use text::wanted::{LineKind, Wanted};
+pub use text::writer::TextWriter;

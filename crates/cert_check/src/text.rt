@@ -3,13 +3,16 @@
 pub(crate) mod cursor;
 pub(crate) mod fault;
 pub(crate) mod has_text;
+pub(crate) mod kept;
 pub(crate) mod lines;
 pub(crate) mod notes;
 pub(crate) mod readers;
 pub(crate) mod reading;
 pub(crate) mod states;
+pub(crate) mod transcript;
 pub(crate) mod wanted;
 pub(crate) mod words;
 pub(crate) mod words_in;
+pub(crate) mod writer;
 pub(crate) mod writing;
 pub(crate) mod zone_lines;

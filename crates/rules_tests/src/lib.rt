@@ -10,6 +10,8 @@ mod checking;
 #[cfg(test)]
 mod choices;
 #[cfg(test)]
+mod collecting;
+#[cfg(test)]
 mod globals;
 #[cfg(test)]
 mod lists;

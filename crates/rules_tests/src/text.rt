@@ -1,6 +1,7 @@
 //! The text of certificates.
 
 use crate::certifying::{Final, fill, opened};
+use crate::collecting::Collecting;
 use crate::walking::{Start, lines, named};
 use cert_check::{CertFault, Certificate};
 use ed_base::{Bytes, Letter};
@@ -56,7 +57,7 @@ final 0 2
 writes =F
 ";
 
-/// What the text of a certificate is in place of `text`.
+/// What the text of a certificate is in place of `text`: as a whole, and as it is given piece by piece.
 pub(crate) fn text_otherwise(
     certificate: &Certificate,
     text: &[u8],
@@ -65,6 +66,11 @@ pub(crate) fn text_otherwise(
         return Ok(Some("none"));
     }
     let written = certificate.write()?;
+    let mut collecting = Collecting::new(*certificate.notes.allocator());
+    certificate.write_to(&mut collecting);
+    if collecting.finish()?.as_slice() != written.as_slice() {
+        return Ok(Some("another one, piece by piece"));
+    }
     Ok(bytes_otherwise(written.as_slice(), text))
 }
 

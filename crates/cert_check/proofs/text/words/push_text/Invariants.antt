@@ -4,4 +4,4 @@ use Rattle.cert_check.specs.text.Text.{byte_text}
 use Rattle.cert_check.proofs.text.words.push_text.Given as goal
 
 abbrev pub invariant-loop-byte : goal.invariant-loop-byte
-invariant-loop-byte l = l.out ≡ l.initial.out ++ flat_map byte_text (take l.byte-index l.text)
+invariant-loop-byte g l = g.W.TextWriter.written l.out ≡ g.W.TextWriter.written l.initial.out ++ flat_map byte_text (take l.byte-index l.text)

@@ -6,4 +6,4 @@ use Rattle.cert_check.proofs.text.words.push_zone.Given as goal
 
 -- what is written of the bounds before this one
 abbrev pub invariant-loop-entry : goal.invariant-loop-entry
-invariant-loop-entry l = l.out ≡ l.initial.out ++ spaced (flat_map placed_words (take l.entry-index l.entry-items))
+invariant-loop-entry g l = g.W.TextWriter.written l.out ≡ g.W.TextWriter.written l.initial.out ++ spaced (flat_map placed_words (take l.entry-index l.entry-items))

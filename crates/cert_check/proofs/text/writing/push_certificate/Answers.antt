@@ -7,11 +7,13 @@ use Rattle.cert_check.proofs.texts.Written.{certificate-written}
 use Rattle.cert_check.proofs.text.writing.push_certificate.Goals as goal
 
 pub returns : goal.returns
-returns c = record {
-  appended =
-      certificate-written c.args.out.now c.push_opening.new.out c.push_notes.new.out c.push_closing.new.out (certificate_value c.args.certificate.now)
-      c.in_ok-push_opening.ensures.appended
-      (c.in_ok-push_notes.ensures.appended
-      ∙ ap (λ (ns : List Note). c.push_opening.new.out ++ lines_text (flat_map (note_lines c.args.certificate.now.version) (map note_value ns))) c.as_slice.ensures.value)
-      c.in_ok-push_closing.ensures.appended;
-}
+returns g c =
+    let written = g.W.TextWriter.written in
+    record {
+      appended =
+          certificate-written (written c.args.out.now) (written c.push_opening.new.out) (written c.push_notes.new.out) (written c.push_closing.new.out) (certificate_value c.args.certificate.now)
+          c.push_opening.ensures.appended
+          (c.push_notes.ensures.appended
+          ∙ ap (λ (ns : List Note). written c.push_opening.new.out ++ lines_text (flat_map (note_lines c.args.certificate.now.version) (map note_value ns))) c.as_slice.ensures.value)
+          c.push_closing.ensures.appended;
+    }

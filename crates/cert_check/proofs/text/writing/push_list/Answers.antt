@@ -8,11 +8,13 @@ use Rattle.cert_check.proofs.texts.Written.{looped-written}
 use Rattle.cert_check.proofs.text.writing.push_list.Goals as goal
 
 pub returns : goal.returns
-returns c = record {
-  appended =
-      looped-written c.args.version c.args.out.now c.push_headed.new.out c.push_inner.new.out c.extend_from_slice.new.self (looped_value c.args.looped.now)
-      c.in_ok-push_headed.ensures.appended
-      (c.in_ok-push_inner.ensures.appended
-      ∙ ap (λ (l : List State). c.push_headed.new.out ++ lines_text (flat_map (headed_lines c.args.version (codes "inner")) l)) c.as_slice.ensures.value)
-      c.in_ok-extend_from_slice.ensures.appended;
-}
+returns g c =
+    let written = g.W.TextWriter.written in
+    record {
+      appended =
+          looped-written c.args.version (written c.args.out.now) (written c.push_headed.new.out) (written c.push_inner.new.out) (written c.extend.new.self) (looped_value c.args.looped.now)
+          c.push_headed.ensures.appended
+          (c.push_inner.ensures.appended
+          ∙ ap (λ (l : List State). written c.push_headed.new.out ++ lines_text (flat_map (headed_lines c.args.version (codes "inner")) l)) c.as_slice.ensures.value)
+          c.extend.ensures.appended;
+    }

@@ -6,9 +6,10 @@ use Rattle.cert_check.proofs.texts.Written.{one-more}
 use Rattle.cert_check.proofs.text.writing.push_notes.Goals as goal
 
 pub loop-note-preserved : goal.loop-note-preserved
-loop-note-preserved c =
-    one-more (λ n. note_lines c.args.version (note_value n)) c.args.notes.now c.loop-note.note-index c.note-item.result c.args.out.now c.loop-note.out c.push_note.new.out
+loop-note-preserved g c =
+    let written = g.W.TextWriter.written in
+    one-more (λ n. note_lines c.args.version (note_value n)) c.args.notes.now c.loop-note.note-index c.note-item.result (written c.args.out.now) (written c.loop-note.out) (written c.push_note.new.out)
     (omega arith) c.note-item.is
-    (c.loop-note.invariant ∙ ap (λ (ls : List Line). c.args.out.now ++ lines_text ls) (flat_map-map (note_lines c.args.version) note_value (take c.loop-note.note-index c.args.notes.now)))
-    c.in_ok-push_note.ensures.appended
-    ∙ ap (λ (ls : List Line). c.args.out.now ++ lines_text ls) (sym (flat_map-map (note_lines c.args.version) note_value (take (c.loop-note.note-index + 1) c.args.notes.now)))
+    (c.loop-note.invariant ∙ ap (λ (ls : List Line). written c.args.out.now ++ lines_text ls) (flat_map-map (note_lines c.args.version) note_value (take c.loop-note.note-index c.args.notes.now)))
+    c.push_note.ensures.appended
+    ∙ ap (λ (ls : List Line). written c.args.out.now ++ lines_text ls) (sym (flat_map-map (note_lines c.args.version) note_value (take (c.loop-note.note-index + 1) c.args.notes.now)))

@@ -6,30 +6,31 @@ use Rattle.cert_check.proofs.texts.Written.{same-written, state-written}
 use Rattle.cert_check.proofs.text.writing.push_state.Goals as goal
 
 pub returns : goal.returns
-returns c =
+returns g c =
+    let written = g.W.TextWriter.written in
     let state = c.args.state.now in
     record {
       appended =
-          state-written c.args.version c.args.out.now c.push_zone_line.new.out c.push_marks_line.new.out c.push_matched.new.out c.push_choices_line.new.out
-          c.push_replacements_line.new.out c.push_choices_line-2.new.out c.push_changed_line.new.out
-          c.push_undo_line.new.out c.push_old.new.out state
+          state-written c.args.version (written c.args.out.now) (written c.push_zone_line.new.out) (written c.push_marks_line.new.out) (written c.push_matched.new.out) (written c.push_choices_line.new.out)
+          (written c.push_replacements_line.new.out) (written c.push_choices_line-2.new.out) (written c.push_changed_line.new.out)
+          (written c.push_undo_line.new.out) (written c.push_old.new.out) state
           (same-written (λ z. zone_line (codes "zone") z ∷ []) _ _ c.kept_zone.result.now state.zone c.kept_zone.ensures.value
-          c.in_ok-push_zone_line.ensures.appended)
+          c.push_zone_line.ensures.appended)
           (same-written (λ m. marks_line (codes "marks") m ∷ []) _ _ c.marks.result.now state.marks c.marks.ensures.value
-          c.in_ok-push_marks_line.ensures.appended)
+          c.push_marks_line.ensures.appended)
           (same-written (λ t. matched_lines c.args.version (codes "has") t) _ _ c.has.result.now state.has c.has.ensures.value
-          c.in_ok-push_matched.ensures.appended)
+          c.push_matched.ensures.appended)
           (same-written (λ s. choices_line (codes "patterns") s ∷ []) _ _ c.patterns.result.now state.patterns c.patterns.ensures.value
-          c.in_ok-push_choices_line.ensures.appended)
+          c.push_choices_line.ensures.appended)
           (same-written (λ r. replacements_line r ∷ []) _ _ c.replacements.result state.replacements c.replacements.ensures.value
-          c.in_ok-push_replacements_line.ensures.appended)
+          c.push_replacements_line.ensures.appended)
           (same-written (λ s. choices_line (codes "names") s ∷ []) _ _ c.names.result.now state.names c.names.ensures.value
-          c.in_ok-push_choices_line-2.ensures.appended)
+          c.push_choices_line-2.ensures.appended)
           (same-written (λ d. changed_line d ∷ []) _ _ c.changed.result state.changed c.changed.ensures.value
-          c.in_ok-push_changed_line.ensures.appended)
+          c.push_changed_line.ensures.appended)
           (same-written (λ u. undo_line u ∷ []) _ _ c.kept_undo-undo.result.now state.undo c.kept_undo-undo.ensures.value
-          c.in_ok-push_undo_line.ensures.appended)
+          c.push_undo_line.ensures.appended)
           (same-written (λ w. old_lines c.args.version w state.old_has) _ _ c.was.result.now state.undo.was (c.was.ensures.value ∙ ap (λ (u : Undo). u.was) c.kept_undo-undo.ensures.value)
           (same-written (λ t. old_lines c.args.version c.was.result.now t) _ _ c.old_has.result.now state.old_has c.old_has.ensures.value
-          c.in_ok-push_old.ensures.appended));
+          c.push_old.ensures.appended));
     }
