@@ -15,6 +15,7 @@ use ed_rules::{
 };
 use ed_syntax::Command;
 use std::alloc::{AllocError, Global};
+use std::mem;
 use zones::{Name, Zone};
 
 /// What a round comes to.
@@ -37,15 +38,15 @@ fn enter(sight: &Sight, command: &Command, invariant: &State) -> Result<State, A
 }
 
 /// A round: goes through a list, from the state in which it is run for a line. Where no need fails, `coming` becomes the result of
-/// the last command. `left` is used again for the result of each.
+/// the last command. `left` is room for the result of each: a state is large, so the boxes are exchanged and not what they hold.
 fn go_round(
     alloc: Global,
     sight: &Sight,
     list: &[Command],
-    coming: &mut State,
-    left: &mut State,
+    coming: &mut Box<State>,
+    left: &mut Box<State>,
 ) -> Result<Round, AllocError>
-    ensures value { IfOk result (λ round. IsRound sight.now (map command_value list.now) coming.old round.inner.items round.failed coming.new) }
+    ensures value { IfOk result (λ round. IsRound sight.now (map command_value list.now) coming.old.value round.inner.items round.failed coming.new.value) }
 {
     needs_are_the_same_whatever_is_watched();
     let mut inner = Vec::new(alloc);
@@ -54,7 +55,7 @@ fn go_round(
         match outcome_into(command, coming, left, sight.watch())? {
             None => {
                 sight.tell(left);
-                coming.try_copy_from(left)?;
+                mem::swap(coming, left);
             }
             Some(why) => {
                 return Ok(Round {
@@ -132,10 +133,10 @@ pub(crate) fn settle(
 {
     covering_states_is_an_order();
     let list = command.list();
-    let mut left = known.try_copy()?;
+    let mut left = Box::new(alloc, known.try_copy()?)?;
     let mut before = 0;
     'settling: loop {
-        let mut coming = enter(sight, command, known)?;
+        let mut coming = Box::new(alloc, enter(sight, command, known)?)?;
         let round = go_round(alloc, sight, list, &mut coming, &mut left)?;
         zones_are_kept(known);
         zones_are_kept(&coming);

@@ -15,6 +15,7 @@ use ed_base::{Bytes, Fault};
 use ed_rules::{KeptState, State, loop_end, needs_are_the_same_whatever_is_watched, outcome_into};
 use ed_syntax::Command;
 use std::alloc::{AllocError, Global};
+use std::mem;
 
 /// What a command comes to: it leaves its result, or its first need that fails.
 #[derive(Drop)]
@@ -183,9 +184,9 @@ pub(crate) fn go_through(
 {
     let mut notes = Vec::new(alloc);
     let mut writes = Vec::new(alloc);
-    let mut coming = start;
-    // It is used again for the result of each command.
-    let mut left = coming.try_copy()?;
+    let mut coming = Box::new(alloc, start)?;
+    // Room for the result of each command. A state is large, so the boxes are exchanged and not what they hold.
+    let mut left = Box::new(alloc, coming.try_copy()?)?;
     for (index, command) in commands.iter().enumerate() {
         let Taken { looped, end } = take(alloc, sight, command, &coming, &mut left)?;
         let known = coming.try_keep()?;
@@ -201,7 +202,7 @@ pub(crate) fn go_through(
                 list_taken(&mut writes, command, &known, &looped)?;
                 let note = note_of(alloc, known, looped)?;
                 notes.push(note)?;
-                coming.try_copy_from(&left)?;
+                mem::swap(&mut coming, &mut left);
             }
         }
         if command.verb.takes().ends.is_some() {

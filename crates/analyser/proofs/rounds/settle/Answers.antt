@@ -1,4 +1,4 @@
-use Rattle.std.proofs.Common.{map}
+use Rattle.std.proofs.Common.{map, ◌∙◌}
 use Rattle.ed_syntax.specs.PublicTypes.{command_value, step_value}
 use Rattle.analyser.proofs.Rooms.{Laws}
 use Rattle.analyser.proofs.Rounding.{rounds-start, rounds-next, rounds-smaller, rounds-last}
@@ -9,9 +9,9 @@ settling-init c = rounds-start c.args.sight.now (step_value c.args.command.now) 
 
 pub settling-preserved : goal.settling-preserved
 settling-preserved c =
-    rounds-next c.args.sight.now (step_value c.args.command.now) (map command_value c.list-list.result.now) c.args.known.now c.settling.known c.in-Some.next c.in_ok-coming.coming c.settling.before c.one_more-before.result
-    c.in_ok-round.round.inner.items c.in_ok-round.round.failed c.go_round.new.coming c.in_ok-invariant_after.field-0
-    c.list-list.ensures.value c.in_ok-coming.ensures.value c.in_ok-round.ensures.value c.in_ok-invariant_after.ensures.value c.in-Some.is c.one_more-before.ensures.value c.settling.invariant
+    rounds-next c.args.sight.now (step_value c.args.command.now) (map command_value c.list-list.result.now) c.args.known.now c.settling.known c.in-Some.next c.in_ok-coming.coming.value c.settling.before c.one_more-before.result
+    c.in_ok-round.round.inner.items c.in_ok-round.round.failed c.go_round.new.coming.value c.in_ok-invariant_after.field-0
+    c.list-list.ensures.value (c.in_ok-coming.ensures.ok ∙ c.in_ok-enter.ensures.value) c.in_ok-round.ensures.value (rw c.deref-in-settling.ensures at c.in_ok-invariant_after.ensures.value) c.in-Some.is c.one_more-before.ensures.value c.settling.invariant
 
 pub settling-smaller : goal.settling-smaller
 settling-smaller c =
@@ -21,14 +21,14 @@ settling-smaller c =
       widened = c.covering_states_is_an_order.ensures.widen;
       widened_other = c.covering_states_is_an_order.ensures.widen_other;
     } in
-    rounds-smaller laws c.args.sight.now (step_value c.args.command.now) (map command_value c.list-list.result.now) c.args.known.now c.settling.known c.in-Some.next c.in_ok-coming.coming c.settling.before
-    c.in_ok-round.round.inner.items c.in_ok-round.round.failed c.go_round.new.coming c.in_ok-invariant_after.field-0
-    c.list-list.ensures.value c.in_ok-coming.ensures.value c.in_ok-round.ensures.value c.in_ok-invariant_after.ensures.value c.in-Some.is c.zones_are_kept.ensures.kept c.zones_are_kept-in-settling.ensures.kept c.settling.invariant
+    rounds-smaller laws c.args.sight.now (step_value c.args.command.now) (map command_value c.list-list.result.now) c.args.known.now c.settling.known c.in-Some.next c.in_ok-coming.coming.value c.settling.before
+    c.in_ok-round.round.inner.items c.in_ok-round.round.failed c.go_round.new.coming.value c.in_ok-invariant_after.field-0
+    c.list-list.ensures.value (c.in_ok-coming.ensures.ok ∙ c.in_ok-enter.ensures.value) c.in_ok-round.ensures.value (rw c.deref-in-settling.ensures at c.in_ok-invariant_after.ensures.value) c.in-Some.is c.zones_are_kept.ensures.kept (rw c.deref.ensures at c.zones_are_kept-in-settling.ensures.kept) c.settling.invariant
 
 pub returns-in-None : goal.returns-in-None
 returns-in-None c = record {
   value =
-      rounds-last c.args.sight.now (step_value c.args.command.now) (map command_value c.list-list.result.now) c.args.known.now c.settling.known c.in_ok-coming.coming c.settling.before c.in_ok-round.round c.go_round.new.coming
+      rounds-last c.args.sight.now (step_value c.args.command.now) (map command_value c.list-list.result.now) c.args.known.now c.settling.known c.in_ok-coming.coming.value c.settling.before c.in_ok-round.round c.go_round.new.coming.value
       c.in_ok-invariant_after.field-0
-      c.list-list.ensures.value c.in_ok-coming.ensures.value c.in_ok-round.ensures.value c.in_ok-invariant_after.ensures.value c.in-None.is c.settling.invariant;
+      c.list-list.ensures.value (c.in_ok-coming.ensures.ok ∙ c.in_ok-enter.ensures.value) c.in_ok-round.ensures.value (rw c.deref-in-settling.ensures at c.in_ok-invariant_after.ensures.value) c.in-None.is c.settling.invariant;
 }
