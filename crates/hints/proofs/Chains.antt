@@ -1,6 +1,6 @@
 -- Refusals one after another.
 use Rattle.std.proofs.Common.{◌≡◌, ◌<◌, ◌+◌, ℕ, List, [], ◌∷◌, ◌++◌, length, drop, get_or, sym, subst, arith, ap, map, length-append}
-use Rattle.std.specs.List.{All}
+use Rattle.std.specs.List.{All, Any}
 use Rattle.std.proofs.lemmas.List.Elements.{All-head, All-same}
 use Rattle.analyser.specs.declared.analysis.Start.{Start}
 use Rattle.analyser.specs.Analysis.{IsFailure}
@@ -10,8 +10,8 @@ use Rattle.hints.specs.declared.hint.Hint.{Hint}
 use Rattle.hints.specs.declared.refusing.Refusal.{Refusal}
 use Rattle.ed_syntax.specs.reading.Reading.{script_of}
 use Rattle.cert_check.specs.declared.checker.verdict.Place.{Place}
-use Rattle.hints.specs.Passing.{IsAllowed, IsVouched, Keeps, GetsPast}
-use Rattle.hints.specs.Hints.{IsTried, IsRefusal, IsMended, none, more, AreRefusals, mended, stopped, cut}
+use Rattle.hints.specs.Passing.{IsAllowed, IsVouched, MoreLinesHelp, Keeps, GetsPast}
+use Rattle.hints.specs.Hints.{IsTried, AsksForMore, IsStated, IsRefusal, IsMended, none, more, AreRefusals, mended, stopped, cut}
 
 -- a list that isn't empty is its first element and the others
 pub front-of : {A : Type 0} → (xs : List A) (x : A) → 0 < length xs → x ≡ get_or xs 0 x → xs ≡ x ∷ drop 1 xs
@@ -77,8 +77,10 @@ tried-by given place h script start kept allowed past reads starts = record {
 -- a refusal is one of the script and the start that were given, by whatever names they were analysed
 pub refused-as : (r : Refusal) (script : List ℕ) (start : Start) (read : Script) (opened : Start) → read ≡ script_of script → opened ≡ start →
     r.script ≡ script → r.start ≡ start → IsFailure read opened r.place r.why (map note_value r.notes.items) → All (IsTried start r.place) r.hints.items →
+    (MoreLinesHelp (script_of script) start → Any (AsksForMore script start) r.hints.items) →
+    IsStated script start r.place r.why (map note_value r.notes.items) r.hints.items →
     IsRefusal r × (r.script ≡ script) × (r.start ≡ start)
-refused-as r script start read opened reads opens same also fails tried =
+refused-as r script start read opened reads opens same also fails tried asks states =
     let fails : IsFailure (script_of script) start r.place r.why (map note_value r.notes.items) =
     subst (λ (s : Start). IsFailure (script_of script) s r.place r.why (map note_value r.notes.items)) opens
     (subst (λ (s : Script). IsFailure s opened r.place r.why (map note_value r.notes.items)) reads fails) in (
@@ -87,6 +89,12 @@ refused-as r script start read opened reads opens same also fails tried =
             subst (λ (s : Start). IsFailure (script_of r.script) s r.place r.why (map note_value r.notes.items)) (sym also)
             (subst (λ (s : List ℕ). IsFailure (script_of s) start r.place r.why (map note_value r.notes.items)) (sym same) fails);
         tried = subst (λ (s : Start). All (IsTried s r.place) r.hints.items) (sym also) tried;
+        asks =
+            subst (λ (s : Start). MoreLinesHelp (script_of r.script) s → Any (AsksForMore r.script s) r.hints.items) (sym also)
+            (subst (λ (s : List ℕ). MoreLinesHelp (script_of s) start → Any (AsksForMore s start) r.hints.items) (sym same) asks);
+        states =
+            subst (λ (s : Start). IsStated r.script s r.place r.why (map note_value r.notes.items) r.hints.items) (sym also)
+            (subst (λ (s : List ℕ). IsStated s start r.place r.why (map note_value r.notes.items) r.hints.items) (sym same) states);
       },
       same,
       also,

@@ -18,7 +18,7 @@ pub keeps-itself : (start : Start) → Keeps start start
 keeps-itself start = keeps-bounds start start refl refl
 
 -- putting in some texts and then others puts in all of them
-texts-twice : (first second set : List (List ℕ)) → with_texts second (with_texts first set) ≡ with_texts (first ++ second) set
+pub texts-twice : (first second set : List (List ℕ)) → with_texts second (with_texts first set) ≡ with_texts (first ++ second) set
 texts-twice [] second set = refl
 texts-twice (text ∷ first) second set = texts-twice first second (with_text text set)
 

@@ -2,3 +2,6 @@ mod Places
 mod Keeping
 mod Chains
 mod Asking
+mod LookedFor
+mod Stated
+mod SoughtRows

@@ -1,16 +1,18 @@
 -- The order of places, and what gets past one of them.
-use Rattle.std.proofs.Common.{◌≡◌, ◌<◌, ◌≤◌, ◌↔◌, refl, ℕ, Bool, true, false, IsTrue, List, Option, Some, None, inl, inr, arith, subst}
+use Rattle.std.proofs.Common.{◌≡◌, ◌<◌, ◌≤◌, ◌↔◌, refl, ℕ, Bool, true, false, IsTrue, List, Option, Some, None, inl, inr, arith, subst, sym}
 use Rattle.std.proofs.Math.Nat.{eq-or-lt_of_le}
 use Rattle.std.specs.Option.{unwrap_or}
 use Rattle.std.specs.declared.alloc.AllocError.{AllocError}
 use Rattle.std.specs.Prelude.{Result, Ok, Err, IfOk}
 use Rattle.ed_base.specs.declared.fault.Fault.{Fault}
 use Rattle.ed_syntax.specs.Commands.{Script}
+use Rattle.ed_syntax.specs.reading.Reading.{script_of}
 use Rattle.cert_check.specs.declared.checker.verdict.Place.{Place}
 use Rattle.cert_check.specs.Certificates.{Note, Certificate}
 use Rattle.analyser.specs.declared.analysis.Start.{Start}
 use Rattle.analyser.specs.Analysis.{IsCertificate, IsFailure}
 use Rattle.hints.specs.Passing.{IsVouched, IsLaterInside, IsAfter, GetsPast, vouched, later}
+use Rattle.hints.specs.Sought.{GetsPastAll}
 
 -- what the law of answers says
 pub record Laws : Type 0 where
@@ -63,6 +65,25 @@ pub all-back : (script : Script) (start : Start) (place last : Place) (most inne
 all-back script start place last most inner (Ok true) le some is past = λ e. past-back script start place last most inner le some is (past.0 refl)
 all-back script start place last most inner (Ok false) le some is past = λ e. cc
 all-back script start place last most inner (Err e) le some is past = tt
+
+-- a script that gets past all of a command gets past any place there
+pub all-past : (script : Script) (start : Start) (place : Place) (command most inner added : ℕ) (r : Result Bool AllocError) → (added ≡ 0 → command ≡ place.command) →
+    inner ≡ unwrap_or place.inner most → IfOk r (λ b. IsTrue b ↔ GetsPast script start (record { command = command; inner = Some inner })) →
+    IfOk r (λ b. added ≡ 0 → GetsPastAll script start place → b ≡ true)
+all-past script start place command most inner added (Ok b) same is past =
+    λ none all. past.1 (
+    subst (λ (i : ℕ). GetsPast script start (record { command = command; inner = Some i })) (sym is)
+    (subst (λ (n : ℕ). GetsPast script start (record { command = n; inner = Some (unwrap_or place.inner most) })) (sym (same none)) (all most))
+    )
+all-past script start place command most inner added (Err e) same is past = tt
+
+-- so it doesn't get past all of the command where it doesn't get past such a place, also by another name of the script
+pub not-past : (start : Start) (place : Place) (given : Option (List ℕ)) (own read script : List ℕ) (added : ℕ) (past : Bool) → given ≡ Some own → given ≡ Some script →
+    read ≡ own → past ≡ false → (added ≡ 0 → GetsPastAll (script_of read) start place → past ≡ true) → added ≡ 0 → GetsPastAll (script_of script) start place → ⊥
+not-past start place given own read script added past is also reads refused is-past none all =
+    let same : script ≡ read = cc in
+    let passed : past ≡ true = is-past none (subst (λ (s : List ℕ). GetsPastAll (script_of s) start place) same all) in
+    absurd cc
 
 -- where a need fails, a script isn't vouched for
 pub not-vouched : Laws → (script : Script) (start : Start) (place : Place) (why : Fault) (notes : List Note) → IsFailure script start place why notes →

@@ -1,10 +1,12 @@
 //! Hints and remarks on a need that fails.
 
-ghost use Rattle.std.specs.Prelude.{◌≡◌, ◌∷◌, ◌++◌, ◌≤◌, [], All, Any, IfOk, IfSome, MatchOption, OnOk};
+ghost use Rattle.std.specs.Prelude.{◌≡◌, ◌∷◌, ◌++◌, ◌≤◌, ℕ, List, [], map, All, Any, Some, IfOk, IfSome, IsSomeAnd, MatchOption, OnOk};
 ghost use Rattle.ed_syntax.specs.reading.Reading.{script_of};
 ghost use Rattle.ed_rules.specs.LineBounds.{most_lines, IsAtMost};
+ghost use Rattle.cert_check.specs.Certificates.{note_value};
 ghost use Rattle.hints.specs.Passing.{MoreLinesHelp};
-ghost use Rattle.hints.specs.Hints.{IsTried, AsksForMore};
+ghost use Rattle.hints.specs.Sought.{GetsPastAll, StatingHelps};
+ghost use Rattle.hints.specs.Hints.{IsTried, AsksForMore, States, IsStated};
 
 use crate::commands::{count_of_lines, line_at, line_of_span, span_of};
 use crate::drafts::Draft;
@@ -62,8 +64,44 @@ fn number_at(alloc: Global, script: &[u8], place: Place) -> Result<usize, AllocE
     }
 }
 
+/// The hint to take a draft, where its script gets past a place, with all of the command's list.
+pub(crate) fn past_by(
+    alloc: Global,
+    start: &Start,
+    place: Place,
+    line: usize,
+    draft: Draft,
+) -> Result<Option<Hint>, AllocError>
+    requires ordered { IsAtMost start.now.min start.now.max }
+    requires low { start.now.min ≤ most_lines }
+    requires high { IfSome start.now.max (λ most. most ≤ most_lines) }
+    ensures tried { IfOk result (λ found. IfSome found (IsTried start.now place)) }
+    ensures given { IfOk result (λ found. (script : List ℕ) → draft.script ≡ Some script → draft.added ≡ 0 →
+        GetsPastAll (script_of script) start.now place → IsSomeAnd found (λ hint. (hint.script ≡ script) × (hint.start ≡ start.now))) }
+{
+    let Draft {
+        advice,
+        text,
+        script,
+        added,
+    } = draft;
+    let Some(script) = script else {
+        return Ok(None);
+    };
+    if !gets_past_all(alloc, script.as_slice(), start, place, added)? {
+        return Ok(None);
+    }
+    Ok(Some(Hint {
+        advice,
+        line,
+        text,
+        script,
+        start: copy_of(start)?,
+    }))
+}
+
 /// The first of these drafts that gets past a place.
-pub(crate) fn first_past(
+fn first_past(
     alloc: Global,
     start: &Start,
     place: Place,
@@ -76,22 +114,9 @@ pub(crate) fn first_past(
     ensures tried { IfOk result (λ found. IfSome found (IsTried start.now place)) }
 {
     for draft in drafts {
-        let Draft {
-            advice,
-            text,
-            script,
-            added,
-        } = draft;
-        if let Some(script) = script {
-            if gets_past_all(alloc, script.as_slice(), start, place, added)? {
-                return Ok(Some(Hint {
-                    advice,
-                    line,
-                    text,
-                    script,
-                    start: copy_of(start)?,
-                }));
-            }
+        let found = past_by(alloc, start, place, line, draft)?;
+        if found.is_some() {
+            return Ok(found);
         }
     }
     Ok(None)
@@ -206,6 +231,7 @@ fn and_stated(
     requires found { All (IsTried start.now place) found.items }
     ensures tried { IfOk result (λ found. All (IsTried start.now place) found.items) }
     ensures kept { IfOk result (λ all. Any (AsksForMore script.now start.now) found.items → Any (AsksForMore script.now start.now) all.items) }
+    ensures states { IfOk result (λ all. StatingHelps (script_of script.now) start.now place patterns.now → Any (States script.now start.now patterns.now) all.items) }
 {
     if patterns.members().is_empty() {
         return Ok(found);
@@ -218,7 +244,8 @@ fn and_stated(
 }
 
 /// What to write where a need of a script fails at a place by a fault, before which this is known: the best hint first. Each gets past
-/// the place. Where the script is vouched for with more lines, one hint asks for them.
+/// the place. Where the script is vouched for with more lines, one hint asks for them. Where searches there fail for want of a line that
+/// matches, and it helps to state their patterns, one hint states them.
 pub fn hints(
     alloc: Global,
     script: &[u8],
@@ -234,6 +261,9 @@ pub fn hints(
 
     // Where more lines help the script, one of the hints asks for them.
     ensures asks { IfOk result (λ found. MoreLinesHelp (script_of script.now) start.now → Any (AsksForMore script.now start.now) found.items) }
+
+    // Where it helps to state the patterns that are looked for at the place, one of the hints does.
+    ensures states { IfOk result (λ found. IsStated script.now start.now place why (map note_value notes.now) found.items) }
 {
     let line = number_at(alloc, script, place)?;
     let drafts = drafts_at(alloc, script, place, why)?;

@@ -1,5 +1,10 @@
 //! The commands of a script, by the lines on which they stand.
 
+ghost use Rattle.std.specs.Prelude.{◌≡◌, option_map};
+ghost use Rattle.ed_syntax.specs.PublicScript.{script_value};
+ghost use Rattle.ed_syntax.specs.PublicTypes.{address_value, addresses_value, command_value};
+ghost use Rattle.hints.specs.Sought.{first_of, second_of, command_at};
+
 use crate::bytes::{before, between, from, place_of};
 use cert_check::Place;
 use ed_syntax::{Address, Addresses, Command, Script, Verb, first_lines, read_script};
@@ -97,7 +102,9 @@ pub(crate) fn line_of_span(script: &[u8], span: Span) -> Span {
 }
 
 /// The command at a place of a script, also one of a list.
-pub(crate) fn command_of(script: &Script, place: Place) -> Option<&Command> {
+pub(crate) fn command_of(script: &Script, place: Place) -> Option<&Command>
+    ensures value { option_map (λ command. command_value command.now) result ≡ command_at (script_value script.now) place }
+{
     let index = place.command.saturating_sub(1);
     let command = script.commands.as_slice().get(index)?;
     match place.inner {
@@ -107,7 +114,10 @@ pub(crate) fn command_of(script: &Script, place: Place) -> Option<&Command> {
 }
 
 /// The two addresses of a command, of which one may be missing.
-pub(crate) fn pair(addresses: &Addresses) -> (Option<&Address>, Option<&Address>) {
+pub(crate) fn pair(addresses: &Addresses) -> (Option<&Address>, Option<&Address>)
+    ensures first { option_map (λ address. address_value address.now) result.0 ≡ first_of (addresses_value addresses.now) }
+    ensures second { option_map (λ address. address_value address.now) result.1 ≡ second_of (addresses_value addresses.now) }
+{
     match addresses {
         Addresses::Without => (None, None),
         Addresses::One(only) => (Some(only), None),

@@ -1,5 +1,7 @@
 //! What may help where a need fails, before it is tried.
 
+ghost use Rattle.std.specs.Prelude.{◌≡◌, Some};
+
 use crate::bytes::{joined, replaced};
 use crate::commands::Span;
 use crate::globals::as_global;
@@ -20,7 +22,9 @@ pub(crate) struct Draft {
 }
 
 /// A draft with this script.
-pub(crate) fn drafted(advice: Advice, text: String, script: Bytes, added: usize) -> Draft {
+pub(crate) fn drafted(advice: Advice, text: String, script: Bytes, added: usize) -> Draft
+    ensures script { (result.script ≡ Some script) × (result.added ≡ added) }
+{
     Draft {
         advice,
         text,

@@ -4,7 +4,7 @@ ghost use Rattle.std.specs.Prelude.{◌≡◌, ◌≤◌, true, IfOk, IfSome};
 ghost use Rattle.ed_rules.specs.LineBounds.{most_lines, IsAtMost};
 ghost use Rattle.hints.specs.Hints.{IsTried};
 
-use crate::advising::first_past;
+use crate::advising::past_by;
 use crate::commands::command_of;
 use crate::drafts::drafted;
 use crate::hint::{Advice, Hint};
@@ -84,9 +84,8 @@ fn with_lines(
     let bounded = with_bounds(start, min, start.max)?;
     let text = format!(in alloc; "gets further with --min {min}{more}")?;
     let same = Bytes::from_slice(alloc, script)?;
-    let mut drafts = Vec::new(alloc);
-    drafts.push(drafted(Advice::AtLeast, text, same, 0))?;
-    first_past(alloc, &bounded, place, line, drafts)
+    let draft = drafted(Advice::AtLeast, text, same, 0);
+    past_by(alloc, &bounded, place, line, draft)
 }
 
 /// The hint to ask for as many lines at least as a command names, or some more, beside what more is told, where the script gets past the

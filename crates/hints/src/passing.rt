@@ -5,6 +5,7 @@ ghost use Rattle.ed_syntax.specs.PublicScript.{script_value};
 ghost use Rattle.ed_syntax.specs.reading.Reading.{script_of};
 ghost use Rattle.ed_rules.specs.LineBounds.{most_lines, IsAtMost};
 ghost use Rattle.hints.specs.Passing.{IsLaterInside, IsAfter, GetsPast, IsVouched};
+ghost use Rattle.hints.specs.Sought.{GetsPastAll};
 
 use crate::starts::copy_of;
 use analyser::{Analysis, Start, analyse, answers_are_determined};
@@ -82,6 +83,7 @@ pub fn gets_past(
 /// A number so many further on; the same where no number is.
 fn further(number: usize, added: usize) -> usize
     ensures further { number ≤ result }
+    ensures same { added ≡ 0 → result ≡ number }
 {
     match number.checked_add(added) {
         Some(further) => further,
@@ -102,6 +104,7 @@ pub(crate) fn gets_past_all(
     requires low { start.now.min ≤ most_lines }
     requires high { IfSome start.now.max (λ most. most ≤ most_lines) }
     ensures sound { IfOk result (λ yes. yes ≡ true → GetsPast (script_of script.now) start.now place) }
+    ensures all { IfOk result (λ yes. added ≡ 0 → GetsPastAll (script_of script.now) start.now place → yes ≡ true) }
 {
     let command = further(place.command, added);
     let inner = Some(place.inner.unwrap_or(usize::MAX));

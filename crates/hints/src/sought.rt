@@ -1,6 +1,16 @@
 //! The patterns that a command looks for, and whether some line is known to match them.
 
-use crate::commands::{addresses_of, command_of};
+ghost use Rattle.std.specs.Prelude.{◌≡◌, ◌||◌, ◌∷◌, ◌++◌, [], List, ℕ, map, option_map, Option, IfOk, OnOk};
+ghost use Rattle.std.specs.List.{filter, cons_option};
+ghost use Rattle.std.specs.Option.{option_copied};
+ghost use Rattle.bre_parse.specs.Always.{text_is_always};
+ghost use Rattle.ed_syntax.specs.PublicTypes.{address_value, command_value};
+ghost use Rattle.ed_syntax.specs.reading.Reading.{script_of};
+ghost use Rattle.ed_rules.specs.Texts.{is_member, with_texts};
+ghost use Rattle.cert_check.specs.Certificates.{note_value};
+ghost use Rattle.hints.specs.Sought.{search_at, searches, looked_for, remembered, is_unmatched, unmatched, is_of_search, to_state};
+
+use crate::commands::{addresses_of, command_of, pair};
 use crate::known::state_at;
 use bre_parse::Bre;
 use bre_parse::fault::BreFault;
@@ -12,7 +22,9 @@ use std::alloc::{AllocError, Global};
 use zones::Name;
 
 /// What an address searches for, where it is a search: a pattern, or the remembered one.
-fn searched_by(address: Option<&Address>) -> Option<Option<&Pattern>> {
+fn searched_by(address: Option<&Address>) -> Option<Option<&Pattern>>
+    ensures value { option_map option_copied result ≡ search_at (option_map (λ address. address_value address.now) address.entry) }
+{
     match &address?.base {
         Base::Forward(pattern) | Base::Backward(pattern) => Some(pattern.as_ref()),
         _ => None,
@@ -31,9 +43,11 @@ pub(crate) fn count_of_searches(command: &Command) -> usize {
 }
 
 /// The patterns that may be remembered.
-fn remembered(alloc: Global, state: &KeptState) -> Result<Texts, AllocError> {
+fn remembered(alloc: Global, state: &KeptState) -> Result<Texts, AllocError>
+    ensures value { IfOk result (λ patterns. patterns ≡ remembered state.now) }
+{
     let mut patterns = Texts::none(alloc);
-    for choice in state.patterns().members() {
+    'choices: for choice in state.patterns().members() {
         if let Some(text) = choice {
             patterns.add(text.as_slice())?;
         }
@@ -41,23 +55,35 @@ fn remembered(alloc: Global, state: &KeptState) -> Result<Texts, AllocError> {
     Ok(patterns)
 }
 
-/// The patterns that a search may look for: its own, or else those that may be remembered, which are those of an earlier search of the
-/// same command.
-fn possible(
+/// The set of one pattern.
+fn only(alloc: Global, text: &[u8]) -> Result<Texts, AllocError>
+    ensures value { IfOk result (λ patterns. patterns ≡ text.now ∷ []) }
+{
+    let mut patterns = Texts::none(alloc);
+    patterns.add(text)?;
+    Ok(patterns)
+}
+
+/// Puts the patterns that an address may look for, where it is a search, after those of the searches before it: its own, which then is
+/// the one that is remembered, or else those that may be remembered before it.
+fn push_search(
     alloc: Global,
-    state: &KeptState,
-    pattern: Option<&Pattern>,
-    earlier: Option<&Texts>,
-) -> Result<Texts, AllocError> {
-    match (pattern, earlier) {
-        (Some(pattern), _) => {
-            let mut only = Texts::none(alloc);
-            only.add(pattern.text())?;
-            Ok(only)
-        }
-        (None, Some(earlier)) => earlier.try_copy(),
-        (None, None) => remembered(alloc, state),
+    address: Option<&Address>,
+    remembered: &mut Texts,
+    found: &mut Vec<Texts>,
+) -> Result<(), AllocError>
+    ensures pushed { OnOk result ((later : List (Option (List ℕ))) →
+        found.old.items ++ looked_for remembered.old (cons_option (search_at (option_map (λ address. address_value address.now) address.entry)) later)
+        ≡ found.new.items ++ looked_for remembered.new later) }
+{
+    let Some(pattern) = searched_by(address) else {
+        return Ok(());
+    };
+    if let Some(pattern) = pattern {
+        *remembered = only(alloc, pattern.text())?;
     }
+    found.push(remembered.try_copy()?)?;
+    Ok(())
 }
 
 /// The patterns that each search of a command may look for, in the order of the searches.
@@ -65,19 +91,22 @@ fn searches_of(
     alloc: Global,
     command: &Command,
     state: &KeptState,
-) -> Result<Vec<Texts>, AllocError> {
-    let mut searches: Vec<Texts> = Vec::new(alloc);
-    for address in addresses_of(command) {
-        if let Some(pattern) = searched_by(address) {
-            let patterns = possible(alloc, state, pattern, searches.as_slice().last())?;
-            searches.push(patterns)?;
-        }
-    }
-    Ok(searches)
+) -> Result<Vec<Texts>, AllocError>
+    ensures value { IfOk result (λ found. found.items ≡ looked_for (remembered state.now) (searches (command_value command.now))) }
+{
+    let mut before = remembered(alloc, state)?;
+    let mut found: Vec<Texts> = Vec::new(alloc);
+    let (first, second) = pair(&command.addresses);
+    push_search(alloc, first, &mut before, &mut found)?;
+    push_search(alloc, second, &mut before, &mut found)?;
+    push_search(alloc, command.verb.takes().target, &mut before, &mut found)?;
+    Ok(found)
 }
 
 /// Whether every line matches a pattern.
-fn is_always(alloc: Global, text: &Bytes) -> Result<bool, AllocError> {
+fn is_always(alloc: Global, text: &Bytes) -> Result<bool, AllocError>
+    ensures value { IfOk result (λ yes. yes ≡ text_is_always text.now) }
+{
     match Bre::read(alloc, text.as_slice()) {
         Ok(bre) => Ok(bre.always()),
         Err(BreFault::Memory) => Err(AllocError),
@@ -86,7 +115,9 @@ fn is_always(alloc: Global, text: &Bytes) -> Result<bool, AllocError> {
 }
 
 /// Whether some line is known to match a pattern, or every line does.
-fn is_matched(alloc: Global, state: &KeptState, text: &Bytes) -> Result<bool, AllocError> {
+fn is_matched(alloc: Global, state: &KeptState, text: &Bytes) -> Result<bool, AllocError>
+    ensures value { IfOk result (λ yes. yes ≡ (is_member state.now.has text.now || text_is_always text.now)) }
+{
     if state.has().has(text.as_slice()) {
         return Ok(true);
     }
@@ -119,19 +150,44 @@ pub(crate) fn count_of_found(
     Ok(searches.len())
 }
 
-/// The patterns that a command's searches look for and that no line need match. An `s` is no search: it isn't known to match by what
-/// some line matches.
-fn unmatched_by(alloc: Global, command: &Command, state: &KeptState) -> Result<Texts, AllocError> {
-    let searches = searches_of(alloc, command, state)?;
-    let mut unmatched = Texts::none(alloc);
-    for patterns in searches.as_slice() {
-        for text in patterns.members() {
-            if !is_matched(alloc, state, text)? {
-                unmatched.add(text.as_slice())?;
-            }
+/// Puts in those of some patterns that no line need match.
+fn add_unmatched(
+    alloc: Global,
+    state: &KeptState,
+    patterns: &Texts,
+    unmatched: &mut Texts,
+) -> Result<(), AllocError>
+    ensures value { OnOk result (unmatched.new ≡ with_texts (filter (is_unmatched state.now) patterns.now) unmatched.old) }
+{
+    'texts: for text in patterns.members() {
+        if !is_matched(alloc, state, text)? {
+            unmatched.add(text.as_slice())?;
         }
     }
+    Ok(())
+}
+
+/// The patterns that a command's searches look for and that no line need match. An `s` is no search: it isn't known to match by what
+/// some line matches.
+fn unmatched_by(alloc: Global, command: &Command, state: &KeptState) -> Result<Texts, AllocError>
+    ensures value { IfOk result (λ patterns. patterns ≡ unmatched (command_value command.now) state.now) }
+{
+    let searches = searches_of(alloc, command, state)?;
+    let mut unmatched = Texts::none(alloc);
+    'searches: for patterns in searches.as_slice() {
+        add_unmatched(alloc, state, patterns, &mut unmatched)?;
+    }
     Ok(unmatched)
+}
+
+/// Whether a line that a search finds may mend a fault.
+fn is_of_search(why: Fault) -> bool
+    ensures value { result ≡ is_of_search why }
+{
+    match why {
+        Fault::NoMatch | Fault::Address => true,
+        _ => false,
+    }
 }
 
 /// The patterns that are looked for at a place and that no line need match, where it fails by a fault that such a line may mend.
@@ -141,8 +197,10 @@ pub(crate) fn unmatched_at(
     place: Place,
     why: Fault,
     notes: &[Note],
-) -> Result<Texts, AllocError> {
-    if why != Fault::NoMatch && why != Fault::Address {
+) -> Result<Texts, AllocError>
+    ensures value { IfOk result (λ patterns. patterns ≡ to_state (script_of script.now) place why (map note_value notes.now)) }
+{
+    if !is_of_search(why) {
         return Ok(Texts::none(alloc));
     }
     let read = read_script(alloc, script)?;

@@ -1,12 +1,14 @@
 //! The patterns that a start has to state, so that a script gets past its searches.
 
-ghost use Rattle.std.specs.Prelude.{◌≡◌, ◌≤◌, Some, IfOk, IfSome};
+ghost use Rattle.std.specs.Prelude.{◌≡◌, ◌≤◌, ◌⊎◌, All, IfOk, IfSome, IsSome, IsSomeAnd};
+ghost use Rattle.ed_syntax.specs.reading.Reading.{script_of};
 ghost use Rattle.ed_rules.specs.LineBounds.{most_lines, IsAtMost};
-ghost use Rattle.ed_rules.specs.Texts.{with_texts};
 ghost use Rattle.analyser.specs.Following.{stated_of};
-ghost use Rattle.hints.specs.Hints.{IsTried};
+ghost use Rattle.hints.specs.Passing.{MoreLinesHelp};
+ghost use Rattle.hints.specs.Sought.{IsTypable, GetsPastAll, stating};
+ghost use Rattle.hints.specs.Hints.{IsTried, States};
 
-use crate::advising::{at_least, first_past};
+use crate::advising::{at_least, past_by};
 use crate::drafts::drafted;
 use crate::further::with_more_lines;
 use crate::hint::{Advice, Hint};
@@ -30,12 +32,7 @@ fn stated_of(alloc: Global, has: &Option<Texts>) -> Result<Texts, AllocError>
 
 /// A start that states these patterns too.
 fn with_patterns(alloc: Global, start: &Start, patterns: &Texts) -> Result<Start, AllocError>
-    ensures value { IfOk result (λ opened. opened ≡ record {
-      path = start.now.path;
-      min = start.now.min;
-      max = start.now.max;
-      has = Some (with_texts patterns.now (stated_of start.now.has));
-    }) }
+    ensures value { IfOk result (λ opened. opened ≡ stating start.now patterns.now) }
 {
     let mut all = stated_of(alloc, &start.has)?;
     'patterns: for pattern in patterns.members() {
@@ -51,7 +48,9 @@ fn with_patterns(alloc: Global, start: &Start, patterns: &Texts) -> Result<Start
 }
 
 /// The options that state these patterns, each with a space before it. None where one of them can't be typed.
-fn options_of(alloc: Global, patterns: &Texts) -> Result<Option<String>, AllocError> {
+fn options_of(alloc: Global, patterns: &Texts) -> Result<Option<String>, AllocError>
+    ensures typable { IfOk result (λ options. All IsTypable patterns.now → IsSome options) }
+{
     let mut options = String::new(alloc);
     for pattern in patterns.members() {
         let Some(word) = shell_word(alloc, pattern.as_slice())? else {
@@ -83,6 +82,8 @@ fn over_stated(
     requires low { opened.now.min ≤ most_lines }
     requires high { IfSome opened.now.max (λ most. most ≤ most_lines) }
     ensures tried { IfOk result (λ found. IfSome found (IsTried opened.now place)) }
+    ensures states { IfOk result (λ found. GetsPastAll (script_of script.now) opened.now place ⊎ MoreLinesHelp (script_of script.now) opened.now →
+        IsSomeAnd found (λ hint. (hint.script ≡ script.now) × (hint.start.has ≡ opened.now.has))) }
 {
     let fewest = at_least(alloc, script, opened, place, line, options)?;
     if fewest.is_some() {
@@ -91,9 +92,8 @@ fn over_stated(
     let or = if alone { "" } else { "or " };
     let text = format!(in alloc; "{or}vouch with{options}, which run then tests")?;
     let same = Bytes::from_slice(alloc, script)?;
-    let mut drafts = Vec::new(alloc);
-    drafts.push(drafted(Advice::State, text, same, 0))?;
-    let past = first_past(alloc, opened, place, line, drafts)?;
+    let draft = drafted(Advice::State, text, same, 0);
+    let past = past_by(alloc, opened, place, line, draft)?;
     if past.is_some() || !alone {
         return Ok(past);
     }
@@ -114,6 +114,9 @@ pub(crate) fn with_stated(
     requires low { start.now.min ≤ most_lines }
     requires high { IfSome start.now.max (λ most. most ≤ most_lines) }
     ensures tried { IfOk result (λ found. IfSome found (IsTried start.now place)) }
+    ensures states { IfOk result (λ found. All IsTypable patterns.now →
+        GetsPastAll (script_of script.now) (stating start.now patterns.now) place ⊎ MoreLinesHelp (script_of script.now) (stating start.now patterns.now) →
+        IsSomeAnd found (States script.now start.now patterns.now)) }
 {
     let Some(options) = options_of(alloc, patterns)? else {
         return Ok(None);

@@ -34,3 +34,9 @@ returns-clause-asks c =
     )
     ))
     c.and_stated-2.ensures.kept
+
+pub returns-then-eq-clause-states : goal.returns-then-eq-clause-states
+returns-then-eq-clause-states c = rw c.in_ok-patterns.ensures.value at c.and_stated.ensures.states
+
+pub returns-clause-states : goal.returns-clause-states
+returns-clause-states c = rw c.in_ok-patterns.ensures.value at c.and_stated-2.ensures.states

@@ -5,5 +5,5 @@ pub returns : goal.returns
 returns c = record {
   tried =
       tried-for c.args.start.now c.in_ok-bounded.bounded c.args.place _
-      (keeps-bounded c.args.start.now c.in_ok-bounded.bounded c.args.min c.args.start.now.max c.in_ok-bounded.ensures.value) c.first_past.ensures.tried;
+      (keeps-bounded c.args.start.now c.in_ok-bounded.bounded c.args.min c.args.start.now.max c.in_ok-bounded.ensures.value) c.past_by.ensures.tried;
 }

@@ -16,5 +16,6 @@ pub returns : goal.returns
 returns c = record {
   exact =
       refused-as _ c.args.script.now c.args.start.now (script_value c.in_ok-read.read) c.in_ok-copy_of.field-0 c.in_ok-read.ensures.value c.in_ok-copy_of.ensures.value
-      c.in_ok-from_slice-in-Cannot.ensures.value c.in_ok-copy_of-in-Cannot.ensures.value (rw c.in-Cannot.is at c.in_ok-analyse.ensures.exact) c.in_ok-hints-in-Cannot.ensures.tried;
+      c.in_ok-from_slice-in-Cannot.ensures.value c.in_ok-copy_of-in-Cannot.ensures.value (rw c.in-Cannot.is at c.in_ok-analyse.ensures.exact) c.in_ok-hints-in-Cannot.ensures.tried
+      c.in_ok-hints-in-Cannot.ensures.asks (rw c.as_slice.ensures.value at c.in_ok-hints-in-Cannot.ensures.states);
 }
