@@ -1,6 +1,7 @@
 mod Checks
 mod Correctness
 mod Fitting
+mod Gathering
 mod GivenPatterns
 mod Joining
 mod Rehearsing

@@ -1,5 +1,5 @@
 -- What is told of a script with its certificate is what the program says.
-use Rattle.std.proofs.Common.{◌≡◌, ◌≢◌, ◌≤◌, ℕ, List, [], Option, Some, None, Result, Ok, Err, sym, subst, arith, append-nil}
+use Rattle.std.proofs.Common.{◌≡◌, ◌≢◌, ◌≤◌, ℕ, List, [], Option, Some, None, Result, Ok, Err, refl, sym, subst, arith, append-nil}
 use Rattle.std.specs.Prelude.{IfOk}
 use Rattle.std.specs.declared.alloc.AllocError.{AllocError}
 use Rattle.std.specs.Io.KnownBytes.{Appends}
@@ -11,9 +11,13 @@ use Rattle.ed_syntax.specs.Commands.{Script}
 use Rattle.ed_syntax.specs.reading.Reading.{script_of}
 use Rattle.ed_syntax.specs.spelling.Spellings.{SpellsWhatIsRead}
 use Rattle.ed_session.specs.Drives.{Log}
-use Rattle.ed_session.specs.Sinks.{SinkChange, SinkState, Took, change}
-use Rattle.cert_check.specs.Certificates.{Certificate}
-use Rattle.cert_check.specs.text.HasText.{IsText}
+use Rattle.ed_session.specs.Sinks.{SinkChange, SinkState, Took, TookFront, Failed, change}
+use Rattle.cert_check.specs.declared.certificate.Certificate as public
+use Rattle.cert_check.specs.declared.checker.verdict.Place.{Place}
+use Rattle.cert_check.specs.Certificates.{Certificate, certificate_value}
+use Rattle.cert_check.specs.text.Text.{text_of}
+use Rattle.cert_check.specs.text.HasText.{HasText, IsText}
+use Rattle.analyser.specs.Analysis.{HasTextIfVouched}
 use Rattle.cert_check.specs.declared.checker.verdict.Verdict.{Verdict}
 use Rattle.cert_check.specs.declared.checker.verdict.Verdict.TheVariants.{Accepted, Refused}
 use Rattle.analyser.specs.declared.analysis.Start.{Start}
@@ -28,7 +32,7 @@ use Rattle.ed_main.specs.Headline.{Headline}
 use Rattle.ed_main.specs.Run as run
 use Rattle.ed_main.specs.Run.{CheckedRun, Runs, ran_told}
 use Rattle.ed_main.specs.Told as telling
-use Rattle.ed_main.specs.Told.{IsUnread, Says, Tells, verdict_told}
+use Rattle.ed_main.specs.Told.{IsUnread, Says, Tells, verdict_told, cannot_told}
 use Rattle.ed_main.specs.Vouch.{IsAnswerFor, IsToldOf, Vouches}
 
 -- what is said of some telling is said of each that it implies
@@ -140,10 +144,29 @@ module _ (spells : SpellsWhatIsRead script_of) (bytes certificate : List ℕ) (s
       runs_of may_fail between status headline
       (subst (λ x. Tells (ran_told x) (change between between) status) (sym is) (telling.all (subst (Took (change between between)) (sym none) (none_taken between.taken)) ends))
 
+-- the text of the certificate that vouches was taken
+pub says_vouched : (answer : Analysis) (c : public.Certificate) (sink : SinkChange) → answer ≡ Vouched c → HasTextIfVouched answer
+    → Took sink (text_of (certificate_value c)) → Says (IsToldOf answer) sink 0
+says_vouched answer c sink is has took =
+    let told : Told = record { output = text_of (certificate_value c); status = 0 } in
+    let text : HasText (certificate_value c) = rw is at has in
+    rw is (telling.tells told ((text, refl), refl) (telling.all took refl))
+
+-- or a front of it
+pub says_refused : (answer : Analysis) (c : public.Certificate) (sink : SinkChange) (status : ℕ) → answer ≡ Vouched c → HasTextIfVouched answer
+    → TookFront sink (text_of (certificate_value c)) → Failed sink → status ≡ status_of fault.Output → Says (IsToldOf answer) sink status
+says_refused answer c sink status is has front failed ends =
+    let told : Told = record { output = text_of (certificate_value c); status = 0 } in
+    let text : HasText (certificate_value c) = rw is at has in
+    rw is (telling.tells told ((text, refl), refl) (telling.front front failed ends))
+
+-- the need that fails was told
+pub says_cannot : (answer : Analysis) (place : Place) (why : Fault) (notes : _) (made : Result Told AllocError) (sink : SinkChange) (status : ℕ)
+    → answer ≡ Cannot place why notes → IfOk made (λ told. told ≡ cannot_told place why) → Says (λ one. made ≡ Ok one) sink status → Says (IsToldOf answer) sink status
+says_cannot answer place why notes made sink status is told says = rw is (says_of (λ t. t ≡ cannot_told place why) made sink status told says)
+
 -- the analyser's answer was told
-pub vouches_of : (script : List ℕ) (start : Start) (answer : Analysis) (made : Result Told AllocError) (sink : SinkChange) (status : ℕ) → IsAnswerFor script start answer
-    → IfOk made (IsToldOf answer) → Says (λ one. made ≡ Ok one) sink status → Says (Vouches script start) sink status
-vouches_of script start answer made sink status is told says =
-    says_more (IsToldOf answer) (Vouches script start) sink status
-    (λ t told_so. record { answer = answer; is_answer = is; told_so = told_so })
-    (says_of (IsToldOf answer) made sink status told says)
+pub vouches_of : (script : List ℕ) (start : Start) (answer : Analysis) (sink : SinkChange) (status : ℕ) → IsAnswerFor script start answer
+    → Says (IsToldOf answer) sink status → Says (Vouches script start) sink status
+vouches_of script start answer sink status is says =
+    says_more (IsToldOf answer) (Vouches script start) sink status (λ t told_so. record { answer = answer; is_answer = is; told_so = told_so }) says

@@ -12,5 +12,6 @@ pub mod Words
 pub mod Job
 pub mod Program
 -- what serves clauses inside the crate
+pub mod Gathering
 pub mod RunOver
 pub mod StartTest

@@ -4,6 +4,7 @@
 mod check;
 mod edit;
 mod fits;
+mod gathered;
 mod held_writes;
 mod job;
 mod laws;

@@ -6,14 +6,18 @@ ghost use Rattle.ed_session.specs.Sinks.{change};
 ghost use Rattle.ed_main.specs.Told.{Says};
 ghost use Rattle.ed_main.specs.Vouch.{IsAnswerFor, IsToldOf, Vouches};
 
+use crate::gathered::give_certificate;
 use crate::stderr::hinted::show_hinted;
-use crate::told::{Told, cannot_told, tell};
+use crate::told::{cannot_told, tell};
 use analyser::{Analysis, Start, analyse};
 use ed_base::Fault;
 use ed_session::Sink;
 use ed_syntax::{read_script, scripts_are_read_as_spelled};
 use hints::copy_of;
 use std::alloc::{AllocError, Global};
+
+/// The status of a script that is vouched for.
+const VOUCHED_STATUS: u8 = 0;
 
 /// Tells a sink the certificate of the script that these bytes spell, for starts of these bounds, or the need that fails, and gives
 /// the exit status. A person is shown where it fails, what is known there, and what to write; where `all` is true, also where it fails with
@@ -38,7 +42,7 @@ pub fn vouch_text<W: Sink>(
     };
     match answer(alloc, script, start) {
         Ok(analysis) => {
-            let status = tell(told_of(alloc, &analysis), sink);
+            let status = tell_answer(alloc, &analysis, sink);
             if status == 1 {
                 show_hinted(alloc, rt, script, &kept, &analysis, all);
             }
@@ -59,15 +63,20 @@ fn answer(alloc: Global, script: &[u8], start: Start) -> Result<Analysis, AllocE
     analyse(&read_script(alloc, script)?, start)
 }
 
-fn told_of(alloc: Global, analysis: &Analysis) -> Result<Told, AllocError>
+/// Tells a sink the certificate, as its text is made, or the need that fails, and says which status goes with it.
+fn tell_answer<W: Sink>(alloc: Global, analysis: &Analysis, sink: &mut W) -> u8
+    requires count { (W.state sink.old).failures < 2 ^ 64 - 1 }
     requires texts { HasTextIfVouched analysis.now }
-    ensures value { IfOk result (IsToldOf analysis.now) }
+    ensures says { Says (IsToldOf analysis.now) (change (W.state sink.old) (W.state sink.new)) result }
 {
     match analysis {
-        Analysis::Vouched(certificate) => Ok(Told {
-            output: certificate.write()?,
-            status: 0,
-        }),
-        Analysis::Cannot { place, why, .. } => cannot_told(alloc, *place, *why),
+        Analysis::Vouched(certificate) => {
+            if give_certificate(alloc, sink, certificate) {
+                VOUCHED_STATUS
+            } else {
+                Fault::Output.status()
+            }
+        }
+        Analysis::Cannot { place, why, .. } => tell(cannot_told(alloc, *place, *why), sink),
     }
 }

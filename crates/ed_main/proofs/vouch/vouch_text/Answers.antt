@@ -4,4 +4,4 @@ use Rattle.ed_main.proofs.vouch.vouch_text.Goals as goal
 
 pub returns-in-Ok-answer-clause-says : goal.returns-in-Ok-answer-clause-says
 returns-in-Ok-answer-clause-says g c =
-    vouches_of c.args.script.now c.args.start c.in-Ok-answer.analysis c.told_of.result _ _ c.in-Ok-answer.ensures.answers c.told_of.ensures.value c.tell-status.ensures.says
+    vouches_of c.args.script.now c.args.start c.in-Ok-answer.analysis _ _ c.in-Ok-answer.ensures.answers c.tell_answer-status.ensures.says
