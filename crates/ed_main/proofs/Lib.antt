@@ -11,4 +11,5 @@ mod StatedPatterns
 mod Steps
 mod SubcommandLemmas
 mod WordsLemmas
+mod Worked
 mod WordsRows

@@ -1,3 +1,4 @@
+pub mod Alike
 pub mod spelled
 pub mod meaning
 pub mod reader

@@ -19,8 +19,22 @@ pub mod ResultLemmas
 pub mod PlaceLemmas
 pub mod WholeLemmas
 pub mod Reshaping
+pub mod EachLine
 pub mod EffectShapes
 pub mod CommandSteps
 pub mod FaultLemmas
 pub mod AnswerLemmas
 pub mod RunLemmas
+mod ErasureRows
+pub mod ErasureLemmas
+pub mod ErasedPlaces
+pub mod ErasedEffects
+pub mod ErasedRuns
+pub mod MarkedStarts
+pub mod OneMatch
+pub mod PlacedEffects
+pub mod FoundPlaces
+pub mod SearchedGlobals
+mod SearchedGlobalRows
+pub mod SearchedTests
+pub mod SearchedPairs

@@ -5,7 +5,9 @@ pub mod meaning
 -- what the public types stand for
 pub mod PublicTypes
 pub mod PublicScript
--- the reader's own words, tied to the spellings by a law
+-- when two scripts are the same but for some of their commands
+pub mod Changed
+-- the reader's own words, on which `first_lines` rests
 pub mod reading
 -- what serves clauses inside the crate
 pub mod PartNumbers

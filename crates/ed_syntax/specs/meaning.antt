@@ -14,4 +14,8 @@ pub mod Progress
 pub mod Runs
 -- what the laws on all commands and runs say
 pub mod CommandLaws
+pub mod Erasure
+pub mod ErasureLaws
 pub mod Laws
+pub mod SearchedGlobals
+pub mod SearchedPairs

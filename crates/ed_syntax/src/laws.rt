@@ -1,8 +1,11 @@
 //! What holds of all commands and of all runs.
 ghost use Rattle.ed_base.specs.declared.fault.Fault.TheVariants as fault;
 ghost use Rattle.ed_syntax.specs.meaning.CommandLaws.{AddressesKeepTheRest, TargetsKeepTheRest, SpansAreInOrder, CommandsArePlaced, ListsLeaveUndo, ListsAddNoFlags, ListsNoteChanges, CommandsKeepMarks, OpenKeepsMarks, CommandsKeepLines, FilesAreWellMarked, FilesAreWhole, FlagsMarkNothing, FlagsAreNoBytes};
+ghost use Rattle.ed_syntax.specs.meaning.ErasureLaws.{CommandsLeaveLetters, RunsIgnoreLetters, StartsMayBeMarked, MarkedLinesAreWell, MarksStand};
 ghost use Rattle.ed_syntax.specs.meaning.Laws.{UnaskedAnswersDoNothing, NothingIsAskedTwice, OnlyUnservedFilesFail, FilesAreWrittenByTheirPath, NeverEndsBy, FilesHaveACause};
 ghost use Rattle.ed_syntax.specs.meaning.Progress.{CutsToAFront, CutsAfter};
+ghost use Rattle.ed_syntax.specs.meaning.SearchedGlobals.{GlobalsDoTheSame, IdleGlobalsDoTheSame};
+ghost use Rattle.ed_syntax.specs.meaning.SearchedPairs.{BothAreOneGlobal};
 ghost use Rattle.ed_syntax.specs.spelling.Readable.{SpelledIsReadable};
 
 /// Addresses and a target change the current line and the remembered pattern alone, and the lines that a command is applied to are in
@@ -81,4 +84,23 @@ pub fn runs_end_for_a_cause()
 /// the scripts whose runs it foretells, which have to be readable ones.
 pub fn spelled_scripts_are_readable()
     ensures readable { SpelledIsReadable }
+{}
+
+/// A letter that isn't named changes nothing: each command does the same without it, and so does what is left of a run. So such
+/// letters may be put on the lines of the start: each marks its line, and all else is as before.
+pub fn unnamed_letters_change_nothing()
+    ensures command { CommandsLeaveLetters }
+    ensures run { RunsIgnoreLetters }
+    ensures start { StartsMayBeMarked }
+    ensures lines { MarkedLinesAreWell }
+    ensures marks { MarksStand }
+{}
+
+/// A command that searches for its line, and a global command for all lines that match whose list is that command: where one line
+/// matches, they do the same. One that only writes leaves nothing to undo as a global command, and does the same beside. A search alone
+/// and the command after it do the same as a global command with `p` and that command, which undo takes back at once.
+pub fn searches_are_globals_of_one_line()
+    ensures changing { GlobalsDoTheSame }
+    ensures writing { IdleGlobalsDoTheSame }
+    ensures both { BothAreOneGlobal }
 {}

@@ -3,10 +3,12 @@
 
 mod addresses;
 mod command;
+mod comparing;
 mod flags;
 mod globals;
 mod heading;
 mod laws;
+mod naming;
 mod offsets;
 mod options;
 mod paths;
@@ -17,6 +19,7 @@ mod replacement;
 mod request;
 mod script;
 mod script_lines;
+mod searched_globals;
 mod single;
 mod spelling;
 mod substitution;
@@ -27,7 +30,8 @@ pub use command::{Address, Addresses, Base, Command, Form, Sense, Verb};
 pub use laws::{
     answers_are_asked_for, commands_are_placed, commands_keep_lines, commands_keep_marks,
     cut_runs_write_a_front, files_have_lines, flags_change_no_line, listed_commands_leave_undo,
-    lists_add_no_flags, lists_note_changes, runs_end_for_a_cause, spelled_scripts_are_readable,
+    lists_add_no_flags, lists_note_changes, runs_end_for_a_cause, searches_are_globals_of_one_line,
+    spelled_scripts_are_readable, unnamed_letters_change_nothing,
 };
 pub use options::{Ending, Options};
 pub use pattern::Pattern;

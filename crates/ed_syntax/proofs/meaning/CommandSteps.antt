@@ -1,6 +1,6 @@
 -- What a command keeps: how lines are marked, that no line holds a newline, and in a list undo, flags, and the buffer before the global.
 use Rattle.std.proofs.Common.{◌≡◌, ◌≤◌, inl, inr, Bool, true, false, not, ◌&&◌, ℕ, List, map, Option, Some, None, option_map, Ok, IfOk, refl, sym, ap, ◌∙◌, subst, arith}
-use Rattle.std.specs.Prelude.{ok_or}
+use Rattle.std.specs.Prelude.{ok_or, All}
 use Rattle.std.proofs.lemmas.Bool.{and_parts, false≢true}
 use Rattle.std.proofs.lemmas.Result.{IfOk-at_ok}
 use Rattle.ed_base.specs.Buffer.{Line, plain_line, with_flag}
@@ -25,9 +25,10 @@ use Rattle.ed_syntax.proofs.meaning.FaultSteps.{Gives}
 use Rattle.ed_syntax.proofs.meaning.ResultLemmas.{IfOk-bind, IfOk-after}
 use Rattle.ed_syntax.proofs.meaning.PlaceLemmas.{commands_are_placed}
 use Rattle.ed_syntax.proofs.meaning.MarkLemmas.{well-plain, well-mapped, well-unmapped}
-use Rattle.ed_syntax.proofs.meaning.WholeLemmas.{lines_of-lines, whole-plain, whole-mapped, whole-unmapped}
+use Rattle.ed_syntax.proofs.meaning.WholeLemmas.{IsWhole, lines_of-lines, whole-plain, whole-mapped, whole-unmapped}
 use Rattle.ed_syntax.proofs.meaning.GlobalLemmas.{flagged_of}
-use Rattle.ed_syntax.proofs.meaning.Reshaping.{Reshaped, well-reshaped, whole-reshaped, fewer-reshaped}
+use Rattle.ed_syntax.proofs.meaning.Reshaping.{Reshaped, well-reshaped, fewer-reshaped}
+use Rattle.ed_syntax.proofs.meaning.EachLine.{IsKeptOfEach, all-reshaped, all-plain, all-mapped}
 use Rattle.ed_syntax.proofs.meaning.EffectShapes.{Within, Shape, IsAsked, IsShaped, effect-shapes}
 
 -- what a command did, where it was placed, and what came of it
@@ -98,7 +99,7 @@ placed-well c s p is =
 -- LINES
 
 -- what is kept by each shape of an effect, and holds of a file's lines and of lines without their flags
-record IsKept (verb : Verb) (P : List Line → Type 0) : Type 0 where
+pub record IsKept (verb : Verb) (P : List Line → Type 0) : Type 0 where
   pub reshaped : (xs ys : List Line) → Reshaped verb xs ys → P xs → P ys
   pub loaded : (bytes : List ℕ) → P (map plain_line (lines_of bytes))
   pub unflagged : (xs : List Line) → P xs → P (unflagged xs)
@@ -134,7 +135,7 @@ module _ (P : List Line → Type 0) where
   placed-keeps : (s t : State) → KeepsTheRest s t → OfLines P s → OfLines P t
   placed-keeps s t rest h = let q = subst (OfLines P) (sym rest) h in record { buffer = q.buffer; past = q.past }
 
-  commands-keep : (s : State) (c : Command) (given : Option Answer) (o : Outcome) → command s c given ≡ Ok (Makes o) → IsKept c.verb P →
+  pub commands-keep : (s : State) (c : Command) (given : Option Answer) (o : Outcome) → command s c given ≡ Ok (Makes o) → IsKept c.verb P →
       OfLines P s → OfLines P o.state
   commands-keep s c given o is k h =
       let done = command-done s c given o is in
@@ -179,15 +180,29 @@ commands_keep_marks s c given o is h = commands-keep WellMarked s c given o is (
 pub open_keeps_marks : OpenKeepsMarks
 open_keeps_marks = open-keeps WellMarked
 
-lines-kept : (verb : Verb) → enters_lines verb ≡ true → IsKept verb AreWhole
-lines-kept verb enters = record {
-  reshaped = λ xs. whole-reshaped verb xs enters;
-  loaded = λ bytes. whole-plain (lines_of bytes) (lines_of-lines bytes);
-  unflagged = λ xs all. whole-mapped (with_flag false) (λ line. refl) xs all;
+-- and so is what is kept of each line
+each-kept : (verb : Verb) (P : Line → Type 0) → IsKeptOfEach verb P → IsKept verb (λ xs. All P xs)
+each-kept verb P k = record {
+  reshaped = all-reshaped verb P k;
+  loaded = λ bytes. all-plain P k.plain (lines_of bytes) (lines_of-lines bytes);
+  unflagged = λ xs all. all-mapped P (with_flag false) k.unflagged xs all;
+}
+
+pub commands-keep-each : (P : Line → Type 0) (s : State) (c : Command) (given : Option Answer) (o : Outcome) → command s c given ≡ Ok (Makes o) →
+    IsKeptOfEach c.verb P → OfLines (λ xs. All P xs) s → OfLines (λ xs. All P xs) o.state
+commands-keep-each P s c given o is k h = commands-keep (λ xs. All P xs) s c given o is (each-kept c.verb P k) h
+
+whole-kept : (verb : Verb) → enters_lines verb ≡ true → IsKeptOfEach verb IsWhole
+whole-kept verb enters = record {
+  plain = λ bytes line. line;
+  entered = λ xs texts lines all. whole-plain texts (lines enters all);
+  lettered = λ letter marks line whole. whole;
+  unflagged = λ line whole. whole;
+  flagged = λ which own text is uses line whole. whole;
 }
 
 pub commands_keep_lines : CommandsKeepLines
-commands_keep_lines s c given o is enters h = commands-keep AreWhole s c given o is (lines-kept c.verb enters) h
+commands_keep_lines s c given o is enters h = commands-keep-each IsWhole s c given o is (whole-kept c.verb enters) h
 
 -- files, and flags
 
@@ -210,7 +225,7 @@ flags_are_no_bytes lines others same all =
 -- LISTS
 
 -- a command of a list is listed, and may be
-in-list : (c : Command) → is_listed c ≡ true → (c.listed ≡ true) × (may_be_listed c.verb ≡ true)
+pub in-list : (c : Command) → is_listed c ≡ true → (c.listed ≡ true) × (may_be_listed c.verb ≡ true)
 in-list c is =
     let sound : Bool = c.listed && marks_by_letter c.verb in
     let both = and_parts sound (may_be_listed c.verb) (and_parts (sound && may_be_listed c.verb) (not (has_split c.verb)) is).0 in
@@ -255,6 +270,12 @@ module _ (s : State) (c : Command) (given : Option Answer) (o : Outcome) (is : c
       ∙ did.past
       ∙ ap (λ (t : State). t.past) done.rest
 
+  pub reshaped-in-list : Reshaped c.verb s.lines o.state.lines
+  reshaped-in-list =
+      let now : done.made.state.lines ≡ o.state.lines = sym (ap (λ (t : State). t.lines) done.state ∙ settled-lines c.listed (kept s) done.made) in
+      let then : done.placed.lines ≡ s.lines = ap (λ (t : State). t.lines) done.rest in
+      subst (λ (xs : List Line). Reshaped c.verb xs o.state.lines) then (subst (λ (ys : List Line). Reshaped c.verb done.placed.lines ys) now did.lines)
+
   flags-left : flags o.state ≤ flags s
   flags-left =
       let now : flags o.state ≡ flagged_of done.made.state.lines =
@@ -267,6 +288,11 @@ module _ (s : State) (c : Command) (given : Option Answer) (o : Outcome) (is : c
       subst (λ (t : State). Notes c.verb s.global t.global) (sym done.state)
       (subst (λ (t : State). Notes c.verb t.global (settled c.listed (kept s) done.made).global) done.rest
       (settled-notes c.verb done.placed c.listed (kept s) done.made did))
+
+-- so a command of a list needs nothing of what undo keeps
+pub lists-keep-each : (P : Line → Type 0) (s : State) (c : Command) (given : Option Answer) (o : Outcome) → command s c given ≡ Ok (Makes o) →
+    is_listed c ≡ true → IsKeptOfEach c.verb P → All P s.lines → All P o.state.lines
+lists-keep-each P s c given o is listed k h = all-reshaped c.verb P k s.lines o.state.lines (reshaped-in-list s c given o is listed) h
 
 pub lists_leave_undo : ListsLeaveUndo
 lists_leave_undo = undo-left

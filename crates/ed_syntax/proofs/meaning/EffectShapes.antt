@@ -1,6 +1,6 @@
 -- What each command's effect is: it asks for a file, changes the lines in one of a few shapes, puts a file in their place, or brings back
 -- what undo keeps.
-use Rattle.std.proofs.Common.{◌≡◌, ℕ, ◌-◌, Bool, true, false, ◌&&◌, nat_le, List, [], ◌∷◌, map, Option, Some, None, Result, Ok, IfOk, refl, sym, subst, arith}
+use Rattle.std.proofs.Common.{◌≡◌, ℕ, ◌-◌, Bool, true, false, ◌&&◌, nat_le, List, [], ◌∷◌, map, Option, Some, None, Result, Ok, Err, IfOk, refl, sym, subst, arith}
 use Rattle.std.specs.Prelude.{nat_lt}
 use Rattle.std.specs.List.{concat}
 use Rattle.std.proofs.lemmas.Bool.{false≢true}
@@ -231,13 +231,22 @@ module _ (verb : Verb) (s : State) where
       subst (λ (t : State). Shape verb s (only t [])) (sym is)
       (Shape.within (record { lines = shape.stay; past = refl; global = refl; alters = unaltered })))
 
-  global-shape : (which : Sense) (pattern : Option (List ℕ)) (x : Span) → InOrder x → may_be_listed verb ≡ false →
-      IfOk (flagged which pattern x s >> λ t. Ok (Makes (only t []))) HasShape
-  global-shape which pattern x order unlisted =
-      IfOk-bind (λ (t : State). Shape verb s (only t [])) HasShape (flagged which pattern x s) _
-      (IfOk-after (λ (t : State). Shape verb s (only t [])) (used_pattern pattern s) _ (λ text.
+  -- a command with a pattern of its own uses that
+  own-used : (own : Option (List ℕ)) → IfOk (used_pattern own s) (shape.Uses own)
+  own-used (Some text) = refl
+  own-used None = always (used_pattern None s)
+    where
+      always : (r : Result (List ℕ) Fault) → IfOk r (λ _. Unit {0})
+      always (Ok text) = tt
+      always (Err f) = tt
+
+  global-shape : (which : Sense) (own : Option (List ℕ)) (x : Span) → InOrder x → verb ≡ ed.Global which own →
+      IfOk (flagged which own x s >> λ t. Ok (Makes (only t []))) HasShape
+  global-shape which own x order is =
+      IfOk-bind (λ (t : State). Shape verb s (only t [])) HasShape (flagged which own x s) _
+      (IfOk-bind (shape.Uses own) (λ (t : State). Shape verb s (only t [])) (used_pattern own s) _ (own-used own) (λ text uses.
       Shape.within (record {
-        lines = shape.flag (x.first - 1) x.last which text (omega (arith, order)) unlisted;
+        lines = shape.flag (x.first - 1) x.last which own text (omega (arith, order)) is uses;
         past = refl;
         global = refl;
         alters = unaltered;

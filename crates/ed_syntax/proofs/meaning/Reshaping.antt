@@ -1,5 +1,5 @@
--- What an effect makes of the lines of the buffer: one of six shapes, each of which keeps marks, whole lines, and the number of flags.
-use Rattle.std.proofs.Common.{◌≡◌, ℕ, ◌≤◌, true, false, List, map, arith, refl, sym, ◌∙◌}
+-- What an effect makes of the lines of the buffer: one of six shapes, each of which keeps marks and the number of flags.
+use Rattle.std.proofs.Common.{◌≡◌, ℕ, ◌≤◌, true, List, map, Option, Some, None, arith, refl, sym, ap, ◌∙◌}
 use Rattle.std.proofs.lemmas.Bool.{false≢true}
 use Rattle.ed_base.specs.Buffer.{Line, plain_line, marked_at}
 use Rattle.ed_base.specs.Lines.{AreLines}
@@ -7,6 +7,7 @@ use Rattle.ed_base.specs.Parts.{block, exchanged, carried}
 use Rattle.ed_syntax.specs.declared.command.Sense.{Sense}
 use Rattle.ed_syntax.specs.declared.replacement.Part.{Part}
 use Rattle.ed_syntax.specs.declared.replacement.Which.{Which}
+use Rattle.ed_syntax.specs.Commands as ed
 use Rattle.ed_syntax.specs.Commands.{Verb}
 use Rattle.ed_syntax.specs.meaning.Verbs.{may_be_listed}
 use Rattle.ed_syntax.specs.spelling.Readable.{enters_lines}
@@ -14,8 +15,12 @@ use Rattle.ed_syntax.specs.meaning.SubstitutedLines.{made_of, each}
 use Rattle.ed_syntax.specs.meaning.Globals.{flagged_line}
 use Rattle.ed_syntax.specs.meaning.CommandLaws.{WellMarked, AreWhole}
 use Rattle.ed_syntax.proofs.meaning.MarkLemmas.{well-exchanged, well-carried, well-substituted, well-marked_at, well-mapped_block}
-use Rattle.ed_syntax.proofs.meaning.WholeLemmas.{whole-plain, whole-exchanged, whole-block, whole-carried, whole-marked_at, whole-mapped, whole-each, made-lines}
 use Rattle.ed_syntax.proofs.meaning.GlobalLemmas.{flagged_of, fewer-exchanged, fewer-carried, fewer-substituted, same-marked_at}
+
+-- the pattern that is used where a command has one of its own, or not
+abbrev pub Uses : Option (List ℕ) → List ℕ → Type 0
+Uses None text = Unit {0}
+Uses (Some own) text = own ≡ text
 
 -- The lines stay; plain lines come in place of a block; a block is carried elsewhere, or what a substitution makes of it comes in its
 -- place; a letter marks a line; or the lines of a block have the flag where they are taken. The texts of plain lines are lines, if what
@@ -28,7 +33,7 @@ pub data Reshaped (verb : Verb) (xs : List Line) : List Line → Type 0 where
   substitute : (a b : ℕ) (text : List ℕ) (parts : List Part) (which : Which) → a ≤ b →
       Reshaped verb xs (exchanged a b (each (made_of text parts which) (block a b xs)).0 xs)
   mark : (place letter : ℕ) → Reshaped verb xs (marked_at place letter xs)
-  flag : (a b : ℕ) (which : Sense) (text : List ℕ) → a ≤ b → may_be_listed verb ≡ false →
+  flag : (a b : ℕ) (which : Sense) (own : Option (List ℕ)) (text : List ℕ) → a ≤ b → verb ≡ ed.Global which own → Uses own text →
       Reshaped verb xs (exchanged a b (map (flagged_line which text) (block a b xs)) xs)
 
 module _ (verb : Verb) (xs : List Line) where
@@ -38,22 +43,8 @@ module _ (verb : Verb) (xs : List Line) where
   well-reshaped _ (carry a b place h) marked = well-carried a b place xs h marked
   well-reshaped _ (substitute a b text parts which h) marked = well-substituted a b (made_of text parts which) xs h marked
   well-reshaped _ (mark place letter) marked = well-marked_at place letter xs marked
-  well-reshaped _ (flag a b which text h unlisted) marked =
+  well-reshaped _ (flag a b which own text h is uses) marked =
       well-mapped_block a b (flagged_line which text) (λ line. refl) xs h marked
-
-  pub whole-reshaped : enters_lines verb ≡ true → (ys : List Line) → Reshaped verb xs ys → AreWhole xs → AreWhole ys
-  whole-reshaped enters _ stay all = all
-  whole-reshaped enters _ (exchange a b texts h lines) all =
-      whole-exchanged a b (map plain_line texts) xs (whole-plain texts (lines enters all)) all
-  whole-reshaped enters _ (carry a b place h) all = whole-carried a b place xs all
-  whole-reshaped enters _ (substitute a b text parts which h) all =
-      let f = made_of text parts which in
-      whole-exchanged a b (each f (block a b xs)).0 xs
-      (whole-each f (made-lines text parts which) (block a b xs) (whole-block a b xs all)) all
-  whole-reshaped enters _ (mark place letter) all = whole-marked_at place letter xs all
-  whole-reshaped enters _ (flag a b which text h unlisted) all =
-      let f = flagged_line which text in
-      whole-exchanged a b (map f (block a b xs)) xs (whole-mapped f (λ line. refl) (block a b xs) (whole-block a b xs all)) all
 
   -- no more lines have the flag, where a command of a list does it
   pub fewer-reshaped : may_be_listed verb ≡ true → (ys : List Line) → Reshaped verb xs ys → flagged_of ys ≤ flagged_of xs
@@ -62,4 +53,4 @@ module _ (verb : Verb) (xs : List Line) where
   fewer-reshaped may _ (carry a b place h) = fewer-carried a b place xs h
   fewer-reshaped may _ (substitute a b text parts which h) = fewer-substituted a b (made_of text parts which) xs h
   fewer-reshaped may _ (mark place letter) = omega (arith, same-marked_at place letter xs)
-  fewer-reshaped may _ (flag a b which text h unlisted) = absurd (false≢true (sym unlisted ∙ may))
+  fewer-reshaped may _ (flag a b which own text h is uses) = absurd (false≢true (sym (ap may_be_listed is) ∙ may))

@@ -59,3 +59,7 @@ ran_short script o answers steps bytes = seen (cut steps bytes (run (script_of s
 -- the same of a silent run on a file
 abbrev pub cut_short : List ℕ → List ℕ → (steps bytes : ℕ) → Seen
 cut_short file script steps bytes = ran_short script (options true None) (answer.Bytes file ∷ []) steps bytes
+
+-- a row of a table: a statement with its proof
+pub data Row : Type 1 where
+  row : (Statement : Type 0) → Statement → Row

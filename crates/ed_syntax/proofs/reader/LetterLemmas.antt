@@ -1,7 +1,6 @@
 -- The verb of a letter with its parameters has no list and no split, and a letter for its mark; a text changes nothing of that.
 use Rattle.std.proofs.Common.{◌≡◌, ℕ, Bool, true, false, not, ◌&&◌, List, Option, refl}
-use Rattle.std.specs.Prelude.{nat_lt}
-use Rattle.std.proofs.lemmas.Bool.{lt-ltb, and_from}
+use Rattle.std.proofs.lemmas.Bool.{lt-ltb}
 use Rattle.ed_syntax.specs.Commands as ed
 use Rattle.ed_syntax.specs.Commands.{Verb}
 use Rattle.ed_syntax.specs.meaning.Verbs.{takes, marks_by_letter, has_split}

@@ -9,7 +9,7 @@ use Rattle.ed_syntax.specs.meaning.Verbs.{may_have, may_stand}
 use Rattle.ed_syntax.specs.reading.Tokens.{◌>>=◌, pattern_at}
 use Rattle.ed_syntax.specs.reading.ReadParameters.{Place, ParsedAt, place, replacement, end_at, substitution_with, substitution}
 use Rattle.ed_syntax.specs.reading.ReadVerbs.{verb_at}
-use Rattle.ed_syntax.specs.reading.ReadCommands.{Heading, Headed, verb_from, suffix_at, suffix_with, text, heading_with, headed, heading_after_addresses, finished, command_after_addresses}
+use Rattle.ed_syntax.specs.reading.ReadCommands.{Heading, Headed, verb_from, suffix_at, suffix_with, heading_with, headed, heading_after_addresses, finished, command_after_addresses}
 use Rattle.ed_syntax.proofs.meaning.StepLemmas.{Some-same, none_some, bind-some, either}
 use Rattle.ed_syntax.proofs.reader.VerbLemmas.{verb_at-sound}
 use Rattle.ed_syntax.proofs.reader.LetterLemmas.{stands, letter-simple, text-keeps}
