@@ -1,7 +1,7 @@
 #!/usr/bin/env python3
 """Measures bre_ask beside sed, perl and grep in one run: lines made to be slow, many short lines, and long lines.
 
-    python3 measure.py [hostile] [growth] [lines] [long] [places] [searcher] [all] [letter]
+    python3 measure.py [hostile] [growth] [lines] [long] [places] [searcher] [all] [letter] [references]
 
 Each figure is processor seconds, the least of three runs, and the most memory in MB; what runs the programs has 11 MB
 itself, so no less is told, and no text is held here. `^` is how the time grows with the line: 1 is in proportion, 2 is with
@@ -72,12 +72,17 @@ def counted(command, out):
     return int(printed) if printed.isdigit() else printed
 
 
+def limit():
+    resource.setrlimit(resource.RLIMIT_CPU, (MOST, MOST))
+    resource.setrlimit(resource.RLIMIT_AS, (4 << 30, 4 << 30))
+
+
 def run(command, path):
     """Processor seconds, MB and what is counted of the output, or None after too long a time."""
     with open(path) as text, tempfile.TemporaryFile() as out:
         child = subprocess.Popen(
             command, stdin=text, stdout=out, stderr=subprocess.DEVNULL, env={**os.environ, 'LC_ALL': 'C'},
-            preexec_fn=lambda: resource.setrlimit(resource.RLIMIT_CPU, (MOST, MOST)))
+            preexec_fn=limit)
         _, status, used = os.wait4(child.pid, 0)
         child.returncode = status
         out.seek(0)
@@ -271,8 +276,43 @@ def print_rows(patterns, programs, path):
         print(f'  {pattern:26} {next(iter(seen.values()), "-"):>9}  ' + '  '.join(row) + differ, flush=True)
 
 
+# Patterns with back-references whose ways are many: many of them end at one place with the same spans of the groups referred to.
+REFERENCES = (
+    (r'\(a\{1,2\}[\a]\)*a\1$', 'a', lambda size: 'a' * size),
+    (r'\(.*\)*\1', 'a', lambda size: 'a' * size),
+    (r'\(a*\)*\1b', 'b, a, cb', lambda size: 'b' + 'a' * size + 'cb'),
+    (r'\(a*\)*\1bb', 'b, a, cb', lambda size: 'b' + 'a' * size + 'cbbc'),
+    (r'\(\(a\)*b\)*\1\2', 'aab', lambda size: 'aab' * (size // 3)),
+    (r'\(a\{0,9\}\)\{0,9\}\1$', 'a, b', lambda size: 'a' * size + 'b'),
+    (r'\(a\{1,3\}\)*b\1$', 'a, b, aa', lambda size: 'a' * size + 'baa'),
+    (r'\(a*b*\)*\1$', 'ab, c', lambda size: 'ab' * (size // 2) + 'c'),
+    (r'\(.\{1,3\}\)*\1\1$', 'a', lambda size: 'a' * size),
+    (r'\(a*\)\{2,\}\1b', 'a, b', lambda size: 'a' * size + 'b'),
+    (r'\([^,]*\),\(.*,\)*\1$', 'ab,', lambda size: 'ab,' * (size // 3) + 'cd'),
+)
+
+
+def measure_references(folder, starting):
+    """Patterns with back-references beside sed, perl and GNU ed, on lines of growing length, and one of them on a file as people write."""
+    for pattern, name, line in REFERENCES:
+        print(f'\n{pattern}  on {name}')
+        for size in (68, 200, 400, 1_000):
+            path = written(folder, str(size), line(size) + '\n')[0]
+            print_rows((pattern,), lambda asked: with_editor(asked, path), path)
+    path = os.path.join(HERE, '../../tests/against/README.md')
+    print(f'\n{REFERENCES[-1][0]}  on {os.path.relpath(path, HERE)}')
+    print_rows((REFERENCES[-1][0],), lambda asked: with_editor(asked, path), path)
+
+
+def with_editor(pattern, path):
+    """Those programs, and GNU ed, whose lines are counted."""
+    script = 'printf "%s\\n" "g/$1/p" | ed -s "$0" | grep -c ^'
+    found = commands(pattern)
+    return {'bre_ask': found['bre_ask'], 'sed': found['sed -n'], 'perl': found['perl'], 'ed': ['sh', '-c', script, path, pattern]}
+
+
 PARTS = {'hostile': measure_hostile, 'growth': measure_growth, 'lines': measure_lines, 'long': measure_long, 'places': measure_places,
-         'searcher': measure_searcher, 'all': measure_all, 'letter': measure_letter}
+         'searcher': measure_searcher, 'all': measure_all, 'letter': measure_letter, 'references': measure_references}
 
 
 def main():

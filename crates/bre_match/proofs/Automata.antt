@@ -1,6 +1,7 @@
 -- What an automaton keeps of a step holds in each text, and one gets out somewhere exactly where there is a match.
 use Rattle.std.proofs.Common.{◌≡◌, ℕ, zero, suc, ◌+◌, ◌-◌, ◌<◌, ◌≤◌, ◌⊎◌, inl, inr, List, [], ◌∷◌, length, Option, Some, None, Bool, true, false, cond, ltb, eqb, refl, ap, ◌∙◌, subst, arith, slice_get}
 use Rattle.std.specs.Prelude.{is_some}
+use Rattle.std.proofs.lemmas.Bool.{cases_lt}
 use Rattle.bre_parse.specs.Tree.{Tree}
 use Rattle.bre_parse.specs.Groups.{no_groups, refers}
 use Rattle.bre_parse.specs.Ways.{Way, ways, by_end, insert_way, has_byte_in}
@@ -126,14 +127,11 @@ none_out_no_match t s from free order le h =
 
 -- Where there is no mark, no start before leads on
 
-before_or_not : (y x : ℕ) → (y < x) ⊎ (x ≤ y)
-before_or_not y x = grind arith
-
 pub none_before : (part : Part) (s : List ℕ) (from n : ℕ) → unmarked part ≡ true → columns part s from any_start n ≡ part →
     ((m : ℕ) → m < n → out_of part s from any_start m ≡ None) → (p y : ℕ) → from ≤ p → p < from + n → Reaches part s p y → ⊥
 none_before part s from n u c h p y low lt r =
     let up = forth part s p y r in
-    elim (before_or_not y (from + n)) [
+    elim (cases_lt y (from + n)) [
       | inl before ↦ (
           let is : y ≡ from + (y - from) = omega arith in
           reached_out part s from (y - from) p y low up is (h (y - from) (omega arith)) r)

@@ -4,6 +4,7 @@ use Rattle.std.proofs.lemmas.Bool.Decides.{nat_tests}
 use Rattle.std.proofs.lemmas.List.{length-take, get_or-take, get_or-set_same, get_or-set_other, get_or-replicate, get_or_past, length-replicate, length-set, get_or_read, get_or_default}
 use Rattle.std.proofs.lemmas.Option.{slice_get_past, slice_get-get_or, same_Some}
 use Rattle.std.specs.Prelude.{is_some}
+use Rattle.std.proofs.lemmas.Bool.{cases_lt}
 use Rattle.bre_parse.specs.Ways.{has_byte_in}
 use Rattle.bre_match.specs.declared.state.Starts.{Starts}
 use Rattle.bre_match.specs.declared.state.Starts.TheVariants as kind
@@ -178,13 +179,10 @@ grown starts part old new table wider begun room grows same large h = record {
 
 -- tables in which nothing is known
 
-within_or_past : (k n : ℕ) → (k < n) ⊎ (n ≤ k)
-within_or_past k n = grind arith
-
 unknown_everywhere : (n : ℕ) (table : List ℕ) → table ≡ replicate n 65535 → (k : ℕ) → get_or table k 65535 ≡ 65535
 unknown_everywhere n table is k =
     ap (λ l. get_or l k 65535) is
-    ∙ elim (within_or_past k n) [
+    ∙ elim (cases_lt k n) [
       | inl lt ↦ get_or-replicate n k 65535 65535 lt
       | inr le ↦ get_or_past (replicate n 65535) k 65535 (subst (λ m. m ≤ k) (sym (length-replicate {A = ℕ} n 65535)) le)
     ]

@@ -1,6 +1,7 @@
 -- A run of columns: what gets out is just what can be reached from an entry, with the least weight.
 use Rattle.std.proofs.Common.{◌≡◌, ℕ, zero, suc, ◌+◌, ◌-◌, ◌<◌, ◌≤◌, ◌⊎◌, inl, inr, List, Option, Some, None, Bool, true, false, refl, subst, arith}
 use Rattle.std.specs.Prelude.{◌&&◌}
+use Rattle.std.proofs.lemmas.Bool.{and_from}
 use Rattle.bre_parse.specs.Tree.{Tree, Empty, Then, Set, TextStart, TextEnd, BackReference, Group, Repeat}
 use Rattle.bre_match.specs.Parts.{Part, Nothing, Never, One, AtStart, AtEnd, Both, Maybe, Star, Reaches, part_of, needed, up_to}
 use Rattle.bre_match.specs.Ends.{columns, out_of}
@@ -32,21 +33,17 @@ none_pending (Both a b) s x y w u h =
 none_pending (Maybe a) s x y w u h = none_pending a s x y w u h
 none_pending (Star a) s x y w u h = none_pending a s x h.0 w u h.1
 
-both_true : (a b : Bool) → a ≡ true → b ≡ true → (a && b) ≡ true
-both_true true b e f = f
-both_true false b e f = absurd (cc)
-
 unmarked_needed : (n : ℕ) (c rest : Part) → unmarked c ≡ true → unmarked rest ≡ true → unmarked (needed n c rest) ≡ true
 unmarked_needed zero c rest u v = v
-unmarked_needed (suc n) c rest u v = both_true (unmarked c) _ u (unmarked_needed n c rest u v)
+unmarked_needed (suc n) c rest u v = and_from (unmarked c) _ u (unmarked_needed n c rest u v)
 
 unmarked_up_to : (n : ℕ) (c : Part) → unmarked c ≡ true → unmarked (up_to n c) ≡ true
 unmarked_up_to zero c u = refl
-unmarked_up_to (suc n) c u = both_true (unmarked c) _ u (unmarked_up_to n c u)
+unmarked_up_to (suc n) c u = and_from (unmarked c) _ u (unmarked_up_to n c u)
 
 pub unmarked_part : (t : Tree) → unmarked (part_of t) ≡ true
 unmarked_part Empty = refl
-unmarked_part (Then a b) = both_true (unmarked (part_of a)) _ (unmarked_part a) (unmarked_part b)
+unmarked_part (Then a b) = and_from (unmarked (part_of a)) _ (unmarked_part a) (unmarked_part b)
 unmarked_part (Set n r) = refl
 unmarked_part TextStart = refl
 unmarked_part TextEnd = refl

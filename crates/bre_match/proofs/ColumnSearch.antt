@@ -2,6 +2,7 @@
 use Rattle.std.proofs.Common.{◌≡◌, ℕ, suc, ◌+◌, ◌-◌, ◌<◌, ◌≤◌, ◌⊎◌, inl, inr, List, [], ◌∷◌, ◌++◌, length, drop, Option, Some, None, Bool, true, false, cond, leb, ltb, refl, ap, sym, ◌∙◌, subst, arith}
 use Rattle.std.proofs.lemmas.Bool.Decides.{nat_tests}
 use Rattle.std.specs.Prelude.{◌&&◌, option_map, IfSome}
+use Rattle.std.proofs.lemmas.Bool.{cases_lt}
 use Rattle.bre_parse.specs.Tree.{Tree}
 use Rattle.bre_parse.specs.Groups.{no_groups}
 use Rattle.bre_parse.specs.Ways.{ways}
@@ -148,9 +149,6 @@ marks_above (Both a c) s b x y w e h =
 marks_above (Maybe a) s b x y w e h = marks_above a s b x y w e h
 marks_above (Star a) s b x y w e h = marks_above a s b x h.0 w e h.1
 
-place_before : (y x : ℕ) → (y < x) ⊎ (x ≤ y)
-place_before y x = grind arith
-
 none_later : (t : Part) (s : List ℕ) (from n x b : ℕ) → x ≡ from + n → none_up_to b (marks_of (columns t s from (λ p. Some p) n)) ≡ true → (p y : ℕ) → from ≤ p → p ≤ b → b < x → x ≤ y → Reaches t s p y → ⊥
 none_later t s from n x b is e p y low le lt high r =
     let st = columns_stand t s from (λ q. Some q) n p y p low (omega arith) (omega arith) (p, refl, omega arith) r in
@@ -168,8 +166,8 @@ best_of_all t s from n x last (Some best) is over le h =
       begins = h.begins;
       there = h.there;
       before = omega arith;
-      sooner = λ p y low lt before r. elim (place_before y x) [ inl i ↦ h.sooner p y low lt i r | inr i ↦ none_later t s from n x best.0 is over p y low (omega arith) (omega arith) i r ];
-      longer = λ y above before r. elim (place_before y x) [ inl i ↦ h.longer y above i r | inr i ↦ none_later t s from n x best.0 is over best.0 y h.begins (omega arith) (omega arith) i r ];
+      sooner = λ p y low lt before r. elim (cases_lt y x) [ inl i ↦ h.sooner p y low lt i r | inr i ↦ none_later t s from n x best.0 is over p y low (omega arith) (omega arith) i r ];
+      longer = λ y above before r. elim (cases_lt y x) [ inl i ↦ h.longer y above i r | inr i ↦ none_later t s from n x best.0 is over best.0 y h.begins (omega arith) (omega arith) i r ];
     }
 
 -- The match
@@ -203,7 +201,7 @@ best_is_match t s from (Some best) free order le h =
     w.1))
   where
     not_longer : (m e : ℕ) → (e < m → ⊥) → m ≤ e
-    not_longer m e no_way = elim (place_before e m) [ inl lt ↦ absurd (no_way lt) | inr le2 ↦ le2 ]
+    not_longer m e no_way = elim (cases_lt e m) [ inl lt ↦ absurd (no_way lt) | inr le2 ↦ le2 ]
 
 -- Columns in rows
 

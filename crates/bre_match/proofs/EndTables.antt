@@ -2,6 +2,7 @@
 use Rattle.std.proofs.Common.{◌≡◌, ℕ, ◌+◌, ◌-◌, ◌≤◌, ◌⊎◌, inl, inr, List, [], length, get_or, Option, Some, None, Bool, true, false, eqb, is_some, refl, sym, subst, arith}
 use Rattle.std.proofs.lemmas.Bool.Decides.{nat_tests}
 use Rattle.std.specs.Prelude.{◌&&◌, ◌||◌}
+use Rattle.std.proofs.lemmas.Bool.{and_from}
 use Rattle.bre_match.specs.Parts.{Part, Reaches}
 use Rattle.bre_match.specs.Columns.{where_true}
 use Rattle.bre_match.specs.Backwards.{Backwards, IsPiece}
@@ -82,10 +83,6 @@ true_at_right : (a b : Bool) → b ≡ true → (a || b) ≡ true
 true_at_right true b h = refl
 true_at_right false b h = h
 
-both_are : (a b : Bool) → a ≡ true → b ≡ true → (a && b) ≡ true
-both_are true b h i = i
-both_are false b h i = absurd (cc)
-
 some_end : (t : Part) (G : ℕ → Type 0) (s : List ℕ) (e n : ℕ) (o : Option ℕ) → is_some o ≡ true → LastEnd t G s e n o → (m : ℕ) × (m ≤ e) × Reaches t s n m × G m
 some_end t G s e n None f h = absurd (cc)
 some_end t G s e n (Some d) f h = (e - d, omega arith, h.1, h.2)
@@ -108,7 +105,7 @@ leads t G s b e stops table all n low high h =
 pub leads_at_end : (stops : Bool) (table : List (Option ℕ)) (e n : ℕ) → stops ≡ true → n ≡ e → leads_on stops table (e - n) ≡ true
 leads_at_end stops table e n h i =
     let j : e - n ≡ 0 = omega arith in
-    true_at_left (stops && eqb (e - n) 0) (is_some (get_or table (e - n) None)) (both_are stops (eqb (e - n) 0) h (grind (arith, nat_tests, j)))
+    true_at_left (stops && eqb (e - n) 0) (is_some (get_or table (e - n) None)) (and_from stops (eqb (e - n) 0) h (grind (arith, nat_tests, j)))
 
 pub leads_further : (t : Part) (G : ℕ → Type 0) (s : List ℕ) (b e : ℕ) (stops : Bool) (table : List (Option ℕ)) → LastEnds t G s b e table → (n m : ℕ) → b ≤ n → n ≤ e → m ≤ e → Reaches t s n m → G m → leads_on stops table (e - n) ≡ true
 leads_further t G s b e stops table all n m low high le r g =

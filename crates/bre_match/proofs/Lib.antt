@@ -2,10 +2,16 @@ pub mod Places
 pub mod Rows
 pub mod Sorting
 pub mod Merging
+pub mod Likeness
+pub mod SameWays
+pub mod Keeping
+pub mod Asking
 pub mod Tasks
+pub mod Following
 pub mod GroupRuns
 pub mod Narrowing
 pub mod Turning
+pub mod MergedTurns
 pub mod Starts
 pub mod PartKinds
 pub mod Columns

@@ -2,6 +2,7 @@
 use Rattle.std.proofs.Common.{◌≡◌, ℕ, zero, suc, ◌+◌, ◌-◌, ◌<◌, ◌≤◌, ◌⊎◌, inl, inr, List, [], ◌∷◌, ◌++◌, length, get_or, Option, Some, None, Bool, true, eqb, refl, ap, sym, ◌∙◌, subst, arith, length-append}
 use Rattle.std.proofs.lemmas.Bool.Decides.{nat_tests}
 use Rattle.std.specs.Prelude.{slice_get}
+use Rattle.std.proofs.Math.Nat.{eq-or-lt_of_le}
 use Rattle.bre_parse.specs.Tree.{Tree}
 use Rattle.bre_match.specs.Parts.{Part, part_of}
 use Rattle.bre_match.specs.Columns.{peek, step}
@@ -39,9 +40,6 @@ get_last [] x (suc i) e = absurd (omega arith)
 get_last (y ∷ xs) x zero e = absurd (omega arith)
 get_last (y ∷ xs) x (suc i) e = get_last xs x i (omega arith)
 
-here_or_later : (a b : ℕ) → a ≤ b → (a ≡ b) ⊎ (a < b)
-here_or_later a b h = grind arith
-
 pub copied_next : (text : List ℕ) (low high at next : ℕ) (piece new : List ℕ) (byte : ℕ) → low < at → high ≤ length text → next ≡ at - 1 → Copied text low high at piece → slice_get text next ≡ Some byte → new ≡ piece ++ byte ∷ [] → Copied text low high next new
 copied_next text low high at next piece new byte lt within is h there made =
     let few = h.few in
@@ -50,7 +48,7 @@ copied_next text low high at next piece new byte lt within is h there made =
       above = omega arith;
       few = omega arith;
       size = ap length made ∙ length-append piece (byte ∷ []) ∙ omega arith;
-      bytes = λ p lo hi. ap (λ z. slice_get z (high - (p + 1))) made ∙ by_cases p lo hi (here_or_later next p lo);
+      bytes = λ p lo hi. ap (λ z. slice_get z (high - (p + 1))) made ∙ by_cases p lo hi (eq-or-lt_of_le {n = next} {m = p} lo);
     }
   where
     by_cases : (p : ℕ) → next ≤ p → p < high → (next ≡ p) ⊎ (next < p) → slice_get (piece ++ byte ∷ []) (high - (p + 1)) ≡ slice_get text p
@@ -110,7 +108,7 @@ run_next t s entry place weight out marks next all new le h w o m made =
       column =
           column_of_row (part_of t) s 0 entry (suc place) next row
           ∙ ap (λ z. columns (part_of t) s 0 entry z) (let i : suc place ≡ place + 1 = omega arith in i);
-      told = λ i lt. ap (λ z. get_or z i None) made ∙ by_cases i (here_or_later i place (omega arith));
+      told = λ i lt. ap (λ z. get_or z i None) made ∙ by_cases i (eq-or-lt_of_le {n = i} {m = place} (omega arith));
     }
   where
     zero_more : 0 + place ≡ place

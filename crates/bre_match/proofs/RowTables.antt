@@ -3,6 +3,7 @@ use Rattle.std.proofs.Common.{◌≡◌, ℕ, zero, suc, ◌+◌, ◌-◌, ◌<�
 use Rattle.std.proofs.lemmas.Bool.Decides.{nat_tests}
 use Rattle.std.proofs.lemmas.Option.{slice_get_read}
 use Rattle.std.specs.Prelude.{slice_get}
+use Rattle.std.proofs.Math.Nat.{eq-or-lt_of_le}
 use Rattle.bre_parse.specs.declared.tree.Node.{Node}
 use Rattle.bre_parse.specs.Tree.{Then, tree_of, sequence_of}
 use Rattle.bre_parse.specs.Groups.{Groups}
@@ -57,9 +58,6 @@ row_begun items s b e tables empty is all = record {
   each = λ item table lt le h. absurd (omega arith);
 }
 
-here_or_before : (a b : ℕ) → a ≤ b → (a ≡ b) ⊎ (a < b)
-here_or_before a b h = grind arith
-
 pub read_there : (xs : List Node) (k : ℕ) (x : Node) → slice_get xs k ≡ Some x → x ≡ get_or xs k x
 read_there [] k x h = absurd (cc)
 read_there (y ∷ xs) zero x h = cc
@@ -110,7 +108,7 @@ row_next items s b e told tables all prev new next item read h lt is at made end
       few = omega arith;
       size = let n = h.size in length-append tables (new ∷ []) ∙ omega arith;
       none = λ table i. let n = h.size in h.none table (there_before tables new table 0 (omega arith) i);
-      each = λ j table l m i. by_cases j table l i (here_or_before (length items) (j + told + 1) (omega arith));
+      each = λ j table l m i. by_cases j table l i (eq-or-lt_of_le {n = length items} {m = j + told + 1} (omega arith));
     })
   where
     ends : LastEnds (part_of (tree_of item)) (λ n. leads_on (eqb told 0) prev.items (e - n) ≡ true) s b e new.items

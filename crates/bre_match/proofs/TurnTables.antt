@@ -3,6 +3,7 @@ use Rattle.std.proofs.Common.{◌≡◌, ℕ, zero, suc, ◌+◌, ◌-◌, ◌<�
 use Rattle.std.proofs.lemmas.Bool.Decides.{nat_tests}
 use Rattle.std.proofs.lemmas.Option.{slice_get_read}
 use Rattle.std.specs.Prelude.{◌&&◌, slice_get}
+use Rattle.std.proofs.Math.Nat.{eq-or-lt_of_le}
 use Rattle.bre_parse.specs.Tree.{Tree, Group, Repeat}
 use Rattle.bre_parse.specs.Groups.{Groups, cleared}
 use Rattle.bre_parse.specs.Ways.{ways, turns, fresh_turn, below, enough}
@@ -120,15 +121,12 @@ turns_begun c least most s b e tables base all further = record {
       subst (λ (z : Vec (Option ℕ) Global). TurnTable c least most s b e done z.items) same (further done (omega arith));
 }
 
-here_or_before : (a b : ℕ) → a ≤ b → (a ≡ b) ⊎ (a < b)
-here_or_before a b h = grind arith
-
 pub turns_next : (c : Part) (least : ℕ) (most : Option ℕ) (s : List ℕ) (b e told turns : ℕ) (stops : Bool) (tables all : List (Vec (Option ℕ) Global)) (prev new : Vec (Option ℕ) Global) (read : List (Option ℕ)) → turns ≡ told_turns least most → read ≡ prev.items → TurnsSoFar c least most s b e told tables → told < turns → stops ≡ leb least (turns - told) → prev ≡ get_or tables told prev → all ≡ tables ++ new ∷ [] → LastEnds c (λ n. leads_on stops read (e - n) ≡ true) s b e new.items → TurnsSoFar c least most s b e (told + 1) all
 turns_next c least most s b e told turns_there stops tables all prev new read_there num same_read h lower stop_there at made ended =
     subst (λ z. TurnsSoFar c least most s b e (told + 1) z) (sym made) (record {
       few = let l : told < told_turns least most = lt in omega arith;
       size = let n = h.size in length-append tables (new ∷ []) ∙ omega arith;
-      each = λ done table le i. by_cases done table le i (here_or_before (told_turns least most) (done + (told + 1)) le);
+      each = λ done table le i. by_cases done table le i (eq-or-lt_of_le {n = told_turns least most} {m = done + (told + 1)} le);
     })
   where
     lt : told < told_turns least most
@@ -263,7 +261,7 @@ turns_read_next c s least most low high done place left end old groups new free 
 first_busy : (R : ℕ → ℕ → Type 0) → ((p q : ℕ) → R p q → p ≤ q) → (k x y : ℕ) → Power R k x y → (x ≡ y) ⊎ ((m : ℕ) × (j : ℕ) × (x < m) × (j < k) × R x m × Power R j m y)
 first_busy R all zero x y h = inl h
 first_busy R all (suc k) x y h =
-    elim (here_or_before x h.0 (all x h.0 h.1)) [
+    elim (eq-or-lt_of_le {n = x} {m = h.0} (all x h.0 h.1)) [
       | inl e ↦
           elim (first_busy R all k x y (subst (λ m. Power R k m y) (sym e) h.2)) [
             | inl i ↦ inl i

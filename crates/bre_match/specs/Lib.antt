@@ -2,13 +2,15 @@
 pub mod Answer
 -- what a searcher looks for
 pub mod Searchers
--- what is kept from one searcher to the next, tied to what they look for by a law: `resume` takes it, `of` and `leave` give it
+-- what is kept from one searcher to the next, handed on between calls alone: `resume` takes it, `of` and `leave` give it
 pub mod Learning
--- laws of first ways
+-- laws of first ways, and which of them count as one
+pub mod Alike
 pub mod Laws
 -- these only serve clauses inside the crate
 pub mod Runs
 pub mod Narrowing
+pub mod Keeping
 pub mod Order
 pub mod Turns
 pub mod Starts

@@ -10,11 +10,14 @@ ghost use Rattle.bre_parse.specs.Match.{match_from};
 ghost use Rattle.bre_match.specs.Answer.{spans, LiesWithin};
 
 mod ahead;
+mod alike;
+mod asked;
 mod automaton;
 mod backwards;
 mod column;
 mod ending;
 mod grouping;
+mod index;
 pub mod laws;
 mod learned;
 mod narrow;
@@ -28,6 +31,7 @@ mod run;
 mod scan;
 mod search;
 mod searcher;
+mod seen;
 mod span;
 mod start;
 mod state;
@@ -36,6 +40,7 @@ mod transition;
 mod turn;
 mod word;
 
+use crate::asked::asked_groups;
 use crate::grouping::set_row;
 use crate::needed::{first_start, lacks_needed};
 use crate::row::{is_quick_row, is_told_in_order, is_too_wide};
@@ -150,8 +155,9 @@ fn match_here(
     ensures value { IfOk result (λ found. IfSome found (λ m. Some (spans m) ≡ match_from (sequence_of items.now) text.now from)) }
     ensures within { IfOk result (λ found. IfSome found (LiesWithin from (length text.now))) }
 {
+    let asked = asked_groups(items);
     let mut left = Vec::new(alloc);
-    match longest_from(&mut left, alloc, items, text, from)? {
+    match longest_from(&mut left, alloc, items, &asked, text, from)? {
         Some(way) => {
             let end = way.0;
             let groups = way.1;
@@ -176,10 +182,11 @@ fn searched_match(
     ensures value { IfOk result (λ found. option_map spans found ≡ match_from (sequence_of items.now) text.now from) }
     ensures within { IfOk result (λ found. IfSome found (LiesWithin from (length text.now))) }
 {
+    let asked = asked_groups(items);
     let mut left = Vec::new(alloc);
     let mut start = first_start(items, text, from);
     while start <= text.len() {
-        match longest_from(&mut left, alloc, items, text, start)? {
+        match longest_from(&mut left, alloc, items, &asked, text, start)? {
             Some(way) => {
                 let end = way.0;
                 let groups = way.1;

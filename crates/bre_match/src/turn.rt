@@ -1,9 +1,11 @@
 //! What is left to do in a repeat, turn after turn.
 
-ghost use Rattle.std.specs.Prelude.{◌≡◌, ℕ, ◌+◌, ◌<◌, ◌^◌, ◌++◌, flat_map, reverse, option_to_list, OnOk};
-ghost use Rattle.bre_match.specs.Turns.{after_way};
+ghost use Rattle.std.specs.Prelude.{◌≡◌, ℕ, ◌+◌, ◌<◌, ◌^◌, ◌++◌, ◌&&◌, flat_map, reverse, option_to_list, nat_lt, nat_le, IsTrue, OnOk};
+ghost use Rattle.bre_parse.specs.Ways.{below};
+ghost use Rattle.bre_match.specs.Turns.{after_way, turn_if};
+ghost use Rattle.bre_match.specs.declared.turn.Turn.TheVariants as turn;
 
-use crate::run::Way;
+use crate::run::{Way, is_below};
 use std::alloc::AllocError;
 
 /// What is left to do in a repeat: the next turn after a way, with so many turns done, or to hand out a way.
@@ -19,6 +21,27 @@ pub(crate) struct Bounds {
     pub least: u8,
     pub most: Option<u8>,
     pub enough: usize,
+    /// There is no most, and the repeat begins within the text.
+    pub unbounded: bool,
+}
+
+/// Whether one more turn may begin after so many.
+pub(crate) fn may_begin(bounds: Bounds, done: usize) -> bool
+    ensures value { result ≡ (nat_lt done bounds.enough && below done bounds.most) }
+    ensures room { IsTrue result → done + 1 < 2 ^ 64 }
+{
+    done < bounds.enough && is_below(done, bounds.most)
+}
+
+/// The way where a repeat may end after so many turns.
+pub(crate) fn ended_if(bounds: Bounds, done: usize, way: Way) -> Option<Turn>
+    ensures value { option_to_list result ≡ turn_if (nat_le bounds.least done) (turn.Ended way) }
+{
+    if bounds.least as usize <= done {
+        Some(Turn::Ended(way))
+    } else {
+        None
+    }
 }
 
 // What one way of a turn that began at this place after so many leaves to do.
