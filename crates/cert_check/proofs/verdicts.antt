@@ -10,3 +10,4 @@ pub mod Counting
 pub mod Judging
 pub mod Covering
 pub mod Opening
+pub mod MarkedOpening

@@ -5,3 +5,4 @@ pub mod Opening
 pub mod Sound
 -- what only serves clauses inside the crate
 pub mod Passing
+pub mod MarkedStart

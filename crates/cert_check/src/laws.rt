@@ -14,6 +14,7 @@ ghost use Rattle.cert_check.specs.checker.Covering.{covers};
 ghost use Rattle.cert_check.specs.checker.Valid.{judged};
 ghost use Rattle.cert_check.specs.text.HasText.{IsText};
 ghost use Rattle.cert_check.specs.text.Faults.{IsVersionFault, IsLineFault, IsSizeFault};
+ghost use Rattle.cert_check.specs.checker.MarkedStart.{MarkedStartsSuffice, MarkedStartsStand};
 ghost use Rattle.cert_check.specs.checker.Opening.{StartIsSound};
 ghost use Rattle.cert_check.specs.checker.Sound.{IsAllowed, GlobalGoesWell, CannotFail, CannotFailInBounds};
 
@@ -21,7 +22,10 @@ use ed_rules::{
     commands_are_sound, globals_are_sound, needs_are_the_same_whatever_is_watched,
     weaker_states_stand_for_more,
 };
-use ed_syntax::{commands_are_placed, files_have_lines, lists_add_no_flags, lists_note_changes};
+use ed_syntax::{
+    commands_are_placed, files_have_lines, lists_add_no_flags, lists_note_changes,
+    unnamed_letters_change_nothing,
+};
 use zones::known_bounds_are_true;
 
 /// The test of covering says whether one state covers another.
@@ -65,6 +69,32 @@ pub fn accepted_scripts_cannot_fail()
     starts_are_sound();
     weaker_states_stand_for_more();
     known_bounds_are_true();
+    unnamed_letters_change_nothing();
+}
+
+/// Where a state stands for each allowed start with marks that the script doesn't name on its lines, and the checks from that state on
+/// are accepted, the script can't fail.
+pub fn marked_starts_suffice()
+    ensures sound { MarkedStartsSuffice }
+{
+    commands_are_sound();
+    globals_are_sound();
+    needs_are_the_same_whatever_is_watched();
+    checked_globals_go_well();
+    commands_are_placed();
+    covering_is_decided();
+    starts_are_sound();
+    weaker_states_stand_for_more();
+    known_bounds_are_true();
+    unnamed_letters_change_nothing();
+}
+
+/// A state that stands for a file's lines stands for them with marks on them once it knows of the marks.
+pub fn marked_starts_stand()
+    ensures sound { MarkedStartsStand }
+{
+    files_have_lines();
+    unnamed_letters_change_nothing();
 }
 
 /// A certificate of version 1 allows exactly the starts whose number of lines lies in its bounds, so it promises what it did before

@@ -2,6 +2,7 @@
 use Rattle.std.proofs.Common.{◌≡◌, ◌<◌, ℕ, Bool, true, false, ◌&&◌, List, [], ◌∷◌, Option, None, Some, refl, ◌∙◌, sym, arith}
 use Rattle.std.specs.Ordering.{is_eq}
 use Rattle.std.proofs.lemmas.List.FromFn.{get_or-map-range_with_len}
+use Rattle.std.proofs.lemmas.Bool.{and_from, and_parts, or_left, or_right}
 use Rattle.zones.specs.Zone as zones
 use Rattle.zones.specs.Zone.{Bounds}
 use Rattle.zones.specs.Steps.{join_of, widening_of}
@@ -11,7 +12,7 @@ use Rattle.ed_rules.specs.Choices.{Choice, order_of, has_choice, union, are_choi
 use Rattle.ed_rules.specs.Marks.{is_sure, both_sure}
 use Rattle.ed_rules.specs.Order.{old_of_both, old_has_of_both, united, join, widen, CoversOld, CoversOldHas, Covers}
 use Rattle.ed_rules.proofs.Texting.{members-same, members-through, members-both, members-both_other}
-use Rattle.ed_rules.proofs.Choosing.{choice-itself, or-left, or-right, has_choice-all, has-union, has-union_other}
+use Rattle.ed_rules.proofs.Choosing.{choice-itself, has_choice-all, has-union, has-union_other}
 
 -- the laws on zones that this rests on
 pub record Laws : Type 0 where
@@ -24,19 +25,11 @@ pub record Laws : Type 0 where
 
 -- SETS OF CHOICES
 
-both : (a b : Bool) → a ≡ true → b ≡ true → a && b ≡ true
-both true b h k = k
-both false b h k = cc
-
-parts : (a b : Bool) → a && b ≡ true → (a ≡ true) × (b ≡ true)
-parts true b h = (refl, h)
-parts false b h = cc
-
 choices-more : (few many : List Choice) → ((c : Choice) → has_choice few c ≡ true → has_choice many c ≡ true) → are_choices few many ≡ true
 choices-more [] many h = refl
 choices-more (c ∷ few) many h =
-    both (has_choice many c) (are_choices few many) (h c (or-left (is_eq (order_of c c)) (has_choice few c) (choice-itself c)))
-    (choices-more few many (λ d k. h d (or-right (is_eq (order_of d c)) (has_choice few d) k)))
+    and_from (has_choice many c) (are_choices few many) (h c (or_left (is_eq (order_of c c)) (has_choice few c) (choice-itself c)))
+    (choices-more few many (λ d k. h d (or_right (is_eq (order_of d c)) (has_choice few d) k)))
 
 choices-same : (set : List Choice) → are_choices set set ≡ true
 choices-same set = choices-more set set (λ c h. h)
@@ -55,7 +48,7 @@ choices-union_other one other = choices-more other (union one other) (λ c h. ha
 sure-both : (one other : List Bool) (letter : ℕ) → letter < 26 → is_sure (both_sure one other) letter ≡ true → (is_sure one letter ≡ true) × (is_sure other letter ≡ true)
 unfolding both_sure
 sure-both one other letter l e =
-    parts (is_sure one letter) (is_sure other letter)
+    and_parts (is_sure one letter) (is_sure other letter)
     (sym (get_or-map-range_with_len (λ (k : ℕ). is_sure one k && is_sure other k) 0 26 letter letter false l (omega arith)) ∙ e)
 
 -- WHAT UNDO KEEPS
@@ -144,14 +137,14 @@ united-covers k one other zone z = record {
   zone = z;
   marks = λ letter l e. (sure-both one.marks other.marks letter l e).0;
   patterns = choices-union one.patterns other.patterns;
-  no_replacement = λ e. or-left one.replacements.none other.replacements.none e;
-  plain_replacement = λ e. or-left one.replacements.plain other.replacements.plain e;
-  split_replacement = λ e. or-left one.replacements.split other.replacements.split e;
+  no_replacement = λ e. or_left one.replacements.none other.replacements.none e;
+  plain_replacement = λ e. or_left one.replacements.plain other.replacements.plain e;
+  split_replacement = λ e. or_left one.replacements.split other.replacements.split e;
   names = choices-union one.names other.names;
-  unchanged = λ e. or-left one.changed.no other.changed.no e;
-  changed = λ e. or-left one.changed.yes other.changed.yes e;
-  nothing = λ e. or-left one.undo.nothing other.undo.nothing e;
-  same = λ e. or-left one.undo.same other.undo.same e;
+  unchanged = λ e. or_left one.changed.no other.changed.no e;
+  changed = λ e. or_left one.changed.yes other.changed.yes e;
+  nothing = λ e. or_left one.undo.nothing other.undo.nothing e;
+  same = λ e. or_left one.undo.same other.undo.same e;
   was = old-both k one.undo.was other.undo.was;
   matched = members-both one.has other.has;
   old_matched = matched-both one.undo.was other.undo.was one.old_has other.old_has;
@@ -162,14 +155,14 @@ united-covers_other k one other zone z = record {
   zone = z;
   marks = λ letter l e. (sure-both one.marks other.marks letter l e).1;
   patterns = choices-union_other one.patterns other.patterns;
-  no_replacement = λ e. or-right one.replacements.none other.replacements.none e;
-  plain_replacement = λ e. or-right one.replacements.plain other.replacements.plain e;
-  split_replacement = λ e. or-right one.replacements.split other.replacements.split e;
+  no_replacement = λ e. or_right one.replacements.none other.replacements.none e;
+  plain_replacement = λ e. or_right one.replacements.plain other.replacements.plain e;
+  split_replacement = λ e. or_right one.replacements.split other.replacements.split e;
   names = choices-union_other one.names other.names;
-  unchanged = λ e. or-right one.changed.no other.changed.no e;
-  changed = λ e. or-right one.changed.yes other.changed.yes e;
-  nothing = λ e. or-right one.undo.nothing other.undo.nothing e;
-  same = λ e. or-right one.undo.same other.undo.same e;
+  unchanged = λ e. or_right one.changed.no other.changed.no e;
+  changed = λ e. or_right one.changed.yes other.changed.yes e;
+  nothing = λ e. or_right one.undo.nothing other.undo.nothing e;
+  same = λ e. or_right one.undo.same other.undo.same e;
   was = old-both_other k one.undo.was other.undo.was;
   matched = members-both_other one.has other.has;
   old_matched = matched-both_other one.undo.was other.undo.was one.old_has other.old_has;

@@ -24,3 +24,5 @@ pub mod Globals
 pub mod GlobalSoundness
 -- what the law on exact commands says
 pub mod ExactRules
+-- what is known of single lines, for rules that are still to be written
+pub mod facts

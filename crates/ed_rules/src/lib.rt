@@ -4,6 +4,7 @@
 mod addresses;
 mod change;
 mod choices;
+mod fact_laws;
 mod files;
 mod globals;
 mod kept;
@@ -25,6 +26,12 @@ mod undoing;
 mod watch;
 
 pub use choices::Choices;
+pub use fact_laws::{
+    assigned_facts_are_true, carried_facts_are_true, edited_facts_are_true,
+    facts_are_left_by_commands, joined_facts_are_covered, landmarks_are_where_they_are_said,
+    only_lines_are_taken_once, searches_find_the_first, searches_find_what_facts_say,
+    substituted_facts_are_true, weaker_facts_hold_more, what_facts_say_is_true,
+};
 pub use globals::{body_entry, loop_end, loop_start};
 pub use kept::KeptState;
 pub use kept_undo::{KeptOld, KeptUndo};

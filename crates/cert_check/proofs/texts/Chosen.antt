@@ -3,11 +3,11 @@ use Rattle.std.proofs.Common.{◌≡◌, ◌<◌, ◌≤◌, ◌+◌, ◌/◌, �
 use Rattle.std.specs.Prelude.{nat_eq, nat_lt}
 use Rattle.std.specs.List.{flat_map, list_any}
 use Rattle.std.specs.Cmp.Lexicographic.{pointwise}
-use Rattle.std.proofs.lemmas.Bool.{ltb-true, ltb-false, false≢true}
+use Rattle.std.proofs.lemmas.Bool.{ltb-true, ltb-false, false≢true, and_parts}
 use Rattle.std.proofs.lemmas.Cmp.{nat_list_eq_equiv}
 use Rattle.ed_rules.specs.Choices.{Choice}
 use Rattle.cert_check.specs.text.Text.{Word, sure_letters, letters_words, hexadecimal, is_itself, byte_text, choice_word, possible}
-use Rattle.cert_check.proofs.texts.Separated.{Above, all_above, Above-from_test, Above-append, AreWords, AreWords-append, and-both, head-same, tail-same}
+use Rattle.cert_check.proofs.texts.Separated.{Above, all_above, Above-from_test, Above-append, AreWords, AreWords-append, head-same, tail-same}
 use Rattle.cert_check.proofs.texts.Worded.{test, cond-true, cond-false}
 
 letters-above : (p : ℕ) (marks : List Bool) → 32 < p → Above 32 (sure_letters p marks)
@@ -79,8 +79,8 @@ not-percent b e is = let no : not (37 == 37) ≡ true = subst (λ (n : ℕ). not
 pub spelled-of : (b : ℕ) → Spelled b
 spelled-of b = elim (test (is_itself b)) [
   | inl h ↦
-      let outer = and-both (nat_lt 32 b && nat_lt b 127) (not (b == 37)) h in
-      let inner = and-both (nat_lt 32 b) (nat_lt b 127) outer.0 in
+      let outer = and_parts (nat_lt 32 b && nat_lt b 127) (not (b == 37)) h in
+      let inner = and_parts (nat_lt 32 b) (nat_lt b 127) outer.0 in
       itself (cond-true (is_itself b) _ _ h) (ltb-true 32 b inner.0) (not-percent b outer.1)
   | inr h ↦ escaped (cond-false (is_itself b) _ _ h)
 ]

@@ -2,7 +2,7 @@
 use Rattle.std.proofs.Common.{◌≡◌, ◌<◌, ◌^◌, ◌++◌, ◌∷◌, [], ◌+◌, ◌%◌, ℕ, true, ◌&&◌, List, map, get_or, Option, None, Some, arith, refl, ◌∙◌, sym, ap, subst, append_assoc}
 use Rattle.std.specs.Prelude.{codes, decimal, is_some, All}
 use Rattle.std.specs.List.{flat_map}
-use Rattle.std.proofs.lemmas.Bool.{leb-true}
+use Rattle.std.proofs.lemmas.Bool.{leb-true, and_parts}
 use Rattle.std.proofs.lemmas.List.Elements.{All-head, All-tail}
 use Rattle.std.proofs.lemmas.Fmt.{decimal_injective, decimal_by_steps}
 use Rattle.ed_rules.specs.declared.state.Old.{Old}
@@ -14,7 +14,7 @@ use Rattle.cert_check.specs.declared.certificate.Version.{Version}
 use Rattle.cert_check.specs.declared.certificate.Version.TheVariants.{One, Two}
 use Rattle.ed_rules.specs.LineBounds.{is_few, is_limit, is_within}
 use Rattle.cert_check.specs.text.HasText.{IsSaidIn, StateHasText, LoopedHasText, NoteHasText, HasText, IsText}
-use Rattle.cert_check.proofs.texts.Separated.{Above, Above-from_test, IsLineOfWords, AreLinesOfWords, AreLinesOfWords-append, and-both, lines-same}
+use Rattle.cert_check.proofs.texts.Separated.{Above, Above-from_test, IsLineOfWords, AreLinesOfWords, AreLinesOfWords-append, lines-same}
 use Rattle.cert_check.proofs.texts.Worded.{decimal-above}
 use Rattle.cert_check.proofs.texts.Zoned.{zone-said, bounds-are-words}
 use Rattle.cert_check.proofs.texts.Chosen.{marks-are-words, choice-above, choice-same, words-are-words, texts-same, two-bytes, two-words, three-words}
@@ -131,10 +131,10 @@ module _ (version : Version) where
 
 -- the parts of what the bounds need
 start-parts : (c : Certificate) → HasText c → (is_few c.min ≡ true) × (is_limit c.max ≡ true)
-start-parts c h = and-both (is_few c.min) (is_limit c.max) (and-both (is_few c.min && is_limit c.max) (is_within c.min c.max) h.start).0
+start-parts c h = and_parts (is_few c.min) (is_limit c.max) (and_parts (is_few c.min && is_limit c.max) (is_within c.min c.max) h.start).0
 
 final-parts : (c : Certificate) → HasText c → (is_few c.low ≡ true) × (is_limit c.high ≡ true)
-final-parts c h = and-both (is_few c.low) (is_limit c.high) h.final
+final-parts c h = and_parts (is_few c.low) (is_limit c.high) h.final
 
 pub version-words : (version : Version) → IsLineOfWords (version_line version)
 version-words One = (Above-from_test 32 (codes "ed-certificate") refl, (Above-from_test 32 (codes "1") refl, tt))

@@ -1,12 +1,12 @@
 -- Letters, one by one, as they are read.
 use Rattle.std.proofs.Common.{◌≡◌, ◌≢◌, ◌<◌, ◌≤◌, ◌+◌, ◌-◌, ◌&&◌, Option, None, Some, ◌++◌, ◌∷◌, [], ℕ, zero, suc, Bool, true, false, List, length, get_or, set, drop, replicate, arith, refl, ◌∙◌, sym, ap, append-nil, drop-cons}
 use Rattle.std.specs.Prelude.{nat_le}
-use Rattle.std.proofs.lemmas.Bool.{leb-true}
+use Rattle.std.proofs.lemmas.Bool.{leb-true, and_parts}
 use Rattle.std.proofs.lemmas.List.{get_or-replicate}
 use Rattle.ed_base.specs.Buffer.{letter_of}
 use Rattle.cert_check.specs.text.Text.{spaced, sure_letters, letters_words}
 use Rattle.cert_check.specs.text.Reading.{all_marks}
-use Rattle.cert_check.proofs.texts.Separated.{and-both, tail-same}
+use Rattle.cert_check.proofs.texts.Separated.{tail-same}
 use Rattle.cert_check.proofs.texts.Chosen.{later-letters}
 use Rattle.cert_check.proofs.texts.Limited.{past-end}
 
@@ -15,7 +15,7 @@ pub letter-byte : (byte letter : ℕ) → letter_of byte ≡ Some letter → byt
 letter-byte byte letter is =
     (elim (nat_le 97 byte && nat_le byte 122) as (λ b. nat_le 97 byte && nat_le byte 122 ≡ b → (elim b as (λ _. Option ℕ) [ true ↦ Some (byte - 97) | false ↦ None ]) ≡ Some letter → byte ≡ 97 + letter) [
       | true ↦ λ test same.
-          let low : 97 ≤ byte = leb-true 97 byte (and-both (nat_le 97 byte) (nat_le byte 122) test).0 in
+          let low : 97 ≤ byte = leb-true 97 byte (and_parts (nat_le 97 byte) (nat_le byte 122) test).0 in
           let at : byte - 97 ≡ letter = cc in
           omega arith
       | false ↦ λ test same. absurd cc

@@ -3,10 +3,11 @@ use Rattle.std.proofs.Common.{◌≡◌, ◌≢◌, ◌<◌, ◌^◌, ◌++◌, 
 use Rattle.std.specs.Prelude.{codes, decimal}
 use Rattle.std.proofs.lemmas.Fmt.{decimal_injective}
 use Rattle.std.proofs.lemmas.List.{append_cancel_left}
+use Rattle.std.proofs.lemmas.Bool.{and_parts}
 use Rattle.ed_rules.specs.LineBounds.{is_few, is_limit}
 use Rattle.cert_check.specs.text.Text.{Word, space, spaced, line_text, limit_word, bounds_line}
 use Rattle.cert_check.specs.text.Reading.{IsFirstWord}
-use Rattle.cert_check.proofs.texts.Separated.{Above, AreWords, and-both, tail-same}
+use Rattle.cert_check.proofs.texts.Separated.{Above, AreWords, tail-same}
 use Rattle.cert_check.proofs.texts.Worded.{decimal-above}
 use Rattle.cert_check.proofs.texts.OneText.{few, limit-above, limit-same}
 use Rattle.cert_check.proofs.texts.Cutting.{unspaced, word-same, first-split, first-of-list, no-words}
@@ -48,14 +49,14 @@ two-words key line left a l2 b l3 w v is h k hw hv e =
 -- the words of bounds
 pub bounds-words : (low : ℕ) (high : Option ℕ) → (is_few low && is_limit high) ≡ true → Above 32 (decimal low) × Above 32 (limit_word high)
 bounds-words low high h =
-    let both = and-both (is_few low) (is_limit high) h in
+    let both = and_parts (is_few low) (is_limit high) h in
     (decimal-above low (few low both.0), limit-above high both.1)
 
 -- bounds are read from their words in one way
 pub bounds-same : (a c : ℕ) (b d : Option ℕ) (low high : List ℕ) → (is_few a && is_limit b) ≡ true → c < 2 ^ 64 → is_limit d ≡ true →
     decimal a ≡ low → limit_word b ≡ high → decimal c ≡ low → limit_word d ≡ high → (a ≡ c) × (b ≡ d)
 bounds-same a c b d low high h l k ea eb ec ed =
-    let both = and-both (is_few a) (is_limit b) h in
+    let both = and_parts (is_few a) (is_limit b) h in
     (decimal_injective a c (few a both.0) l (ea ∙ sym ec), limit-same b d both.1 k (eb ∙ sym ed))
 
 pub bounds-line-same : (key : List ℕ) (a c : ℕ) (b d : Option ℕ) → (is_few a && is_limit b) ≡ true → (is_few c && is_limit d) ≡ true →
@@ -63,7 +64,7 @@ pub bounds-line-same : (key : List ℕ) (a c : ℕ) (b d : Option ℕ) → (is_f
 bounds-line-same key a c b d h k e =
     let one = bounds-words a b h in
     let other = bounds-words c d k in
-    let limits = and-both (is_few c) (is_limit d) k in
+    let limits = and_parts (is_few c) (is_limit d) k in
     let first = word-same (decimal a) (decimal c) (spaced (limit_word b ∷ [])) (spaced (limit_word d ∷ [])) (unspaced (decimal a) one.0) (unspaced (decimal c) other.0) refl refl
     (tail-same (append_cancel_left key (spaced (decimal a ∷ limit_word b ∷ [])) (spaced (decimal c ∷ limit_word d ∷ [])) e)) in
     let second = word-same (limit_word b) (limit_word d) [] [] (unspaced (limit_word b) one.1) (unspaced (limit_word d) other.1) tt tt (tail-same first.1) in

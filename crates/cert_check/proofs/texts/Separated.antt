@@ -1,7 +1,7 @@
 -- Words between spaces, and lines between newlines: what is put together is taken apart in one way.
 use Rattle.std.proofs.Common.{◌≡◌, ◌<◌, ◌≤◌, ◌++◌, ◌∷◌, [], ℕ, Bool, true, false, ◌&&◌, List, arith, refl, ◌∙◌, sym, append-nil}
 use Rattle.std.specs.Prelude.{nat_lt}
-use Rattle.std.proofs.lemmas.Bool.{ltb-true}
+use Rattle.std.proofs.lemmas.Bool.{ltb-true, and_parts}
 use Rattle.ed_base.specs.Lines.{newline}
 use Rattle.cert_check.specs.text.Text.{Word, Line, space, spaced, line_text, lines_text}
 
@@ -14,15 +14,10 @@ abbrev pub all_above : ℕ → List ℕ → Bool
 all_above n [] = true
 all_above n (b ∷ bytes) = nat_lt n b && all_above n bytes
 
-pub and-both : (a b : Bool) → a && b ≡ true → (a ≡ true) × (b ≡ true)
-and-both true true e = (refl, refl)
-and-both true false e = absurd cc
-and-both false b e = absurd cc
-
 pub Above-from_test : (n : ℕ) (bytes : List ℕ) → all_above n bytes ≡ true → Above n bytes
 Above-from_test n [] e = tt
 Above-from_test n (b ∷ bytes) e =
-    let both = and-both (nat_lt n b) (all_above n bytes) e in
+    let both = and_parts (nat_lt n b) (all_above n bytes) e in
     let l : n < b = ltb-true n b both.0 in
     (l, Above-from_test n bytes both.1)
 

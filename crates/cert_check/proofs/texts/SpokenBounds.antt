@@ -2,7 +2,7 @@
 use Rattle.std.proofs.Common.{◌≡◌, ◌≢◌, ◌<◌, ◌≤◌, suc, ◌+◌, ◌-◌, ◌*◌, ◌/◌, ◌%◌, ◌^◌, ◌++◌, ◌∷◌, [], ℕ, ℤ, Bool, true, false, ◌&&◌, ◌||◌, List, get_or, map, Option, None, Some, inl, inr, arith, refl, ◌∙◌, sym, ap, subst, append_assoc, append-nil}
 use Rattle.std.specs.Prelude.{nat_lt, nat_le}
 use Rattle.std.specs.List.{All, flat_map}
-use Rattle.std.proofs.lemmas.Bool.{lt-ltb, le-leb}
+use Rattle.std.proofs.lemmas.Bool.{lt-ltb, le-leb, and_from, or_left, or_right}
 use Rattle.std.proofs.lemmas.List.{map-append}
 use Rattle.std.proofs.lemmas.List.Elements.{All-nil, All-cons, All-head, All-tail, All-append, All-weaker}
 use Rattle.std.proofs.lemmas.Grind.{flat_map-append}
@@ -180,24 +180,12 @@ formed-spoken zone h =
       | spoken c is one hx hy hc ↦ record { placed = omega arith; number = c; is = is; kept = h.is_zone.kept k; row = hx; column = hy }
     ])
 
-or-first : (a b : Bool) → a ≡ true → a || b ≡ true
-or-first true b e = refl
-or-first false b e = absurd cc
-
-or-second : (a b : Bool) → b ≡ true → a || b ≡ true
-or-second true b e = refl
-or-second false b e = e
-
-and-join : (a b : Bool) → a ≡ true → b ≡ true → a && b ≡ true
-and-join true b e f = f
-and-join false b e f = absurd cc
-
 named-has : (place : ℕ) → place < 32 → IsNamed place → has_name all_marks place ≡ true
 named-has place l h = elim h [
-  | inl low ↦ or-first (nat_lt place 3) (nat_le 6 place && is_sure all_marks (place - 6)) (lt-ltb place 3 low)
+  | inl low ↦ or_left (nat_lt place 3) (nat_le 6 place && is_sure all_marks (place - 6)) (lt-ltb place 3 low)
   | inr high ↦
-      or-second (nat_lt place 3) (nat_le 6 place && is_sure all_marks (place - 6))
-      (and-join (nat_le 6 place) (is_sure all_marks (place - 6)) (le-leb 6 place high) (get_or-all (place - 6) false (omega arith)))
+      or_right (nat_lt place 3) (nat_le 6 place && is_sure all_marks (place - 6))
+      (and_from (nat_le 6 place) (is_sure all_marks (place - 6)) (le-leb 6 place high) (get_or-all (place - 6) false (omega arith)))
 ]
 
 spoken-may_say : (b : PlacedBound) → IsSpoken b → MaySay all_marks b
@@ -206,8 +194,8 @@ spoken-may_say b s =
     let y = b.place % 32 in
     let low = s.placed in
     ap (λ (v : Option ℤ). may_say all_marks x y v) s.is
-    ∙ or-second (says_nothing x y s.number) (has_name all_marks x && has_name all_marks y)
-    (and-join (has_name all_marks x) (has_name all_marks y) (named-has x (omega arith) s.row) (named-has y (omega arith) s.column))
+    ∙ or_right (says_nothing x y s.number) (has_name all_marks x && has_name all_marks y)
+    (and_from (has_name all_marks x) (has_name all_marks y) (named-has x (omega arith) s.row) (named-has y (omega arith) s.column))
 
 pub spoken-formed : (zone : Bounds) → IsZone zone → All IsSpoken (known_bounds zone) → ZoneIsFormed all_marks zone
 spoken-formed zone h s = says-formed all_marks zone refl h (All-weaker IsSpoken (MaySay all_marks) spoken-may_say (known_bounds zone) s)

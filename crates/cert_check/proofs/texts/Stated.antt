@@ -1,7 +1,7 @@
 -- What follows what in the lines of a state.
 use Rattle.std.proofs.Common.{◌≡◌, ◌<◌, ◌≤◌, ◌-◌, ◌/◌, ◌%◌, ◌++◌, ◌∷◌, [], ℕ, ℤ, Bool, true, false, not, ◌&&◌, ◌||◌, List, get_or, Option, None, Some, arith, refl, ◌∙◌, sym, ap, subst, append-nil}
 use Rattle.std.specs.Prelude.{codes, is_some, nat_lt, nat_le}
-use Rattle.std.proofs.lemmas.Bool.{leb-true}
+use Rattle.std.proofs.lemmas.Bool.{leb-true, and_from, and_parts}
 use Rattle.std.proofs.lemmas.List.{get_or-replicate}
 use Rattle.zones.specs.Zone.{Bounds}
 use Rattle.ed_rules.specs.declared.state.Old.{Old}
@@ -19,7 +19,7 @@ use Rattle.cert_check.specs.text.Text.{Word, Line, spaced, bounds_words, line_te
 use Rattle.cert_check.specs.text.HasText.{IsSaidIn, OldIsSaidIn, StateHasText}
 use Rattle.cert_check.specs.text.Pieces.{Left, Took, found_line, texts, IsOf, alone, marked_lines, MarkedIsFormed, undo_lines, UndoIsFormed, IsSomeReplacement, IsSomeChange, IsFound}
 use Rattle.cert_check.specs.text.Reading.{all_marks}
-use Rattle.cert_check.proofs.texts.Separated.{Above-from_test, AreWords, IsLineOfWords, and-both, tail-same, words-same, line-same}
+use Rattle.cert_check.proofs.texts.Separated.{Above-from_test, AreWords, IsLineOfWords, tail-same, words-same, line-same}
 use Rattle.cert_check.proofs.texts.Zoned.{zone-said, bounds-are-words}
 use Rattle.cert_check.proofs.texts.Chosen.{three-words, three-same}
 use Rattle.cert_check.proofs.texts.Unambiguous.{after_matched, state-same, zone-same, later-words}
@@ -57,13 +57,10 @@ has-all marks x l h =
       | true ↦ λ e. refl
       | false ↦ λ e.
           let other : nat_le 6 x && is_sure marks (x - 6) ≡ true = ap (λ (r : Bool). r || (nat_le 6 x && is_sure marks (x - 6))) (sym e) ∙ h in
-          let six = and-both (nat_le 6 x) (is_sure marks (x - 6)) other in
+          let six = and_parts (nat_le 6 x) (is_sure marks (x - 6)) other in
           let low : 6 ≤ x = leb-true 6 x six.0 in
           ap (λ (r : Bool). r && is_sure all_marks (x - 6)) six.0 ∙ sure-all (x - 6) (omega arith)
     ]) refl
-
-both-true : (a b : Bool) → a ≡ true → b ≡ true → a && b ≡ true
-both-true a b e f = ap (λ (r : Bool). r && b) e ∙ f
 
 says-all : (marks : List Bool) (x y : ℕ) (b : Option ℤ) → x < 32 → y < 32 → may_say marks x y b ≡ true → may_say all_marks x y b ≡ true
 says-all marks x y None l m h = h
@@ -72,8 +69,8 @@ says-all marks x y (Some c) l m h =
       | true ↦ λ e. refl
       | false ↦ λ e.
           let other : has_name marks x && has_name marks y ≡ true = ap (λ (r : Bool). r || (has_name marks x && has_name marks y)) (sym e) ∙ h in
-          let both = and-both (has_name marks x) (has_name marks y) other in
-          both-true (has_name all_marks x) (has_name all_marks y) (has-all marks x l both.0) (has-all marks y m both.1)
+          let both = and_parts (has_name marks x) (has_name marks y) other in
+          and_from (has_name all_marks x) (has_name all_marks y) (has-all marks x l both.0) (has-all marks y m both.1)
     ]) refl
 
 formed-more : (marks : List Bool) (zone : Bounds) → ZoneIsFormed marks zone → ZoneIsFormed all_marks zone

@@ -1,7 +1,7 @@
 -- What a zone says, says which zone it is.
 use Rattle.std.proofs.Common.{◌≡◌, ◌<◌, ◌+◌, ◌-◌, ◌/◌, ◌%◌, ◌^◌, ◌==◌, ◌++◌, ◌∷◌, [], ℕ, zero, suc, ℤ, pos, negsuc, Bool, true, false, not, ◌&&◌, ◌||◌, List, length, get_or, Option, None, Some, inl, inr, arith, refl, ◌∙◌, sym, ap, subst}
 use Rattle.std.specs.Prelude.{◌⊎◌, nat_lt, nat_le}
-use Rattle.std.proofs.lemmas.Bool.{ltb-true, leb-true}
+use Rattle.std.proofs.lemmas.Bool.{ltb-true, leb-true, and_parts, or_cases, not-true}
 use Rattle.std.proofs.lemmas.Int.{ints}
 use lib.Signed.{mag}
 use Rattle.zones.specs.Bound.{IsKept}
@@ -11,7 +11,7 @@ use Rattle.ed_rules.specs.Marks.{is_sure}
 use Rattle.ed_rules.specs.Formed.{says_nothing}
 use Rattle.cert_check.specs.text.Text.{Word, bound_words, bounds_words}
 use Rattle.ed_rules.specs.Formed.{has_name, may_say, ZoneIsFormed}
-use Rattle.cert_check.proofs.texts.Separated.{AreWords, AreWords-append, and-both}
+use Rattle.cert_check.proofs.texts.Separated.{AreWords, AreWords-append}
 use Rattle.cert_check.proofs.texts.Worded.{Named, test, cond-true, cond-false, bound_word, bound-above, bound-same}
 
 -- a bound is left out, or is a number that is written between two names
@@ -19,14 +19,10 @@ pub data Said (x y : ℕ) (b : Option ℤ) : Type 0 where
   silent : b ≡ any_bound x y → bound_words x y b ≡ [] → Said x y b
   spoken : (c : ℤ) → b ≡ Some c → bound_words x y b ≡ bound_word x y c ∷ [] → Named x → Named y → mag c < 2 ^ 63 → Said x y b
 
-or-cases : (a b : Bool) → a || b ≡ true → (a ≡ true) ⊎ (b ≡ true)
-or-cases true b e = inl refl
-or-cases false b e = inr e
-
 named : (marks : List Bool) (x : ℕ) → has_name marks x ≡ true → Named x
-named marks x e = elim (or-cases (nat_lt x 3) (nat_le 6 x && is_sure marks (x - 6)) e) [
+named marks x e = elim (or_cases (nat_lt x 3) (nat_le 6 x && is_sure marks (x - 6)) e) [
   | inl h ↦ inl (ltb-true x 3 h)
-  | inr h ↦ inr (let six = and-both (nat_le 6 x) (is_sure marks (x - 6)) h in leb-true 6 x six.0)
+  | inr h ↦ inr (let six = and_parts (nat_le 6 x) (is_sure marks (x - 6)) h in leb-true 6 x six.0)
 ]
 
 pub nothing : (x y : ℕ) (c : ℤ) → says_nothing x y c ≡ true → Some c ≡ any_bound x y
@@ -38,20 +34,16 @@ pub small : (c : ℤ) → IsKept (Some c) → mag c < 2 ^ 63
 small (pos n) k = let high = k.1 in omega (arith, ints)
 small (negsuc n) k = let low = k.0 in omega (arith, ints)
 
-not-true : (b : Bool) → not b ≡ true → b ≡ false
-not-true true e = absurd cc
-not-true false e = refl
-
 pub said : (marks : List Bool) (x y : ℕ) (b : Option ℤ) → may_say marks x y b ≡ true → IsKept b → Said x y b
 said marks x y None e k = silent (sym (cond-false (x == y) (Some (pos 0)) None (not-true (x == y) e))) refl
 said marks x y (Some c) e k = elim (test (says_nothing x y c)) [
   | inl h ↦ silent (nothing x y c h) (cond-true (says_nothing x y c) [] _ h)
   | inr h ↦
-      let names = elim (or-cases (says_nothing x y c) (has_name marks x && has_name marks y) e) as (λ _. has_name marks x && has_name marks y ≡ true) [
+      let names = elim (or_cases (says_nothing x y c) (has_name marks x && has_name marks y) e) as (λ _. has_name marks x && has_name marks y ≡ true) [
         | inl t ↦ absurd cc
         | inr t ↦ t
       ] in
-      let both = and-both (has_name marks x) (has_name marks y) names in
+      let both = and_parts (has_name marks x) (has_name marks y) names in
       spoken c refl (cond-false (says_nothing x y c) [] _ h) (named marks x both.0) (named marks y both.1) (small c k)
 ]
 

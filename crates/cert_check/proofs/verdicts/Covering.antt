@@ -4,6 +4,7 @@ use Rattle.std.specs.List.{list_all, range_with_len}
 use Rattle.std.proofs.lemmas.List.Elements.{All-from_get_or}
 use Rattle.std.proofs.lemmas.List.FromFn.{length-range_with_len, get_or-range_with_len}
 use Rattle.std.proofs.lemmas.List.Sums.{AllPass-from_list_all, list_all-from_AllPass}
+use Rattle.std.proofs.lemmas.Bool.{and_from, and_parts}
 use Rattle.zones.specs.Bound.{covers_bound}
 use Rattle.zones.specs.Zone as zones
 use Rattle.zones.specs.Zone.{Bounds}
@@ -13,7 +14,6 @@ use Rattle.ed_rules.specs.declared.state.State.{State}
 use Rattle.ed_rules.specs.Marks.{AreAmong}
 use Rattle.ed_rules.specs.Order.{CoversOldHas, Allows, CoversOld, Covers}
 use Rattle.cert_check.specs.checker.Covering.{old_has_covers, zone_covers, allows, are_among, old_covers, covers}
-use Rattle.ed_rules.proofs.Basics.{and-both}
 
 -- a test of each number below n
 counted : (n k : ℕ) → k < n → get_or (range_with_len 0 n) k 0 ≡ k
@@ -29,10 +29,6 @@ below-each test n h =
     let size = length-range_with_len 0 n in
     list_all-from_AllPass test (range_with_len 0 n)
     (All-from_get_or (λ (i : ℕ). test i ≡ true) (range_with_len 0 n) 0 (λ k l. let m : k < n = omega arith in subst (λ (i : ℕ). test i ≡ true) (sym (counted n k m)) (h k m)))
-
-both-and : (p q : Bool) → p ≡ true → q ≡ true → p && q ≡ true
-both-and true q e f = f
-both-and false q e f = cc
 
 allows-says : (weak strong : Bool) → allows weak strong ≡ true → Allows weak strong
 allows-says weak true h e = h
@@ -64,14 +60,14 @@ old-says : (weak strong : Option Old) → old_covers weak strong ≡ true → Co
 old-says weak None h = tt
 old-says None (Some strong) h = absurd cc
 old-says (Some weak) (Some strong) h =
-    let p = and-both (zone_covers weak.zone strong.zone) (are_among weak.marks strong.marks) h in
+    let p = and_parts (zone_covers weak.zone strong.zone) (are_among weak.marks strong.marks) h in
     (zone-says weak.zone strong.zone p.0, among-says weak.marks strong.marks p.1)
 
 says-old : (weak strong : Option Old) → CoversOld weak strong → old_covers weak strong ≡ true
 says-old weak None h = refl
 says-old None (Some strong) h = absurd h
 says-old (Some weak) (Some strong) h =
-    both-and (zone_covers weak.zone strong.zone) (are_among weak.marks strong.marks) (says-zone weak.zone strong.zone h.0) (says-among weak.marks strong.marks h.1)
+    and_from (zone_covers weak.zone strong.zone) (are_among weak.marks strong.marks) (says-zone weak.zone strong.zone h.0) (says-among weak.marks strong.marks h.1)
 
 old_has-says : (was : Option Old) (weak strong : List (List ℕ)) → old_has_covers was weak strong ≡ true → CoversOldHas was weak strong
 old_has-says None weak strong h = tt
@@ -84,19 +80,19 @@ says-old_has (Some old) weak strong h = h
 pub covers-says : (weak strong : State) → covers weak strong ≡ true → Covers weak strong
 unfolding covers
 covers-says weak strong h =
-    let zone = and-both _ _ h in
-    let marks = and-both _ _ zone.1 in
-    let patterns = and-both _ _ marks.1 in
-    let replacements = and-both _ _ patterns.1 in
-    let no_replacement = and-both _ _ replacements.0 in
-    let plain = and-both _ _ no_replacement.1 in
-    let names = and-both _ _ replacements.1 in
-    let changed = and-both _ _ names.1 in
-    let flags = and-both _ _ changed.0 in
-    let undo = and-both _ _ changed.1 in
-    let nothing = and-both _ _ undo.0 in
-    let same = and-both _ _ nothing.1 in
-    let matched = and-both _ _ undo.1 in
+    let zone = and_parts _ _ h in
+    let marks = and_parts _ _ zone.1 in
+    let patterns = and_parts _ _ marks.1 in
+    let replacements = and_parts _ _ patterns.1 in
+    let no_replacement = and_parts _ _ replacements.0 in
+    let plain = and_parts _ _ no_replacement.1 in
+    let names = and_parts _ _ replacements.1 in
+    let changed = and_parts _ _ names.1 in
+    let flags = and_parts _ _ changed.0 in
+    let undo = and_parts _ _ changed.1 in
+    let nothing = and_parts _ _ undo.0 in
+    let same = and_parts _ _ nothing.1 in
+    let matched = and_parts _ _ undo.1 in
     record {
       zone = zone-says weak.zone strong.zone zone.0;
       marks = among-says weak.marks strong.marks marks.0;
@@ -117,13 +113,13 @@ covers-says weak strong h =
 pub says-covers : (weak strong : State) → Covers weak strong → covers weak strong ≡ true
 unfolding covers
 says-covers weak strong h =
-    both-and _ _ (says-zone weak.zone strong.zone h.zone) (
-    both-and _ _ (says-among weak.marks strong.marks h.marks) (
-    both-and _ _ h.patterns (
-    both-and _ _ (both-and _ _ (says-allows weak.replacements.none strong.replacements.none h.no_replacement)
-    (both-and _ _ (says-allows weak.replacements.plain strong.replacements.plain h.plain_replacement) (says-allows weak.replacements.split strong.replacements.split h.split_replacement))) (
-    both-and _ _ h.names (
-    both-and _ _ (both-and _ _ (says-allows weak.changed.no strong.changed.no h.unchanged) (says-allows weak.changed.yes strong.changed.yes h.changed))
-    (both-and _ _ (both-and _ _ (says-allows weak.undo.nothing strong.undo.nothing h.nothing)
-    (both-and _ _ (says-allows weak.undo.same strong.undo.same h.same) (says-old weak.undo.was strong.undo.was h.was)))
-    (both-and _ _ h.matched (says-old_has strong.undo.was weak.old_has strong.old_has h.old_matched))))))))
+    and_from _ _ (says-zone weak.zone strong.zone h.zone) (
+    and_from _ _ (says-among weak.marks strong.marks h.marks) (
+    and_from _ _ h.patterns (
+    and_from _ _ (and_from _ _ (says-allows weak.replacements.none strong.replacements.none h.no_replacement)
+    (and_from _ _ (says-allows weak.replacements.plain strong.replacements.plain h.plain_replacement) (says-allows weak.replacements.split strong.replacements.split h.split_replacement))) (
+    and_from _ _ h.names (
+    and_from _ _ (and_from _ _ (says-allows weak.changed.no strong.changed.no h.unchanged) (says-allows weak.changed.yes strong.changed.yes h.changed))
+    (and_from _ _ (and_from _ _ (says-allows weak.undo.nothing strong.undo.nothing h.nothing)
+    (and_from _ _ (says-allows weak.undo.same strong.undo.same h.same) (says-old weak.undo.was strong.undo.was h.was)))
+    (and_from _ _ h.matched (says-old_has strong.undo.was weak.old_has strong.old_has h.old_matched))))))))

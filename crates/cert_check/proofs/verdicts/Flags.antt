@@ -1,13 +1,12 @@
 -- Lines with the flag of a global command: each line that is taken loses it, at the end of the list none has it, and outside lists none
 -- had it before.
-use Rattle.std.proofs.Common.{◌≡◌, ◌<◌, ◌≤◌, ℕ, ◌+◌, Bool, true, false, cond, get_or, List, [], ◌∷◌, length, map, Option, None, Some, option_map, Ok, arith, refl, ◌∙◌, sym, ap, subst}
+use Rattle.std.proofs.Common.{◌≡◌, ◌<◌, ◌≤◌, ℕ, ◌+◌, Bool, true, false, cond, get_or, List, [], ◌∷◌, length, Option, None, Some, option_map, Ok, arith, refl, ◌∙◌, sym, ap, subst}
 use Rattle.std.specs.List.{position_from, count_by}
 use Rattle.std.proofs.lemmas.List.Sums.{sum_by-set, sum_by-cons}
 use Rattle.std.proofs.lemmas.List.Elements.{All-nil, All-cons, All-set}
 use Rattle.std.proofs.lemmas.List.Quantifiers.{position-Some}
 use Rattle.std.proofs.lemmas.Iterator.Adapters.{position_from-zero}
 use Rattle.ed_base.specs.Buffer.{Line, plain_line, with_flag, flagged_at, flagged_place}
-use Rattle.ed_base.specs.Lines.{lines_of}
 use Rattle.ed_syntax.specs.declared.request.Answer.{Answer}
 use Rattle.ed_syntax.specs.Commands.{Command}
 use Rattle.ed_syntax.specs.meaning.Applied.{command}
@@ -110,14 +109,10 @@ over-unflagged version.Two begun f g is before none = over-no-flags begun f g is
 
 -- OUTSIDE LISTS
 
-plain-none : (ts : List (List ℕ)) → FlaggedPass passes_none (map plain_line ts)
-plain-none [] = All-nil (PassesBy passes_none)
-plain-none (t ∷ ts) = All-cons (PassesBy passes_none) (plain_line t) (map plain_line ts) (λ k. absurd cc) (plain-none ts)
-
--- in an editor that was just opened
-pub opened-unflagged : (v : Version) (path : Option (List ℕ)) (bytes : List ℕ) → IsUnflagged v (opened path bytes)
-opened-unflagged version.One path bytes = tt
-opened-unflagged version.Two path bytes = record { buffer = plain-none (lines_of bytes); past = tt }
+-- in an editor that was just opened, also where other lines without the flag are in place of its own
+pub lines-unflagged : (v : Version) (path : Option (List ℕ)) (bytes : List ℕ) (lines : List Line) → unflagged lines ≡ lines → IsUnflagged v (record (opened path bytes) { lines = lines })
+lines-unflagged version.One path bytes lines none = tt
+lines-unflagged version.Two path bytes lines none = record { buffer = subst (λ (ls : List Line). FlaggedPass passes_none ls) none (unflagged-none lines); past = tt }
 
 -- and after a command without a list
 pub kept-unflagged : NoFlagsAreKept → (v : Version) (c : Command) (e : editor.State) (given : Option Answer) (o : Outcome) → command e c given ≡ Ok (Makes o) →

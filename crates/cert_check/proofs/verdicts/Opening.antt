@@ -16,8 +16,8 @@ use Rattle.ed_rules.specs.States.{limited, start}
 use Rattle.ed_rules.specs.LineBounds.{IsAtMost}
 use Rattle.cert_check.specs.checker.Opening.{Match, StartIsSound}
 use Rattle.ed_rules.proofs.Choosing.{has_choice-only}
-use Rattle.ed_rules.proofs.LettersInLines.{no_letter}
-use Rattle.ed_rules.proofs.Lettered.{lettered}
+use Rattle.ed_rules.proofs.sound.LettersInLines.{no_letter}
+use Rattle.ed_rules.proofs.sound.Lettered.{lettered}
 
 limited-holds : (max : Option ℕ) (zone : Bounds) (count : ℕ) (v : Numbers) → IsAtMost count max → v 0 ≡ pos 0 → v 2 ≡ pos count → Holds zone v → Holds (limited max zone) v
 limited-holds None zone count v h zero_is last_is holds = holds

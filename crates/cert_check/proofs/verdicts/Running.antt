@@ -5,6 +5,7 @@ use Rattle.std.specs.List.{All, Contains, list_any}
 use Rattle.std.specs.Cmp.Lexicographic.{pointwise, bytes_decides}
 use Rattle.std.proofs.lemmas.Int.{ints}
 use Rattle.std.proofs.lemmas.List.Elements.{All-nil, All-cons}
+use Rattle.std.proofs.lemmas.Bool.{or_cases}
 use Rattle.ed_base.specs.declared.fault.Fault.{Fault}
 use Rattle.ed_base.specs.declared.fault.Fault.TheVariants as fault
 use Rattle.zones.specs.Zone.{Bounds, Numbers, Holds}
@@ -28,7 +29,7 @@ use Rattle.ed_syntax.specs.meaning.CommandLaws.{CommandsArePlaced}
 use Rattle.ed_syntax.specs.meaning.Verbs.{is_global, ends_run}
 use Rattle.ed_syntax.specs.meaning.States.{Past, Nothing, Same, Was}
 use Rattle.ed_rules.specs.GlobalSoundness.{NoFlagsAreKept, HasNoFlags}
-use Rattle.ed_rules.proofs.Choosing.{or-cases, has_choice-all}
+use Rattle.ed_rules.proofs.Choosing.{has_choice-all}
 use Rattle.ed_rules.specs.StandsFor.{KeepsMatched, StandsFor, allows_change}
 use Rattle.ed_rules.specs.LineBounds.{IsAtMost, IsWithin}
 use Rattle.cert_check.specs.checker.Opening.{StartIsSound}
@@ -138,7 +139,7 @@ at_end-well k (Some line) c s m h st = let f : false ≡ true = h.readable in ab
 -- a listed path may be asked for
 listed-contained : (writes : List (List ℕ)) (path : List ℕ) → list_any (λ listed. pointwise nat_eq listed path) writes ≡ true → Contains writes path
 listed-contained [] path h = absurd cc
-listed-contained (w ∷ writes) path h = elim (or-cases (pointwise nat_eq w path) (list_any (λ listed. pointwise nat_eq listed path) writes) h) [
+listed-contained (w ∷ writes) path h = elim (or_cases (pointwise nat_eq w path) (list_any (λ listed. pointwise nat_eq listed path) writes) h) [
   | inl e ↦ let same : w ≡ path = (bytes_decides w path).0 e in (0, omega arith, same)
   | inr e ↦ let q = listed-contained writes path e in let k = q.1 in (suc q.0, omega arith, q.2)
 ]

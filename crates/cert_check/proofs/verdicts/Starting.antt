@@ -1,6 +1,7 @@
 -- A script with a valid certificate can't fail.
-use Rattle.std.proofs.Common.{◌≡◌, ℕ, List, [], ◌∷◌, length, Option, None, Some, IfSome, IsTrue, refl, sym, subst}
+use Rattle.std.proofs.Common.{◌≡◌, ℕ, List, [], ◌∷◌, map, length, Option, None, Some, IfSome, IsTrue, refl, sym, subst}
 use Rattle.std.proofs.lemmas.List.Elements.{All-nil, All-cons}
+use Rattle.ed_base.specs.Buffer.{plain_line}
 use Rattle.ed_base.specs.Lines.{lines_of}
 use Rattle.ed_syntax.specs.declared.request.Answer.{Answer}
 use Rattle.ed_syntax.specs.declared.request.Answer.TheVariants as answer
@@ -9,10 +10,11 @@ use Rattle.ed_syntax.specs.Commands.{Script}
 use Rattle.ed_syntax.specs.meaning.States as editor
 use Rattle.ed_syntax.specs.meaning.States.{opening}
 use Rattle.ed_syntax.specs.meaning.Files.{loaded}
-use Rattle.ed_syntax.specs.meaning.Progress.{Present}
+use Rattle.ed_syntax.specs.meaning.Erasure.{marked}
+use Rattle.ed_syntax.specs.meaning.ErasureLaws.{StartsMayBeMarked, MarkedLinesAreWell}
+use Rattle.ed_syntax.specs.meaning.Progress.{Present, Progress}
 use Rattle.ed_syntax.specs.meaning.Runs as runs
 use Rattle.ed_syntax.specs.meaning.Runs.{Further, steps, present}
-use Rattle.ed_rules.specs.declared.state.State.{State}
 use Rattle.ed_rules.specs.StandsFor.{StandsFor}
 use Rattle.ed_rules.specs.States.{start}
 use Rattle.ed_rules.specs.LineBounds.{IsWithin}
@@ -23,9 +25,10 @@ use Rattle.cert_check.specs.declared.checker.verdict.Verdict.TheVariants.{Accept
 use Rattle.cert_check.specs.declared.sight.Sight.{Sight}
 use Rattle.cert_check.specs.Certificates.{Certificate}
 use Rattle.cert_check.specs.checker.Valid.{sight_of, seen_by, told_by, told, counted, has_quit, are_shaped, judged}
-use Rattle.cert_check.specs.checker.Sound.{start_lines, stated, IsAllowed, MayAsk, RunsWell, IsUnflagged, CannotFail, CannotFailInBounds}
+use Rattle.cert_check.specs.checker.Sound.{start_lines, IsAllowed, MayAsk, RunsWell, CannotFail, CannotFailInBounds}
 use Rattle.cert_check.proofs.verdicts.Checks.{first-holds}
-use Rattle.cert_check.proofs.verdicts.Flags.{opened-unflagged}
+use Rattle.cert_check.specs.checker.MarkedStart.{opened_with, MarkedStartsSuffice}
+use Rattle.cert_check.proofs.verdicts.Flags.{lines-unflagged}
 use Rattle.cert_check.proofs.verdicts.Running.{RunLaws, told-stands-by}
 use Rattle.cert_check.proofs.verdicts.Stepping.{steps-well}
 use Rattle.ed_syntax.specs.meaning.Verbs.{is_step}
@@ -62,20 +65,36 @@ seen-version : (script : Script) (v : Version) (has : List (List ℕ)) → (sigh
 seen-version script version.One has = refl
 seen-version script version.Two has = refl
 
-pub accepted-safe : RunLaws → (script : Script) (c : Certificate) → IsTrue (list_all is_step script.steps) → judged script c ≡ Accepted → CannotFail script c
-accepted-safe k script c stands h o answers same allowed =
+-- MARKED STARTS
+
+-- the run from lines with marks is the run from the lines
+pub marked-safe : RunLaws → StartsMayBeMarked → MarkedLinesAreWell → MarkedStartsSuffice
+marked-safe k erased lines w script c first marks stands shape h begun o answers same allowed =
+    let goes : OpensWell c c.path (steps script.steps script.fault) = λ bytes within m new more.
+    let text : List (List ℕ) = lines_of bytes in
+    let e : editor.State = opened_with (marks bytes) c.path bytes in
+    let known = begun bytes within in
+    let well : RunsWell c (steps script.steps script.fault (runs.with_state e m) more) =
+    steps-well k w c script.fault (has_quit script.steps) script.steps 1 first c.notes refl stands shape h (runs.with_state e m) known.1
+    (lines-unflagged w.version c.path bytes (marked (marks bytes) (map plain_line text)) (lines (marks bytes) text).2) more in
+    let real : Present = runs.with_state (opened c.path bytes) m in
+    let run : steps script.steps script.fault (runs.with_state e m) more ≡ steps script.steps script.fault real more =
+    erased (marks bytes) script.steps script.fault text real more known.0 refl refl refl in
+    subst (λ (u : editor.State). RunsWell c (steps script.steps script.fault (runs.with_state u m) more)) (sym new) (subst (λ (p : Progress). RunsWell c p) run well) in
+    subst (λ (p : Option (List ℕ)). RunsWell c (runs.start p (present o) (steps script.steps script.fault) answers)) (sym same)
+    (start-well c c.path (present o) (steps script.steps script.fault) answers refl allowed goes)
+
+-- a start without marks is such a start
+pub accepted-safe : RunLaws → StartsMayBeMarked → MarkedLinesAreWell → (script : Script) (c : Certificate) → IsTrue (list_all is_step script.steps) → judged script c ≡ Accepted → CannotFail script c
+accepted-safe k erased lines script c stands h =
     let w : Sight = seen_by script c in
-    let go : Further = steps script.steps script.fault in
-    let first : State = told w (start c.path c.min c.max c.has) in
     let shape = first-holds (are_shaped (counted script.steps) c.notes) _ _ h in
-    let goes : OpensWell c c.path go = λ bytes within m new more.
-    let begun : StandsFor first (opened c.path bytes) =
-    subst (λ (v : Version). StandsFor (told_by v (start c.path c.min c.max c.has)) (opened c.path bytes)) (sym (seen-version script c.version c.has))
-    (started k.started c.version c.path c.min c.max c.has bytes within.0 within.1) in
-    steps-well k w c script.fault (has_quit script.steps) script.steps 1 first c.notes refl stands shape.0 shape.1 m
-    (subst (λ (e : editor.State). StandsFor first e) (sym new) begun)
-    (subst (λ (e : editor.State). IsUnflagged w.version e) (sym new) (opened-unflagged w.version c.path bytes)) more in
-    subst (λ (p : Option (List ℕ)). RunsWell c (runs.start p (present o) go answers)) (sym same) (start-well c c.path (present o) go answers refl allowed goes)
+    marked-safe k erased lines w script c (told w (start c.path c.min c.max c.has)) (λ bytes. []) stands shape.0 shape.1
+    (λ bytes within. (
+      refl,
+      subst (λ (v : Version). StandsFor (told_by v (start c.path c.min c.max c.has)) (opened c.path bytes)) (sym (seen-version script c.version c.has))
+          (started k.started c.version c.path c.min c.max c.has bytes within.0 within.1),
+    ))
 
 -- VERSION 1
 

@@ -2,6 +2,7 @@
 use Rattle.std.proofs.Common.{◌≡◌, ℕ, ◌+◌, Bool, true, false, not, ◌&&◌, ◌||◌, List, [], ◌∷◌, length, Option, None, Some, refl, ◌∙◌, sym, ap, subst}
 use Rattle.std.specs.Prelude.{◌==◌}
 use Rattle.std.specs.List.{list_all}
+use Rattle.std.proofs.lemmas.Bool.{not-true}
 use Rattle.ed_syntax.specs.declared.request.Answer.{Answer}
 use Rattle.ed_syntax.specs.Commands as ed
 use Rattle.ed_syntax.specs.Commands.{Verb, Command, Step}
@@ -26,10 +27,6 @@ use Rattle.cert_check.proofs.verdicts.Turning.{global-holds, later-holds, inner-
 -- the counted commands after one
 abbrev later_counted : (ends : Bool) → List Step → List Step
 later_counted ends xs = elim ends as (λ _. List Step) [ true ↦ [] | false ↦ counted xs ]
-
-not-global : (b : Bool) → not b ≡ true → b ≡ false
-not-global true h = absurd cc
-not-global false h = refl
 
 -- `g` and `v` don't end a run
 global-goes-on : (v : Verb) → is_global v ≡ true → ends_run v ≡ false
@@ -68,7 +65,7 @@ module _ (k : RunLaws) (w : Sight) (c : Certificate) (bad : Option ℕ) (quit : 
               subst (λ (p : Progress). RunsWell c p) (sym (going-on v x m go answers e single))
               (one-well k.single w c x.command s m go answers met.0 paths.0 stands_before (λ t more leads stands.
               rest (left_by w x.command s) r l a t stands
-              (subst (λ (u : editor.State). IsUnflagged w.version u) leads.3 (kept-unflagged k.no_flags w.version x.command m.state leads.0 leads.1 leads.2 (not-global (is_global v) single) none)) more))
+              (subst (λ (u : editor.State). IsUnflagged w.version u) leads.3 (kept-unflagged k.no_flags w.version x.command m.state leads.0 leads.1 leads.2 (not-true (is_global v) single) none)) more))
         ]) refl q shape paths.1
 
     -- a global command

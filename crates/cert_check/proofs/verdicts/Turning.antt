@@ -2,7 +2,7 @@
 use Rattle.std.proofs.Common.{◌≡◌, ◌≤◌, inl, inr, ℕ, zero, suc, ◌+◌, Bool, true, false, not, ◌&&◌, List, [], ◌∷◌, length, Option, None, Some, option_map, Ok, arith, refl, ◌∙◌, sym, ap, subst}
 use Rattle.std.specs.Prelude.{◌==◌}
 use Rattle.std.specs.List.{list_all}
-use Rattle.std.proofs.lemmas.Bool.{eqb-true}
+use Rattle.std.proofs.lemmas.Bool.{eqb-true, or_left, or_right}
 use Rattle.std.proofs.lemmas.List.Elements.{All-nil, All-cons}
 use Rattle.ed_base.specs.Buffer.{Line}
 use Rattle.ed_syntax.specs.declared.request.Answer.{Answer}
@@ -22,7 +22,6 @@ use Rattle.ed_rules.specs.declared.state.State.{State}
 use Rattle.ed_rules.specs.Globals.{body_entry, list_may_alter, loop_end}
 use Rattle.ed_rules.specs.GlobalSoundness.{FlaggedPass, is_taken_by, passes_none, StartIsSound, FlagsAreKept, TakenHaveFlags, TurnIsSound, EndIsSound}
 use Rattle.ed_rules.specs.StandsFor.{StandsFor}
-use Rattle.ed_rules.proofs.Choosing.{or-left, or-right}
 use Rattle.cert_check.specs.declared.certificate.Version.{Version}
 use Rattle.cert_check.specs.declared.certificate.Version.TheVariants as version
 use Rattle.cert_check.specs.declared.checker.verdict.Verdict.TheVariants.{Accepted}
@@ -137,8 +136,8 @@ module _ (k : ListLaws) (w : Sight) (c : Certificate) (number : ℕ) (test : Lis
       let others = and-second (verbs.is_listed d) (list_all verbs.is_listed cs) all in
       one-well k.single w c d s m (λ t. listed cs t go) answers met.0 paths.0 (covers-stands k.single s coming m.state covered.0 st)
       (λ q more leads stands.
-      listed-well cs states (inner + 1) (left_by w d s) (omega arith) others (λ l. may (or-right (may_alter d.verb) (list_may_alter cs) l)) paths.1 q stands
-      (leads-inside k test x most d is_listed (λ l. may (or-left (may_alter d.verb) (list_may_alter cs) l)) e m.state q.state leads i) more)
+      listed-well cs states (inner + 1) (left_by w d s) (omega arith) others (λ l. may (or_right (may_alter d.verb) (list_may_alter cs) l)) paths.1 q stands
+      (leads-inside k test x most d is_listed (λ l. may (or_left (may_alter d.verb) (list_may_alter cs) l)) e m.state q.state leads i) more)
 
 -- what is left after the list, where it is checked that the invariant says no more
 abbrev after_list : (number : ℕ) → Looped → (later : List Check) → ℕ → State → List Check

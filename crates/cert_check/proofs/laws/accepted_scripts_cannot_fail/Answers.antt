@@ -18,4 +18,4 @@ returns c =
       started = c.starts_are_sound.ensures.sound;
       known = c.known_bounds_are_true.ensures.known;
     } in
-    record { sound = accepted-safe laws }
+    record { sound = accepted-safe laws c.unnamed_letters_change_nothing.ensures.start c.unnamed_letters_change_nothing.ensures.lines }

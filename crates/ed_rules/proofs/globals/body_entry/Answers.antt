@@ -1,6 +1,6 @@
 use Rattle.std.proofs.Common.{rules}
 use Rattle.ed_syntax.specs.PublicTypes.{command_value}
-use Rattle.ed_rules.proofs.Looping.{turn-by}
+use Rattle.ed_rules.proofs.sound.Looping.{turn-by}
 use Rattle.ed_rules.proofs.globals.body_entry.Goals as goal
 
 pub returns-clause-sound : goal.returns-clause-sound

@@ -1,6 +1,6 @@
 use Rattle.std.proofs.Common.{rules}
 use Rattle.ed_syntax.specs.PublicTypes.{step_value}
-use Rattle.ed_rules.proofs.Looping.{end-by}
+use Rattle.ed_rules.proofs.sound.Looping.{end-by}
 use Rattle.ed_rules.proofs.globals.loop_end.Goals as goal
 
 pub returns-clause-sound : goal.returns-clause-sound

@@ -1,5 +1,5 @@
 use Rattle.ed_syntax.specs.PublicTypes.{command_value}
-use Rattle.ed_rules.proofs.Looping.{start-by}
+use Rattle.ed_rules.proofs.sound.Looping.{start-by}
 use Rattle.ed_rules.proofs.globals.loop_start.Goals as goal
 
 pub returns-clause-sound : goal.returns-clause-sound

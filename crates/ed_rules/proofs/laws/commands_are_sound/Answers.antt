@@ -1,5 +1,5 @@
-use Rattle.ed_rules.proofs.Asking as asking
-use Rattle.ed_rules.proofs.Sound.{Laws, command_sound}
+use Rattle.ed_rules.proofs.sound.Asking as asking
+use Rattle.ed_rules.proofs.sound.Sound.{Laws, command_sound}
 use Rattle.ed_rules.proofs.laws.commands_are_sound.Goals as goal
 
 pub returns : goal.returns

@@ -1,5 +1,5 @@
-use Rattle.ed_rules.proofs.ExactCommands.{command-exact}
-use Rattle.ed_rules.proofs.ExactStart.{start-exact}
+use Rattle.ed_rules.proofs.exact.Commands.{command-exact}
+use Rattle.ed_rules.proofs.exact.Start.{start-exact}
 use Rattle.ed_rules.proofs.laws.exact_commands_are_exact.Goals as goal
 
 pub returns : goal.returns

@@ -1,5 +1,5 @@
-use Rattle.ed_rules.proofs.FlagsKept.{flags-kept, no-flags-kept, taken-have-flags}
-use Rattle.ed_rules.proofs.Looping.{Laws, start-sound, turn-sound, end-sound}
+use Rattle.ed_rules.proofs.sound.FlagsKept.{flags-kept, no-flags-kept, taken-have-flags}
+use Rattle.ed_rules.proofs.sound.Looping.{Laws, start-sound, turn-sound, end-sound}
 use Rattle.ed_rules.proofs.laws.globals_are_sound.Goals as goal
 
 pub returns : goal.returns

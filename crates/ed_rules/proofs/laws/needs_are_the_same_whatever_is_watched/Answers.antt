@@ -1,4 +1,4 @@
-use Rattle.ed_rules.proofs.Aside.{needs-same}
+use Rattle.ed_rules.proofs.matches.Aside.{needs-same}
 use Rattle.ed_rules.proofs.laws.needs_are_the_same_whatever_is_watched.Goals as goal
 
 pub returns : goal.returns

@@ -1,4 +1,4 @@
-use Rattle.ed_rules.proofs.AsBefore.{searches-as_before}
+use Rattle.ed_rules.proofs.matches.AsBefore.{searches-as_before}
 use Rattle.ed_rules.proofs.laws.searches_are_as_before.Goals as goal
 
 pub returns : goal.returns

@@ -1,4 +1,4 @@
-use Rattle.ed_rules.proofs.StatesFormed.{start-formed, command-formed, join-formed, widen-formed, entry-formed, end-formed}
+use Rattle.ed_rules.proofs.formed.StatesFormed.{start-formed, command-formed, join-formed, widen-formed, entry-formed, end-formed}
 use Rattle.ed_rules.proofs.laws.states_stay_formed.Goals as goal
 
 pub returns : goal.returns

@@ -1,4 +1,4 @@
-use Rattle.ed_rules.proofs.Weaker.{StandsFor-join, StandsFor-join_other, StandsFor-widen, StandsFor-widen_other, StandsFor-covers}
+use Rattle.ed_rules.proofs.sound.Weaker.{StandsFor-join, StandsFor-join_other, StandsFor-widen, StandsFor-widen_other, StandsFor-covers}
 use Rattle.ed_rules.proofs.laws.weaker_states_stand_for_more.Goals as goal
 
 pub returns : goal.returns

@@ -1,6 +1,6 @@
 use Rattle.std.proofs.Common.{sym}
 use Rattle.ed_base.specs.Lines.{lines_of}
-use Rattle.ed_rules.proofs.Watched.{none-matches}
+use Rattle.ed_rules.proofs.matches.Watched.{none-matches}
 use Rattle.ed_rules.proofs.matched.some_line_matches.Goals as goal
 
 pub returns-in_default : goal.returns-in_default

@@ -5,7 +5,7 @@ use Rattle.ed_syntax.specs.PublicTypes.{command_value}
 use Rattle.ed_rules.specs.declared.state.State.{State}
 use Rattle.ed_rules.specs.Reaching.{Comes}
 use Rattle.ed_rules.specs.Rules.{fault_of}
-use Rattle.ed_rules.proofs.Sound.{needs-met}
+use Rattle.ed_rules.proofs.sound.Sound.{needs-met}
 use Rattle.ed_rules.proofs.rules.needs.Goals as goal
 
 fault_of-Comes : (failed : Option Fault) (t : State) (should : Result State Fault) → Comes failed t should → fault_of should ≡ failed

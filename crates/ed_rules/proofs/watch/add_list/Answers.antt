@@ -1,7 +1,7 @@
 use Rattle.std.proofs.Common.{arith}
 use Rattle.ed_syntax.specs.PublicTypes.{command_value}
 use Rattle.ed_rules.specs.Matched.{sought}
-use Rattle.ed_rules.proofs.Watched.{texts-next}
+use Rattle.ed_rules.proofs.matches.Watched.{texts-next}
 use Rattle.ed_rules.proofs.watch.add_list.Goals as goal
 
 pub loop-command-preserved : goal.loop-command-preserved

@@ -1,8 +1,8 @@
 use Rattle.std.proofs.Common.{◌≡◌, [], ◌∷◌, ℕ, true, false, ◌&&◌, Option, ◌∙◌, sym, ap}
 use Rattle.std.specs.Prelude.{decimal}
+use Rattle.std.proofs.lemmas.Bool.{and_parts}
 use Rattle.ed_rules.specs.LineBounds.{is_few, is_limit}
 use Rattle.cert_check.specs.text.Text.{limit_word}
-use Rattle.cert_check.proofs.texts.Separated.{and-both}
 use Rattle.cert_check.proofs.texts.OneText.{few}
 use Rattle.cert_check.proofs.texts.Cutting.{no-words}
 use Rattle.cert_check.proofs.texts.ReadWords.{not-nothing}
@@ -30,7 +30,7 @@ returns-in_default-number_in c = record {
       let words = bounds-words v.0 v.1 h in
       let two = two-words c.args.key.now c.args.line.now c.in-Some.left.now c.in-Some-next_word.low.now c.in-Some-next_word.left.now c.in-Some-next_word-2.high.now
       c.in-Some-next_word-2.left.now (decimal v.0) (limit_word v.1) c.in-Some.ensures.cases c.in-Some-next_word.ensures.cases c.in-Some-next_word-2.ensures.cases words.0 words.1 e in
-      c.in_default-number_in.ensures.exact v.0 (few v.0 (and-both (is_few v.0) (is_limit v.1) h).0) two.first;
+      c.in_default-number_in.ensures.exact v.0 (few v.0 (and_parts (is_few v.0) (is_limit v.1) h).0) two.first;
 }
 
 pub returns-in_default-limit_in : goal.returns-in_default-limit_in
@@ -39,7 +39,7 @@ returns-in_default-limit_in c = record {
       let words = bounds-words v.0 v.1 h in
       let two = two-words c.args.key.now c.args.line.now c.in-Some.left.now c.in-Some-next_word.low.now c.in-Some-next_word.left.now c.in-Some-next_word-2.high.now
       c.in-Some-next_word-2.left.now (decimal v.0) (limit_word v.1) c.in-Some.ensures.cases c.in-Some-next_word.ensures.cases c.in-Some-next_word-2.ensures.cases words.0 words.1 e in
-      c.in_default-limit_in.ensures.exact v.1 (and-both (is_few v.0) (is_limit v.1) h).1 two.second;
+      c.in_default-limit_in.ensures.exact v.1 (and_parts (is_few v.0) (is_limit v.1) h).1 two.second;
 }
 
 pub returns-then-not-is_empty : goal.returns-then-not-is_empty

@@ -1,5 +1,5 @@
 use Rattle.std.proofs.Common.{arith}
-use Rattle.ed_rules.proofs.Letters.{both_sure-each}
+use Rattle.ed_rules.proofs.sound.Letters.{both_sure-each}
 use Rattle.ed_rules.proofs.marks.Marks.both.Goals as goal
 
 pub invariant_of-result : goal.invariant_of-result

@@ -1,6 +1,6 @@
 use Rattle.std.proofs.lemmas.Result.{IfOk-weaker}
 use Rattle.ed_rules.specs.Order.{join}
-use Rattle.ed_rules.proofs.Weaker.{StandsFor-join, StandsFor-join_other}
+use Rattle.ed_rules.proofs.sound.Weaker.{StandsFor-join, StandsFor-join_other}
 use Rattle.ed_rules.proofs.state.State.join.Goals as goal
 
 pub returns-clause-sound : goal.returns-clause-sound

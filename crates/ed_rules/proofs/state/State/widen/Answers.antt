@@ -1,6 +1,6 @@
 use Rattle.std.proofs.lemmas.Result.{IfOk-weaker}
 use Rattle.ed_rules.specs.Order.{widen}
-use Rattle.ed_rules.proofs.Weaker.{StandsFor-widen, StandsFor-widen_other}
+use Rattle.ed_rules.proofs.sound.Weaker.{StandsFor-widen, StandsFor-widen_other}
 use Rattle.ed_rules.proofs.state.State.widen.Goals as goal
 
 pub returns-clause-sound : goal.returns-clause-sound

@@ -2,7 +2,7 @@ use Rattle.std.proofs.Common.{◌≡◌, ◌∙◌, ℕ, true, List, subst}
 use Rattle.std.specs.List.{list_any}
 use Rattle.ed_syntax.specs.meaning.Values.{matches}
 use Rattle.ed_rules.specs.Texts.{are_rising}
-use Rattle.ed_rules.proofs.RisingTexts.{front-rises, rising-filter}
+use Rattle.ed_rules.proofs.formed.RisingTexts.{front-rises, rising-filter}
 use Rattle.ed_rules.proofs.watch.Watch.gained.Goals as goal
 
 pub of-requires : goal.of-requires

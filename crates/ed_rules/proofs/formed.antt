@@ -1,0 +1,12 @@
+-- States stay such as can be written down.
+pub mod Speaking
+pub mod Naming
+pub mod Saying
+pub mod SpeakingPieces
+pub mod RisingChoices
+pub mod CountedLines
+pub mod RisingTexts
+pub mod Forming
+pub mod FormingAddresses
+pub mod FormingEffects
+pub mod StatesFormed

@@ -1,0 +1,356 @@
+-- What is known of matches, through the phases of a command.
+use Rattle.std.proofs.Common.{◌≡◌, ◌<◌, ◌≤◌, ◌-◌, ℕ, pos, negsuc, Bool, true, false, ◌&&◌, List, length, Option, None, Some, Result, Ok, Err, IfOk, arith, refl, ◌∙◌, sym, ap, subst, nat_lt}
+use Rattle.std.proofs.lemmas.Int.{ints}
+use Rattle.std.proofs.lemmas.Bool.{lt-ltb, le-ltb}
+use Rattle.std.proofs.lemmas.List.{length-map, length-take, length-drop}
+use Rattle.ed_base.specs.declared.fault.Fault.{Fault}
+use Rattle.ed_base.specs.declared.fault.Fault.TheVariants as fault
+use Rattle.ed_base.specs.Buffer.{Line, texts}
+use Rattle.ed_base.specs.Parts as parts
+use Rattle.zones.specs.Zone.{Bounds}
+use Rattle.zones.specs.Known.{known}
+use Rattle.zones.proofs.Known.{known-true}
+use Rattle.ed_syntax.specs.declared.verbs.Taking.{Taking}
+use Rattle.ed_syntax.specs.declared.verbs.Taking.TheVariants as many
+use Rattle.ed_syntax.specs.declared.request.Answer.{Answer}
+use Rattle.ed_syntax.specs.Commands as ed
+use Rattle.ed_syntax.specs.Commands.{Base, Address, Addresses, Without, One, Comma, Semicolon, Verb, Form, Command}
+use Rattle.ed_syntax.specs.meaning.States as editor
+use Rattle.ed_syntax.specs.meaning.States.{Past}
+use Rattle.ed_syntax.specs.meaning.Verbs.{takes, given_or}
+use Rattle.ed_syntax.specs.meaning.Values.{◌>>◌, values}
+use Rattle.ed_syntax.specs.meaning.Ranges.{Span, spanned}
+use Rattle.ed_syntax.specs.meaning.Effects.{Outcome, Effect, Makes, Asks}
+use Rattle.ed_syntax.specs.meaning.Applied as concrete
+use Rattle.ed_syntax.specs.meaning.Applied.{completed, effect_of, command}
+use Rattle.ed_rules.specs.declared.state.State.{State}
+use Rattle.ed_rules.specs.declared.state.Undo.{Undo}
+use Rattle.ed_rules.specs.StandsFor.{StandsFor, AllowsPast, KeepsMatched}
+use Rattle.ed_rules.specs.Matched.{AreMatched}
+use Rattle.ed_rules.specs.Pieces.{needing, with_zone, ended}
+use Rattle.std.specs.List.{list_all}
+use Rattle.std.proofs.Common.{ℤ, ◌+ℤ◌, cond, take}
+use Rattle.zones.specs.Steps.{after_set}
+use Rattle.ed_rules.specs.Choices.{Choice}
+use Rattle.zones.specs.Name.{mark}
+use Rattle.ed_rules.specs.Marks.{is_sure}
+use Rattle.ed_rules.specs.Pieces.{lifted}
+use Rattle.ed_rules.specs.Lines.{lifted_range}
+use Rattle.ed_rules.specs.Addresses as addresses
+use Rattle.ed_rules.specs.Addresses.{is_found, found, copied, possible_patterns, in_buffer, set_from, evaluated_base, evaluated, addressed, standing, last_given, targeted, ranged}
+use Rattle.ed_rules.specs.Files.{whole_or_ranged}
+use Rattle.ed_rules.specs.declared.matching.Alteration.TheVariants.{Never, Maybe, Surely}
+use Rattle.ed_rules.specs.Matching.{joining, joining_given, matched_after, old_matched_after, with_matches}
+use Rattle.ed_rules.specs.Rules.{taken, effect, suffixed, step_at, step}
+use Rattle.ed_syntax.specs.spelling.Readable.{enters_lines}
+use Rattle.ed_rules.proofs.Basics.{Agrees, Agrees-weaker}
+use Rattle.ed_syntax.specs.meaning.CommandLaws.{InOrder}
+use Rattle.ed_syntax.proofs.meaning.PlaceLemmas.{spans_are_in_order}
+use Rattle.ed_syntax.proofs.meaning.ResultLemmas.{IfOk-bind}
+use Rattle.ed_rules.proofs.sound.Spans.{Spans}
+use Rattle.ed_rules.proofs.sound.Addressing.{NamesOf, Addressed, AddressedIn, command_addressed}
+use Rattle.ed_rules.proofs.sound.Commanding.{command-is, IsGiven, RangeWith, Nothing_more, Equal, At_target, Targeted, names-given, given_or-given, range-with, range-sound, targeted-sound}
+use Rattle.ed_rules.proofs.sound.Outcomes.{always, OnMade, SameBuffer, values-same, targeted-same}
+use Rattle.ed_rules.proofs.matches.MatchedLeft.{MatchedIn, Joins, Suiting, effect-left, completed-left}
+
+-- THE RULE'S SIDE: addresses leave it as it is
+
+abbrev pub SameMatches : State → State → Type 0
+SameMatches s t = (t.has ≡ s.has) × (t.old_has ≡ s.old_has) × (t.undo ≡ s.undo)
+
+then-same : (s t u : State) → SameMatches s t → SameMatches t u → SameMatches s u
+then-same s t u h k = (k.0 ∙ h.0, k.1 ∙ h.1, k.2 ∙ h.2)
+
+needed : {A : Type 0} (P : A → Type 0) (b : Bool) (f : Fault) (a : A) → P a → IfOk (needing b f a) P
+needed P true f a h = h
+needed P false f a h = tt
+
+-- one after another
+weaker-same : (s t : State) (x : Result State Fault) → SameMatches s t → IfOk x (SameMatches t) → IfOk x (SameMatches s)
+weaker-same s t (Ok u) h k = then-same s t u h k
+weaker-same s t (Err e) h k = tt
+
+chain-same : (s : State) (x : Result State Fault) (f : State → Result State Fault) → IfOk x (SameMatches s) → ((t : State) → IfOk (f t) (SameMatches t)) → IfOk (x >> f) (SameMatches s)
+chain-same s (Err e) f h k = tt
+chain-same s (Ok t) f h k = weaker-same s t (f t) h (k t)
+
+as-it-is : (s : State) → SameMatches s s
+as-it-is s = (refl, refl, refl)
+
+in_buffer-same : (x : ℕ) (s t : State) → SameMatches s t → IfOk (in_buffer x t) (SameMatches s)
+in_buffer-same x s t h = needed (SameMatches s) (known t.zone 0 x (pos 0) && known t.zone x 2 (pos 0)) fault.Address t h
+
+searched-same : (x : ℕ) (text : Option (List ℕ)) (k : ℤ) (s : State) → IfOk (addresses.searched x text k s) (SameMatches s)
+searched-same x text k s =
+    IfOk-bind (λ (_ : List Choice). Unit {0}) (SameMatches s) (possible_patterns text s) _ (always (possible_patterns text s))
+    (λ possible _. chain-same s (needing (list_all (is_found s) possible) fault.NoMatch (record s { zone = found x k s.zone; patterns = possible })) (in_buffer x)
+    (needed (SameMatches s) (list_all (is_found s) possible) fault.NoMatch (record s { zone = found x k s.zone; patterns = possible }) (refl, refl, refl))
+    (λ t. in_buffer-same x t t (as-it-is t)))
+
+base-same : (x : ℕ) (b : Base) (k : ℤ) (s : State) → IfOk (evaluated_base x b k s) (SameMatches s)
+base-same x (ed.Number n) k s = in_buffer-same x s (with_zone (after_set s.zone x 0 (pos n +ℤ k)) s) (refl, refl, refl)
+base-same x ed.Current k s = in_buffer-same x s (with_zone (after_set s.zone x 1 k) s) (refl, refl, refl)
+base-same x ed.Last k s = in_buffer-same x s (with_zone (after_set s.zone x 2 k) s) (refl, refl, refl)
+base-same x (ed.Marked letter) k s =
+    chain-same s (needing (nat_lt letter 26 && is_sure s.marks letter) fault.Mark s) (set_from x (mark letter) k)
+    (needed (SameMatches s) (nat_lt letter 26 && is_sure s.marks letter) fault.Mark s (as-it-is s))
+    (λ t. in_buffer-same x t (with_zone (after_set t.zone x (mark letter) k) t) (refl, refl, refl))
+base-same x (ed.Forward text) k s = searched-same x text k s
+base-same x (ed.Backward text) k s = searched-same x text k s
+
+evaluated-same : (x : ℕ) (a : Address) (s : State) → IfOk (evaluated x a s) (SameMatches s)
+evaluated-same x a s = base-same x a.base a.offset s
+
+pub addressed-same : (a : Addresses) (s : State) → IfOk (addressed a s) (SameMatches s)
+addressed-same Without s = as-it-is s
+addressed-same (One a) s = chain-same s (evaluated 3 a s) _ (evaluated-same 3 a s) (λ t. (refl, refl, refl))
+addressed-same (Comma a b) s = chain-same s (evaluated 3 a s) _ (evaluated-same 3 a s) (λ t. evaluated-same 4 b t)
+addressed-same (Semicolon a None) s = chain-same s (evaluated 3 a s) _ (evaluated-same 3 a s) (λ t. (refl, refl, refl))
+addressed-same (Semicolon a (Some b)) s = chain-same s (evaluated 3 a s) _ (evaluated-same 3 a s) (λ t. weaker-same t (copied 1 3 t) (evaluated 4 b (copied 1 3 t)) (refl, refl, refl) (evaluated-same 4 b (copied 1 3 t)))
+
+pub target-same : (a : Option Address) (s : State) → IfOk (targeted a s) (SameMatches s)
+target-same None s = as-it-is s
+target-same (Some a) s = evaluated-same 5 a s
+
+last-same : (a : Addresses) (s : State) → SameMatches s (last_given a s)
+last-same Without s = as-it-is s
+last-same (One a) s = as-it-is s
+last-same (Comma a b) s = (refl, refl, refl)
+last-same (Semicolon a b) s = (refl, refl, refl)
+
+ranged-same : (s t : State) → SameMatches s t → IfOk (ranged t) (SameMatches s)
+ranged-same s t h = needed (SameMatches s) (known t.zone 0 3 (negsuc 0) && known t.zone 3 4 (pos 0) && known t.zone 4 2 (pos 0)) fault.Address t h
+
+whole-same : (given : Addresses) (s : State) → IfOk (whole_or_ranged given s) (SameMatches s)
+whole-same Without s = as-it-is s
+whole-same (One a) s = ranged-same s s (as-it-is s)
+whole-same (Comma a b) s = ranged-same s s (as-it-is s)
+whole-same (Semicolon a b) s = ranged-same s s (as-it-is s)
+
+pub taken-same : (k : Taking) (given a : Addresses) (s : State) → IfOk (taken k given a s) (SameMatches s)
+taken-same many.NoAddress given a s = as-it-is s
+taken-same many.Place given a s = last-same a s
+taken-same many.FirstPlace given a s =
+    let t : State = last_given a s in then-same s t (with_zone (lifted 3 t.zone) t) (last-same a s) (refl, refl, refl)
+taken-same many.OneLine given a s =
+    let t : State = last_given a s in needed (SameMatches s) (known t.zone 0 3 (negsuc 0)) fault.Address t (last-same a s)
+taken-same many.Lines given a s =
+    let t : State = with_zone (lifted_range given s.zone) s in
+    chain-same s (needing (known s.zone 3 4 (pos 0)) fault.Address t) ranged (needed (SameMatches s) (known s.zone 3 4 (pos 0)) fault.Address t (refl, refl, refl)) (λ w. ranged-same w w (as-it-is w))
+taken-same many.Range given a s = ranged-same s s (as-it-is s)
+taken-same many.Whole given a s = whole-same given s
+
+-- BOTH SIDES
+
+-- where both come to an end, they are related
+abbrev pub Tells : (State → Outcome → Type 0) → Result State Fault → Result Effect Fault → Type 0
+Tells R (Err f) y = Unit {0}
+Tells R (Ok t) (Err f) = Unit {0}
+Tells R (Ok t) (Ok (Asks r)) = Unit {0}
+Tells R (Ok t) (Ok (Makes o)) = R t o
+
+tells-nothing : (R : State → Outcome → Type 0) (x : Result State Fault) (f : Fault) → Tells R x (Err f)
+tells-nothing R (Ok t) f = tt
+tells-nothing R (Err e) f = tt
+
+tells-bind : {A B : Type 0} (R : State → Outcome → Type 0) (P : A → Type 0) (Q : B → Type 0) (x : Result A Fault) (y : Result B Fault) (f : A → Result State Fault) (g : B → Result Effect Fault) →
+    IfOk x P → IfOk y Q → ((a : A) (b : B) → P a → Q b → Tells R (f a) (g b)) → Tells R (x >> f) (y >> g)
+tells-bind R P Q (Ok a) (Ok b) f g h k i = i a b h k
+tells-bind R P Q (Ok a) (Err e) f g h k i = tells-nothing R (f a) e
+tells-bind R P Q (Err e) y f g h k i = tt
+
+-- of two that agree more is known
+tells-agreed : {A B : Type 0} (R : State → Outcome → Type 0) (S : A → B → Type 0) (P : A → Type 0) (Q : B → Type 0) (x : Result A Fault) (y : Result B Fault) (f : A → Result State Fault) (g : B → Result Effect Fault) →
+    Agrees S x y → IfOk x P → IfOk y Q → ((a : A) (b : B) → S a b → P a → Q b → Tells R (f a) (g b)) → Tells R (x >> f) (y >> g)
+tells-agreed R S P Q (Ok a) (Ok b) f g s h k i = i a b s h k
+tells-agreed R S P Q (Ok a) (Err e) f g s h k i = tells-nothing R (f a) e
+tells-agreed R S P Q (Err e) y f g s h k i = tt
+
+abbrev pub Holds : State → Outcome → Type 0
+Holds t o = MatchedIn t.has t.old_has o.state
+
+tells-so : (has old_has : List (List ℕ)) (x : Result State Fault) (y : Result Effect Fault) → IfOk x (λ (t : State). (t.has ≡ has) × (t.old_has ≡ old_has)) →
+    OnMade (λ (o : Outcome). MatchedIn has old_has o.state) y → Tells Holds x y
+tells-so has old_has (Err f) y h k = tt
+tells-so has old_has (Ok t) (Err f) h k = tt
+tells-so has old_has (Ok t) (Ok (Asks r)) h k = tt
+tells-so has old_has (Ok t) (Ok (Makes o)) h k =
+    (subst (λ (l : List (List ℕ)). AreMatched l o.state.lines) (sym h.0) k.0, subst (λ (l : List (List ℕ)). KeepsMatched l o.state.past) (sym h.1) k.1)
+
+pub suffixed-is : (P : State → Type 0) (suffix : Option Form) (t : State) → P t → IfOk (suffixed suffix t) P
+suffixed-is P None t h = h
+suffixed-is P (Some form) t h = needed P (known t.zone 0 1 (negsuc 0)) fault.Address t h
+
+-- WHAT IS ASKED OF THE LINES
+
+below-first : (a b : ℕ) (u : State) (e : editor.State) (x : Span) → Spans u e x → known u.zone 4 3 (pos 0) ≡ true → x.last ≤ x.first
+below-first a b u e x r k =
+    let d = known-true u.zone r.numbers 4 3 (pos 0) k (omega arith) (omega arith) r.stands.buffer.holds in
+    let f = r.first_is in
+    let l = r.last_is in
+    omega (arith, ints)
+
+above-first : (u : State) (e : editor.State) (x : Span) → Spans u e x → known u.zone 3 4 (negsuc 0) ≡ true → x.first < x.last
+above-first u e x r k =
+    let d = known-true u.zone r.numbers 3 4 (negsuc 0) k (omega arith) (omega arith) r.stands.buffer.holds in
+    let f = r.first_is in
+    let l = r.last_is in
+    omega (arith, ints)
+
+joins-known : (u : State) (e : editor.State) (x : Span) → Spans u e x → Joins (joining u.zone) x
+joins-known u e x r =
+    (elim (known u.zone 4 3 (pos 0)) as (λ b. known u.zone 4 3 (pos 0) ≡ b → Joins (cond b Never (cond (known u.zone 3 4 (negsuc 0)) Surely Maybe)) x) [
+      | true ↦ λ k. le-ltb x.first x.last (below-first 0 0 u e x r k)
+      | false ↦ λ _.
+          (elim (known u.zone 3 4 (negsuc 0)) as (λ b. known u.zone 3 4 (negsuc 0) ≡ b → Joins (cond b Surely Maybe) x) [
+            | true ↦ λ k. lt-ltb x.first x.last (above-first u e x r k)
+            | false ↦ λ _. tt
+          ]) refl
+    ]) refl
+
+some-between : (ls : List Line) (x : Span) → 1 ≤ x.first → x.first ≤ x.last → x.first ≤ length ls → 1 ≤ length (texts (parts.between x.first x.last ls))
+some-between ls x h k l =
+    let a = length-map (parts.between x.first x.last ls) (λ (line : Line). line.bytes) in
+    let b = length-drop (x.first - 1) (take x.last ls) in
+    let c = length-take x.last ls in
+    omega arith
+
+-- commands of which nothing is asked
+abbrev asks_nothing : Verb → Bool
+asks_nothing ed.Join = false
+asks_nothing (ed.Copy to) = false
+asks_nothing _ = true
+
+suits-all : (given : Addresses) (zone : Bounds) (lines : List Line) (verb : Verb) (x : Span) → asks_nothing verb ≡ true → Suiting given zone lines verb x
+suits-all given zone lines ed.Join x h = absurd cc
+suits-all given zone lines (ed.Copy to) x h = absurd cc
+suits-all given zone lines _ x h = tt
+
+-- THE PHASES
+
+module _ (watched : List (List ℕ)) (c : Command) (answer : Option Answer) (s : State) (e : editor.State) (st : StandsFor s e) where
+  -- the last ones
+  acted : (u : State) (q : editor.State) (x : Span) (target : ℕ) → SameMatches s u → SameBuffer e q → InOrder x → Suiting c.addresses u.zone q.lines c.verb x →
+      Tells Holds (effect c.listed c.addresses c.verb s u >> λ r. suffixed c.suffix (with_matches watched c.listed c.addresses c.verb s u (with_zone (ended r.marks r.zone) r)))
+      (effect_of c.verb c.listed x target q answer >> completed c e)
+  acted u q x target same buffer order k =
+      let has : List (List ℕ) = matched_after watched c.addresses c.verb u in
+      let old_has : List (List ℕ) = old_matched_after c.listed c.addresses c.verb s u in
+      let now : AreMatched u.has q.lines =
+      subst (λ (l : List (List ℕ)). AreMatched l q.lines) (sym same.0) (subst (λ (ls : List Line). AreMatched s.has ls) (sym buffer.0) st.matched) in
+      let kept_now : KeepsMatched u.old_has q.past =
+      subst (λ (l : List (List ℕ)). KeepsMatched l q.past) (sym same.1) (subst (λ (p : Past). KeepsMatched s.old_has p) (sym buffer.1) st.kept_matched) in
+      let may : AllowsPast u.undo q.past =
+      subst (λ (w : Undo). AllowsPast w q.past) (sym same.2) (subst (λ (p : Past). AllowsPast s.undo p) (sym buffer.1) st.stands.past) in
+      let P : State → Type 0 = λ (t : State). (t.has ≡ has) × (t.old_has ≡ old_has) in
+      tells-so has old_has _ _
+      (IfOk-bind (λ (_ : State). Unit {0}) P (effect c.listed c.addresses c.verb s u) _ (always (effect c.listed c.addresses c.verb s u))
+      (λ r _. suffixed-is P c.suffix (with_matches watched c.listed c.addresses c.verb s u (with_zone (ended r.marks r.zone) r)) (refl, refl)))
+      (completed-left watched c.listed c.addresses s u e q st.matched now kept_now may c refl has old_has (effect_of c.verb c.listed x target q answer)
+      (effect-left watched c.listed c.addresses s u e q st.matched now kept_now may c.verb x target answer order k))
+
+  abbrev d : Addresses
+  d = standing (takes c.verb).default
+
+  abbrev a : Addresses
+  a = given_or c.addresses d
+
+  abbrev after_taken : State → Result State Fault
+  after_taken u = effect c.listed c.addresses c.verb s u >> λ r. suffixed c.suffix (with_matches watched c.listed c.addresses c.verb s u (with_zone (ended r.marks r.zone) r))
+
+  abbrev after_target : State → Result State Fault
+  after_target p = taken (takes c.verb).taking c.addresses a p >> after_taken
+
+  -- of most commands
+  phases-told : asks_nothing c.verb ≡ true → Tells Holds (step_at watched a c s) (command e c answer)
+  phases-told h =
+      subst (λ (y : Result Effect Fault). Tells Holds (step_at watched a c s) y) (sym (command-is c e answer))
+      (tells-bind Holds (SameMatches s) (λ (v : editor.State × List ℕ). SameBuffer e v.0) (addressed a s) (values (given_or c.addresses (takes c.verb).default) e) _ _
+      (addressed-same a s) (values-same (given_or c.addresses (takes c.verb).default) e)
+      (λ t v i j. tells-bind Holds (SameMatches t) (λ (q : editor.State × ℕ). SameBuffer v.0 q.0) (targeted (takes c.verb).target t) (concrete.targeted (takes c.verb).target v.0) _ _
+      (target-same (takes c.verb).target t) (targeted-same (takes c.verb).target v.0)
+      (λ p q k l. tells-bind Holds (SameMatches p) InOrder (taken (takes c.verb).taking c.addresses a p) (spanned (takes c.verb).taking (length e.lines) v.1) _ _
+      (taken-same (takes c.verb).taking c.addresses a p) (spans_are_in_order (takes c.verb).taking (length e.lines) v.1)
+      (λ u x m order. acted u q.0 x q.1 (then-same s p u (then-same s t p i k) m) (l.0 ∙ j.0, l.1 ∙ j.1, l.2 ∙ j.2, l.3 ∙ j.3) order
+      (suits-all c.addresses u.zone q.0.lines c.verb x h)))))
+
+-- `j`: whether lines are joined, by how many addresses are given
+join-suits : (given d : Addresses) → IsGiven d → (t : State) (p : editor.State × List ℕ) (count : ℕ) → Addressed (NamesOf (given_or given d)) t p →
+    Agrees (λ (u : State) (x : Span). Joins (joining_given given u.zone) x) (ranged t) (spanned many.Range count p.1)
+join-suits Without d g t p count h =
+    Agrees-weaker (RangeWith Nothing_more p.0) (λ (u : State) (x : Span). Joins (joining u.zone) x) (ranged t) (spanned many.Range count p.1)
+    (λ u x r. joins-known u p.0 x r.0.spans) (range-sound d g t p count h)
+join-suits (One b) d g t p count h =
+    let same : h.numbers 3 ≡ h.numbers 4 = h.names.first_is ∙ ap pos (h.names.same tt) ∙ sym h.names.last_is in
+    Agrees-weaker (RangeWith Equal p.0) (λ (u : State) (x : Span). Joins Never x) (ranged t) (spanned many.Range count p.1)
+    (λ u x r. let f = r.0.spans.first_is in let l = r.0.spans.last_is in let q = r.1 in le-ltb x.first x.last (omega (arith, ints)))
+    (range-with Equal t p.0 p.1 h.numbers count h.stands (names-given (One b) tt p.1 p.0.lines h.numbers h.names) same)
+join-suits (Comma a b) d g t p count h =
+    Agrees-weaker (RangeWith Nothing_more p.0) (λ (u : State) (x : Span). Joins (joining u.zone) x) (ranged t) (spanned many.Range count p.1)
+    (λ u x r. joins-known u p.0 x r.0.spans) (range-sound (Comma a b) tt t p count h)
+join-suits (Semicolon a b) d g t p count h =
+    Agrees-weaker (RangeWith Nothing_more p.0) (λ (u : State) (x : Span). Joins (joining u.zone) x) (ranged t) (spanned many.Range count p.1)
+    (λ u x r. joins-known u p.0 x r.0.spans) (range-sound (Semicolon a b) tt t p count h)
+
+-- `t`: some lines are copied
+copy-suits : (a : Addresses) → IsGiven a → (to : Address) (t : State) (p : editor.State × List ℕ) (u : State) (q : editor.State × ℕ) (count : ℕ) → Addressed (NamesOf a) t p → Targeted p.0 p.1 u q →
+    Agrees (λ (w : State) (x : Span). 1 ≤ length (texts (parts.between x.first x.last q.0.lines))) (ranged u) (spanned many.Range count p.1)
+copy-suits a g to t p u q count h k =
+    Agrees-weaker (RangeWith (At_target q.1) q.0) (λ (w : State) (x : Span). 1 ≤ length (texts (parts.between x.first x.last q.0.lines))) (ranged u) (spanned many.Range count p.1)
+    (λ w x r. some-between q.0.lines x r.0.from r.0.order r.0.spans.first_in)
+    (range-with (At_target q.1) u q.0 p.1 k.numbers count k.stands k.names k.target_is)
+
+module _ (watched : List (List ℕ)) (addresses_given : Addresses) (suffix : Option Form) (listed : Bool) (answer : Option Answer) (s : State) (e : editor.State) (st : StandsFor s e) where
+  abbrev command_with : Verb → Command
+  command_with verb = record { addresses = addresses_given; verb = verb; suffix = suffix; listed = listed }
+
+  join-told : Tells Holds (step_at watched (given_or addresses_given (standing (takes ed.Join).default)) (command_with ed.Join) s) (command e (command_with ed.Join) answer)
+  join-told =
+      let c : Command = command_with ed.Join in
+      let d : Addresses = standing (takes ed.Join).default in
+      let a : Addresses = given_or addresses_given d in
+      subst (λ (y : Result Effect Fault). Tells Holds (step_at watched a c s) y) (sym (command-is c e answer))
+      (tells-agreed Holds (AddressedIn e.lines (NamesOf a)) (SameMatches s) (λ (v : editor.State × List ℕ). SameBuffer e v.0) (addressed a s) (values (given_or addresses_given (takes ed.Join).default) e) _ _
+      (command_addressed addresses_given ed.Join s e (st.numbers, st.stands) st.matched)
+      (addressed-same a s) (values-same (given_or addresses_given (takes ed.Join).default) e)
+      (λ t v h i j. tells-agreed Holds (λ (u : State) (x : Span). Joins (joining_given addresses_given u.zone) x) (SameMatches t) InOrder (ranged t) (spanned many.Range (length e.lines) v.1) _ _
+      (join-suits addresses_given d tt t v (length e.lines) h.0)
+      (ranged-same t t (as-it-is t)) (spans_are_in_order many.Range (length e.lines) v.1)
+      (λ u x k m order. acted watched c answer s e st u v.0 x 0 (then-same s t u i m) j order k)))
+
+  copy-told : (to : Address) → Tells Holds (step_at watched (given_or addresses_given (standing (takes (ed.Copy to)).default)) (command_with (ed.Copy to)) s) (command e (command_with (ed.Copy to)) answer)
+  copy-told to =
+      let c : Command = command_with (ed.Copy to) in
+      let d : Addresses = standing (takes (ed.Copy to)).default in
+      let a : Addresses = given_or addresses_given d in
+      subst (λ (y : Result Effect Fault). Tells Holds (step_at watched a c s) y) (sym (command-is c e answer))
+      (tells-agreed Holds (AddressedIn e.lines (NamesOf a)) (SameMatches s) (λ (v : editor.State × List ℕ). SameBuffer e v.0) (addressed a s) (values (given_or addresses_given (takes (ed.Copy to)).default) e) _ _
+      (command_addressed addresses_given (ed.Copy to) s e (st.numbers, st.stands) st.matched)
+      (addressed-same a s) (values-same (given_or addresses_given (takes (ed.Copy to)).default) e)
+      (λ t v h i j.
+      let n = names-given a (given_or-given addresses_given d tt) v.1 v.0.lines h.0.numbers h.0.names in
+      tells-agreed Holds (Targeted v.0 v.1) (SameMatches t) (λ (q : editor.State × ℕ). SameBuffer v.0 q.0) (evaluated 5 to t) (concrete.targeted (Some to) v.0) _ _
+      (targeted-sound to t v.0 v.1 h.0.numbers h.0.stands n h.0.matched)
+      (evaluated-same 5 to t) (targeted-same (Some to) v.0)
+      (λ p q k l m. tells-agreed Holds (λ (w : State) (x : Span). 1 ≤ length (texts (parts.between x.first x.last q.0.lines))) (SameMatches p) InOrder (ranged p) (spanned many.Range (length e.lines) v.1) _ _
+      (copy-suits a (given_or-given addresses_given d tt) to t v p q (length e.lines) h.0 k)
+      (ranged-same p p (as-it-is p)) (spans_are_in_order many.Range (length e.lines) v.1)
+      (λ u x some n order. acted watched c answer s e st u q.0 x q.1 (then-same s p u (then-same s t p i l) n) (m.0 ∙ j.0, m.1 ∙ j.1, m.2 ∙ j.2, m.3 ∙ j.3) order some))))
+
+  verb-told : (verb : Verb) → Tells Holds (step_at watched (given_or addresses_given (standing (takes verb).default)) (command_with verb) s) (command e (command_with verb) answer)
+  verb-told ed.Join = join-told
+  verb-told (ed.Copy to) = copy-told to
+  verb-told verb = phases-told watched (command_with verb) answer s e st refl
+
+step_at-told : (watched : List (List ℕ)) (c : Command) (s : State) (e : editor.State) (given : Option Answer) → StandsFor s e →
+    Tells Holds (step_at watched (given_or c.addresses (standing (takes c.verb).default)) c s) (command e c given)
+step_at-told watched c s e given st = verb-told watched c.addresses c.suffix c.listed given s e st c.verb
+
+needed-told : (b : Bool) (s : State) (k : State → Result State Fault) (y : Result Effect Fault) → Tells Holds (k s) y → Tells Holds (needing b fault.Syntax s >> k) y
+needed-told true s k y h = h
+needed-told false s k y h = tt
+
+pub step-told : (watched : List (List ℕ)) (c : Command) (s t : State) (e : editor.State) (given : Option Answer) → StandsFor s e → step watched c s ≡ Ok t → Tells Holds (Ok t) (command e c given)
+step-told watched c s t e given st is =
+    subst (λ (x : Result State Fault). Tells Holds x (command e c given)) is
+    (needed-told (enters_lines c.verb) s (step_at watched (given_or c.addresses (standing (takes c.verb).default)) c) (command e c given) (step_at-told watched c s e given st))

@@ -1,0 +1,197 @@
+-- Soundness of the rules of a global command beside that of the command itself.
+use Rattle.std.proofs.Common.{◌≡◌, ◌<◌, ◌≤◌, ◌+◌, ℕ, pos, negsuc, Bool, true, false, List, length, get_or, [], Option, None, Some, option_map, Result, Ok, Err, IfOk, arith, refl, sym, ap, subst}
+use Rattle.std.proofs.lemmas.Int.{ints}
+use Rattle.std.proofs.lemmas.List.Quantifiers.{position-Some}
+use Rattle.ed_base.specs.Buffer.{Line, plain_line, flagged_at, flagged_place}
+use Rattle.zones.specs.Zone.{Bounds, Numbers, Holds, updated}
+use Rattle.zones.specs.Steps.{after_forget}
+use Rattle.zones.proofs.Soundness.{Holds-after_guard, Holds-after_forget}
+use Rattle.zones.proofs.Known.{updated-other}
+use Rattle.ed_syntax.specs.Commands as ed
+use Rattle.ed_syntax.specs.Commands.{Verb, Command, Step}
+use Rattle.ed_syntax.specs.declared.command.Sense.TheVariants as sense
+use Rattle.ed_syntax.specs.meaning.Values.{matches}
+use Rattle.ed_syntax.specs.meaning.States as editor
+use Rattle.ed_syntax.specs.meaning.States.{Kept, Past, Same, Was, Open, kept}
+use Rattle.ed_base.specs.declared.fault.Fault.{Fault}
+use Rattle.ed_syntax.specs.meaning.Effects.{Outcome, Effect, Makes}
+use Rattle.ed_syntax.specs.declared.request.Answer.{Answer}
+use Rattle.ed_syntax.specs.meaning.Applied.{command}
+use Rattle.ed_syntax.specs.meaning.CommandLaws.{FlagsMarkNothing, FlagsAreNoBytes}
+use Rattle.ed_rules.specs.Rules.{step}
+use Rattle.ed_rules.specs.declared.state.Undo.{Undo}
+use Rattle.ed_rules.specs.Soundness.{IsDone, CommandIsSound}
+use Rattle.ed_syntax.specs.meaning.Globals.{opened, taken_at, past_of_global, closed}
+use Rattle.ed_rules.specs.declared.state.State.{State}
+use Rattle.ed_rules.specs.StandsFor.{HoldsBy, StandsBy, StandsFor, AllowsPast, AllowsKept, KeepsLettered, AreLettered, KeepsMatched}
+use Rattle.ed_rules.specs.States.{old_of}
+use Rattle.ed_rules.specs.Pieces.{with_zone}
+use Rattle.ed_rules.specs.Globals.{finished, line_taken, taken_matches, body_entry, list_may_alter, old_if, old_has_if, undo_of_global, loop_end}
+use Rattle.ed_rules.specs.Matched.{is_matched, AreMatched}
+use Rattle.std.proofs.lemmas.List.Folds.{list_any_at}
+use Rattle.ed_rules.proofs.Texting.{with_text-passes}
+use Rattle.ed_rules.proofs.matches.MatchedLeft.{are-matched-alike, are-matched-kept}
+use Rattle.ed_rules.specs.GlobalSoundness.{FlaggedPass, is_taken_by, StartIsSound, TurnIsSound, EndIsSound}
+use Rattle.ed_rules.proofs.sound.Standing.{Reads-current, StandsBy-has}
+use Rattle.ed_rules.proofs.sound.Finishing.{StandsBy-ended}
+use Rattle.ed_rules.proofs.sound.Flags.{HoldsBy-alike, kept-allowed, lettered-kept, lettered-alike, same-length, alike-flagged_at}
+
+-- the laws of flags that this rests on
+pub record Laws : Type 0 where
+  pub marks : FlagsMarkNothing
+  pub bytes : FlagsAreNoBytes
+
+-- the start: no state speaks of a global command that is open
+
+opened-stands : (t : State) (e : editor.State) (before : Kept) → StandsFor t e → StandsFor t (opened before e)
+opened-stands t e before st = record {
+  numbers = st.numbers;
+  stands = record { buffer = st.stands.buffer; remembered = st.stands.remembered; changed = st.stands.changed; past = st.stands.past };
+  lines = st.lines;
+  kept = st.kept;
+  matched = st.matched;
+  kept_matched = st.kept_matched;
+}
+
+pub start-sound : CommandIsSound → StartIsSound
+start-sound sound watched c s t e given o before st is makes =
+    opened-stands t o.state before (subst (λ (y : Result Effect Fault). IsDone c s t e given y) makes (sound watched c s t e given st is))
+
+-- a line is taken
+
+Holds-line_taken : (zone : Bounds) (v : Numbers) (n count : ℕ) → Holds zone v → v 0 ≡ pos 0 → v 2 ≡ pos count → 1 ≤ n → n ≤ count → Holds (line_taken zone) (updated v 1 (pos n))
+unfolding line_taken
+Holds-line_taken zone v n count holds v0 v2 from to =
+    let w : Numbers = updated v 1 (pos n) in
+    let gone : Holds (after_forget zone 1) w = Holds-after_forget zone 1 v w holds (updated-other v 1 (pos n)) in
+    let w0 : w 0 ≡ pos 0 = v0 in
+    let w1 : w 1 ≡ pos n = refl in
+    let w2 : w 2 ≡ pos count = v2 in
+    Holds-after_guard _ 1 2 (pos 0) w (omega arith) (omega arith)
+    (Holds-after_guard (after_forget zone 1) 0 1 (negsuc 0) w (omega arith) (omega arith) gone (omega (arith, ints))) (omega (arith, ints))
+
+StandsBy-taken : (s : State) (e : editor.State) (v : Numbers) (place : ℕ) → place < length e.lines → StandsBy s e v →
+    StandsBy (with_zone (line_taken s.zone) s) (taken_at e place) (updated v 1 (pos (place + 1)))
+StandsBy-taken s e v place h st =
+    let lines : List Line = flagged_at place false e.lines in
+    let b : HoldsBy s.zone s.marks lines e.current v = HoldsBy-alike s.zone s.marks e.lines lines e.current v (alike-flagged_at place false e.lines) st.buffer in
+    let size = same-length e.lines lines (alike-flagged_at place false e.lines) in
+    record {
+      buffer = record {
+        holds = Holds-line_taken s.zone v (place + 1) (length lines) b.holds b.reads.zero_is b.reads.last_is (omega arith) (omega arith);
+        reads = Reads-current s.marks lines e.current v (place + 1) b.reads;
+        inside = omega arith;
+      };
+      remembered = st.remembered;
+      changed = st.changed;
+      past = st.past;
+    }
+
+-- a line that `g` took for a given pattern matches it
+taken-matched : (verb : Verb) (has : List (List ℕ)) (ls : List Line) (place : ℕ) → place < length ls → (get_or ls place (plain_line [])).flag ≡ true →
+    FlaggedPass (is_taken_by verb) ls → AreMatched has ls → AreMatched (taken_matches verb has) ls
+taken-matched (ed.Global sense.Matching (Some text)) has ls place h flag pass m =
+    with_text-passes (is_matched ls) text has (list_any_at (λ (line : Line). matches text line.bytes) ls place (plain_line []) h (pass place (plain_line []) h flag)) m
+taken-matched (ed.Global sense.Matching None) has ls place h flag pass m = m
+taken-matched (ed.Global sense.Others pattern) has ls place h flag pass m = m
+taken-matched _ has ls place h flag pass m = m
+
+taken-stands : Laws → (verb : Verb) (s : State) (e : editor.State) (place : ℕ) → place < length e.lines → (get_or e.lines place (plain_line [])).flag ≡ true →
+    FlaggedPass (is_taken_by verb) e.lines → StandsFor s e → StandsFor (body_entry verb s) (taken_at e place)
+taken-stands k verb s e place h flag pass st =
+    let v : Numbers = updated st.numbers 1 (pos (place + 1)) in
+    record {
+      numbers = v;
+      stands = StandsBy-has (finished (with_zone (line_taken s.zone) s)) (taken_at e place) v (taken_matches verb s.has)
+          (StandsBy-ended (with_zone (line_taken s.zone) s) (taken_at e place) v (StandsBy-taken s e st.numbers place h st.stands));
+      lines = lettered-alike k.marks k.bytes e.lines (flagged_at place false e.lines) (alike-flagged_at place false e.lines) st.lines;
+      kept = st.kept;
+      matched = are-matched-alike (taken_matches verb s.has) e.lines (flagged_at place false e.lines) (alike-flagged_at place false e.lines) (taken-matched verb s.has e.lines place h flag pass st.matched);
+      kept_matched = st.kept_matched;
+    }
+
+-- the place of the line that is taken
+taken-from : (e f : editor.State) (p : Option ℕ) → option_map (taken_at e) p ≡ Some f → (place : ℕ) × (p ≡ Some place) × (taken_at e place ≡ f)
+taken-from e f None is = absurd cc
+taken-from e f (Some place) is = (place, refl, cc)
+
+pub turn-sound : Laws → (verb : Verb) (s : State) → TurnIsSound verb s (body_entry verb s)
+turn-sound k verb s e f st pass is =
+    let q = taken-from e f (flagged_place e.lines) is in
+    let h = position-Some (λ (line : Line). line.flag) e.lines q.0 (plain_line []) q.1 in
+    subst (λ (g : editor.State). StandsFor (body_entry verb s) g) q.2 (taken-stands k verb s e q.0 h.0 h.1 pass st)
+
+-- the end
+
+-- what is said of an editor once its global command is over
+abbrev over : editor.State → Open → editor.State
+over f g = record f { past = past_of_global g; global = None }
+
+closed-is : (f : editor.State) (g : Open) → f.global ≡ Some g → closed f ≡ over f g
+closed-is f g is = ap (λ (o : Option Open). elim o as (λ _. editor.State) [ None ↦ f | Some h ↦ over f h ]) is
+
+-- it is over with the old buffer where its list may have changed it
+module _ (k : Laws) (before : State) (e : editor.State) (st : StandsFor before e) (list : List Command) (g : Open)
+    (begun : g.before ≡ kept e) (may : g.altered ≡ true → list_may_alter list ≡ true) where
+  old-allowed : AllowsKept (Some (old_of before)) g.before
+  old-allowed = subst (λ (k : Kept). AllowsKept (Some (old_of before)) k) (sym begun) (kept-allowed before e (st.numbers, st.stands))
+
+  past-allowed : AllowsPast (undo_of_global list before) (past_of_global g)
+  past-allowed =
+      (elim g.altered as (λ b. (b ≡ true → list_may_alter list ≡ true) → AllowsPast (undo_of_global list before) (elim b as (λ _. Past) [ true ↦ Was g.before | false ↦ Same ])) [
+        | true ↦ λ k. subst (λ (b : Bool). AllowsKept (old_if b before) g.before) (sym (k refl)) old-allowed
+        | false ↦ λ k. refl
+      ]) may
+
+  past-matched : KeepsMatched (old_has_if (list_may_alter list) before) (past_of_global g)
+  past-matched =
+      (elim g.altered as (λ b. (b ≡ true → list_may_alter list ≡ true) → KeepsMatched (old_has_if (list_may_alter list) before) (elim b as (λ _. Past) [ true ↦ Was g.before | false ↦ Same ])) [
+        | true ↦ λ k. subst (λ (b : Bool). AreMatched (old_has_if b before) g.before.lines) (sym (k refl))
+            (subst (λ (p : Kept). AreMatched before.has p.lines) (sym begun) (are-matched-kept before.has e.lines st.matched))
+        | false ↦ λ k. tt
+      ]) may
+
+  past-lettered : KeepsLettered (past_of_global g)
+  past-lettered =
+      elim g.altered as (λ b. KeepsLettered (elim b as (λ _. Past) [ true ↦ Was g.before | false ↦ Same ])) [
+        | true ↦ subst (λ (k : Kept). AreLettered k.lines) (sym begun) (lettered-kept k.marks k.bytes e.lines st.lines)
+        | false ↦ tt
+      ]
+
+over-stands : (s : State) (f : editor.State) (g : Open) (undo : Undo) (old_has : List (List ℕ)) → AllowsPast undo (past_of_global g) → KeepsLettered (past_of_global g) → KeepsMatched old_has (past_of_global g) →
+    StandsFor s f → StandsFor (finished (record s { undo = undo; old_has = old_has })) (over f g)
+over-stands s f g undo old_has past kept kept_matched st = record {
+  numbers = st.numbers;
+  stands = StandsBy-ended (record s { undo = undo; old_has = old_has }) (over f g) st.numbers
+      (record {
+        buffer = record { holds = st.stands.buffer.holds; reads = st.stands.buffer.reads; inside = st.stands.buffer.inside };
+        remembered = st.stands.remembered;
+        changed = st.stands.changed;
+        past = past;
+      });
+  lines = st.lines;
+  kept = kept;
+  matched = st.matched;
+  kept_matched = kept_matched;
+}
+
+pub end-sound : Laws → (x : Step) (before invariant : State) → EndIsSound x before invariant (loop_end x before invariant)
+end-sound k x before invariant e f g st after is begun may =
+    subst (λ (h : editor.State). StandsFor (loop_end x before invariant) h) (sym (closed-is f g is))
+    (over-stands invariant f g (undo_of_global x.list before) (old_has_if (list_may_alter x.list) before) (past-allowed k before e st x.list g begun may)
+    (past-lettered k before e st x.list g begun may) (past-matched k before e st x.list g begun may) after)
+
+-- of states that are given by their equations
+
+pub start-by : {E : Type 0} → StartIsSound → (watched : List (List ℕ)) (c : Command) (s : State) (r : Result State E) → IfOk r (λ t. step watched c s ≡ Ok t) →
+    IfOk r (λ t. (e : editor.State) (given : Option Answer) (o : Outcome) (before : Kept) → StandsFor s e →
+    command e c given ≡ Ok (Makes o) → StandsFor t (opened before o.state))
+start-by sound watched c s (Ok t) h = λ e given o before st makes. sound watched c s t e given o before st h makes
+start-by sound watched c s (Err f) h = tt
+
+pub turn-by : (verb : Verb) (s entry : State) → TurnIsSound verb s (body_entry verb s) → entry ≡ body_entry verb s → TurnIsSound verb s entry
+turn-by verb s entry sound is = subst (λ (t : State). TurnIsSound verb s t) (sym is) sound
+
+pub end-by : (x : Step) (before invariant end : State) → EndIsSound x before invariant (loop_end x before invariant) →
+    end ≡ loop_end x before invariant → EndIsSound x before invariant end
+end-by x before invariant end sound is = subst (λ (t : State). EndIsSound x before invariant t) (sym is) sound

@@ -1,0 +1,317 @@
+-- What `s` does, side by side.
+use Rattle.std.proofs.Common.{◌≡◌, ℕ, zero, suc, ◌+◌, ◌-◌, pos, Bool, true, false, cond, ◌&&◌, List, [], ◌∷◌, take, drop, length, length-drop, Option, Some, None, Result, Ok, Err, arith, refl, ◌∙◌, ap, sym, subst, nat_eq}
+use Rattle.std.specs.Prelude.{not, ok_or}
+use Rattle.std.specs.List.{list_any, list_all}
+use Rattle.std.proofs.lemmas.List.{length-take-le}
+use Rattle.std.proofs.lemmas.List.Elements.{All-take, All-drop}
+use Rattle.std.proofs.lemmas.Bool.{or_right, and_parts}
+use Rattle.ed_base.specs.declared.fault.Fault.{Fault}
+use Rattle.ed_base.specs.declared.fault.Fault.TheVariants as fault
+use Rattle.ed_base.specs.Buffer.{Line, has_letter}
+use Rattle.ed_base.specs.Lines.{newline, IsLine}
+use Rattle.ed_base.specs.Parts as parts
+use Rattle.zones.specs.Steps.{after_set, after_guard, after_forget}
+use Rattle.ed_syntax.specs.declared.replacement.Part.{Part}
+use Rattle.ed_syntax.specs.declared.replacement.Part.TheVariants as part
+use Rattle.ed_syntax.specs.declared.replacement.Which.{Which}
+use Rattle.ed_syntax.specs.Commands.{Form}
+use Rattle.ed_syntax.specs.meaning.States as editor
+use Rattle.ed_syntax.specs.meaning.Ranges.{Span}
+use Rattle.ed_syntax.specs.meaning.Values.{◌>>◌, used_pattern}
+use Rattle.ed_syntax.specs.meaning.Verbs.{is_split}
+use Rattle.ed_syntax.specs.meaning.Effects as effects
+use Rattle.ed_syntax.specs.meaning.Effects.{Outcome, Effect, Makes}
+use Rattle.ed_syntax.specs.meaning.Applied.{making, settled}
+use Rattle.ed_syntax.specs.meaning.SubstitutedLines.{made_of, Results, each, used_replacement, flag_written, made, substitute}
+use Rattle.ed_rules.specs.declared.state.Replacements.{Replacements}
+use Rattle.ed_rules.specs.declared.state.State.{State}
+use Rattle.ed_rules.specs.Choices.{Choice, has_choice}
+use Rattle.ed_syntax.specs.meaning.CommandLaws.{AreWhole}
+use Rattle.ed_rules.specs.StandsFor.{ends_line, allows_replacement}
+use Rattle.ed_rules.specs.Order.{join}
+use Rattle.ed_rules.specs.Pieces.{with_zone, modified}
+use Rattle.ed_rules.specs.Addresses.{is_always, possible_patterns}
+use Rattle.ed_rules.proofs.Basics.{Agrees}
+use Rattle.ed_rules.specs.Substituting.{kind_of, has_usable, replacement_used, pattern_used, takes_first, is_sure_to_match, marks_substituted, current_split, current_substituted, surely_substituted, partly_substituted, substituted_if, substituted}
+use Rattle.ed_rules.proofs.Basics.{Agrees-bind, Agrees-needing, Agrees-map, Agrees-ok, bind-twice}
+use Rattle.ed_rules.proofs.Choosing.{has_choice-only, has_choice-all}
+use Rattle.ed_rules.proofs.sound.LettersInLines.{line_with, line_with-take_before, one_more, one_more-none}
+use Rattle.ed_rules.proofs.sound.Standing.{Stands, StandsBy-patterns}
+use Rattle.ed_rules.proofs.sound.Spans.{Ranges, Ranges-by}
+use Rattle.ed_rules.proofs.sound.Joining.{Stands-join, Stands-join_other}
+use Rattle.ed_rules.proofs.sound.Finishing.{Follows}
+use Rattle.ed_rules.proofs.sound.Effects.{altered-aside}
+use Rattle.ed_rules.proofs.sound.Results.{results-none, results-within, results-least, results-same, results-all, made-some, made-one, always-makes}
+use Rattle.ed_rules.proofs.sound.Substituting.{Exchanges, exchanged-last, exchanged-some, exchanged-split}
+
+-- the replacement
+
+-- what a command uses is of a kind that it may use
+abbrev UsesKind : (listed : Bool) → Replacements → List Part → Type 0
+UsesKind listed kinds parts = (has_usable listed kinds ≡ true) × (allows_replacement kinds (Some parts) ≡ true)
+
+kind-allows : (parts : List Part) → allows_replacement (kind_of parts) (Some parts) ≡ true
+kind-allows parts =
+    elim (list_any ends_line parts) as (λ b. cond b b (not b) ≡ true) [
+      | true ↦ refl
+      | false ↦ refl
+    ]
+
+split-ends : (parts : List Part) → list_any is_split parts ≡ true → list_any ends_line parts ≡ true
+split-ends [] h = h
+split-ends (part.Split ∷ parts) h = refl
+split-ends (part.Literal byte ∷ parts) h = or_right (nat_eq byte newline) (list_any ends_line parts) (split-ends parts h)
+split-ends (part.Match ∷ parts) h = split-ends parts h
+split-ends (part.Group group ∷ parts) h = split-ends parts h
+
+pub not-true : (b : Bool) → not b ≡ true → b ≡ true → ⊥
+not-true true h k = absurd cc
+not-true false h k = absurd cc
+
+-- what may end a line is a replacement that splits
+allows-split : (kinds : Replacements) (parts : List Part) → allows_replacement kinds (Some parts) ≡ true → list_any ends_line parts ≡ true → kinds.split ≡ true
+allows-split kinds parts h e = (let P : Bool → Type 0 = λ (b : Bool). cond b kinds.split kinds.plain ≡ true in subst P e) h
+
+allows-plain : (kinds : Replacements) (parts : List Part) → allows_replacement kinds (Some parts) ≡ true → kinds.split ≡ false → list_any ends_line parts ≡ false
+allows-plain kinds parts h e =
+    (elim (list_any ends_line parts) as (λ b. list_any ends_line parts ≡ b → b ≡ false) [
+      | true ↦ λ k. let q = allows-split kinds parts h k in let z : true ≡ false = sym q ∙ e in absurd cc
+      | false ↦ λ k. refl
+    ]) refl
+
+-- in a list none splits
+usable-plain : (kinds : Replacements) → has_usable true kinds ≡ true → kinds.split ≡ false
+usable-plain kinds h =
+    (elim kinds.split as (λ b. not kinds.none && not b ≡ true → b ≡ false) [
+      | true ↦ λ k. let z : false ≡ true = (and_parts (not kinds.none) false k).1 in absurd cc
+      | false ↦ λ k. refl
+    ]) h
+
+remembered-kind : (listed : Bool) (kinds : Replacements) (r : Option (List Part)) → allows_replacement kinds r ≡ true → has_usable listed kinds ≡ true →
+    Agrees (UsesKind listed) (Ok kinds)
+    (ok_or r fault.Replacement >> λ parts. elim (listed && list_any is_split parts) as (λ _. Result (List Part) Fault) [ true ↦ Err fault.Replacement | false ↦ Ok parts ])
+remembered-kind listed kinds None h k = absurd (not-true kinds.none (and_parts (not kinds.none) (not (listed && kinds.split)) k).0 h)
+remembered-kind listed kinds (Some parts) h k =
+    (elim (listed && list_any is_split parts) as (λ b. listed && list_any is_split parts ≡ b →
+    Agrees (UsesKind listed) (Ok kinds) (elim b as (λ _. Result (List Part) Fault) [ true ↦ Err fault.Replacement | false ↦ Ok parts ])) [
+      | true ↦ λ e.
+          let q = and_parts listed (list_any is_split parts) e in
+          let split : kinds.split ≡ true = allows-split kinds parts h (split-ends parts q.1) in
+          let both : listed && kinds.split ≡ true = rw (q.0, split) refl in
+          not-true (listed && kinds.split) (and_parts (not kinds.none) (not (listed && kinds.split)) k).1 both
+      | false ↦ λ e. (k, h)
+    ]) refl
+
+-- the pattern
+
+abbrev pub IsPossible : List Choice → List ℕ → Type 0
+IsPossible patterns text = has_choice patterns (Some text) ≡ true
+
+remembered-pattern : (patterns : List Choice) (own : Option (List ℕ)) → has_choice patterns own ≡ true → not (has_choice patterns None) ≡ true → Agrees IsPossible (Ok patterns) (ok_or own fault.Pattern)
+remembered-pattern patterns None h k = not-true (has_choice patterns None) k h
+remembered-pattern patterns (Some text) h k = h
+
+pub patterns-sound : (own : Option (List ℕ)) (s : State) (e : editor.State) → has_choice s.patterns e.pattern ≡ true → Agrees IsPossible (possible_patterns own s) (used_pattern own e)
+patterns-sound None s e h = Agrees-needing IsPossible (not (has_choice s.patterns None)) fault.Pattern s.patterns (used_pattern None e) (λ k. remembered-pattern s.patterns e.pattern h k)
+patterns-sound (Some text) s e h = has_choice-only (Some text)
+
+-- lines that a letter marks none of
+
+none-rest : (letter : ℕ) (l : Line) (ls : List Line) → line_with letter (l ∷ ls) ≡ None → line_with letter ls ≡ None
+none-rest letter l ls h =
+    (elim (has_letter letter l) as (λ b. cond b (Some 1) (one_more (line_with letter ls)) ≡ None → line_with letter ls ≡ None) [
+      | true ↦ λ h. cc
+      | false ↦ λ h. one_more-none _ h
+    ]) h
+
+none-dropped : (letter : ℕ) (ls : List Line) (k : ℕ) → line_with letter ls ≡ None → line_with letter (drop k ls) ≡ None
+none-dropped letter ls zero h = h
+none-dropped letter [] (suc k) h = h
+none-dropped letter (l ∷ ls) (suc k) h = none-dropped letter ls k (none-rest letter l ls h)
+
+-- what comes of the lines
+
+-- which lines come of those that are addressed, with the pattern and the replacement
+module _ (text : List ℕ) (replacement : List Part) (choice : Which) (s : State) (e : editor.State) (x : Span) (r : Ranges s e x) (whole : AreWhole e.lines)
+    (kind : allows_replacement s.replacements (Some replacement) ≡ true) where
+  abbrev block : List Line
+  block = parts.between x.first x.last e.lines
+
+  abbrev new : Results
+  new = each (made_of text replacement choice) block
+
+  block-size : length block ≡ x.last + 1 - x.first
+  block-size = length-drop (x.first - 1) (take x.last e.lines) ∙ (let q = length-take-le x.last e.lines r.spans.last_in in let from = r.from in omega arith)
+
+  exchanges : (splits : Bool) → (splits ≡ false → list_any ends_line replacement ≡ false) → Exchanges splits x.first x.last e.lines new.0
+  exchanges splits plain = record {
+    least = let q = results-least (made_of text replacement choice) (made-some text replacement choice) block in let z = block-size in omega arith;
+    same = λ k. results-same (made_of text replacement choice) (made-one text replacement choice (plain k)) block
+        (All-drop (λ (line : Line). IsLine line.bytes) (x.first - 1) (take x.last e.lines)
+        (All-take (λ (line : Line). IsLine line.bytes) x.last e.lines whole)) ∙ block-size;
+    none = λ letter line h after.
+        results-none (made_of text replacement choice) letter block (none-dropped letter (take x.last e.lines) (x.first - 1) (line_with-take_before letter e.lines x.last line h after));
+  }
+
+  -- a substitution in each of the lines
+  module _ (listed : Bool) (start : State) (begun : editor.State) (st : Stands start begun) (sure : is_always (Some text) ≡ true) (first : takes_first choice ≡ true) where
+    last-made : new.1 ≡ Some (length new.0)
+    last-made =
+        let z = block-size in
+        let order = r.order in
+        results-all (made_of text replacement choice) (λ line. always-makes text replacement choice sure first line) block (omega arith)
+
+    surely-follows : Follows listed begun (surely_substituted listed start s) (Makes (effects.altered (parts.replaced x.first x.last new.0 e.lines) (x.first - 1 + length new.0) e))
+    unfolding surely_substituted
+    surely-follows =
+        let lines : List Line = parts.replaced x.first x.last new.0 e.lines in
+        let current : ℕ = x.first - 1 + length new.0 in
+        let from = r.from in
+        let order = r.order in
+        let G : Bool → Type 0 = λ (b : Bool). Follows listed begun (modified listed start (with_zone (current_substituted b s.zone (marks_substituted b s).zone) (marks_substituted b s))) (Makes (effects.altered lines current e)) in
+        (elim s.replacements.split as (λ b. s.replacements.split ≡ b → G b) [
+          | true ↦ λ k.
+              let by = exchanges true (λ z. absurd cc) in
+              let q = exchanged-split true s e x r new.0 by current (omega arith) in
+              altered-aside listed start s (with_zone (current_split s.zone (marks_substituted true s).zone) (marks_substituted true s)) begun e st r.spans.stands.remembered r.spans.stands.past q.aside lines current q.numbers q.buffer
+          | false ↦ λ k.
+              let by = exchanges false (λ z. allows-plain s.replacements replacement kind k) in
+              let size = by.same refl in
+              let q = exchanged-last false s e x r new.0 by refl current (omega arith) in
+              altered-aside listed start s (with_zone (after_set (marks_substituted false s).zone 1 4 (pos 0)) (marks_substituted false s)) begun e st r.spans.stands.remembered r.spans.stands.past q.aside lines current q.numbers q.buffer
+        ]) refl
+
+  -- a substitution in some of them
+  module _ (listed : Bool) (start : State) (begun : editor.State) (st : Stands start begun) (plain : s.replacements.split ≡ false) where
+    partly-follows : (n : ℕ) → new.1 ≡ Some n →
+        Follows listed begun (partly_substituted listed start s) (Makes (effects.altered (parts.replaced x.first x.last new.0 e.lines) (x.first - 1 + n) e))
+    unfolding partly_substituted
+    partly-follows n is =
+        let lines : List Line = parts.replaced x.first x.last new.0 e.lines in
+        let current : ℕ = x.first - 1 + n in
+        let from = r.from in
+        let order = r.order in
+        let by = exchanges false (λ z. allows-plain s.replacements replacement kind plain) in
+        let size = by.same refl in
+        let within = results-within (made_of text replacement choice) (made-some text replacement choice) block n is in
+        let q = exchanged-some false s e x r new.0 by refl current (omega arith) (omega arith) in
+        altered-aside listed start s
+        (with_zone (after_guard (after_guard (after_forget (marks_substituted false s).zone 1) 3 1 (pos 0)) 1 4 (pos 0)) (marks_substituted false s)) begun e st r.spans.stands.remembered r.spans.stands.past q.aside lines current q.numbers q.buffer
+
+-- what a rule makes of a state that an outcome leaves
+abbrev Leads : (listed : Bool) → editor.State → State → Outcome → Type 0
+Leads listed begun t o = Follows listed begun t (Makes o)
+
+-- the outcome where some line was made
+outcome : (listed : Bool) (form : Option Form) (x : Span) (e : editor.State) (new : Results) (n : ℕ) → new.1 ≡ Some n →
+    made listed form x e new ≡ Ok (record (effects.altered (parts.replaced x.first x.last new.0 e.lines) (x.first - 1 + n) e) { output = flag_written form (x.first - 1 + n) (parts.replaced x.first x.last new.0 e.lines) })
+outcome listed form x e (lines, None) n is = cc
+outcome listed form x e (lines, Some m) n is = let q : m ≡ n = cc in ap (λ (k : ℕ). Ok (record (effects.altered (parts.replaced x.first x.last lines e.lines) (x.first - 1 + k) e) { output = flag_written form (x.first - 1 + k) (parts.replaced x.first x.last lines e.lines) })) q
+
+-- in a list it may be that none was made
+partly-leads : (form : Option Form) (start : State) (begun : editor.State) (x : Span) (s : State) (e : editor.State) (v : Stands s e) (new : Results) →
+    ((n : ℕ) → new.1 ≡ Some n → Follows true begun (partly_substituted true start s) (Makes (effects.altered (parts.replaced x.first x.last new.0 e.lines) (x.first - 1 + n) e))) →
+    Agrees (Leads true begun) (Ok (join s (partly_substituted true start s))) (made true form x e new)
+partly-leads form start begun x s e v (lines, None) h = Stands-join s (partly_substituted true start s) e v
+partly-leads form start begun x s e v (lines, Some n) h =
+    Stands-join_other s (partly_substituted true start s) (settled true (editor.kept begun) (effects.altered (parts.replaced x.first x.last lines e.lines) (x.first - 1 + n) e)) (h n refl)
+
+-- pattern and replacement are there
+module _ (text : List ℕ) (replacement : List Part) (choice : Which) (form : Option Form) (start : State) (begun : editor.State) (st : Stands start begun) (x : Span) (s : State) (e : editor.State) (r : Ranges s e x)
+    (whole : AreWhole e.lines) (possible : has_choice s.patterns (Some text) ≡ true) (kind : allows_replacement s.replacements (Some replacement) ≡ true) where
+  sure-sound : (listed : Bool) → is_sure_to_match s.patterns choice ≡ true →
+      Agrees (Leads listed begun) (Ok (surely_substituted listed start s)) (made listed form x e (each (made_of text replacement choice) (parts.between x.first x.last e.lines)))
+  sure-sound listed k =
+      let q = and_parts (list_all is_always s.patterns) (takes_first choice) k in
+      let always : is_always (Some text) ≡ true = has_choice-all is_always s.patterns (Some text) q.0 possible in
+      let new : Results = each (made_of text replacement choice) (parts.between x.first x.last e.lines) in
+      Agrees-ok (Leads listed begun) (surely_substituted listed start s) _ (made listed form x e new)
+      (outcome listed form x e new (length new.0) (last-made text replacement choice s e x r whole kind listed start begun st always q.1))
+      (surely-follows text replacement choice s e x r whole kind listed start begun st always q.1)
+
+  made-sound : (listed : Bool) → has_usable listed s.replacements ≡ true →
+      Agrees (Leads listed begun) (substituted_if (is_sure_to_match s.patterns choice) listed start s) (made listed form x e (each (made_of text replacement choice) (parts.between x.first x.last e.lines)))
+  made-sound true usable =
+      (elim (is_sure_to_match s.patterns choice) as (λ b. is_sure_to_match s.patterns choice ≡ b → Agrees (Leads true begun) (substituted_if b true start s) (made true form x e (each (made_of text replacement choice) (parts.between x.first x.last e.lines)))) [
+        | true ↦ λ k. sure-sound true k
+        | false ↦ λ k.
+            partly-leads form start begun x s e (r.spans.numbers, r.spans.stands) (each (made_of text replacement choice) (parts.between x.first x.last e.lines))
+            (λ n is. partly-follows text replacement choice s e x r whole kind true start begun st (usable-plain s.replacements usable) n is)
+      ]) refl
+  made-sound false usable =
+      (elim (is_sure_to_match s.patterns choice) as (λ b. is_sure_to_match s.patterns choice ≡ b → Agrees (Leads false begun) (substituted_if b false start s) (made false form x e (each (made_of text replacement choice) (parts.between x.first x.last e.lines)))) [
+        | true ↦ λ k. sure-sound false k
+        | false ↦ λ k. tt
+      ]) refl
+
+-- the states with what is used
+
+abbrev Uses : (listed : Bool) → editor.State → Span → State → List Part → Type 0
+Uses listed e x t parts = Ranges t (record e { replacement = Some parts }) x × (has_usable listed t.replacements ≡ true)
+
+Ranges-replacement : (s : State) (e : editor.State) (x : Span) (kinds : Replacements) (parts : List Part) → Ranges s e x → allows_replacement kinds (Some parts) ≡ true →
+    Ranges (record s { replacements = kinds }) (record e { replacement = Some parts }) x
+Ranges-replacement s e x kinds parts r k = Ranges-by r refl (record {
+  buffer = record { holds = r.spans.stands.buffer.holds; reads = r.spans.stands.buffer.reads; inside = r.spans.stands.buffer.inside };
+  remembered = (r.spans.stands.remembered.0, k, r.spans.stands.remembered.2);
+  changed = r.spans.stands.changed;
+  past = r.spans.stands.past;
+})
+
+Ranges-pattern : (s : State) (e : editor.State) (x : Span) (patterns : List Choice) (text : List ℕ) → Ranges s e x → has_choice patterns (Some text) ≡ true →
+    Ranges (record s { patterns = patterns }) (record e { pattern = Some text }) x
+Ranges-pattern s e x patterns text r k = Ranges-by r refl (StandsBy-patterns s e r.spans.numbers patterns (Some text) k r.spans.stands)
+
+Agrees-as : {A B C : Type 0} (R : A → B → Type 0) (S : C → B → Type 0) (a : A) (c : C) (y : Result B Fault) → Agrees R (Ok a) y → ((b : B) → R a b → S c b) → Agrees S (Ok c) y
+Agrees-as R S a c (Ok b) h k = k b h
+Agrees-as R S a c (Err f) h k = absurd h
+
+Agrees-made : {A B C : Type 0} (R : A → B → Type 0) (S : C → B → Type 0) (x : Result A Fault) (y : Result B Fault) (g : A → C) → Agrees R x y → ((a : A) (b : B) → R a b → S (g a) b) → Agrees S (x >> λ a. Ok (g a)) y
+Agrees-made R S (Err f) y g h k = tt
+Agrees-made R S (Ok a) (Ok b) g h k = k a b h
+Agrees-made R S (Ok a) (Err f) g h k = absurd h
+
+replacement-sound : (listed : Bool) (own : Option (List Part)) (s : State) (e : editor.State) (x : Span) → Ranges s e x →
+    Agrees (Uses listed e x) (replacement_used listed own s) (used_replacement listed own e)
+replacement-sound listed None s e x r =
+    let t : State = record s { replacements = s.replacements } in
+    Agrees-needing (Uses listed e x) (has_usable listed s.replacements) fault.Replacement t (used_replacement listed None e) (λ k.
+    Agrees-as (UsesKind listed) (Uses listed e x) s.replacements t (used_replacement listed None e) (remembered-kind listed s.replacements e.replacement r.spans.stands.remembered.1 k)
+    (λ parts q. (Ranges-replacement s e x s.replacements parts r q.1, q.0)))
+replacement-sound listed (Some parts) s e x r =
+    let t : State = record s { replacements = kind_of parts } in
+    Agrees-needing (Uses listed e x) (has_usable listed (kind_of parts)) fault.Replacement t (used_replacement listed (Some parts) e) (λ k. (Ranges-replacement s e x (kind_of parts) parts r (kind-allows parts), k))
+
+abbrev Looks : (listed : Bool) → editor.State → Span → State → List ℕ → Type 0
+Looks listed e x t text = Ranges t (record e { pattern = Some text }) x × (has_usable listed t.replacements ≡ true)
+
+pattern-sound : (listed : Bool) (own : Option (List ℕ)) (s : State) (e : editor.State) (x : Span) → Ranges s e x → has_usable listed s.replacements ≡ true →
+    Agrees (Looks listed e x) (pattern_used own s) (used_pattern own e)
+pattern-sound listed own s e x r usable =
+    Agrees-made IsPossible (Looks listed e x) (possible_patterns own s) (used_pattern own e) (λ patterns. record s { patterns = patterns }) (patterns-sound own s e r.spans.stands.remembered.0)
+    (λ patterns text k. (Ranges-pattern s e x patterns text r k, usable))
+
+-- the replacement has no say in which pattern is used
+used-same : (own : Option (List ℕ)) (e : editor.State) (parts : List Part) → used_pattern own (record e { replacement = Some parts }) ≡ used_pattern own e
+used-same None e parts = refl
+used-same (Some text) e parts = refl
+
+-- `s`
+substitute-leads : (listed : Bool) (pattern : Option (List ℕ)) (replacement : Option (List Part)) (choice : Which) (form : Option Form) (start : State) (begun : editor.State) → Stands start begun → (s : State) (e : editor.State) (x : Span) →
+    Ranges s e x → AreWhole e.lines → Agrees (Leads listed begun) (replacement_used listed replacement s >> λ t. pattern_used pattern t >> λ u. substituted_if (is_sure_to_match u.patterns choice) listed start u) (substitute listed pattern replacement choice form x e)
+substitute-leads listed pattern replacement choice form start begun st s e x r whole =
+    Agrees-bind (Uses listed e x) (Leads listed begun) (replacement_used listed replacement s) (used_replacement listed replacement e) _ _ (replacement-sound listed replacement s e x r)
+    (λ t parts k. Agrees-bind (Looks listed (record e { replacement = Some parts }) x) (Leads listed begun) (pattern_used pattern t) (used_pattern pattern e) _ _
+    (subst (λ (y : Result (List ℕ) Fault). Agrees (Looks listed (record e { replacement = Some parts }) x) (pattern_used pattern t) y) (used-same pattern e parts)
+    (pattern-sound listed pattern t (record e { replacement = Some parts }) x k.0 k.1))
+    (λ u text q.
+    made-sound text parts choice form start begun st x u (record e { pattern = Some text; replacement = Some parts }) q.0 whole q.0.spans.stands.remembered.0 q.0.spans.stands.remembered.1 listed q.1))
+
+pub substitute-follows : (listed : Bool) (pattern : Option (List ℕ)) (replacement : Option (List Part)) (choice : Which) (form : Option Form) (start : State) (begun : editor.State) → Stands start begun → (s : State) (e : editor.State) (x : Span) →
+    Ranges s e x → AreWhole e.lines → Agrees (Follows listed begun) (substituted listed pattern replacement choice start s) (making (substitute listed pattern replacement choice form x e))
+substitute-follows listed pattern replacement choice form start begun st s e x r whole =
+    Agrees-map (Leads listed begun) (Follows listed begun) (substituted listed pattern replacement choice start s) (substitute listed pattern replacement choice form x e) (λ o. Makes o)
+    (subst (λ (y : Result State Fault). Agrees (Leads listed begun) y (substitute listed pattern replacement choice form x e))
+    (sym (bind-twice (replacement_used listed replacement s) (pattern_used pattern) (λ t. substituted_if (is_sure_to_match t.patterns choice) listed start t)))
+    (substitute-leads listed pattern replacement choice form start begun st s e x r whole))
+    (λ a b h. h)
