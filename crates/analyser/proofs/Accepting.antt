@@ -2,6 +2,7 @@
 use Rattle.std.proofs.Common.{◌≡◌, ◌+◌, ℕ, Bool, true, false, not, ◌||◌, List, [], ◌∷◌, length, Option, None, Some, is_none, refl, sym, ap, ◌∙◌, subst, eq-eqb, arith, cond}
 use Rattle.std.specs.List.{All, list_all}
 use Rattle.std.proofs.lemmas.List.Elements.{All-nil, All-cons, All-head, All-tail}
+use Rattle.std.proofs.lemmas.Bool.{and_from}
 use Rattle.ed_base.specs.declared.fault.Fault.TheVariants as fault
 use Rattle.zones.specs.Known.{least, greatest}
 use Rattle.ed_syntax.specs.Commands.{Step, Script}
@@ -18,7 +19,7 @@ use Rattle.analyser.specs.declared.analysis.Start.{Start}
 use Rattle.analyser.specs.Rounds.{entered}
 use Rattle.analyser.specs.Following.{IsKnownOfList, AreNotes, result_from, paths_from, version_of, stated_of, sight_over, end_fault, begun}
 use Rattle.analyser.specs.Analysis.{low_of, high_of, IsCertificate}
-use Rattle.analyser.proofs.Checking.{Laws, covers-same, both-and, notes-hold}
+use Rattle.analyser.proofs.Checking.{Laws, covers-same, notes-hold}
 use Rattle.analyser.proofs.Listing.{listed-each}
 use Rattle.analyser.proofs.ToldBounds.{knows-low, knows-high}
 use Rattle.analyser.proofs.Rounding.{inner-length}
@@ -54,7 +55,7 @@ shaped : (w : Sight) (xs : List Step) (s : State) (ns : List Note) → AreNotes 
 shaped w [] s [] h = refl
 shaped w [] s (n ∷ ns) h = absurd h
 shaped w (x ∷ xs) s [] h = absurd h
-shaped w (x ∷ xs) s (n ∷ ns) h = both-and _ _ (fits-known w (is_global x.command.verb) x s n.looped h.0.list) (shaped w xs (left_after w n.looped x s) ns h.1)
+shaped w (x ∷ xs) s (n ∷ ns) h = and_from _ _ (fits-known w (is_global x.command.verb) x s n.looped h.0.list) (shaped w xs (left_after w n.looped x s) ns h.1)
 
 readable : (quit : Bool) (bad : Option ℕ) (s : State) → end_fault quit bad s ≡ None → quit || is_none bad ≡ true
 readable true bad s e = refl

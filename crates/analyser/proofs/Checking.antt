@@ -1,8 +1,9 @@
 -- What the checker asks of notes that follow from a state: all of it holds where no need fails, and else all before the need that fails.
-use Rattle.std.proofs.Common.{◌≡◌, ◌↔◌, ◌<◌, ◌≤◌, inl, inr, ◌+◌, ℕ, zero, suc, Bool, true, false, not, ◌||◌, ◌&&◌, List, [], ◌∷◌, ◌++◌, length, Option, None, Some, IsTrue, refl, sym, ap, ◌∙◌, subst, arith}
+use Rattle.std.proofs.Common.{◌≡◌, ◌↔◌, ◌<◌, ◌≤◌, inl, inr, ◌+◌, ℕ, zero, suc, Bool, true, false, not, ◌||◌, List, [], ◌∷◌, ◌++◌, length, Option, None, Some, IsTrue, refl, sym, subst, arith}
 use Rattle.std.specs.Prelude.{nat_lt}
 use Rattle.std.specs.List.{All, list_all}
 use Rattle.std.proofs.lemmas.List.Elements.{All-nil, All-cons}
+use Rattle.std.proofs.lemmas.Bool.{and_from, and_parts}
 use Rattle.ed_base.specs.declared.fault.Fault.{Fault}
 use Rattle.ed_syntax.specs.Commands.{Command, Step, Script}
 use Rattle.ed_syntax.specs.meaning.Verbs.{is_global}
@@ -18,7 +19,7 @@ use Rattle.cert_check.specs.checker.Valid.{Check, at_place, command_at, inner_at
 use Rattle.analyser.specs.declared.analysis.Start.{Start}
 use Rattle.analyser.specs.Rounds.{all_met, left_by_list, AreInner, InnerFail, entered, turned, round_invariant, IsSettled}
 use Rattle.analyser.specs.Following.{IsKnownOfList, IsNote, NeedFails, AreNotes, NotesFail, result_from, list_paths, looped_paths, paths_from, sight_over, begun}
-use Rattle.analyser.specs.Analysis.{CommandFails, EndFails, IsFailure}
+use Rattle.analyser.specs.Analysis.{IsFailure}
 use Rattle.analyser.specs.Checked.{IsBefore, IsBeforeInside, ChecksHoldBefore}
 use Rattle.analyser.proofs.Listing.{listed-each}
 use Rattle.analyser.proofs.Rounding.{inner-met}
@@ -35,20 +36,12 @@ pub record Laws : Type 0 where
 pub covers-same : Laws → (weak s : State) → weak ≡ s → covers weak s ≡ true
 covers-same k weak s e = subst (λ (t : State). covers t s ≡ true) (sym e) ((k.decided s s).1 (k.same s))
 
-both-hold : (a b : Bool) → a && b ≡ true → (a ≡ true) × (b ≡ true)
-both-hold true b e = (refl, e)
-both-hold false b e = absurd cc
-
-pub both-and : (a b : Bool) → a ≡ true → b ≡ true → a && b ≡ true
-both-and true b e f = f
-both-and false b e f = absurd cc
-
 all-append : (p : Choice → Bool) (cs ds : List Choice) → list_all p (cs ++ ds) ≡ true → (list_all p cs ≡ true) × (list_all p ds ≡ true)
 all-append p [] ds h = (refl, h)
 all-append p (c ∷ cs) ds h =
-    let here = both-hold (p c) (list_all p (cs ++ ds)) h in
+    let here = and_parts (p c) (list_all p (cs ++ ds)) h in
     let later = all-append p cs ds here.1 in
-    (both-and (p c) (list_all p cs) here.0 later.0, later.1)
+    (and_from (p c) (list_all p cs) here.0 later.0, later.1)
 
 -- THE INVARIANT of a list's last round
 

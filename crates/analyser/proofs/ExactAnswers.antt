@@ -1,5 +1,5 @@
 -- The answer on an exact script foretells each run.
-use Rattle.std.proofs.Common.{◌≡◌, ◌≤◌, ℕ, ℤ, pos, true, false, List, [], ◌∷◌, length, Option, None, Some, option_map, Result, Ok, Err, refl, sym, ap, ◌∙◌, subst, arith}
+use Rattle.std.proofs.Common.{◌≡◌, inl, inr, ◌≤◌, ℕ, suc, ℤ, pos, true, false, List, [], ◌∷◌, length, Option, None, Some, option_map, Result, Ok, Err, refl, sym, ap, ◌∙◌, subst, arith}
 use Rattle.std.proofs.lemmas.Int.{ints}
 use Rattle.std.proofs.lemmas.Bool.{le-ltb}
 use Rattle.std.proofs.lemmas.List.{length-map}
@@ -26,6 +26,7 @@ use Rattle.ed_rules.specs.Exact.{are_exact}
 use Rattle.ed_rules.specs.LineBounds.{most_lines}
 use Rattle.ed_rules.specs.ExactRules.{Tells, StartIsExact}
 use Rattle.cert_check.specs.declared.sight.Sight.{Sight}
+use Rattle.cert_check.specs.declared.checker.verdict.Place.{Place}
 use Rattle.cert_check.specs.Certificates.{certificate_value}
 use Rattle.cert_check.specs.checker.Sound.{start_lines}
 use Rattle.analyser.specs.declared.analysis.Start.{Start}
@@ -33,9 +34,10 @@ use Rattle.analyser.specs.declared.analysis.Analysis.{Analysis}
 use Rattle.analyser.specs.declared.analysis.Analysis.TheVariants.{Vouched, Cannot}
 use Rattle.analyser.specs.Following.{stated_of, sight_over, begun}
 use Rattle.analyser.specs.Analysis.{low_of, high_of, IsAnswer}
-use Rattle.analyser.specs.Exactness.{to_commands, IsExactRun, Foretells, IsExactAnswer}
-use Rattle.analyser.proofs.ExactWalks.{walked, certified-walk, failed-walk}
-use Rattle.analyser.proofs.ExactRuns.{Laws, AreDone, prompted-stop, Decided, front_of, StaysFew, decided}
+use Rattle.analyser.specs.Exactness.{to_commands, IsExactRun, FailsAt, Foretells, IsExactAnswer}
+use Rattle.analyser.proofs.ExactWalks.{walked, Falls, falls-walk, certified-walk, failed-walk}
+use Rattle.analyser.proofs.ExactRuns.{Laws, AreDone, prompted-stop, Decided, decided-fails, front_of, StaysFew, decided}
+use Rattle.analyser.proofs.ExactPlaces.{stumbles}
 
 -- THE BOUNDS OF THE END
 
@@ -56,35 +58,70 @@ high-is n h = rw (le-ltb most_lines n h) refl
 
 -- THE START
 
--- each run of what is left, from an editor that was just opened
-module _ (k : Laws) (begins : StartIsExact) (w : Sight) (has : List (List ℕ)) (xs : List Step) (bad : Option ℕ) (exact : are_exact xs ≡ true) where
-  from-state : (path : Option (List ℕ)) (n : ℕ) (m : Present) (answers : List Answer) → m.state.name ≡ path → length m.state.lines ≡ n →
-      m.state.current ≡ n → m.state.changed ≡ false →
-      AreDone answers → length xs ≤ length answers → StaysFew xs m answers →
-      Decided (walked w xs bad (states.start path n (Some n) has)) (stop_of (steps xs bad m answers))
-  from-state path n m answers name lines current flag done enough few =
+-- A run that has begun: the editor in which its first command comes, and the answers that are left for its commands.
+record Begins (xs : List Step) (s : State) (path : Option (List ℕ)) (o : Options) (answers : List Answer) : Type 0 where
+  at : Present
+  later : List Answer
+  tells : Tells s at.state
+  done : AreDone later
+  enough : length xs ≤ length later
+  few : StaysFew xs at later
+  goes : (ys : List Step) (bad : Option ℕ) →
+      stop_of (runs.start path (present o) (steps ys bad) answers) ≡ stop_of (steps ys bad at later)
+
+-- each run from an editor that was just opened
+module _ (begins : StartIsExact) (has : List (List ℕ)) (xs : List Step) where
+  from-state : (path : Option (List ℕ)) (n : ℕ) (m : Present) (o : Options) (answers later : List Answer) → m.state.name ≡ path →
+      length m.state.lines ≡ n → m.state.current ≡ n → m.state.changed ≡ false →
+      AreDone later → length xs ≤ length later → StaysFew xs m later →
+      ((ys : List Step) (bad : Option ℕ) →
+      stop_of (runs.start path (present o) (steps ys bad) answers) ≡ stop_of (steps ys bad m later)) →
+      Begins xs (states.start path n (Some n) has) path o answers
+  from-state path n m o answers later name lines current flag done enough few goes =
       let much : length m.state.lines ≤ most_lines = few 0 (record { lines = length m.state.lines }) (prompted-stop m (ending m)) in
-      decided k w xs bad (states.start path n (Some n) has) m answers exact
-      (begins path n has m.state name lines current flag (omega arith)) done enough few
+      record {
+        at = m;
+        later = later;
+        tells = begins path n has m.state name lines current flag (omega arith);
+        done = done;
+        enough = enough;
+        few = few;
+        goes = goes;
+      }
 
   from-start : (path : Option (List ℕ)) (n : ℕ) (o : Options) (answers : List Answer) → option_map length (start_lines path answers) ≡ Some n →
       AreDone (to_commands path answers) → length xs ≤ length (to_commands path answers) →
       ((i : ℕ) (e : Ending) → stop_of (runs.start path (present o) (steps (front_of i xs) None) answers) ≡ Ends (Ok e) →
       e.lines ≤ most_lines) →
-      Decided (walked w xs bad (states.start path n (Some n) has)) (stop_of (runs.start path (present o) (steps xs bad) answers))
+      Begins xs (states.start path n (Some n) has) path o answers
   from-start None n o answers lines done enough few =
       let none : 0 ≡ n = cc in
-      from-state None n (present o) answers refl none none refl done enough few
+      from-state None n (present o) o answers answers refl none none refl done enough few (λ ys bad. refl)
   from-start (Some path) n o [] lines done enough few = absurd cc
   from-start (Some path) n o (answer.Bytes bytes ∷ more) lines done enough few =
       let size : length (lines_of bytes) ≡ n = cc in
       let all : length (loaded bytes path opening).lines ≡ n = length-map (lines_of bytes) plain_line ∙ size in
-      from-state (Some path) n (with_state (loaded bytes path opening) (present o)) more refl all all refl done enough few
+      from-state (Some path) n (with_state (loaded bytes path opening) (present o)) o (answer.Bytes bytes ∷ more) more
+      refl all all refl done enough few (λ ys bad. refl)
   from-start (Some path) n o (answer.Missing ∷ more) lines done enough few =
       let none : 0 ≡ n = cc in
-      from-state (Some path) n (with_state (loaded [] path opening) (present o)) more refl none none refl done enough few
+      from-state (Some path) n (with_state (loaded [] path opening) (present o)) o (answer.Missing ∷ more) more
+      refl none none refl done enough few (λ ys bad. refl)
   from-start (Some path) n o (answer.Refused ∷ more) lines done enough few = absurd cc
   from-start (Some path) n o (answer.Done ∷ more) lines done enough few = absurd cc
+
+run-begins : StartIsExact → (script : Script) (start : Start) (o : Options) (answers : List Answer) →
+    IsExactRun script start o answers →
+    Begins script.steps (begun start) o.path o answers
+run-begins begins script start o answers h =
+    let few : (i : ℕ) (e : Ending) →
+    stop_of (runs.start start.path (present o) (steps (front_of i script.steps) None) answers) ≡ Ends (Ok e) →
+    e.lines ≤ most_lines = subst (λ (p : Option (List ℕ)). (i : ℕ) (e : Ending) → stop_of
+    (runs.start p (present o) (steps (front_of i script.steps) None) answers) ≡ Ends (Ok e) → e.lines ≤ most_lines) h.path h.few in
+    let from = from-start begins (stated_of start.has) script.steps start.path start.min o answers h.lines h.done h.enough few in
+    subst (λ (p : Option (List ℕ)). Begins script.steps (begun start) p o answers) (sym h.path)
+    (subst (λ (most : Option ℕ).
+    Begins script.steps (states.start start.path start.min most (stated_of start.has)) start.path o answers) (sym h.one) from)
 
 -- THE ANSWER
 
@@ -103,38 +140,47 @@ vouched low high t (Ends (Ok e)) l h d =
       h ∙ ap (λ (b : Option ℤ). high_of b) (told-most t s tells) ∙ high-is (length s.lines) few ∙ ap (λ (n : ℕ). Some n) (sym d.2),
     )
 
-refused : (f : Fault) (stop : Stop) → Decided (Err f) stop → stop ≡ Ends (Err f)
-refused f (Waits r) d = absurd d
-refused f (Ends (Ok e)) d = absurd d
-refused f (Ends (Err g)) d = ap (λ (h : Fault). Ends (Err h)) (sym d)
-
-run-decided : Laws → StartIsExact → (script : Script) (start : Start) (o : Options) (answers : List Answer) →
-    IsExactRun script start o answers →
+run-decided : Laws → (script : Script) (start : Start) (o : Options) (answers : List Answer) → are_exact script.steps ≡ true →
+    Begins script.steps (begun start) o.path o answers →
     Decided (walked (sight_over script start) script.steps script.fault (begun start)) (stop_of (run script o answers))
-run-decided k begins script start o answers h =
-    let go : (path : Option (List ℕ)) → o.path ≡ path →
-    ((i : ℕ) (e : Ending) → stop_of (runs.start path (present o) (steps (front_of i script.steps) None) answers) ≡ Ends (Ok e) →
-    e.lines ≤ most_lines) =
-    λ (path : Option (List ℕ)) (is : o.path ≡ path). subst (λ (p : Option (List ℕ)). (i : ℕ) (e : Ending) → stop_of
-    (runs.start p (present o) (steps (front_of i script.steps) None) answers) ≡ Ends (Ok e) → e.lines ≤ most_lines) is h.few in
-    let from : Decided (walked (sight_over script start) script.steps script.fault (states.start start.path start.min (Some start.min) (stated_of start.has)))
-    (stop_of (runs.start start.path (present o) (steps script.steps script.fault) answers)) =
-    from-start k begins (sight_over script start) (stated_of start.has) script.steps script.fault h.exact start.path start.min o answers h.lines h.done h.enough (go start.path h.path) in
-    let same : Decided (walked (sight_over script start) script.steps script.fault (begun start))
-    (stop_of (runs.start start.path (present o) (steps script.steps script.fault) answers)) =
-    subst (λ (most : Option ℕ). Decided (walked (sight_over script start) script.steps script.fault (states.start start.path start.min most (stated_of start.has)))
-    (stop_of (runs.start start.path (present o) (steps script.steps script.fault) answers))) (sym h.one) from in
-    subst (λ (p : Option (List ℕ)). Decided (walked (sight_over script start) script.steps script.fault (begun start))
-    (stop_of (runs.start p (present o) (steps script.steps script.fault) answers))) (sym h.path) same
+run-decided k script start o answers e b =
+    let w : Sight = sight_over script start in
+    subst (λ (z : Stop). Decided (walked w script.steps script.fault (begun start)) z) (sym (b.goes script.steps script.fault))
+    (decided k w script.steps script.fault (begun start) b.at b.later e b.tells b.done b.enough b.few)
+
+fails-there : Laws → (script : Script) (start : Start) (o : Options) (answers : List Answer) (place : Place) (why : Fault) →
+    are_exact script.steps ≡ true →
+    Begins script.steps (begun start) o.path o answers →
+    (before : ℕ) → place ≡ record { command = suc before; inner = None } →
+    Falls (sight_over script start) script.steps script.fault (begun start) before why → FailsAt script o answers place why
+fails-there k script start o answers place why e b before number falls =
+    let s = stumbles k (sight_over script start) script.steps script.fault (begun start) b.at b.later before why e
+    b.tells b.done b.enough b.few falls in
+    record {
+      before = before;
+      number = number;
+      left = s.left;
+      well = b.goes (front_of before script.steps) None ∙ s.well;
+      fails = elim s.fails [
+        | inl stops ↦ inl (b.goes (front_of (suc before) script.steps) None ∙ stops)
+        | inr all ↦ inr all
+      ];
+    }
 
 pub foretold : Laws → StartIsExact → (script : Script) (start : Start) (answer : Analysis) → IsAnswer script start answer →
     IsExactAnswer script start answer
 foretold k begins script start (Vouched c) is o answers h =
     let d = subst (λ (r : Result State Fault). Decided r (stop_of (run script o answers)))
-    (certified-walk k.needs script start (certificate_value c) h.exact is) (run-decided k begins script start o answers h) in
+    (certified-walk k.needs script start (certificate_value c) h.exact is)
+    (run-decided k script start o answers h.exact (run-begins begins script start o answers h)) in
     let v = vouched c.low c.high (certificate_value c).last (stop_of (run script o answers)) is.low is.high d in
-    subst (λ (z : Stop). Foretells (Vouched c) z) (sym v.1) (v.2, v.3)
+    subst (λ (z : Stop). Foretells script o answers (Vouched c) z) (sym v.1) (v.2, v.3)
 foretold k begins script start (Cannot place why notes) is o answers h =
-    let d = subst (λ (r : Result State Fault). Decided r (stop_of (run script o answers))) (failed-walk k.needs script start place why _ h.exact is)
-    (run-decided k begins script start o answers h) in
-    subst (λ (z : Stop). Foretells (Cannot place why notes) z) (sym (refused why (stop_of (run script o answers)) d)) refl
+    let b = run-begins begins script start o answers h in
+    let f = failed-walk k.needs script start place why _ h.exact is in
+    let d = subst (λ (r : Result State Fault). Decided r (stop_of (run script o answers)))
+    (falls-walk (sight_over script start) script.steps script.fault (begun start) f.0 why f.2)
+    (run-decided k script start o answers h.exact b) in
+    subst (λ (z : Stop). Foretells script o answers (Cannot place why notes) z)
+    (sym (decided-fails why (stop_of (run script o answers)) d))
+    (refl, fails-there k script start o answers place why h.exact b f.0 f.1 f.2)

@@ -1,9 +1,12 @@
--- A run of an exact script, so that what is said of such runs isn't said of none: `1d`, `w` and `q` over a file of three lines. It
--- leaves two, so no answer foretells it but a certificate of two lines.
-use Rattle.std.proofs.Common.{◌≡◌, ◌≤◌, ℕ, zero, suc, List, [], ◌∷◌, None, Some, Ok, codes, refl, arith, false}
+-- Runs of exact scripts over a file of three lines, so that what is said of such runs isn't said of none. `1d`, `w` and `q` leave two
+-- lines, so no answer foretells that run but a certificate of two lines. `1d`, `9d` and `w` fail at the second command, and `1d` alone
+-- fails at its end.
+use Rattle.std.proofs.Common.{◌≡◌, ◌⊎◌, inl, inr, ◌≤◌, ℕ, zero, suc, List, [], ◌∷◌, None, Some, Ok, Err, codes, refl, sym, ap, subst, arith, false}
+use Rattle.std.specs.Prelude.{pred}
 use Rattle.std.specs.List.{All}
 use Rattle.std.proofs.lemmas.List.Elements.{All-nil, All-cons}
 use Rattle.ed_base.specs.declared.fault.Fault.{Fault}
+use Rattle.ed_base.specs.declared.fault.Fault.TheVariants as fault
 use Rattle.ed_syntax.specs.declared.options.Options.{Options}
 use Rattle.ed_syntax.specs.declared.options.Ending.{Ending}
 use Rattle.ed_syntax.specs.declared.request.Answer.{Answer}
@@ -17,17 +20,19 @@ use Rattle.cert_check.specs.declared.checker.verdict.Place.{Place}
 use Rattle.analyser.specs.declared.analysis.Start.{Start}
 use Rattle.analyser.specs.declared.analysis.Analysis.TheVariants.{Vouched, Cannot}
 use Rattle.analyser.specs.Analysis.{most_lines}
-use Rattle.analyser.specs.Exactness.{up_to, IsExactRun, IsExactAnswer}
+use Rattle.analyser.specs.Exactness.{up_to, IsExactRun, FailsAt, IsExactAnswer}
+
+abbrev delete : (number : ℕ) → Step
+delete number = alone (record { addresses = One (at_base (ed.Number number)); verb = ed.Delete; suffix = None; listed = false })
+
+abbrev bare : Verb → Step
+bare verb = alone (record { addresses = Without; verb = verb; suffix = None; listed = false })
+
+abbrev script_of : List Step → Script
+script_of steps = record { steps = steps; fault = None }
 
 abbrev script : Script
-script = record {
-  steps =
-      alone (record { addresses = One (at_base (ed.Number 1)); verb = ed.Delete; suffix = None; listed = false })
-      ∷ alone (record { addresses = Without; verb = ed.WriteFile None; suffix = None; listed = false })
-      ∷ alone (record { addresses = Without; verb = ed.Quit; suffix = None; listed = false })
-      ∷ [];
-  fault = None;
-}
+script = script_of (delete 1 ∷ bare (ed.WriteFile None) ∷ bare ed.Quit ∷ [])
 
 abbrev start : Start
 start = record { path = Some (codes "F"); min = 3; max = Some 3; has = None }
@@ -75,3 +80,50 @@ refusal_is_no_foretelling place why notes h = h options answers exact_run
 -- and a certificate that foretells it has just these two lines.
 pub certificate_has_its_lines : (c : Certificate) → IsExactAnswer script start (Vouched c) → (c.low ≡ 2) × (c.high ≡ Some 2)
 certificate_has_its_lines c h = h options answers exact_run
+
+-- A FAULT, and its place
+
+-- line 9 isn't there after `1d`
+abbrev failing : Script
+failing = script_of (delete 1 ∷ delete 9 ∷ bare (ed.WriteFile None) ∷ [])
+
+pub failing_end : stop_of (run failing options answers) ≡ Ends (Err fault.Address)
+failing_end = refl
+
+pub second_fails : FailsAt failing options answers (record { command = 2; inner = None }) fault.Address
+second_fails = record { before = 1; number = refl; left = record { lines = 2 }; well = refl; fails = inl refl }
+
+-- a place has one number,
+number-is : (n before : ℕ) → ◌≡◌ {A = Place} (record { command = suc n; inner = None }) (record { command = suc before; inner = None }) →
+    before ≡ n
+number-is n before h = sym (ap (λ (p : Place). pred p.command) h)
+
+-- and a run one end
+ends-apart : (e : Ending) (f : Fault) → Ends (Ok e) ≡ Ends (Err f) → ⊥
+ends-apart e f h = cc
+
+-- so no earlier place is foretold,
+pub first_is_no_place : (why : Fault) → FailsAt failing options answers (record { command = 1; inner = None }) why → ⊥
+first_is_no_place why h = by h.before (number-is 0 h.before h.number) h.fails
+  where
+    by : (n : ℕ) → n ≡ 0 → (stop_of (run (up_to (suc n) failing) options answers) ≡ Ends (Err why)) ⊎ (n ≡ 3) → ⊥
+    by zero is (inl stops) = ends-apart (record { lines = 2 }) why stops
+    by zero is (inr all) = absurd (omega arith)
+    by (suc n) is fails = absurd (omega arith)
+
+-- and no later one, the end neither
+pub later_is_no_place : (n : ℕ) (why : Fault) →
+    FailsAt failing options answers (record { command = suc (suc (suc n)); inner = None }) why → ⊥
+later_is_no_place n why h =
+    ends-apart h.left fault.Address (sym (subst (λ (i : ℕ). stop_of (run (up_to i failing) options answers) ≡ Ends (Ok h.left))
+    (number-is (suc (suc n)) h.before h.number) h.well))
+
+-- a change that isn't saved is met after all commands
+abbrev unsaved : Script
+unsaved = script_of (delete 1 ∷ [])
+
+pub unsaved_end : stop_of (run unsaved options answers) ≡ Ends (Err fault.Unsaved)
+unsaved_end = refl
+
+pub end_fails : FailsAt unsaved options answers (record { command = 2; inner = None }) fault.Unsaved
+end_fails = record { before = 1; number = refl; left = record { lines = 2 }; well = refl; fails = inr refl }

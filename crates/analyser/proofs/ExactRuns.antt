@@ -2,6 +2,7 @@
 use Rattle.std.proofs.Common.{◌≡◌, ◌⊎◌, inl, inr, ◌≤◌, ℕ, suc, Bool, true, false, ◌&&◌, ◌||◌, List, [], ◌∷◌, ◌++◌, length, take, Option, None, Some, is_none, Result, Ok, Err, refl, sym, ap, ◌∙◌, subst, arith}
 use Rattle.std.specs.List.{All}
 use Rattle.std.proofs.lemmas.List.Elements.{All-head, All-tail}
+use Rattle.std.proofs.lemmas.Bool.{and_parts}
 use Rattle.ed_base.specs.declared.fault.Fault.{Fault}
 use Rattle.ed_base.specs.declared.fault.Fault.TheVariants as fault
 use Rattle.ed_syntax.specs.declared.options.Ending.{Ending}
@@ -14,7 +15,7 @@ use Rattle.ed_syntax.specs.meaning.States as editor
 use Rattle.ed_syntax.specs.meaning.Effects.{Outcome, Effect, Makes, Asks}
 use Rattle.ed_syntax.specs.meaning.Applied.{command}
 use Rattle.ed_syntax.specs.meaning.Laws.{UnaskedAnswersDoNothing, NothingIsAskedTwice}
-use Rattle.ed_syntax.specs.meaning.Progress.{Present, Progress, Stop, Ends, Writes, stop_of, failing, ending, count}
+use Rattle.ed_syntax.specs.meaning.Progress.{Present, Progress, Stop, Waits, Ends, Writes, stop_of, failing, ending, count}
 use Rattle.ed_syntax.specs.meaning.Runs.{Further, reached, answered, asking, turned, one, step_by, prompted, at_end, steps}
 use Rattle.ed_syntax.specs.meaning.Values.{◌>>◌}
 use Rattle.ed_syntax.specs.meaning.Verbs.{takes, takes_any, may_have, ends_run}
@@ -30,9 +31,8 @@ use Rattle.cert_check.specs.declared.certificate.Version.TheVariants as version
 use Rattle.cert_check.specs.declared.sight.Sight.{Sight}
 use Rattle.cert_check.specs.checker.Valid.{told_by, told}
 use Rattle.cert_check.proofs.verdicts.Checks.{NeedsAreTheSame}
-use Rattle.ed_rules.proofs.Basics.{and-both}
 use Rattle.analyser.specs.Exactness.{quit_anyway}
-use Rattle.analyser.proofs.ExactWalks.{ended, walked, goes_on, exact-verb, exact-both}
+use Rattle.analyser.proofs.ExactWalks.{ended, walked, goes_on, walked-fails, exact-verb, exact-both}
 
 -- the laws of the crates below
 pub record Laws : Type 0 where
@@ -144,6 +144,11 @@ Decided (Ok t) (Ends (Ok e)) = (s : editor.State) × Tells t s × (e.lines ≡ l
 Decided (Err f) (Ends (Err g)) = f ≡ g
 Decided _ _ = ⊥
 
+pub decided-fails : (f : Fault) (stop : Stop) → Decided (Err f) stop → stop ≡ Ends (Err f)
+decided-fails f (Waits r) d = absurd d
+decided-fails f (Ends (Ok e)) d = absurd d
+decided-fails f (Ends (Err g)) d = ap (λ (h : Fault). Ends (Err h)) (sym d)
+
 -- the first k of the steps that are left, and then a `Q`
 abbrev pub front_of : (k : ℕ) → List Step → List Step
 front_of k xs = take k xs ++ quit_anyway ∷ []
@@ -209,9 +214,9 @@ none-after (Some form) takes_one q h = let bad : false ≡ true = sym q ∙ h in
 bare-by : (c : Command) (verb : Verb) → is_exact c ≡ true → c.verb ≡ verb → takes_any (takes verb).taking ≡ false →
     (takes verb).suffix ≡ false → c ≡ bare verb c.listed
 bare-by c verb e is no_address no_suffix =
-    let both = and-both (are_by_number c.addresses && is_exact_verb c.verb) (is_readable c) e in
-    let reads = and-both (may_have c.addresses c.verb && (is_none c.suffix || (takes c.verb).suffix)) (enters_lines c.verb) both.1 in
-    let parts = and-both (may_have c.addresses c.verb) (is_none c.suffix || (takes c.verb).suffix) reads.0 in
+    let both = and_parts (are_by_number c.addresses && is_exact_verb c.verb) (is_readable c) e in
+    let reads = and_parts (may_have c.addresses c.verb && (is_none c.suffix || (takes c.verb).suffix)) (enters_lines c.verb) both.1 in
+    let parts = and_parts (may_have c.addresses c.verb) (is_none c.suffix || (takes c.verb).suffix) reads.0 in
     ap (λ (v : Verb). record { addresses = c.addresses; verb = v; suffix = c.suffix; listed = c.listed }) is
     ∙ ap (λ (a : Addresses). record { addresses = a; verb = verb; suffix = c.suffix; listed = c.listed })
     (none-given verb c.addresses no_address (subst (λ (v : Verb). may_have c.addresses v ≡ true) is parts.0))
@@ -267,10 +272,13 @@ steps-quit x xs bad m answers verb is =
     prompted-stop m (step_by x.command.verb x m (λ t more. steps xs bad t more) answers)
     ∙ ap (λ (v : Verb). stop_of (step_by v x m (λ t more. steps xs bad t more) answers)) is
 
-fail-decided : (r : Result State Fault) (f : Fault) (h : State → Result State Fault) → EndAlike LeavesTold r (Err f) →
-    Decided (r >> h) (Ends (Err f))
-fail-decided (Ok t) f h k = absurd k
-fail-decided (Err e) f h k = k
+failed-told : (r : Result State Fault) (f : Fault) → EndAlike LeavesTold r (Err f) → r ≡ Err f
+failed-told (Ok t) f h = absurd h
+failed-told (Err e) f h = ap (λ (g : Fault). Err g) h
+
+decided-by : {r t : Result State Fault} {y z : Stop} → r ≡ t → y ≡ z → Decided r y → Decided t z
+decided-by {r = r} {t = t} {y = y} {z = z} is to h =
+    subst (λ (p : Stop). Decided t p) to (subst (λ (q : Result State Fault). Decided q y) is h)
 
 made-told : (r : Result State Fault) (o : Outcome) → EndAlike LeavesTold r (Ok (Makes o)) → (t : State) × (r ≡ Ok t) × Tells t o.state
 made-told (Ok t) o h = (t, refl, h)
@@ -309,6 +317,78 @@ module _ (k : Laws) (w : Sight) where
       (subst (λ (r : Result State Fault). Decided r (stop_of (ending m))) (sym (walked-quits w x xs bad s (ap (λ (v : Verb). ends_run v) is)))
       (end-decided-by w m (step w.watch c s) tells))
 
+  pub ends-decided : (x : Step) (xs : List Step) (bad : Option ℕ) (s : State) (m : Present) (answers : List Answer) →
+      is_exact x.command ≡ true → Tells s m.state → ends_run x.command.verb ≡ true →
+      Decided (walked w (x ∷ xs) bad s) (stop_of (steps (x ∷ xs) bad m answers))
+  ends-decided x xs bad s m answers e h q = elim (quits-cases x.command.verb q) [
+    | inl is ↦ quitting-decided x xs bad s m answers e h is
+    | inr is ↦ ending-decided x xs bad s m answers e h is
+  ]
+
+  -- a step that doesn't end the run goes on, by its rule and in the run
+  pub record GoesOn (x : Step) (s : State) (m : Present) (answers : List Answer) : Type 0 where
+    pub next : State
+    pub reached : Present
+    pub later : List Answer
+    pub rule : step w.watch x.command s ≡ Ok next
+    pub tells : Tells (told w next) reached.state
+    pub done : AreDone later
+    pub enough : length answers ≤ suc (length later)
+    pub goes : (xs : List Step) (bad : Option ℕ) → stop_of (steps (x ∷ xs) bad m answers) ≡ stop_of (steps xs bad reached later)
+
+  -- it fails in both, by one fault
+  pub record FailsOn (x : Step) (s : State) (m : Present) (answers : List Answer) : Type 0 where
+    pub fault : Fault
+    pub rule : step w.watch x.command s ≡ Err fault
+    pub stops : (xs : List Step) (bad : Option ℕ) → stop_of (steps (x ∷ xs) bad m answers) ≡ Ends (Err fault)
+
+  pub step-decided : (x : Step) (xs : List Step) (s : State) (m : Present) (answers : List Answer) → is_exact x.command ≡ true →
+      Tells s m.state → AreDone answers → 1 ≤ length answers → StaysFew (x ∷ xs) m answers →
+      ends_run x.command.verb ≡ false →
+      FailsOn x s m answers ⊎ GoesOn x s m answers
+  step-decided x xs s m answers e h done enough few q =
+      let does : (ys : List Step) (b : Option ℕ) →
+      stop_of (steps (x ∷ ys) b m answers) ≡ stop_of (one x.command m (λ t more. steps ys b t more) answers) =
+      λ (ys : List Step) (b : Option ℕ). steps-is x ys b m answers (exact-verb x.command e) q in
+      elim (comes-by k x.command m answers done enough) [
+        | inl f ↦
+            let tells : EndAlike LeavesTold (step w.watch x.command s) (Err f.fault) =
+            subst (λ (y : Result Effect Fault). EndAlike LeavesTold (step w.watch x.command s) y) f.comes
+            (k.command w.watch x.command s m.state e h (subst (λ (y : Result Effect Fault). LeavesFew y) (sym f.comes) tt)) in
+            inl (record {
+              fault = f.fault;
+              rule = failed-told (step w.watch x.command s) f.fault tells;
+              stops = λ ys b. does ys b ∙ f.stops (λ t more. steps ys b t more);
+            })
+        | inr g ↦
+            let n : Present = turned x.command.verb (reached g.outcome m) in
+            let same : n.state ≡ g.outcome.state = turned-state x.command.verb (reached g.outcome m) in
+            let on : (ys : List Step) (b : Option ℕ) → stop_of (steps (x ∷ ys) b m answers) ≡ stop_of (steps ys b n g.later) =
+            λ (ys : List Step) (b : Option ℕ). does ys b ∙ g.goes (λ t more. steps ys b t more) in
+            let much : length n.state.lines ≤ most_lines =
+            few 1 (record { lines = length n.state.lines }) (on (front_of 0 xs) None ∙ prompted-stop n (ending n)) in
+            let made = made-told (step w.watch x.command s) g.outcome
+            (subst (λ (y : Result Effect Fault). EndAlike LeavesTold (step w.watch x.command s) y) g.comes
+            (k.command w.watch x.command s m.state e h
+            (subst (λ (y : Result Effect Fault). LeavesFew y) (sym g.comes)
+            (subst (λ (f : editor.State). length f.lines ≤ most_lines) same much)))) in
+            inr (record {
+              next = made.0;
+              reached = n;
+              later = g.later;
+              rule = made.1;
+              tells = subst (λ (f : editor.State). Tells (told w made.0) f) (sym same) (tells-told w made.0 g.outcome.state made.2);
+              done = g.done;
+              enough = g.enough;
+              goes = on;
+            })
+      ]
+
+  -- the steps after one that goes on
+  pub few-after : (x : Step) (xs : List Step) (s : State) (m : Present) (answers : List Answer) → StaysFew (x ∷ xs) m answers →
+      (g : GoesOn x s m answers) → StaysFew xs g.reached g.later
+  few-after x xs s m answers few g i e stop = few (suc i) e (g.goes (front_of i xs) None ∙ stop)
+
   pub decided : (xs : List Step) (bad : Option ℕ) (s : State) (m : Present) (answers : List Answer) → are_exact xs ≡ true →
       Tells s m.state → AreDone answers → length xs ≤ length answers → StaysFew xs m answers →
       Decided (walked w xs bad s) (stop_of (steps xs bad m answers))
@@ -318,37 +398,11 @@ module _ (k : Laws) (w : Sight) where
       let both = exact-both x xs e in
       (elim (ends_run x.command.verb) as (λ q. ends_run x.command.verb ≡ q → Decided (walked w (x ∷ xs) bad s)
       (stop_of (steps (x ∷ xs) bad m answers))) [
-        | true ↦ λ q. elim (quits-cases x.command.verb q) [
-          | inl is ↦ quitting-decided x xs bad s m answers both.0 h is
-          | inr is ↦ ending-decided x xs bad s m answers both.0 h is
-        ]
-        | false ↦ λ q. elim (comes-by k x.command m answers done (omega arith)) [
-          | inl f ↦
-              let tells : EndAlike LeavesTold (step w.watch x.command s) (Err f.fault) =
-              subst (λ (y : Result Effect Fault). EndAlike LeavesTold (step w.watch x.command s) y) f.comes
-              (k.command w.watch x.command s m.state both.0 h (subst (λ (y : Result Effect Fault). LeavesFew y) (sym f.comes) tt)) in
-              subst (λ (z : Stop). Decided (walked w (x ∷ xs) bad s) z)
-              (sym (steps-is x xs bad m answers (exact-verb x.command both.0) q ∙ f.stops (λ t more. steps xs bad t more)))
-              (fail-decided (step w.watch x.command s) f.fault
-              (λ t. goes_on w (ends_run x.command.verb) xs bad (told w t)) tells)
-          | inr g ↦
-              let n : Present = turned x.command.verb (reached g.outcome m) in
-              let same : n.state ≡ g.outcome.state = turned-state x.command.verb (reached g.outcome m) in
-              let on : (ys : List Step) (b : Option ℕ) → stop_of (steps (x ∷ ys) b m answers) ≡ stop_of (steps ys b n g.later) =
-              λ (ys : List Step) (b : Option ℕ). steps-is x ys b m answers (exact-verb x.command both.0) q ∙ g.goes
-              (λ t more. steps ys b t more) in
-              let much : length n.state.lines ≤ most_lines =
-              few 1 (record { lines = length n.state.lines }) (on (front_of 0 xs) None ∙ prompted-stop n (ending n)) in
-              let made = made-told (step w.watch x.command s) g.outcome
-              (subst (λ (y : Result Effect Fault). EndAlike LeavesTold (step w.watch x.command s) y) g.comes
-              (k.command w.watch x.command s m.state both.0 h
-              (subst (λ (y : Result Effect Fault). LeavesFew y) (sym g.comes)
-              (subst (λ (f : editor.State). length f.lines ≤ most_lines) same much)))) in
-              let t : State = made.0 in
-              subst (λ (z : Stop). Decided (walked w (x ∷ xs) bad s) z) (sym (on xs bad))
-              (subst (λ (r : Result State Fault). Decided r (stop_of (steps xs bad n g.later))) (sym (walked-goes w x xs bad s t q made.1))
-              (decided xs bad (told w t) n g.later both.1 (subst (λ (f : editor.State). Tells (told w t) f) (sym same) (tells-told w t g.outcome.state made.2)) g.done
-              (let some = g.enough in omega arith)
-              (λ i e stop. few (suc i) e (on (front_of i xs) None ∙ stop))))
+        | true ↦ λ q. ends-decided x xs bad s m answers both.0 h q
+        | false ↦ λ q. elim (step-decided x xs s m answers both.0 h done (omega arith) few q) [
+          | inl f ↦ decided-by (sym (walked-fails w x xs bad s f.fault f.rule)) (sym (f.stops xs bad)) refl
+          | inr g ↦ decided-by (sym (walked-goes w x xs bad s g.next q g.rule)) (sym (g.goes xs bad))
+              (decided xs bad (told w g.next) g.reached g.later both.1 g.tells g.done (let some = g.enough in omega arith)
+              (few-after x xs s m answers few g))
         ]
       ]) refl

@@ -1,5 +1,6 @@
 -- The rules of exact commands one after another: what a certificate or a failure says of them.
-use Rattle.std.proofs.Common.{◌≡◌, inl, inr, ℕ, Bool, true, false, ◌&&◌, ◌||◌, List, [], ◌∷◌, Option, None, Some, is_none, Result, Ok, Err, refl, sym, ap, ◌∙◌, subst, cond}
+use Rattle.std.proofs.Common.{◌≡◌, inl, inr, ℕ, zero, suc, Bool, true, false, ◌&&◌, ◌||◌, List, [], ◌∷◌, length, Option, None, Some, Result, Ok, Err, refl, sym, ap, ◌∙◌, subst, cond, arith}
+use Rattle.std.proofs.lemmas.Bool.{and_parts}
 use Rattle.ed_base.specs.declared.fault.Fault.{Fault}
 use Rattle.ed_base.specs.declared.fault.Fault.TheVariants as fault
 use Rattle.ed_syntax.specs.Commands as ed
@@ -10,11 +11,10 @@ use Rattle.ed_rules.specs.Rules.{step, fault_of}
 use Rattle.ed_rules.specs.Exact.{are_by_number, is_exact_verb, is_exact, are_exact}
 use Rattle.ed_syntax.specs.spelling.Readable.{is_readable}
 use Rattle.ed_syntax.specs.meaning.Verbs.{is_global, ends_run}
-use Rattle.ed_rules.proofs.Basics.{and-both}
 use Rattle.cert_check.specs.declared.sight.Sight.{Sight}
 use Rattle.cert_check.specs.declared.checker.verdict.Place.{Place}
 use Rattle.cert_check.specs.Certificates.{Looped, Note, Certificate}
-use Rattle.cert_check.specs.checker.Valid.{counted, has_quit, told, are_met, left_by, left_after}
+use Rattle.cert_check.specs.checker.Valid.{counted, has_quit, told, left_by, left_after}
 use Rattle.cert_check.proofs.verdicts.Checks.{NeedsAreTheSame, plainly_left, met-gives}
 use Rattle.analyser.specs.declared.analysis.Start.{Start}
 use Rattle.analyser.specs.Following.{IsKnownOfList, IsNote, NeedFails, AreNotes, NotesFail, result_from, sight_over, end_fault, begun}
@@ -44,8 +44,8 @@ not-global _ h = refl
 
 pub exact-verb : (c : Command) → is_exact c ≡ true → is_exact_verb c.verb ≡ true
 exact-verb c h =
-    let both = and-both (are_by_number c.addresses && is_exact_verb c.verb) (is_readable c) h in
-    (and-both (are_by_number c.addresses) (is_exact_verb c.verb) both.0).1
+    let both = and_parts (are_by_number c.addresses && is_exact_verb c.verb) (is_readable c) h in
+    (and_parts (are_by_number c.addresses) (is_exact_verb c.verb) both.0).1
 
 no-list : (w : Sight) (x : Step) (s : State) (l : Option Looped) → is_global x.command.verb ≡ false → IsKnownOfList w (is_global x.command.verb) x s l →
     l ≡ None
@@ -88,13 +88,14 @@ walked-step : (w : Sight) (x : Step) (xs : List Step) (bad : Option ℕ) (s t : 
 walked-step w x xs bad s t is =
     ap (λ (r : Result State Fault). r >> λ u. goes_on w (ends_run x.command.verb) xs bad (told w u)) is
 
-walked-fails : (w : Sight) (x : Step) (xs : List Step) (bad : Option ℕ) (s : State) (f : Fault) → step w.watch x.command s ≡ Err f →
+pub walked-fails : (w : Sight) (x : Step) (xs : List Step) (bad : Option ℕ) (s : State) (f : Fault) →
+    step w.watch x.command s ≡ Err f →
     walked w (x ∷ xs) bad s ≡ Err f
 walked-fails w x xs bad s f is =
     ap (λ (r : Result State Fault). r >> λ u. goes_on w (ends_run x.command.verb) xs bad (told w u)) is
 
 pub exact-both : (x : Step) (xs : List Step) → are_exact (x ∷ xs) ≡ true → (is_exact x.command ≡ true) × (are_exact xs ≡ true)
-exact-both x xs h = and-both (is_exact x.command) (are_exact xs) h
+exact-both x xs h = and_parts (is_exact x.command) (are_exact xs) h
 
 -- the counted commands after a first one, by whether it quits
 abbrev counted_by : Bool → List Step → List Step
@@ -140,9 +141,10 @@ certified-walk same script start c e h =
 
 -- A FAILURE
 
+-- a step has no list, so the need is one of its own
 need-fails : NeedsAreTheSame → (w : Sight) (inner : Option ℕ) (why : Fault) (x : Step) (s : State) (l : Option Looped) → is_exact x.command ≡ true →
-    NeedFails w inner why x s l → step w.watch x.command s ≡ Err why
-need-fails same w None why x s None e h = fails (step w.watch x.command s) (same w.watch [] x.command s ∙ h)
+    NeedFails w inner why x s l → (inner ≡ None) × (step w.watch x.command s ≡ Err why)
+need-fails same w None why x s None e h = (refl, fails (step w.watch x.command s) (same w.watch [] x.command s ∙ h))
   where
     fails : (r : Result State Fault) → fault_of r ≡ Some why → r ≡ Err why
     fails (Ok t) h = absurd cc
@@ -155,38 +157,81 @@ need-fails same w (Some inner) why x s (Some l) e h =
     let bad : false ≡ true = sym g ∙ k in
     absurd cc
 
-fails-walk : NeedsAreTheSame → (w : Sight) (inner : Option ℕ) (why : Fault) (xs : List Step) (bad : Option ℕ) (s : State) (ns : List Note) → are_exact xs ≡ true →
-    NotesFail w inner why (counted xs) s ns →
-    walked w xs bad s ≡ Err why
-fails-walk same w inner why [] bad s ns e h = absurd h
-fails-walk same w inner why (x ∷ xs) bad s [] e h = absurd h
-fails-walk same w inner why (x ∷ xs) bad s (n ∷ []) e h =
-    walked-fails w x xs bad s why (need-fails same w inner why x s n.looped (exact-both x xs e).0 h.1)
-fails-walk same w inner why (x ∷ xs) bad s (n ∷ m ∷ ns) e h =
+-- where the walk fails: so many steps go on, and the next one fails by this fault; or all do, and the end fails
+abbrev pub Falls : Sight → List Step → (bad : Option ℕ) → State → (before : ℕ) → Fault → Type 0
+Falls w [] bad s zero why = ended bad s ≡ Err why
+Falls w [] bad s (suc n) why = ⊥
+Falls w (x ∷ xs) bad s zero why = step w.watch x.command s ≡ Err why
+Falls w (x ∷ xs) bad s (suc n) why =
+    (t : State) × (ends_run x.command.verb ≡ false) × (step w.watch x.command s ≡ Ok t) × Falls w xs bad (told w t) n why
+
+pub falls-walk : (w : Sight) (xs : List Step) (bad : Option ℕ) (s : State) (before : ℕ) (why : Fault) →
+    Falls w xs bad s before why → walked w xs bad s ≡ Err why
+falls-walk w [] bad s zero why h = h
+falls-walk w [] bad s (suc n) why h = absurd h
+falls-walk w (x ∷ xs) bad s zero why h = walked-fails w x xs bad s why h
+falls-walk w (x ∷ xs) bad s (suc n) why (t, q, is, rest) =
+    walked-step w x xs bad s t is ∙ ap (λ (b : Bool). goes_on w b xs bad (told w t)) q ∙ falls-walk w xs bad (told w t) n why rest
+
+-- a step that is noted goes on, and so does what comes after it
+note-falls : NeedsAreTheSame → (w : Sight) (x : Step) (xs : List Step) (bad : Option ℕ) (s : State) (n : Note) (before : ℕ)
+    (why : Fault) →
+    is_exact x.command ≡ true → IsNote w x s n → ends_run x.command.verb ≡ false → Falls w xs bad (left_after w n.looped x s) before why →
+    Falls w (x ∷ xs) bad s (suc before) why
+note-falls same w x xs bad s n before why e h q rest =
+    let leaves = note-leaves same w x s n e h in
+    (plainly_left w x.command s, q, leaves.0, subst (λ (t : State). Falls w xs bad t before why) (sym leaves.1) rest)
+
+-- where a need of a step fails, by the notes
+fails-falls : NeedsAreTheSame → (w : Sight) (inner : Option ℕ) (why : Fault) (xs : List Step) (bad : Option ℕ) (s : State) (ns : List Note) →
+    are_exact xs ≡ true → NotesFail w inner why (counted xs) s ns →
+    (before : ℕ) × (length ns ≡ suc before) × (inner ≡ None) × Falls w xs bad s before why
+fails-falls same w inner why [] bad s ns e h = absurd h
+fails-falls same w inner why (x ∷ xs) bad s [] e h = absurd h
+fails-falls same w inner why (x ∷ xs) bad s (n ∷ []) e h =
+    let fails = need-fails same w inner why x s n.looped (exact-both x xs e).0 h.1 in
+    (zero, refl, fails.0, fails.1)
+fails-falls same w inner why (x ∷ xs) bad s (n ∷ m ∷ ns) e h =
     let both = exact-both x xs e in
     let t : State = left_after w n.looped x s in
-    let r = (elim (ends_run x.command.verb) as (λ q. NotesFail w inner why (counted_by q xs) t (m ∷ ns) →
-    goes_on w q xs bad t ≡ Err why) [
-      | true ↦ λ k. absurd k
-      | false ↦ λ k. fails-walk same w inner why xs bad t (m ∷ ns) both.1 k
-    ]) h.1 in
-    note-walked same w x xs bad s n both.0 h.0 ∙ r
+    (elim (ends_run x.command.verb) as (λ q. ends_run x.command.verb ≡ q → NotesFail w inner why (counted_by q xs) t (m ∷ ns) →
+    (before : ℕ) × (suc (length (m ∷ ns)) ≡ suc before) × (inner ≡ None) × Falls w (x ∷ xs) bad s before why) [
+      | true ↦ λ q k. absurd k
+      | false ↦ λ q k.
+          let rest = fails-falls same w inner why xs bad t (m ∷ ns) both.1 k in
+          (suc rest.0, ap (λ (i : ℕ). suc i) rest.1, rest.2, note-falls same w x xs bad s n rest.0 why both.0 h.0 q rest.3)
+    ]) refl h.1
 
-end-walk : NeedsAreTheSame → (script : Script) (start : Start) (notes : List Note) (why : Fault) → are_exact script.steps ≡ true →
-    AreNotes (sight_over script start) (counted script.steps) (begun start) notes →
-    end_fault (has_quit script.steps) script.fault (result_from (sight_over script start) (counted script.steps) (begun start) notes) ≡ Some why →
-    walked (sight_over script start) script.steps script.fault (begun start) ≡ Err why
-end-walk same script start notes why e h k =
-    let last : State = result_from (sight_over script start) (counted script.steps) (begun start) notes in
-    let r = (elim (has_quit script.steps) as (λ q. end_fault q script.fault last ≡ Some why →
-    closes q script.fault last ≡ Err why) [
-      | true ↦ λ i. absurd cc
-      | false ↦ λ i. ended-some script.fault last why i
-    ]) k in
-    noted-comes same (sight_over script start) script.steps script.fault (begun start) notes e h ∙ r
+-- where the end fails, by the notes
+end-falls : NeedsAreTheSame → (w : Sight) (why : Fault) (xs : List Step) (bad : Option ℕ) (s : State) (ns : List Note) → are_exact xs ≡ true →
+    AreNotes w (counted xs) s ns → end_fault (has_quit xs) bad (result_from w (counted xs) s ns) ≡ Some why →
+    Falls w xs bad s (length ns) why
+end-falls same w why [] bad s [] e h k = ended-some bad s why k
+end-falls same w why [] bad s (n ∷ ns) e h k = absurd h
+end-falls same w why (x ∷ xs) bad s [] e h k = absurd h
+end-falls same w why (x ∷ xs) bad s (n ∷ ns) e h k =
+    let both = exact-both x xs e in
+    let t : State = left_after w n.looped x s in
+    (elim (ends_run x.command.verb) as (λ q. ends_run x.command.verb ≡ q → AreNotes w (counted_by q xs) t ns →
+    end_fault (q || has_quit xs) bad (result_from w (counted_by q xs) t ns) ≡ Some why → Falls w (x ∷ xs) bad s (suc (length ns)) why) [
+      | true ↦ λ q i j. absurd cc
+      | false ↦ λ q i j. note-falls same w x xs bad s n (length ns) why both.0 h.0 q (end-falls same w why xs bad t ns both.1 i j)
+    ]) refl h.1 k
 
+-- the place of a failure is where the walk fails
 pub failed-walk : NeedsAreTheSame → (script : Script) (start : Start) (place : Place) (why : Fault) (notes : List Note) → are_exact script.steps ≡ true →
     IsFailure script start place why notes →
-    walked (sight_over script start) script.steps script.fault (begun start) ≡ Err why
-failed-walk same script start place why notes e (inl h) = fails-walk same (sight_over script start) place.inner why script.steps script.fault (begun start) notes e h.fails
-failed-walk same script start place why notes e (inr h) = end-walk same script start notes why e h.noted h.fails
+    (before : ℕ) × (place ≡ record { command = suc before; inner = None })
+    × Falls (sight_over script start) script.steps script.fault (begun start) before why
+failed-walk same script start place why notes e (inl h) =
+    let falls = fails-falls same (sight_over script start) place.inner why script.steps script.fault (begun start) notes e h.fails in (
+      falls.0,
+      ap (λ (n : ℕ). record { command = n; inner = place.inner }) (h.number ∙ falls.1)
+          ∙ ap (λ (i : Option ℕ). record { command = suc falls.0; inner = i }) falls.2,
+      falls.3,
+    )
+failed-walk same script start place why notes e (inr h) = (
+  length notes,
+  h.at_end ∙ ap (λ (n : ℕ). record { command = n; inner = None }) (omega arith),
+  end-falls same (sight_over script start) why script.steps script.fault (begun start) notes e h.noted h.fails,
+)

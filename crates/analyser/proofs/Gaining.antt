@@ -1,5 +1,5 @@
 -- Each rule leaves, of the patterns that some line is known to match, those that were known before, or that it may gain.
-use Rattle.std.proofs.Common.{◌≡◌, ℕ, Bool, true, false, List, [], ◌∷◌, ◌++◌, Option, None, Some, is_some, Result, Ok, Err, IfOk, refl, sym, subst, pos, negsuc}
+use Rattle.std.proofs.Common.{◌≡◌, ℕ, Bool, true, false, List, [], ◌∷◌, Option, None, Some, is_some, Result, Ok, Err, IfOk, refl, sym, subst, pos, negsuc}
 use Rattle.std.specs.List.{list_any}
 use Rattle.zones.specs.Name.{first_address, second_address}
 use Rattle.zones.specs.Zone.{Bounds}
@@ -14,7 +14,7 @@ use Rattle.ed_syntax.specs.meaning.Values.{matches, ◌>>◌}
 use Rattle.ed_syntax.specs.spelling.Readable.{enters_lines}
 use Rattle.ed_syntax.proofs.meaning.ResultLemmas.{IfOk-bind}
 use Rattle.ed_rules.specs.declared.state.State.{State}
-use Rattle.ed_rules.specs.Texts.{is_member, are_members, both_texts, with_texts}
+use Rattle.ed_rules.specs.Texts.{is_member, are_members, with_texts}
 use Rattle.ed_rules.specs.Matched.{gained}
 use Rattle.ed_rules.specs.Order.{join, widen, old_has_of_both}
 use Rattle.ed_rules.specs.Pieces.{needing, with_zone, ended}
@@ -23,7 +23,7 @@ use Rattle.ed_rules.specs.Matching.{entering, joining, joining_given, kept_unles
 use Rattle.ed_rules.specs.Rules.{taken, effect, step_at, step}
 use Rattle.ed_rules.specs.Globals.{taken_matches, body_entry}
 use Rattle.ed_rules.proofs.Texting.{filter-passes, both-passes, with_texts-passes}
-use Rattle.ed_rules.proofs.MatchedPhases.{SameMatches, addressed-same, target-same, taken-same, suffixed-is}
+use Rattle.ed_rules.proofs.matches.MatchedPhases.{SameMatches, addressed-same, target-same, taken-same, suffixed-is}
 use Rattle.cert_check.specs.declared.certificate.Version.{Version}
 use Rattle.cert_check.specs.declared.certificate.Version.TheVariants as version
 use Rattle.cert_check.specs.declared.sight.Sight.{Sight}

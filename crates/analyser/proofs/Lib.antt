@@ -15,5 +15,6 @@ pub mod Telling
 pub mod Texting
 pub mod ExactWalks
 pub mod ExactRuns
+pub mod ExactPlaces
 pub mod ExactAnswers
 mod ExactRows

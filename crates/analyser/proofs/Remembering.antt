@@ -1,6 +1,7 @@
 -- Each rule leaves, of patterns and paths that may be remembered, those that might be before, or that its command gives.
 use Rattle.std.specs.Prelude.{if◌then◌else◌}
 use Rattle.std.proofs.Common.{◌≡◌, ℕ, zero, suc, ℤ, pos, negsuc, Bool, true, false, List, [], ◌∷◌, ◌++◌, Option, None, Some, IfOk, refl}
+use Rattle.std.proofs.lemmas.Bool.{and_parts}
 use Rattle.zones.specs.Known.{known}
 use Rattle.zones.specs.Steps.{after_shift}
 use Rattle.ed_syntax.specs.declared.replacement.Part.{Part}
@@ -27,7 +28,6 @@ use Rattle.cert_check.specs.declared.certificate.Version.{Version}
 use Rattle.cert_check.specs.declared.certificate.Version.TheVariants as version
 use Rattle.cert_check.specs.declared.sight.Sight.{Sight}
 use Rattle.cert_check.specs.checker.Valid.{told_by, told}
-use Rattle.ed_rules.proofs.Basics.{and-both}
 use Rattle.ed_syntax.proofs.meaning.ResultLemmas.{IfOk-bind, IfOk-after}
 use Rattle.analyser.proofs.Results.{either, for_each, needed}
 use Rattle.analyser.proofs.Sets.{append-all, are-union, are-filled}
@@ -76,7 +76,7 @@ abbrev pub Within : (patterns names : List Choice) → State → Type 0
 Within patterns names s = (are_choices s.patterns patterns ≡ true) × (are_choices s.names names ≡ true)
 
 only : (path : List ℕ) (many : List Choice) → are_choices (Some path ∷ []) many ≡ true → has_choice many (Some path) ≡ true
-only path many h = (and-both (has_choice many (Some path)) true h).0
+only path many h = (and_parts (has_choice many (Some path)) true h).0
 
 -- where no address is given, those that stand for it have no pattern
 own-patterns : (patterns : List Choice) (a : Addresses) (v : Verb) → are_choices (addresses_patterns a) patterns ≡ true → are_choices (addresses_patterns (given_or a (standing (takes v).default))) patterns ≡ true

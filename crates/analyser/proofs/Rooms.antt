@@ -7,7 +7,7 @@ use Rattle.std.specs.Cmp.Lexicographic.{pointwise, slice_cmp, bytes_decides}
 use Rattle.std.specs.declared.cmp.Ordering.{Ordering}
 use Rattle.std.specs.declared.cmp.Ordering.TheVariants.{Less, Equal, Greater}
 use Rattle.std.proofs.lemmas.Int.{ints}
-use Rattle.std.proofs.lemmas.Bool.{cases_lt}
+use Rattle.std.proofs.lemmas.Bool.{cases_lt, and_parts, or_cases, or_left, or_right}
 use Rattle.std.proofs.lemmas.List.FromFn.{get_or-map-range_with_len}
 use Rattle.std.proofs.lemmas.Map.Lookups.{exact_bytes}
 use Rattle.zones.specs.Bound.{IsKept, covers_bound}
@@ -25,8 +25,7 @@ use Rattle.ed_rules.specs.Choices.{Choice, order_of, has_choice, union, are_choi
 use Rattle.ed_rules.specs.Marks.{is_sure, both_sure}
 use Rattle.ed_rules.specs.Texts.{is_member, are_members, both_texts}
 use Rattle.ed_rules.specs.Order.{old_of_both, old_has_of_both, united, join, widen, CoversOld, Covers}
-use Rattle.ed_rules.proofs.Basics.{and-both}
-use Rattle.ed_rules.proofs.Choosing.{or-cases, or-left, or-right, choice-itself}
+use Rattle.ed_rules.proofs.Choosing.{choice-itself}
 use Rattle.ed_rules.proofs.Texting.{member-passes, members-both, members-both_other}
 use Rattle.cert_check.specs.checker.Covering.{zone_covers, allows, are_among, old_covers, old_has_covers, covers}
 use Rattle.cert_check.proofs.verdicts.Covering.{below-each}
@@ -169,7 +168,7 @@ flag-fewer false false e f = absurd cc
 
 lacking-fewer : (cs few many : List Choice) (c : Choice) → Holds few many → has_choice cs c ≡ true → has_choice few c ≡ false → has_choice many c ≡ true → lacking cs many < lacking cs few
 lacking-fewer [] few many c h i e f = absurd cc
-lacking-fewer (d ∷ cs) few many c h i e f = elim (or-cases (is_eq (order_of c d)) (has_choice cs c) i) [
+lacking-fewer (d ∷ cs) few many c h i e f = elim (or_cases (is_eq (order_of c d)) (has_choice cs c) i) [
   | inl q ↦
       let same : c ≡ d = same-choices c d q in
       let here : flag_room (has_choice many d) < flag_room (has_choice few d) = flag-fewer (has_choice few d) (has_choice many d) (subst (λ (x : Choice). has_choice few x ≡ false) same e) (subst (λ (x : Choice). has_choice many x ≡ true) same f) in
@@ -185,17 +184,17 @@ lacking-fewer (d ∷ cs) few many c h i e f = elim (or-cases (is_eq (order_of c 
 set-fewer : (cs few many new : List Choice) → Holds few many → Holds new many → are_choices new cs ≡ true → are_choices new few ≡ false → lacking cs many < lacking cs few
 set-fewer cs few many [] h k within e = absurd cc
 set-fewer cs few many (c ∷ new) h k within e =
-    let inside = and-both (has_choice cs c) (are_choices new cs) within in
+    let inside = and_parts (has_choice cs c) (are_choices new cs) within in
     (elim (has_choice few c) as (λ b. has_choice few c ≡ b → b && are_choices new few ≡ false → lacking cs many < lacking cs few) [
-      | true ↦ λ q f. set-fewer cs few many new h (λ d i. k d (or-right (is_eq (order_of d c)) (has_choice new d) i)) inside.1 f
-      | false ↦ λ q f. lacking-fewer cs few many c h inside.0 q (k c (or-left (is_eq (order_of c c)) (has_choice new c) (choice-itself c)))
+      | true ↦ λ q f. set-fewer cs few many new h (λ d i. k d (or_right (is_eq (order_of d c)) (has_choice new d) i)) inside.1 f
+      | false ↦ λ q f. lacking-fewer cs few many c h inside.0 q (k c (or_left (is_eq (order_of c c)) (has_choice new c) (choice-itself c)))
     ]) refl e
 
 held : (few many : List Choice) → are_choices few many ≡ true → Holds few many
 held [] many within c h = absurd cc
 held (d ∷ few) many within c h =
-    let both = and-both (has_choice many d) (are_choices few many) within in
-    elim (or-cases (is_eq (order_of c d)) (has_choice few c) h) [
+    let both = and_parts (has_choice many d) (are_choices few many) within in
+    elim (or_cases (is_eq (order_of c d)) (has_choice few c) h) [
       | inl q ↦ subst (λ (x : Choice). has_choice many x ≡ true) (sym (same-choices c d q)) both.0
       | inr q ↦ held few many both.1 c q
     ]
@@ -306,7 +305,7 @@ room-fewer a b e f = rw (e, f) (omega arith)
 
 held-fewer : (texts few many : List (List ℕ)) (t : List ℕ) → HoldsTexts few many → is_member texts t ≡ true → is_member few t ≡ false → is_member many t ≡ true → held_of texts few < held_of texts many
 held-fewer [] few many t h i e f = absurd cc
-held-fewer (u ∷ texts) few many t h i e f = elim (or-cases (pointwise nat_eq u t) (is_member texts t) i) [
+held-fewer (u ∷ texts) few many t h i e f = elim (or_cases (pointwise nat_eq u t) (is_member texts t) i) [
   | inl q ↦
       let same : t ≡ u = sym ((bytes_decides u t).0 q) in
       let here : mark_room (is_member few u) < mark_room (is_member many u) = room-fewer (is_member few u) (is_member many u) (subst (λ (x : List ℕ). is_member few x ≡ false) same e) (subst (λ (x : List ℕ). is_member many x ≡ true) same f) in
@@ -323,10 +322,10 @@ lost-fewer : (texts few many other : List (List ℕ)) → HoldsTexts few many �
     held_of texts few < held_of texts many
 lost-fewer texts few many other h k [] within g e = absurd cc
 lost-fewer texts few many other h k (t ∷ some) within g e =
-    let inside = and-both (is_member texts t) (are_members some texts) within in
+    let inside = and_parts (is_member texts t) (are_members some texts) within in
     (elim (is_member other t) as (λ b. is_member other t ≡ b → b && are_members some other ≡ false → held_of texts few < held_of texts many) [
-      | true ↦ λ q f. lost-fewer texts few many other h k some inside.1 (λ u i. g u (or-right (pointwise nat_eq t u) (is_member some u) i)) f
-      | false ↦ λ q f. held-fewer texts few many t h inside.0 (no-member (is_member few t) (is_member other t) (k t) q) (g t (or-left (pointwise nat_eq t t) (is_member some t) ((bytes_decides t t).1 refl)))
+      | true ↦ λ q f. lost-fewer texts few many other h k some inside.1 (λ u i. g u (or_right (pointwise nat_eq t u) (is_member some u) i)) f
+      | false ↦ λ q f. held-fewer texts few many t h inside.0 (no-member (is_member few t) (is_member other t) (k t) q) (g t (or_left (pointwise nat_eq t t) (is_member some t) ((bytes_decides t t).1 refl)))
     ]) refl e
   where
     no-member : (a b : Bool) → (a ≡ true → b ≡ true) → b ≡ false → a ≡ false

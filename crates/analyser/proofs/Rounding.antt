@@ -1,7 +1,7 @@
 -- The rounds of a list, one further.
 use Rattle.std.proofs.Common.{◌≡◌, ◌<◌, ◌+◌, ℕ, suc, min, Bool, true, false, not, List, [], ◌∷◌, ◌++◌, length, get_or, map, drop, Option, None, Some, is_none, option_map, Result, Ok, Err, IfOk, inl, inr, refl, sym, ap, subst, ◌∙◌, arith}
 use Rattle.std.specs.Prelude.{nat_lt, if◌then◌else◌, IfSome}
-use Rattle.std.proofs.lemmas.Bool.{cases_lt, le-ltb}
+use Rattle.std.proofs.lemmas.Bool.{cases_lt, le-ltb, or_right}
 use Rattle.ed_base.specs.declared.fault.Fault.{Fault}
 use Rattle.ed_syntax.specs.declared.command.Command as memory
 use Rattle.ed_syntax.specs.Commands.{Command, Step}
@@ -12,7 +12,6 @@ use Rattle.ed_rules.specs.Choices.{Choice, has_choice, are_choices}
 use Rattle.ed_rules.specs.Texts.{are_members}
 use Rattle.ed_rules.specs.Rules.{step, fault_of}
 use Rattle.ed_rules.specs.Globals.{taken_matches, body_entry, loop_end}
-use Rattle.ed_rules.proofs.Choosing.{or-right}
 use Rattle.ed_rules.proofs.Texting.{members-through}
 use Rattle.cert_check.specs.declared.sight.Sight.{Sight}
 use Rattle.cert_check.specs.checker.Covering.{covers}
@@ -179,7 +178,7 @@ goes-on w x before invariant next inner None t h e = goes-if w x before invarian
 ends-if : (w : Sight) (x : Step) (before : ℕ) (invariant t : State) → t ≡ turned w x invariant → (covered : Bool) → covers invariant t ≡ covered →
     (if covered then None else Some (next_invariant before invariant t)) ≡ None → ends w x invariant ≡ true
 ends-if w x before invariant t e true c n =
-    or-right (not (all_met w x.list (entered w x invariant))) (covers invariant (turned w x invariant)) (subst (λ (u : State). covers invariant u ≡ true) e c)
+    or_right (not (all_met w x.list (entered w x invariant))) (covers invariant (turned w x invariant)) (subst (λ (u : State). covers invariant u ≡ true) e c)
 ends-if w x before invariant t e false c n = absurd cc
 
 pub ends-here : (w : Sight) (x : Step) (before : ℕ) (invariant : State) (inner : List State) (failed : Option Fault) (t : State) → IsRound w x.list (entered w x invariant) inner failed t →

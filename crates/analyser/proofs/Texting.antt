@@ -1,12 +1,12 @@
 -- What is vouched for has a text.
-use Rattle.std.proofs.Common.{◌≡◌, ◌≤◌, ℕ, zero, suc, ℤ, pos, negsuc, Bool, true, false, cond, ◌&&◌, List, [], ◌∷◌, map, Option, None, Some, refl, sym, subst, arith}
+use Rattle.std.proofs.Common.{◌≡◌, ◌≤◌, ℕ, ℤ, pos, negsuc, true, false, cond, ◌&&◌, List, [], ◌∷◌, map, Option, None, Some, refl, sym, subst, arith}
 use Rattle.std.specs.Prelude.{nat_lt, min, IfSome}
 use Rattle.std.specs.List.{All}
 use Rattle.std.specs.List.Sorted.{IsStrictlySortedBy}
 use Rattle.std.specs.Ordering.{nat_cmp, is_lt}
 use Rattle.std.specs.Cmp.Lexicographic.{slice_cmp}
 use Rattle.std.specs.declared.cmp.Ordering.TheVariants.{Less}
-use Rattle.std.proofs.lemmas.Bool.{le-leb, ltb-false}
+use Rattle.std.proofs.lemmas.Bool.{le-leb, ltb-false, and_from}
 use Rattle.std.proofs.lemmas.List.Elements.{All-nil, All-cons, All-head, All-tail}
 use Rattle.zones.specs.Known.{least, greatest}
 use Rattle.ed_syntax.specs.Commands.{Script}
@@ -29,10 +29,6 @@ use Rattle.analyser.proofs.Telling.{Laws, MatchLaws, Holds, LoopedHolds, NoteHol
 
 few : (n : ℕ) → n ≤ most_lines → is_few n ≡ true
 few n h = le-leb n 1000000000000 h
-
-both : (a b : Bool) → a ≡ true → b ≡ true → a && b ≡ true
-both true b e f = f
-both false b e f = absurd cc
 
 limit : (max : Option ℕ) → IfSome max (λ most. most ≤ most_lines) → is_limit max ≡ true
 limit None h = refl
@@ -59,7 +55,7 @@ rising [] h = refl
 rising (p ∷ []) h = refl
 rising (p ∷ q ∷ paths) h =
     let less : slice_cmp nat_cmp p q ≡ Less = h.0.0 in
-    both (is_lt (order_of (Some p) (Some q))) (is_rising (map (λ path. Some path) (q ∷ paths))) (rw less refl) (rising (q ∷ paths) h.1)
+    and_from (is_lt (order_of (Some p) (Some q))) (is_rising (map (λ path. Some path) (q ∷ paths))) (rw less refl) (rising (q ∷ paths) h.1)
 
 -- WHAT IS SAID OF MATCHES
 
@@ -106,14 +102,14 @@ has-text k m script start c bytes path has paths ordered low high is =
       start =
           subst (λ (n : ℕ). (is_few n && is_limit c.max && is_within n c.max) ≡ true) (sym is.min)
           (subst (λ (most : Option ℕ). (is_few start.min && is_limit most && is_within start.min most) ≡ true) (sym is.max)
-          (both _ _ (both _ _ (few start.min low) (limit start.max high)) (within start.min start.max ordered)));
+          (and_from _ _ (and_from _ _ (few start.min low) (limit start.max high)) (within start.min start.max ordered)));
       has =
           subst (λ (v : Version). IsSaidIn v c.has) (sym is.version)
           (subst (λ (stated : List (List ℕ)). IsSaidIn (version_of start.has) stated) (sym is.has) (stated-said start.has has));
       notes = subst (λ (v : Version). All (NoteHasText v) c.notes) (sym is.version) (texts-of_notes (version_of start.has) c.notes known.0);
       last = subst (λ (v : Version). StateHasText v c.last) (sym is.version) (text-of_state (version_of start.has) c.last last);
       final =
-          both (is_few c.low) (is_limit c.high) (subst (λ (n : ℕ). is_few n ≡ true) (sym is.low) (low-few (least c.last.zone 2 0)))
+          and_from (is_few c.low) (is_limit c.high) (subst (λ (n : ℕ). is_few n ≡ true) (sym is.low) (low-few (least c.last.zone 2 0)))
           (subst (λ (most : Option ℕ). is_limit most ≡ true) (sym is.high) (high-limit (greatest c.last.zone 2 0)));
       bytes = paths;
       rising = rising c.writes is.writes.rising;
