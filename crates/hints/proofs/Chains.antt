@@ -1,5 +1,5 @@
 -- Refusals one after another.
-use Rattle.std.proofs.Common.{◌≡◌, ◌<◌, ◌+◌, ℕ, List, [], ◌∷◌, ◌++◌, length, drop, get_or, sym, subst, arith, ap, map, length-append}
+use Rattle.std.proofs.Common.{◌≡◌, ◌<◌, ◌+◌, ℕ, List, [], ◌∷◌, ◌++◌, length, drop, get_or, refl, sym, subst, arith, ap, map, length-append}
 use Rattle.std.specs.List.{All, Any}
 use Rattle.std.proofs.lemmas.List.Elements.{All-head, All-same}
 use Rattle.analyser.specs.declared.analysis.Start.{Start}
@@ -10,8 +10,10 @@ use Rattle.hints.specs.declared.hint.Hint.{Hint}
 use Rattle.hints.specs.declared.refusing.Refusal.{Refusal}
 use Rattle.ed_syntax.specs.reading.Reading.{script_of}
 use Rattle.cert_check.specs.declared.checker.verdict.Place.{Place}
-use Rattle.hints.specs.Passing.{IsAllowed, IsVouched, MoreLinesHelp, Keeps, GetsPast}
-use Rattle.hints.specs.Hints.{IsTried, AsksForMore, IsStated, IsRefusal, IsMended, none, more, AreRefusals, mended, stopped, cut}
+use Rattle.hints.specs.Passing.{IsAllowed, IsVouched, MoreLinesHelp, Keeps, GetsPast, last_of}
+use Rattle.hints.specs.Passing as passing
+use Rattle.hints.specs.Hints.{IsUnchanged, IsFrom, IsTried, AsksForMore, IsStated, IsRefusal, IsMended, none, more, AreRefusals, mended, stopped, cut}
+use Rattle.hints.specs.Hints as hints
 
 -- a list that isn't empty is its first element and the others
 pub front-of : {A : Type 0} → (xs : List A) (x : A) → 0 < length xs → x ≡ get_or xs 0 x → xs ≡ x ∷ drop 1 xs
@@ -62,21 +64,28 @@ goes-on script start told all now later opened bounded r h hs is-mended is same 
 -- what a first hint says has bounds that are allowed
 pub stays-allowed : (r : Refusal) (h : Hint) (hs : List Hint) (bounded : Start) → IsRefusal r → r.hints.items ≡ h ∷ hs → bounded ≡ h.start → IsAllowed bounded
 stays-allowed r h hs bounded is hints starts =
-    let tried : IsTried r.start r.place h = All-head (IsTried r.start r.place) h hs (All-same (IsTried r.start r.place) _ _ (sym hints) is.tried) in
+    let tried : IsTried r.script r.start r.place h = All-head (IsTried r.script r.start r.place) h hs (All-same (IsTried r.script r.start r.place) _ _ (sym hints) is.tried) in
     subst IsAllowed (sym starts) tried.allowed
 
 -- a hint of a script and a start that were tried, over a start that keeps what another one says
-pub tried-by : (given : Start) (place : Place) (h : Hint) (script : List ℕ) (start : Start) → Keeps given start → IsAllowed start →
-    GetsPast (script_of script) start place → h.script ≡ script → h.start ≡ start → IsTried given place h
-tried-by given place h script start kept allowed past reads starts = record {
+pub tried-by : (old : List ℕ) (given : Start) (place : Place) (h : Hint) (script : List ℕ) (start : Start) (count : ℕ) → Keeps given start → IsAllowed start →
+    GetsPast (script_of script) start (last_of place count) → h.script ≡ script → h.start ≡ start → h.past ≡ count → IsFrom place old script count h.change →
+    IsTried old given place h
+tried-by old given place h script start count kept allowed past reads starts counts is-from = record {
+  from =
+      subst (λ (s : List ℕ). IsFrom place old s h.past h.change) (sym reads)
+      (subst (λ (n : ℕ). IsFrom place old script n h.change) (sym counts) is-from);
   kept = subst (λ (s : Start). Keeps given s) (sym starts) kept;
   allowed = subst IsAllowed (sym starts) allowed;
-  past = subst (λ (s : Start). GetsPast (script_of h.script) s place) (sym starts) (subst (λ (s : List ℕ). GetsPast (script_of s) start place) (sym reads) past);
+  past =
+      subst (λ (s : Start). GetsPast (script_of h.script) s (last_of place h.past)) (sym starts)
+      (subst (λ (s : List ℕ). GetsPast (script_of s) start (last_of place h.past)) (sym reads)
+      (subst (λ (n : ℕ). GetsPast (script_of script) start (last_of place n)) (sym counts) past));
 }
 
 -- a refusal is one of the script and the start that were given, by whatever names they were analysed
 pub refused-as : (r : Refusal) (script : List ℕ) (start : Start) (read : Script) (opened : Start) → read ≡ script_of script → opened ≡ start →
-    r.script ≡ script → r.start ≡ start → IsFailure read opened r.place r.why (map note_value r.notes.items) → All (IsTried start r.place) r.hints.items →
+    r.script ≡ script → r.start ≡ start → IsFailure read opened r.place r.why (map note_value r.notes.items) → All (IsTried script start r.place) r.hints.items →
     (MoreLinesHelp (script_of script) start → Any (AsksForMore script start) r.hints.items) →
     IsStated script start r.place r.why (map note_value r.notes.items) r.hints.items →
     IsRefusal r × (r.script ≡ script) × (r.start ≡ start)
@@ -88,7 +97,9 @@ refused-as r script start read opened reads opens same also fails tried asks sta
         fails =
             subst (λ (s : Start). IsFailure (script_of r.script) s r.place r.why (map note_value r.notes.items)) (sym also)
             (subst (λ (s : List ℕ). IsFailure (script_of s) start r.place r.why (map note_value r.notes.items)) (sym same) fails);
-        tried = subst (λ (s : Start). All (IsTried s r.place) r.hints.items) (sym also) tried;
+        tried =
+            subst (λ (s : Start). All (IsTried r.script s r.place) r.hints.items) (sym also)
+            (subst (λ (s : List ℕ). All (IsTried s start r.place) r.hints.items) (sym same) tried);
         asks =
             subst (λ (s : Start). MoreLinesHelp (script_of r.script) s → Any (AsksForMore r.script s) r.hints.items) (sym also)
             (subst (λ (s : List ℕ). MoreLinesHelp (script_of s) start → Any (AsksForMore s start) r.hints.items) (sym same) asks);
@@ -114,3 +125,9 @@ begins-count told over = ap length over
 -- each one more counts one
 pub goes-on-count : (told all : List Refusal) (r : Refusal) (n : ℕ) → all ≡ told ++ r ∷ [] → length told ≡ n → length all ≡ n + 1
 goes-on-count told all r n pushed count = subst (λ (rs : List Refusal). length rs ≡ n + 1) (sym pushed) (simp length-append (omega arith))
+
+-- a hint of a script that is vouched for over a start that keeps what another one says
+pub tried-vouched : (given : Start) (place : Place) (h : Hint) (script : List ℕ) (start : Start) → Keeps given start → IsAllowed start → IsVouched (script_of script) start →
+    h.script ≡ script → h.start ≡ start → IsUnchanged place h.past h.change → IsTried script given place h
+tried-vouched given place h script start kept allowed is reads starts unchanged =
+    tried-by script given place h script start h.past kept allowed (passing.vouched is) reads starts refl (hints.same refl unchanged)

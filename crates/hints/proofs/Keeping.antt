@@ -1,21 +1,37 @@
 -- Starts that keep what another one says.
-use Rattle.std.proofs.Common.{◌≡◌, ℕ, List, [], ◌∷◌, ◌++◌, Option, Some, None, Result, Ok, Err, IfOk, IfSome, refl, sym, ◌∙◌, ap, subst, inl, inr}
+use Rattle.std.proofs.Common.{◌≡◌, ℕ, List, [], ◌∷◌, ◌++◌, Option, Some, None, Result, Ok, Err, IfOk, IfSome, ◌<◌, ◌≤◌, refl, sym, ◌∙◌, ap, subst, inl, inr, arith}
 use Rattle.std.specs.declared.alloc.AllocError.{AllocError}
 use Rattle.ed_rules.specs.Texts.{with_text, with_texts}
 use Rattle.cert_check.specs.declared.checker.verdict.Place.{Place}
 use Rattle.analyser.specs.declared.analysis.Start.{Start}
 use Rattle.analyser.specs.Following.{stated_of}
 use Rattle.hints.specs.declared.hint.Hint.{Hint}
-use Rattle.hints.specs.Passing.{IsStating, Keeps}
+use Rattle.hints.specs.Passing.{IsStating, IsWithin, Keeps}
 use Rattle.hints.specs.Hints.{IsTried}
 
--- a start of the same path and patterns keeps them, whatever its bounds
-pub keeps-bounds : (start then : Start) → then.path ≡ start.path → then.has ≡ start.has → Keeps start then
-keeps-bounds start then path has = record { path = path; stated = inl has }
+-- the most lines lie within themselves
+pub within-itself : (most : Option ℕ) → IsWithin most most
+within-itself None = tt
+within-itself (Some m) = omega arith
+
+within-through : (given most then : Option ℕ) → IsWithin given most → IsWithin most then → IsWithin given then
+within-through None most then is is-also = tt
+within-through (Some g) None then is is-also = absurd is
+within-through (Some g) (Some m) None is is-also = absurd is-also
+within-through (Some g) (Some m) (Some t) is is-also = omega (arith, is, is-also)
+
+-- a number below the given one lies within it
+pub within-below : (given : Option ℕ) (most : ℕ) → IfSome given (λ g. most < g) → IsWithin given (Some most)
+within-below None most below = tt
+within-below (Some g) most below = omega (arith, below)
+
+-- a start of the same path and patterns keeps them, where its bounds lie within
+pub keeps-bounds : (start then : Start) → then.path ≡ start.path → then.has ≡ start.has → start.min ≤ then.min → IsWithin start.max then.max → Keeps start then
+keeps-bounds start then path has least most = record { path = path; stated = inl has; least = least; most = most }
 
 -- a start keeps what it says itself
 pub keeps-itself : (start : Start) → Keeps start start
-keeps-itself start = keeps-bounds start start refl refl
+keeps-itself start = keeps-bounds start start refl refl (omega arith) (within-itself start.max)
 
 -- putting in some texts and then others puts in all of them
 pub texts-twice : (first second set : List (List ℕ)) → with_texts second (with_texts first set) ≡ with_texts (first ++ second) set
@@ -40,24 +56,30 @@ pub keeps-through : (start then now : Start) → Keeps start then → Keeps then
 keeps-through start then now kept more = record {
   path = more.path ∙ kept.path;
   stated = stating-through start.has then.has now.has kept.stated more.stated;
+  least = omega (arith, kept.least, more.least);
+  most = within-through start.max then.max now.max kept.most more.most;
 }
 
 -- so a hint that was tried over a start that keeps what another one says was tried for that one
-pub tried-for : (start then : Start) (place : Place) (r : Result (Option Hint) AllocError) → Keeps start then →
-    IfOk r (λ found. IfSome found (IsTried then place)) → IfOk r (λ found. IfSome found (IsTried start place))
-tried-for start then place (Ok (Some h)) kept tried = record {
+pub tried-for : (script : List ℕ) (start then : Start) (place : Place) (r : Result (Option Hint) AllocError) → Keeps start then →
+    IfOk r (λ found. IfSome found (IsTried script then place)) → IfOk r (λ found. IfSome found (IsTried script start place))
+tried-for script start then place (Ok (Some h)) kept tried = record {
+  from = tried.from;
   kept = keeps-through start then h.start kept tried.kept;
   allowed = tried.allowed;
   past = tried.past;
 }
-tried-for start then place (Ok None) kept tried = tt
-tried-for start then place (Err e) kept tried = tt
+tried-for script start then place (Ok None) kept tried = tt
+tried-for script start then place (Err e) kept tried = tt
 
 -- a start with more patterns keeps what was stated
 pub keeps-patterns : (start then : Start) (patterns : List (List ℕ)) →
     then ≡ record { path = start.path; min = start.min; max = start.max; has = Some (with_texts patterns (stated_of start.has)) } → Keeps start then
-keeps-patterns start then patterns is = subst (λ (s : Start). Keeps start s) (sym is) (record { path = refl; stated = inr (patterns, refl) })
+keeps-patterns start then patterns is =
+    subst (λ (s : Start). Keeps start s) (sym is) (record { path = refl; stated = inr (patterns, refl); least = omega arith; most = within-itself start.max })
 
--- nor do other bounds change it
-pub keeps-bounded : (start then : Start) (min : ℕ) (max : Option ℕ) → then ≡ record { path = start.path; min = min; max = max; has = start.has } → Keeps start then
-keeps-bounded start then min max is = subst (λ (s : Start). Keeps start s) (sym is) (keeps-bounds start (record { path = start.path; min = min; max = max; has = start.has }) refl refl)
+-- nor do other bounds within change it
+pub keeps-bounded : (start then : Start) (min : ℕ) (max : Option ℕ) → then ≡ record { path = start.path; min = min; max = max; has = start.has } → start.min ≤ min →
+    IsWithin start.max max → Keeps start then
+keeps-bounded start then min max is least most =
+    subst (λ (s : Start). Keeps start s) (sym is) (keeps-bounds start (record { path = start.path; min = min; max = max; has = start.has }) refl refl least most)

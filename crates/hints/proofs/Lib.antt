@@ -5,3 +5,4 @@ mod Asking
 mod LookedFor
 mod Stated
 mod SoughtRows
+mod Worked

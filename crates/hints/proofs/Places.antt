@@ -67,20 +67,20 @@ all-back script start place last most inner (Ok false) le some is past = λ e. c
 all-back script start place last most inner (Err e) le some is past = tt
 
 -- a script that gets past all of a command gets past any place there
-pub all-past : (script : Script) (start : Start) (place : Place) (command most inner added : ℕ) (r : Result Bool AllocError) → (added ≡ 0 → command ≡ place.command) →
+pub all-past : (script : Script) (start : Start) (place : Place) (command most inner count : ℕ) (r : Result Bool AllocError) → (count ≡ 1 → command ≡ place.command) →
     inner ≡ unwrap_or place.inner most → IfOk r (λ b. IsTrue b ↔ GetsPast script start (record { command = command; inner = Some inner })) →
-    IfOk r (λ b. added ≡ 0 → GetsPastAll script start place → b ≡ true)
-all-past script start place command most inner added (Ok b) same is past =
+    IfOk r (λ b. count ≡ 1 → GetsPastAll script start place → b ≡ true)
+all-past script start place command most inner count (Ok b) same is past =
     λ none all. past.1 (
     subst (λ (i : ℕ). GetsPast script start (record { command = command; inner = Some i })) (sym is)
     (subst (λ (n : ℕ). GetsPast script start (record { command = n; inner = Some (unwrap_or place.inner most) })) (sym (same none)) (all most))
     )
-all-past script start place command most inner added (Err e) same is past = tt
+all-past script start place command most inner count (Err e) same is past = tt
 
 -- so it doesn't get past all of the command where it doesn't get past such a place, also by another name of the script
-pub not-past : (start : Start) (place : Place) (given : Option (List ℕ)) (own read script : List ℕ) (added : ℕ) (past : Bool) → given ≡ Some own → given ≡ Some script →
-    read ≡ own → past ≡ false → (added ≡ 0 → GetsPastAll (script_of read) start place → past ≡ true) → added ≡ 0 → GetsPastAll (script_of script) start place → ⊥
-not-past start place given own read script added past is also reads refused is-past none all =
+pub not-past : (start : Start) (place : Place) (given : Option (List ℕ)) (own read script : List ℕ) (count : ℕ) (past : Bool) → given ≡ Some own → given ≡ Some script →
+    read ≡ own → past ≡ false → (count ≡ 1 → GetsPastAll (script_of read) start place → past ≡ true) → count ≡ 1 → GetsPastAll (script_of script) start place → ⊥
+not-past start place given own read script count past is also reads refused is-past none all =
     let same : script ≡ read = cc in
     let passed : past ≡ true = is-past none (subst (λ (s : List ℕ). GetsPastAll (script_of s) start place) same all) in
     absurd cc

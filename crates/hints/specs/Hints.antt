@@ -1,22 +1,71 @@
 -- What a hint promises, and which refusals are told of a script (our own).
-use Rattle.std.specs.Prelude.{◌≡◌, ◌-◌, ◌<◌, ℕ, List, [], ◌∷◌, ◌++◌, map, length, All, Any}
+use Rattle.std.specs.Prelude.{◌≡◌, ◌+◌, ◌-◌, ◌<◌, ◌⊎◌, ℕ, List, [], ◌∷◌, ◌++◌, false, is_some, map, length, All, Any}
 use Rattle.ed_base.specs.declared.fault.Fault.{Fault}
+use Rattle.ed_syntax.specs.Commands.{Script}
+use Rattle.ed_syntax.specs.Changed.{BeginAlike, IsChangedAt, IsReadFurther}
 use Rattle.ed_syntax.specs.reading.Reading.{script_of}
 use Rattle.cert_check.specs.declared.checker.verdict.Place.{Place}
 use Rattle.cert_check.specs.Certificates.{Note, note_value}
 use Rattle.analyser.specs.declared.analysis.Start.{Start}
 use Rattle.analyser.specs.Analysis.{IsFailure}
+use Rattle.hints.specs.declared.hint.Change.{Change}
 use Rattle.hints.specs.declared.hint.Hint.{Hint}
 use Rattle.hints.specs.declared.refusing.Refusal.{Refusal}
-use Rattle.hints.specs.Passing.{IsAllowed, IsVouched, with_min, MoreLinesHelp, Keeps, GetsPast}
+use Rattle.hints.specs.Passing.{IsAllowed, IsVouched, with_min, MoreLinesHelp, Keeps, GetsPast, last_of}
 use Rattle.hints.specs.Sought.{to_state, stating, StatingHelps}
 
--- A hint on a script over a start was tried: the script as it reads by it, over the start that it names, gets past the place. That start
--- keeps the path of the first one and the patterns that it states.
-pub record IsTried (start : Start) (place : Place) (h : Hint) : Type 0 where
+-- HOW A HINT'S SCRIPT COMES FROM THE ONE THAT IS REFUSED
+
+-- No command is changed, and one is got past: that at the place.
+pub record IsUnchanged (place : Place) (past : ℕ) (c : Change) : Type 0 where
+  pub kept : c.kept ≡ place.command - 1
+  pub removed : c.removed ≡ 0
+  pub written : c.written ≡ 0
+  pub one : past ≡ 1
+
+-- Some commands from the place on are taken away, others stand in their stead, and just these are got past. All others are the same. Where
+-- none stand there, some are taken away.
+pub record IsChanged (place : Place) (old new : Script) (past : ℕ) (c : Change) : Type 0 where
+  pub changed : IsChangedAt c.kept c.removed c.written old new
+  pub kept : c.kept ≡ place.command - 1
+  pub all : past ≡ c.written
+  pub some : 0 < c.removed + c.written
+
+-- The place is where the old script can't be read. The new one has all of its commands, and goes on there; what it has then is written.
+pub record IsFurther (place : Place) (old new : Script) (c : Change) : Type 0 where
+  pub further : IsReadFurther old new
+  pub front : c.kept ≡ length old.steps
+  pub kept : c.kept ≡ place.command - 1
+  pub removed : c.removed ≡ 0
+  pub written : c.kept + c.written ≡ length new.steps
+
+-- The place is the end of the old script. In the new one its last command ends earlier, as a text does by its period, and the lines after that
+-- are commands: it has another one in the stead of that last command, and one more at least.
+pub record IsClosed (place : Place) (old new : Script) (c : Change) : Type 0 where
+  pub alike : BeginAlike c.kept old new
+  pub readable : is_some old.fault ≡ false
+  pub last : c.kept + 1 ≡ length old.steps
+  pub end : place.command ≡ c.kept + 2
+  pub removed : c.removed ≡ 1
+  pub written : c.kept + c.written ≡ length new.steps
+  pub more : 1 < c.written
+
+-- The script of a hint comes from the one that is refused at a place: it is the same, or it is changed in one of these three ways. Where it
+-- goes on and no command is written there, it has fewer bytes.
+pub data IsFrom (place : Place) (old new : List ℕ) (past : ℕ) (c : Change) : Type 0 where
+  same : new ≡ old → IsUnchanged place past c → IsFrom place old new past c
+  changed : IsChanged place (script_of old) (script_of new) past c → IsFrom place old new past c
+  further : IsFurther place (script_of old) (script_of new) c → (0 < c.written) ⊎ (length new < length old) → IsFrom place old new past c
+  closed : IsClosed place (script_of old) (script_of new) c → IsFrom place old new past c
+
+-- A hint on a script over a start was tried: the script as it reads by it, over the start that it names, gets past as many commands from the
+-- place on as the hint tells. Of none, it gets past those before the place. It comes from the first script by the change that the hint tells.
+-- That start keeps the path of the first one and the patterns that it states, and asks for no other number of lines than that one allows.
+pub record IsTried (script : List ℕ) (start : Start) (place : Place) (h : Hint) : Type 0 where
+  pub from : IsFrom place script h.script h.past h.change
   pub kept : Keeps start h.start
   pub allowed : IsAllowed h.start
-  pub past : GetsPast (script_of h.script) h.start place
+  pub past : GetsPast (script_of h.script) h.start (last_of place h.past)
 
 -- A hint asks for more lines at least, with which the script is vouched for as it is. With one line less it isn't.
 pub record AsksForMore (script : List ℕ) (start : Start) (h : Hint) : Type 0 where
@@ -42,7 +91,7 @@ IsStated script start place why notes hints =
 -- the patterns to state, where that helps.
 pub record IsRefusal (r : Refusal) : Type 0 where
   pub fails : IsFailure (script_of r.script) r.start r.place r.why (map note_value r.notes.items)
-  pub tried : All (IsTried r.start r.place) r.hints.items
+  pub tried : All (IsTried r.script r.start r.place) r.hints.items
   pub asks : MoreLinesHelp (script_of r.script) r.start → Any (AsksForMore r.script r.start) r.hints.items
   pub states : IsStated r.script r.start r.place r.why (map note_value r.notes.items) r.hints.items
 

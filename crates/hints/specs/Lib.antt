@@ -1,5 +1,5 @@
 -- what a reader has to believe, in the order of reading
 pub mod Passing
 pub mod Sought
--- what hints promise, over scripts as they are read from bytes, tied to the spellings by a law
+-- what hints promise, over scripts as they are read from bytes (`script_of`)
 pub mod Hints

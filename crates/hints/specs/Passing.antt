@@ -1,5 +1,5 @@
 -- Where a script is vouched for, and which places an analysis gets past (our own).
-use Rattle.std.specs.Prelude.{◌≡◌, ◌<◌, ◌≤◌, ◌⊎◌, ℕ, List, Option, Some, None, IfSome}
+use Rattle.std.specs.Prelude.{◌≡◌, ◌<◌, ◌≤◌, ◌⊎◌, ◌+◌, ◌-◌, ℕ, List, Option, Some, None, IfSome, IsSomeAnd}
 use Rattle.ed_base.specs.declared.fault.Fault.{Fault}
 use Rattle.ed_syntax.specs.Commands.{Script}
 use Rattle.ed_rules.specs.LineBounds.{most_lines, IsAtMost}
@@ -47,10 +47,17 @@ pub record FewerLinesHelp (script : Script) (start : Start) : Type 0 where
 abbrev pub IsStating : (has now : Option (List (List ℕ))) → Type 0
 IsStating has now = (now ≡ has) ⊎ ((patterns : List (List ℕ)) × (now ≡ Some (with_texts patterns (stated_of has))))
 
--- A start has the path of another one, and no pattern is left out that is stated there. Nothing is said of the bounds.
+-- these most lines are none above the given ones
+abbrev pub IsWithin : (given most : Option ℕ) → Type 0
+IsWithin None most = Unit {0}
+IsWithin (Some given) most = IsSomeAnd most (λ m. m ≤ given)
+
+-- A start has the path of another one, no pattern is left out that is stated there, and its bounds lie within those of that one.
 pub record Keeps (start then : Start) : Type 0 where
   pub path : then.path ≡ start.path
   pub stated : IsStating start.has then.has
+  pub least : start.min ≤ then.min
+  pub most : IsWithin start.max then.max
 
 -- In one command: its own needs come first, and then those of its list's commands in their order.
 abbrev pub IsLaterInside : (next place : Option ℕ) → Type 0
@@ -66,3 +73,7 @@ IsAfter next place = (place.command < next.command) ⊎ ((next.command ≡ place
 pub data GetsPast (script : Script) (start : Start) (place : Place) : Type 0 where
   vouched : IsVouched script start → GetsPast script start place
   later : (next : Place) (why : Fault) (notes : List Note) → IsFailure script start next why notes → IsAfter next place → GetsPast script start place
+
+-- The last of so many commands, of which the first stands at the place; of none, the command before it.
+abbrev pub last_of : Place → (count : ℕ) → Place
+last_of place count = record { command = (place.command + count) - 1; inner = place.inner }

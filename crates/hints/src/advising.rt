@@ -8,14 +8,19 @@ ghost use Rattle.hints.specs.Passing.{MoreLinesHelp};
 ghost use Rattle.hints.specs.Sought.{GetsPastAll, StatingHelps};
 ghost use Rattle.hints.specs.Hints.{IsTried, AsksForMore, States, IsStated};
 
-use crate::commands::{count_of_lines, line_at, line_of_span, span_of};
-use crate::drafts::Draft;
+use crate::changing::{change_of, unchanged_at};
+use crate::commands::{command_at, command_of, count_of_lines, line_at, line_of_span, span_of};
+use crate::drafts::{Draft, Spot};
 use crate::endings::{push_end, push_losing};
+use crate::escapes::push_extended;
 use crate::foreign::push_spellings;
-use crate::further::with_more_lines;
-use crate::hint::{Advice, Hint, Remark};
+use crate::further::{with_more_lines, with_needed_lines};
+use crate::globals::{Reach, reach_of};
+use crate::hint::{Advice, Change, Hint, Remark};
+use crate::known::state_at;
+use crate::lists::{push_move, push_offset};
 use crate::passing::gets_past_all;
-use crate::searches::{push_blank, push_offset, push_searching};
+use crate::searches::{push_blank, push_searching};
 use crate::sought::unmatched_at;
 use crate::starts::{copy_of, greatest_start, least_start, with_bounds};
 use crate::stating::with_stated;
@@ -23,34 +28,63 @@ use analyser::Start;
 use cert_check::{Note, Place};
 use ed_base::{Bytes, Fault};
 use ed_rules::Texts;
+use ed_syntax::read_script;
 use std::alloc::{AllocError, Global};
 
-/// What may help at a place, the best first.
-fn drafts_at(
+/// The lines that a global command takes in the place of the command at a place.
+fn reach_at(
     alloc: Global,
     script: &[u8],
     place: Place,
+    notes: &[Note],
+) -> Result<Reach, AllocError> {
+    let read = read_script(alloc, script)?;
+    Ok(match command_of(&read, place) {
+        Some(command) => reach_of(command, state_at(place, notes)),
+        None => Reach::All,
+    })
+}
+
+/// What may help at a place, before which this is known, by a start with this path: the best first.
+pub(crate) fn drafts_at(
+    alloc: Global,
+    script: &[u8],
+    path: Option<&[u8]>,
+    place: Place,
     why: Fault,
+    notes: &[Note],
 ) -> Result<Vec<Draft>, AllocError> {
     let mut drafts = Vec::new(alloc);
-    let Some(span) = span_of(alloc, script, place.command)? else {
+    let number = place.command;
+    let Some(span) = span_of(alloc, script, number)? else {
         if why == Fault::Unsaved {
             push_end(&mut drafts, alloc, script)?;
         }
         return Ok(drafts);
     };
+    let spot = Spot {
+        script,
+        span,
+        number,
+        path,
+    };
     match (place.inner, why) {
         (None, Fault::Syntax) => {
-            push_spellings(&mut drafts, alloc, script, line_of_span(script, span))?;
+            let line = line_of_span(script, span);
+            push_spellings(&mut drafts, alloc, Spot { span: line, ..spot })?;
         }
         (None, Fault::Unsaved) => push_losing(&mut drafts, alloc, script, span)?,
         (None, Fault::NoMatch) => {
-            push_searching(&mut drafts, alloc, script, span, place.command)?;
+            let reach = reach_at(alloc, script, place, notes)?;
+            push_searching(&mut drafts, alloc, spot, reach)?;
+            push_extended(&mut drafts, alloc, command_at(script, span))?;
         }
-        (None, Fault::Address) => push_blank(&mut drafts, alloc, script, span)?,
-        (Some(inner), Fault::Address) => {
-            push_offset(&mut drafts, alloc, script, place.command, inner)?;
+        (None, Fault::Address) => {
+            let reach = reach_at(alloc, script, place, notes)?;
+            push_blank(&mut drafts, alloc, spot, reach)?;
         }
+        (Some(_), Fault::Address) => push_offset(&mut drafts, alloc, script, place)?,
+        (Some(_), Fault::Destination) => push_move(&mut drafts, alloc, spot, place)?,
         _ => {}
     }
     Ok(drafts)
@@ -64,9 +98,11 @@ fn number_at(alloc: Global, script: &[u8], place: Place) -> Result<usize, AllocE
     }
 }
 
-/// The hint to take a draft, where its script gets past a place, with all of the command's list.
+/// The hint to take a draft, where its script gets past as many commands from a place on as it has to, and is the given one but for commands
+/// there. No other script than the given one becomes a hint but here.
 pub(crate) fn past_by(
     alloc: Global,
+    script: &[u8],
     start: &Start,
     place: Place,
     line: usize,
@@ -75,34 +111,47 @@ pub(crate) fn past_by(
     requires ordered { IsAtMost start.now.min start.now.max }
     requires low { start.now.min ≤ most_lines }
     requires high { IfSome start.now.max (λ most. most ≤ most_lines) }
-    ensures tried { IfOk result (λ found. IfSome found (IsTried start.now place)) }
-    ensures given { IfOk result (λ found. (script : List ℕ) → draft.script ≡ Some script → draft.added ≡ 0 →
-        GetsPastAll (script_of script) start.now place → IsSomeAnd found (λ hint. (hint.script ≡ script) × (hint.start ≡ start.now))) }
+    ensures tried { IfOk result (λ found. IfSome found (IsTried script.now start.now place)) }
+    ensures given { IfOk result (λ found. draft.script ≡ Some script.now → draft.past ≡ 1 →
+        GetsPastAll (script_of script.now) start.now place → IsSomeAnd found (λ hint. (hint.script ≡ script.now) × (hint.start ≡ start.now))) }
 {
     let Draft {
         advice,
         text,
-        script,
-        added,
+        script: new,
+        removed,
+        written,
+        past,
     } = draft;
-    let Some(script) = script else {
+    let Some(new) = new else {
         return Ok(None);
     };
-    if !gets_past_all(alloc, script.as_slice(), start, place, added)? {
+    if !gets_past_all(alloc, new.as_slice(), start, place, past)? {
         return Ok(None);
     }
+    let given = Change {
+        kept: place.command.saturating_sub(1),
+        removed,
+        written,
+    };
+    let Some(change) = change_of(alloc, script, new.as_slice(), place, past, given)? else {
+        return Ok(None);
+    };
     Ok(Some(Hint {
         advice,
         line,
         text,
-        script,
+        script: new,
         start: copy_of(start)?,
+        past,
+        change,
     }))
 }
 
 /// The first of these drafts that gets past a place.
-fn first_past(
+pub(crate) fn first_past(
     alloc: Global,
+    script: &[u8],
     start: &Start,
     place: Place,
     line: usize,
@@ -111,10 +160,10 @@ fn first_past(
     requires ordered { IsAtMost start.now.min start.now.max }
     requires low { start.now.min ≤ most_lines }
     requires high { IfSome start.now.max (λ most. most ≤ most_lines) }
-    ensures tried { IfOk result (λ found. IfSome found (IsTried start.now place)) }
+    ensures tried { IfOk result (λ found. IfSome found (IsTried script.now start.now place)) }
 {
     for draft in drafts {
-        let found = past_by(alloc, start, place, line, draft)?;
+        let found = past_by(alloc, script, start, place, line, draft)?;
         if found.is_some() {
             return Ok(found);
         }
@@ -134,7 +183,7 @@ pub(crate) fn at_least(
     requires ordered { IsAtMost start.now.min start.now.max }
     requires low { start.now.min ≤ most_lines }
     requires high { IfSome start.now.max (λ most. most ≤ most_lines) }
-    ensures tried { IfOk result (λ found. IfSome found (IsTried start.now place)) }
+    ensures tried { IfOk result (λ found. IfSome found (IsTried script.now start.now place)) }
     ensures asks { IfOk result (λ found. MatchOption found (¬ MoreLinesHelp (script_of script.now) start.now) (AsksForMore script.now start.now)) }
 {
     let Some(min) = least_start(alloc, script, start)? else {
@@ -146,10 +195,20 @@ pub(crate) fn at_least(
         text: format!(in alloc; "vouched for with --min {min}{more}")?,
         script: Bytes::from_slice(alloc, script)?,
         start: with_bounds(start, min, start.max)?,
+        past: 1,
+        change: unchanged_at(place),
     }))
 }
 
-/// The greatest number of lines under which the script is vouched for. That of no lines helps nobody.
+/// Whether a file of so many lines has one for each pattern that is stated, and one at all.
+fn has_room(start: &Start, most: u64) -> bool {
+    match &start.has {
+        Some(has) => most > 0 && u64::try_from(has.members().len()).unwrap_or(u64::MAX) <= most,
+        None => most > 0,
+    }
+}
+
+/// The greatest number of lines under which the script is vouched for. One that no file is likely to have helps nobody.
 fn at_most(
     alloc: Global,
     script: &[u8],
@@ -160,15 +219,17 @@ fn at_most(
     requires ordered { IsAtMost start.now.min start.now.max }
     requires low { start.now.min ≤ most_lines }
     requires high { IfSome start.now.max (λ most. most ≤ most_lines) }
-    ensures tried { IfOk result (λ found. IfSome found (IsTried start.now place)) }
+    ensures tried { IfOk result (λ found. IfSome found (IsTried script.now start.now place)) }
 {
     match greatest_start(alloc, script, start)? {
-        Some(most) if most > 0 => Ok(Some(Hint {
+        Some(most) if has_room(start, most) => Ok(Some(Hint {
             advice: Advice::AtMost,
             line,
             text: format!(in alloc; "vouched for with --max {most}")?,
             script: Bytes::from_slice(alloc, script)?,
             start: with_bounds(start, start.min, Some(most))?,
+            past: 1,
+            change: unchanged_at(place),
         })),
         _ => Ok(None),
     }
@@ -177,13 +238,14 @@ fn at_most(
 /// Puts a hint after those that were found.
 fn push_hint(
     found: &mut Vec<Hint>,
+    script: &[u8],
     start: &Start,
     place: Place,
     hint: Option<Hint>,
 ) -> Result<(), AllocError>
-    requires found { All (IsTried start.now place) found.old.items }
-    requires hint { IfSome hint (IsTried start.now place) }
-    ensures tried { OnOk result (All (IsTried start.now place) found.new.items) }
+    requires found { All (IsTried script.now start.now place) found.old.items }
+    requires hint { IfSome hint (IsTried script.now start.now place) }
+    ensures tried { OnOk result (All (IsTried script.now start.now place) found.new.items) }
     ensures pushed { OnOk result (MatchOption hint (found.new.items ≡ found.old.items) (λ more. found.new.items ≡ found.old.items ++ more ∷ [])) }
 {
     if let Some(hint) = hint {
@@ -199,20 +261,59 @@ fn or_further(
     start: &Start,
     place: Place,
     line: usize,
+    why: Fault,
     found: Vec<Hint>,
 ) -> Result<Vec<Hint>, AllocError>
     requires high { IfSome start.now.max (λ most. most ≤ most_lines) }
-    requires found { All (IsTried start.now place) found.items }
-    ensures tried { IfOk result (λ found. All (IsTried start.now place) found.items) }
+    requires found { All (IsTried script.now start.now place) found.items }
+    ensures tried { IfOk result (λ found. All (IsTried script.now start.now place) found.items) }
     ensures kept { IfOk result (λ all. Any (AsksForMore script.now start.now) found.items → Any (AsksForMore script.now start.now) all.items) }
+    ensures also { IfOk result (λ all. (patterns : List (List ℕ)) →
+        Any (States script.now start.now patterns) found.items → Any (States script.now start.now patterns) all.items) }
 {
-    if !found.is_empty() {
+    if !found.is_empty() || why != Fault::Address {
         return Ok(found);
     }
     let mut found = found;
     let more = with_more_lines(alloc, script, start, place, line, "")?;
-    push_hint(&mut found, start, place, more)?;
+    push_hint(&mut found, script, start, place, more)?;
     Ok(found)
+}
+
+/// The hints that were found, or one to write another script that needs more lines too.
+fn or_both(
+    alloc: Global,
+    script: &[u8],
+    start: &Start,
+    place: Place,
+    line: usize,
+    why: Fault,
+    notes: &[Note],
+    found: Vec<Hint>,
+) -> Result<Vec<Hint>, AllocError>
+    requires high { IfSome start.now.max (λ most. most ≤ most_lines) }
+    requires found { All (IsTried script.now start.now place) found.items }
+    ensures tried { IfOk result (λ found. All (IsTried script.now start.now place) found.items) }
+    ensures kept { IfOk result (λ all. Any (AsksForMore script.now start.now) found.items → Any (AsksForMore script.now start.now) all.items) }
+    ensures also { IfOk result (λ all. (patterns : List (List ℕ)) →
+        Any (States script.now start.now patterns) found.items → Any (States script.now start.now patterns) all.items) }
+{
+    if !found.is_empty() || why != Fault::Address {
+        return Ok(found);
+    }
+    let mut found = found;
+    let drafts = drafts_at(alloc, script, path_of(start), place, why, notes)?;
+    let both = with_needed_lines(alloc, script, start, place, line, drafts)?;
+    push_hint(&mut found, script, start, place, both)?;
+    Ok(found)
+}
+
+/// The path of a start.
+fn path_of(start: &Start) -> Option<&[u8]> {
+    match &start.path {
+        Some(path) => Some(path.as_slice()),
+        None => None,
+    }
 }
 
 /// The hints that were found, and the one to state these patterns, which are those that are looked for at the place.
@@ -228,8 +329,8 @@ fn and_stated(
     requires ordered { IsAtMost start.now.min start.now.max }
     requires low { start.now.min ≤ most_lines }
     requires high { IfSome start.now.max (λ most. most ≤ most_lines) }
-    requires found { All (IsTried start.now place) found.items }
-    ensures tried { IfOk result (λ found. All (IsTried start.now place) found.items) }
+    requires found { All (IsTried script.now start.now place) found.items }
+    ensures tried { IfOk result (λ found. All (IsTried script.now start.now place) found.items) }
     ensures kept { IfOk result (λ all. Any (AsksForMore script.now start.now) found.items → Any (AsksForMore script.now start.now) all.items) }
     ensures states { IfOk result (λ all. StatingHelps (script_of script.now) start.now place patterns.now → Any (States script.now start.now patterns.now) all.items) }
 {
@@ -239,7 +340,7 @@ fn and_stated(
     let mut found = found;
     let alone = found.is_empty();
     let stated = with_stated(alloc, script, start, place, line, patterns, alone)?;
-    push_hint(&mut found, start, place, stated)?;
+    push_hint(&mut found, script, start, place, stated)?;
     Ok(found)
 }
 
@@ -257,7 +358,7 @@ pub fn hints(
     requires ordered { IsAtMost start.now.min start.now.max }
     requires low { start.now.min ≤ most_lines }
     requires high { IfSome start.now.max (λ most. most ≤ most_lines) }
-    ensures tried { IfOk result (λ found. All (IsTried start.now place) found.items) }
+    ensures tried { IfOk result (λ found. All (IsTried script.now start.now place) found.items) }
 
     // Where more lines help the script, one of the hints asks for them.
     ensures asks { IfOk result (λ found. MoreLinesHelp (script_of script.now) start.now → Any (AsksForMore script.now start.now) found.items) }
@@ -266,23 +367,18 @@ pub fn hints(
     ensures states { IfOk result (λ found. IsStated script.now start.now place why (map note_value notes.now) found.items) }
 {
     let line = number_at(alloc, script, place)?;
-    let drafts = drafts_at(alloc, script, place, why)?;
-    let written = first_past(alloc, start, place, line, drafts)?;
-    let fewest = at_least(alloc, script, start, place, line, "")?;
-    let most = at_most(alloc, script, start, place, line)?;
-    let patterns = unmatched_at(alloc, script, place, why, notes)?;
     let mut found = Vec::new(alloc);
-    if why == Fault::Address {
-        push_hint(&mut found, start, place, fewest)?;
-        push_hint(&mut found, start, place, most)?;
-        push_hint(&mut found, start, place, written)?;
-        let found = or_further(alloc, script, start, place, line, found)?;
-        return and_stated(alloc, script, start, place, line, &patterns, found);
-    }
-    push_hint(&mut found, start, place, written)?;
-    push_hint(&mut found, start, place, fewest)?;
-    push_hint(&mut found, start, place, most)?;
-    and_stated(alloc, script, start, place, line, &patterns, found)
+    let fewest = at_least(alloc, script, start, place, line, "")?;
+    push_hint(&mut found, script, start, place, fewest)?;
+    let most = at_most(alloc, script, start, place, line)?;
+    push_hint(&mut found, script, start, place, most)?;
+    let patterns = unmatched_at(alloc, script, place, why, notes)?;
+    let found = and_stated(alloc, script, start, place, line, &patterns, found)?;
+    let mut found = or_further(alloc, script, start, place, line, why, found)?;
+    let drafts = drafts_at(alloc, script, path_of(start), place, why, notes)?;
+    let written = first_past(alloc, script, start, place, line, drafts)?;
+    push_hint(&mut found, script, start, place, written)?;
+    or_both(alloc, script, start, place, line, why, notes, found)
 }
 
 /// What may be told beside hints of a need that fails at a place by a fault.
@@ -294,7 +390,7 @@ pub fn remarks(
 ) -> Result<Vec<Remark>, AllocError> {
     let line = number_at(alloc, script, place)?;
     let mut found = Vec::new(alloc);
-    for draft in drafts_at(alloc, script, place, why)? {
+    for draft in drafts_at(alloc, script, None, place, why, &[])? {
         let Draft { text, script, .. } = draft;
         if script.is_none() {
             found.push(Remark { line, text })?;

@@ -4,10 +4,12 @@ ghost use Rattle.std.specs.Prelude.{◌≡◌, Some};
 
 use crate::bytes::{joined, replaced};
 use crate::commands::Span;
-use crate::globals::as_global;
+use crate::following::{BUT_FOR_ONE, on_text, other_text};
+use crate::globals::{Reach, as_global};
 use crate::hint::Advice;
 use crate::words::quoted;
 use ed_base::Bytes;
+use ed_syntax::read_script;
 use std::alloc::{AllocError, Global};
 
 /// A script that may get past a place. It isn't tried yet.
@@ -17,19 +19,30 @@ pub(crate) struct Draft {
     pub text: String,
     /// None where nobody knows what to write: then the text is a remark.
     pub script: Option<Bytes>,
-    /// How many commands stand in the place of one.
-    pub added: usize,
+    /// How many commands it takes away at the place, and how many it has in their stead.
+    pub removed: usize,
+    pub written: usize,
+    /// How many commands from the place on it has to get past.
+    pub past: usize,
 }
 
-/// A draft with this script.
-pub(crate) fn drafted(advice: Advice, text: String, script: Bytes, added: usize) -> Draft
-    ensures script { (result.script ≡ Some script) × (result.added ≡ added) }
+/// A draft with this script, which has so many commands in the stead of so many others, and has to get past all of them.
+pub(crate) fn drafted(
+    advice: Advice,
+    text: String,
+    script: Bytes,
+    removed: usize,
+    written: usize,
+) -> Draft
+    ensures script { (result.script ≡ Some script) × (result.past ≡ written) }
 {
     Draft {
         advice,
         text,
         script: Some(script),
-        added,
+        removed,
+        written,
+        past: written,
     }
 }
 
@@ -39,7 +52,9 @@ pub(crate) fn remark(text: String) -> Draft {
         advice: Advice::Spelling,
         text,
         script: None,
-        added: 0,
+        removed: 0,
+        written: 0,
+        past: 0,
     }
 }
 
@@ -48,29 +63,41 @@ pub(crate) fn spelled(alloc: Global, foreign: &str, posix: &str) -> Result<Strin
     Ok(format!(in alloc; "POSIX has no {foreign}: write {posix}")?)
 }
 
-/// A line in which these bytes come in the place of those between two places, in its script, as a draft. Where that gets past too
-/// little, a second one has it as a global command.
+/// Where a need fails: the bytes of the script, those of its command there with the number of that, and the path of its start.
+#[derive(Clone, Copy)]
+pub(crate) struct Spot<'a> {
+    pub script: &'a [u8],
+    pub span: Span,
+    pub number: usize,
+    pub path: Option<&'a [u8]>,
+}
+
+/// A line in which these bytes come in the place of those of its command, as a draft. Where that gets past too little, a second one has
+/// it as a global command.
 pub(crate) fn push_line(
     drafts: &mut Vec<Draft>,
     alloc: Global,
-    script: &[u8],
-    span: Span,
+    spot: Spot<'_>,
     text: String,
-    line: &Bytes,
+    line: &[u8],
 ) -> Result<(), AllocError> {
-    let ends = joined(alloc, &[line.as_slice(), b"\n"])?;
+    let Spot { script, span, .. } = spot;
+    let ends = joined(alloc, &[line, b"\n"])?;
     let mended = replaced(alloc, script, span.low, span.high, ends.as_slice())?;
-    if let Some(global) = as_global(alloc, line.as_slice())? {
+    if let Some(global) = as_global(alloc, line, Reach::All, false)? {
         let shown = quoted(alloc, global.as_slice())?;
-        let both = format!(in alloc;
-            "{text}; {shown} can't fail: it changes every line that matches, none if none does"
-        )?;
         let ends = joined(alloc, &[global.as_slice(), b"\n"])?;
         let other = replaced(alloc, script, span.low, span.high, ends.as_slice())?;
-        drafts.push(drafted(Advice::Spelling, text, mended, 0))?;
-        drafts.push(drafted(Advice::Spelling, both, other, 0))?;
+        let read = read_script(alloc, other.as_slice())?;
+        let on = on_text(&read, spot.number, 1, spot.path);
+        let later = other_text(alloc, other.as_slice(), &read, spot.number, BUT_FOR_ONE)?;
+        let both = format!(in alloc;
+            "{text}; {shown} can't fail: it changes every line that matches, none if none does{on}{later}"
+        )?;
+        drafts.push(drafted(Advice::Spelling, text, mended, 1, 1))?;
+        drafts.push(drafted(Advice::Spelling, both, other, 1, 1))?;
         return Ok(());
     }
-    drafts.push(drafted(Advice::Spelling, text, mended, 0))?;
+    drafts.push(drafted(Advice::Spelling, text, mended, 1, 1))?;
     Ok(())
 }

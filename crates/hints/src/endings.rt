@@ -1,7 +1,9 @@
 //! Changes that would be lost: writing them first, ending anyway, and a text whose period is missing.
 
-use crate::bytes::{between, first, from, is_blank, joined, replaced};
-use crate::commands::{Span, command_at, first_line, last_command, last_line, span_of};
+use crate::bytes::{before, between, first, from, is_blank, joined, replaced};
+use crate::commands::{
+    Span, command_at, count_of_lines, first_line, last_command, last_line, span_of,
+};
 use crate::drafts::{Draft, drafted};
 use crate::hint::Advice;
 use crate::words::quoted;
@@ -83,8 +85,8 @@ fn push_meant(
             let low = span.low.saturating_add(*start);
             let high = low.saturating_add(line.len());
             let mended = replaced(alloc, script, low, high, b".")?;
-            let told = no_period(alloc, text)?;
-            drafts.push(drafted(Advice::Period, told, mended, 0))?;
+            let told = no_period(alloc, script, text, low, "alone in")?;
+            drafts.push(drafted(Advice::Period, told, mended, 0, 1))?;
             return Ok(());
         }
     }
@@ -104,8 +106,8 @@ fn push_closing(
         if *start > 0 && are_last_commands(alloc, from(text, *start))? {
             let place = span.low.saturating_add(*start);
             let mended = replaced(alloc, script, place, place, b".\n")?;
-            let told = no_period(alloc, text)?;
-            drafts.push(drafted(Advice::Period, told, mended, 0))?;
+            let told = no_period(alloc, script, text, place, "before")?;
+            drafts.push(drafted(Advice::Period, told, mended, 0, 1))?;
             return Ok(());
         }
     }
@@ -120,10 +122,18 @@ fn from_last(starts: &[usize]) -> &[usize] {
     }
 }
 
-/// What is told of a text without its period.
-fn no_period(alloc: Global, command: &[u8]) -> Result<String, AllocError> {
+/// What is told of the text of a command without its period, which is to stand at or before the line at a place of the script.
+fn no_period(
+    alloc: Global,
+    script: &[u8],
+    command: &[u8],
+    place: usize,
+    side: &str,
+) -> Result<String, AllocError> {
     let shown = quoted(alloc, first_line(command))?;
-    Ok(format!(in alloc; "the text of {shown} has no `.`")?)
+    let line = count_of_lines(before(script, place)).saturating_add(1);
+    let there = quoted(alloc, first_line(from(script, place)))?;
+    Ok(format!(in alloc; "the text of {shown} has no `.`: write it {side} line {line}, {there}")?)
 }
 
 /// A text without its period.
@@ -141,18 +151,19 @@ fn push_period(
     Ok(())
 }
 
-/// A command more at the end of a script, that writes or ends it.
+/// A command more at the end of a script, that writes or ends it, after the period that a text there needs.
 fn push_last(
     drafts: &mut Vec<Draft>,
     alloc: Global,
     script: &[u8],
+    text: &str,
     in_text: bool,
     last: &[u8],
 ) -> Result<(), AllocError> {
     let front = closed(alloc, script, in_text)?;
-    let mended = joined(alloc, &[front.as_slice(), last])?;
-    let text = format!(in alloc; "write first (w), or end with Q")?;
-    drafts.push(drafted(Advice::Save, text, mended, 0))?;
+    let mended = joined(alloc, &[front.as_slice(), last, b"\n"])?;
+    let text = String::from_str(alloc, text)?;
+    drafts.push(drafted(Advice::Save, text, mended, 0, 1))?;
     Ok(())
 }
 
@@ -163,13 +174,27 @@ pub(crate) fn push_end(
     script: &[u8],
 ) -> Result<(), AllocError> {
     let read = read_script(alloc, script)?;
-    let in_text = ends_in_text(script, &read);
-    if in_text {
-        push_period(drafts, alloc, script, read.commands.len())?;
+    if !ends_in_text(script, &read) {
+        push_last(drafts, alloc, script, WRITE, false, b"w")?;
+        return push_last(drafts, alloc, script, GIVE_UP, false, b"Q");
     }
-    push_last(drafts, alloc, script, in_text, b"w\n")?;
-    push_last(drafts, alloc, script, in_text, b"Q\n")
+    let number = read.commands.len();
+    push_period(drafts, alloc, script, number)?;
+    let command = match span_of(alloc, script, number)? {
+        Some(span) => quoted(alloc, first_line(command_at(script, span)))?,
+        None => String::new(alloc),
+    };
+    let end = format!(in alloc; "end the text of {command} by a line `.`")?;
+    let write = format!(in alloc; "{end}, and write (w) after it")?;
+    push_last(drafts, alloc, script, write.as_str(), true, b"w")?;
+    let give_up = format!(in alloc; "{end}, and {GIVE_UP}")?;
+    push_last(drafts, alloc, script, give_up.as_str(), true, b"Q")
 }
+
+/// What is told of a draft that writes the changes, and of one that doesn't.
+const WRITE: &str = "write first (w)";
+
+const GIVE_UP: &str = "end with Q: the changes are lost";
 
 /// What may help at a command that would lose changes.
 pub(crate) fn push_losing(
@@ -178,17 +203,13 @@ pub(crate) fn push_losing(
     script: &[u8],
     span: Span,
 ) -> Result<(), AllocError> {
-    let command = command_at(script, span);
     let writes = replaced(alloc, script, span.low, span.low, b"w\n")?;
-    if first(command) == Some(b'q') {
-        let text = format!(in alloc; "write first (w), or end with Q")?;
-        drafts.push(drafted(Advice::Save, text, writes, 1))?;
+    let text = String::from_str(alloc, WRITE)?;
+    drafts.push(drafted(Advice::Save, text, writes, 1, 2))?;
+    if first(command_at(script, span)) == Some(b'q') {
         let anyway = replaced(alloc, script, span.low, span.low.saturating_add(1), b"Q")?;
-        let text = format!(in alloc; "write first (w), or end with Q")?;
-        drafts.push(drafted(Advice::Save, text, anyway, 0))?;
-        return Ok(());
+        let text = String::from_str(alloc, GIVE_UP)?;
+        drafts.push(drafted(Advice::Save, text, anyway, 1, 1))?;
     }
-    let text = format!(in alloc; "write first (w)")?;
-    drafts.push(drafted(Advice::Save, text, writes, 1))?;
     Ok(())
 }

@@ -4,9 +4,9 @@ ghost use Rattle.std.specs.Prelude.{◌≡◌, ◌≤◌, true, IfOk, IfSome};
 ghost use Rattle.ed_rules.specs.LineBounds.{most_lines, IsAtMost};
 ghost use Rattle.hints.specs.Hints.{IsTried};
 
-use crate::advising::past_by;
+use crate::advising::{first_past, past_by};
 use crate::commands::command_of;
-use crate::drafts::drafted;
+use crate::drafts::{Draft, drafted};
 use crate::hint::{Advice, Hint};
 use crate::starts::with_bounds;
 use analyser::Start;
@@ -77,15 +77,16 @@ fn with_lines(
     more: &str,
 ) -> Result<Option<Hint>, AllocError>
     requires low { min ≤ most_lines }
+    requires above { start.now.min ≤ min }
     requires ordered { IsAtMost min start.now.max }
     requires high { IfSome start.now.max (λ most. most ≤ most_lines) }
-    ensures tried { IfOk result (λ found. IfSome found (IsTried start.now place)) }
+    ensures tried { IfOk result (λ found. IfSome found (IsTried script.now start.now place)) }
 {
     let bounded = with_bounds(start, min, start.max)?;
     let text = format!(in alloc; "gets further with --min {min}{more}")?;
     let same = Bytes::from_slice(alloc, script)?;
-    let draft = drafted(Advice::AtLeast, text, same, 0);
-    past_by(alloc, &bounded, place, line, draft)
+    let draft = drafted(Advice::AtLeast, text, same, 1, 1);
+    past_by(alloc, script, &bounded, place, line, draft)
 }
 
 /// The hint to ask for as many lines at least as a command names, or some more, beside what more is told, where the script gets past the
@@ -99,7 +100,7 @@ pub(crate) fn with_more_lines(
     more: &str,
 ) -> Result<Option<Hint>, AllocError>
     requires high { IfSome start.now.max (λ most. most ≤ most_lines) }
-    ensures tried { IfOk result (λ found. IfSome found (IsTried start.now place)) }
+    ensures tried { IfOk result (λ found. IfSome found (IsTried script.now start.now place)) }
 {
     let Some(needed) = needed_at(alloc, script, place)? else {
         return Ok(None);
@@ -114,4 +115,38 @@ pub(crate) fn with_more_lines(
         }
     }
     Ok(None)
+}
+
+/// The same drafts, told with the lines that they need.
+fn told_with(alloc: Global, drafts: Vec<Draft>, min: u64) -> Result<Vec<Draft>, AllocError> {
+    let mut told = Vec::new(alloc);
+    for draft in drafts {
+        let text = format!(in alloc; "with --min {min}: {}", draft.text.as_str())?;
+        told.push(Draft { text, ..draft })?;
+    }
+    Ok(told)
+}
+
+/// The hint to ask for as many lines at least as a command names, and to take one of these drafts, where its script gets past the place by
+/// both.
+pub(crate) fn with_needed_lines(
+    alloc: Global,
+    script: &[u8],
+    start: &Start,
+    place: Place,
+    line: usize,
+    drafts: Vec<Draft>,
+) -> Result<Option<Hint>, AllocError>
+    requires high { IfSome start.now.max (λ most. most ≤ most_lines) }
+    ensures tried { IfOk result (λ found. IfSome found (IsTried script.now start.now place)) }
+{
+    let Some(min) = needed_at(alloc, script, place)? else {
+        return Ok(None);
+    };
+    if min <= start.min || !is_least(min, start.max) {
+        return Ok(None);
+    }
+    let opened = with_bounds(start, min, start.max)?;
+    let told = told_with(alloc, drafts, min)?;
+    first_past(alloc, script, &opened, place, line, told)
 }

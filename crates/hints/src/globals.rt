@@ -1,11 +1,50 @@
 //! A command written as a global command, which can't fail where no line matches.
 
 use crate::bytes::{after_blanks, before, between, first, from, joined};
-use crate::commands::first_line;
+use crate::commands::{first_line, pair, without_newline};
+use crate::following::is_also_from_here;
 use crate::patterns::{addresses_len, pattern_at};
-use ed_base::{Bytes, Text, next_line};
-use ed_syntax::{Verb, read_script};
+use ed_base::{Bytes, next_line};
+use ed_rules::KeptState;
+use ed_syntax::{Addresses, Base, Command, DefaultAddresses, Verb, read_script};
 use std::alloc::{AllocError, Global};
+use zones::Name;
+
+/// Which lines a global command in the place of a search takes.
+#[derive(Clone, Copy)]
+pub(crate) enum Reach {
+    All,
+    /// The search began at a line that the script had set: from that one on, or back.
+    On,
+    Back,
+}
+
+impl Reach {
+    /// The addresses of the global command.
+    fn addresses(self) -> &'static [u8] {
+        match self {
+            Reach::All => b"",
+            Reach::On => b".,$",
+            Reach::Back => b"1,.",
+        }
+    }
+}
+
+/// Which lines a global command takes in the place of a search that a command begins with, where this is known: a search that begins at the
+/// last line, or before the second one, comes to all lines one after another.
+pub(crate) fn reach_of(command: &Command, state: Option<&KeptState>) -> Reach {
+    let (Some(address), Some(state)) = (pair(&command.addresses).0, state) else {
+        return Reach::All;
+    };
+    let zone = state.zone();
+    let is_last = zone.is_known(Name::LAST_LINE, Name::CURRENT_LINE, 0);
+    match &address.base {
+        Base::Forward(_) if !is_last && !zone.is_known(Name::CURRENT_LINE, Name::ZERO, 1) =>
+            Reach::On,
+        Base::Backward(_) if !is_last => Reach::Back,
+        _ => Reach::All,
+    }
+}
 
 /// The search in front of a command's first line, and what stands after it.
 #[derive(Clone, Copy)]
@@ -41,10 +80,9 @@ pub(crate) fn is_search(alloc: Global, command: &[u8]) -> Result<bool, AllocErro
     }
 }
 
-/// Appends the lines of a text as a list has them: each but the last ends in a backslash, and no period comes after them. False where
-/// a list can't have the text so.
-fn push_text(list: &mut Bytes, text: &Text) -> Result<bool, AllocError> {
-    let mut left = text.as_bytes();
+/// Appends lines as a list has them after its first: each but the last ends in a backslash. False where one of them can't stand there.
+pub(crate) fn push_lines(list: &mut Bytes, lines: &[u8]) -> Result<bool, AllocError> {
+    let mut left = lines;
     while let Some((line, rest)) = next_line(left) {
         if line.ends_with(b"\\") {
             return Ok(false);
@@ -53,39 +91,61 @@ fn push_text(list: &mut Bytes, text: &Text) -> Result<bool, AllocError> {
         list.extend_from_slice(line)?;
         left = rest;
     }
-    Ok(!text.is_empty())
+    Ok(true)
 }
 
-/// Appends what a command has beside its first line: its text, or nothing. False where it can't stand in a list.
-fn push_lines(alloc: Global, list: &mut Bytes, command: &[u8]) -> Result<bool, AllocError> {
-    let script = read_script(alloc, command)?;
-    match script.commands.as_slice() {
-        [only] => match &only.verb {
-            Verb::Append(text) | Verb::Change(text) | Verb::Insert(text) => {
-                push_text(list, text)
-            }
-            _ => Ok(first_line(command).len() == command.len()),
-        },
-        _ => Ok(false),
+/// The lines of a text without the period that ends it. None where there are none.
+fn without_period(lines: &[u8]) -> Option<&[u8]> {
+    match lines {
+        [front @ .., b'\n', b'.'] => Some(front),
+        [b'.'] | [] => None,
+        _ => Some(lines),
+    }
+}
+
+/// What comes before the command of a list that had a search as its first address, so that it works on the line that the global command
+/// takes: `.`, where it would take another one without.
+fn here(command: &Command, rest: &[u8]) -> &'static [u8] {
+    match (first(rest), command.verb.takes().default) {
+        (Some(b'+' | b'-' | b'0'..=b'9'), _) => b"",
+        (Some(b',' | b';'), _) => b".",
+        (_, DefaultAddresses::Current | DefaultAddresses::CurrentTwice) => b"",
+        _ => b".",
     }
 }
 
 /// A command that begins with a search, as a global command: what was searched for is what each line matches that it is applied to.
-fn searching(alloc: Global, command: &[u8]) -> Result<Option<Bytes>, AllocError> {
-    let Some(Searched { pattern, rest }) = search_in_front(alloc, first_line(command))? else {
+fn searching(
+    alloc: Global,
+    bytes: &[u8],
+    command: &Command,
+    reach: Reach,
+    in_front: bool,
+) -> Result<Option<Bytes>, AllocError> {
+    let line = first_line(bytes);
+    let Some(Searched { pattern, rest }) = search_in_front(alloc, line)? else {
         return Ok(None);
     };
-    let here: &[u8] = match first(rest) {
-        Some(b',' | b';') => b".",
-        Some(_) => b"",
-        None => return Ok(None),
-    };
-    let mut global = joined(alloc, &[b"g", pattern, here, rest])?;
-    if push_lines(alloc, &mut global, command)? {
-        Ok(Some(global))
-    } else {
-        Ok(None)
+    if rest.is_empty() || !command.verb.takes().listed || is_also_from_here(command) {
+        return Ok(None);
     }
+    let here = here(command, rest);
+    let mut global = Bytes::from_slice(alloc, reach.addresses())?;
+    global.extend_from_slice(b"g")?;
+    global.extend_from_slice(pattern)?;
+    global.extend_from_slice(here)?;
+    global.extend_from_slice(rest)?;
+    let lines = from(bytes, line.len().saturating_add(1));
+    let listed = match &command.verb {
+        Verb::Append(_) | Verb::Change(_) | Verb::Insert(_) if !in_front => {
+            match without_period(lines) {
+                Some(text) => push_lines(&mut global, text)?,
+                None => false,
+            }
+        }
+        _ => push_lines(&mut global, lines)?,
+    };
+    Ok(if listed { Some(global) } else { None })
 }
 
 /// The addresses of a substitution as its global command has them: all lines are those that a `g` takes without addresses.
@@ -132,11 +192,32 @@ fn substituting(alloc: Global, command: &[u8]) -> Result<Option<Bytes>, AllocErr
 }
 
 /// A command, without the newline after its last line, as a global command that does the same to each line that matches. None where
-/// it searches for nothing, or where nobody knows how to write it so.
-pub(crate) fn as_global(alloc: Global, command: &[u8]) -> Result<Option<Bytes>, AllocError> {
-    let command = after_blanks(command);
-    match searching(alloc, command)? {
+/// it searches for nothing, or where nobody knows how to write it so. With `in_front` a text keeps its period, so that more can come after.
+pub(crate) fn as_global(
+    alloc: Global,
+    command: &[u8],
+    reach: Reach,
+    in_front: bool,
+) -> Result<Option<Bytes>, AllocError> {
+    let bytes = without_newline(after_blanks(command));
+    let read = read_script(alloc, bytes)?;
+    let [only] = read.commands.as_slice() else {
+        return Ok(None);
+    };
+    if read.fault.is_some() {
+        return Ok(None);
+    }
+    match searching(alloc, bytes, only, reach, in_front)? {
         Some(global) => Ok(Some(global)),
-        None => substituting(alloc, command),
+        None => substituting(alloc, bytes),
+    }
+}
+
+/// Whether a command works on one line, or on those from its first one on, each time that its global command takes one.
+pub(crate) fn is_at_one_place(command: &Command) -> bool {
+    match (&command.verb, &command.addresses) {
+        (_, Addresses::Without | Addresses::One(_)) => true,
+        (Verb::Substitute { .. }, _) => false,
+        _ => true,
     }
 }

@@ -29,6 +29,17 @@ pub enum Advice {
     Semicolon,
 }
 
+/// Which commands a hint changes: after those that are the same in both scripts, it takes some away and has others in their stead.
+#[derive(Clone, Copy, Debug, PartialEq, Eq)]
+pub struct Change {
+    /// How many commands in front are the same.
+    pub kept: usize,
+    /// How many after them are taken away.
+    pub removed: usize,
+    /// How many stand in their stead; where the first script can't be read to its end, or its last text ended late, all that follow.
+    pub written: usize,
+}
+
 /// What to write where a script isn't vouched for: a script, mostly with another command, or a start with other bounds or with
 /// more patterns that some line matches. It is made only where that was tried.
 #[derive(Debug, Drop)]
@@ -38,6 +49,8 @@ pub struct Hint {
     pub(crate) text: String,
     pub(crate) script: Bytes,
     pub(crate) start: Start,
+    pub(crate) past: usize,
+    pub(crate) change: Change,
 }
 
 impl Hint {
@@ -74,6 +87,21 @@ impl Hint {
         ensures value { result.now ≡ self.now.start }
     {
         &self.start
+    }
+
+    /// How many commands of its script are got past, of which the first stands at the place: those that come in the place of one, or none
+    /// where a line is left out, or where only its spelling is mended.
+    pub fn past(&self) -> usize
+        ensures value { result ≡ self.now.past }
+    {
+        self.past
+    }
+
+    /// Which commands of the script it changes.
+    pub fn change(&self) -> Change
+        ensures value { result ≡ self.now.change }
+    {
+        self.change
     }
 }
 

@@ -3,16 +3,19 @@
 
 mod advising;
 mod bytes;
+mod changing;
 mod commands;
 mod drafts;
 mod endings;
 mod escapes;
+mod following;
 mod foreign;
 mod further;
 mod globals;
 mod hint;
 mod invalid_addresses;
 mod known;
+mod lists;
 mod passing;
 mod patterns;
 mod reasons;
@@ -25,7 +28,7 @@ mod telling;
 mod words;
 
 pub use advising::{hints, remarks};
-pub use hint::{Advice, Hint, Remark};
+pub use hint::{Advice, Change, Hint, Remark};
 pub use passing::gets_past;
 pub use refusing::{MOST_REFUSALS, Refusal, first_refusal, refusals};
 pub use starts::{copy_of, greatest_start, least_start};

@@ -1,10 +1,10 @@
 //! Whether a script gets past a place.
 
-ghost use Rattle.std.specs.Prelude.{◌≡◌, ◌≤◌, ◌↔◌, true, IfOk, IfSome, IsTrue};
+ghost use Rattle.std.specs.Prelude.{◌≡◌, ◌≤◌, ◌↔◌, ◌+◌, ◌-◌, true, Some, IfOk, IfSome, IsTrue};
 ghost use Rattle.ed_syntax.specs.PublicScript.{script_value};
 ghost use Rattle.ed_syntax.specs.reading.Reading.{script_of};
 ghost use Rattle.ed_rules.specs.LineBounds.{most_lines, IsAtMost};
-ghost use Rattle.hints.specs.Passing.{IsLaterInside, IsAfter, GetsPast, IsVouched};
+ghost use Rattle.hints.specs.Passing.{IsLaterInside, IsAfter, GetsPast, IsVouched, last_of};
 ghost use Rattle.hints.specs.Sought.{GetsPastAll};
 
 use crate::starts::copy_of;
@@ -80,33 +80,35 @@ pub fn gets_past(
     read_gets_past(&read, copy, place)
 }
 
-/// A number so many further on; the same where no number is.
-fn further(number: usize, added: usize) -> usize
-    ensures further { number ≤ result }
-    ensures same { added ≡ 0 → result ≡ number }
+/// The number of the last of so many commands, of which the first has this number; of none, the number before it. None where no number is.
+fn last_number(number: usize, count: usize) -> Option<usize>
+    ensures value { IfSome result (λ last. last ≡ (number + count) - 1) }
+    ensures one { count ≡ 1 → result ≡ Some number }
 {
-    match number.checked_add(added) {
-        Some(further) => further,
-        None => number,
+    match count.checked_sub(1) {
+        Some(more) => number.checked_add(more),
+        None => Some(number.saturating_sub(1)),
     }
 }
 
-/// Whether a script gets past a command with all of its list, and past as many commands more as it was given there. Of a command of
-/// a list it is that command alone.
+/// Whether a script gets past so many commands, each with all of its list, of which the first stands at the place. Of a command of a list
+/// it is that command alone.
 pub(crate) fn gets_past_all(
     alloc: Global,
     script: &[u8],
     start: &Start,
     place: Place,
-    added: usize,
+    count: usize,
 ) -> Result<bool, AllocError>
     requires ordered { IsAtMost start.now.min start.now.max }
     requires low { start.now.min ≤ most_lines }
     requires high { IfSome start.now.max (λ most. most ≤ most_lines) }
-    ensures sound { IfOk result (λ yes. yes ≡ true → GetsPast (script_of script.now) start.now place) }
-    ensures all { IfOk result (λ yes. added ≡ 0 → GetsPastAll (script_of script.now) start.now place → yes ≡ true) }
+    ensures sound { IfOk result (λ yes. yes ≡ true → GetsPast (script_of script.now) start.now (last_of place count)) }
+    ensures all { IfOk result (λ yes. count ≡ 1 → GetsPastAll (script_of script.now) start.now place → yes ≡ true) }
 {
-    let command = further(place.command, added);
+    let Some(command) = last_number(place.command, count) else {
+        return Ok(false);
+    };
     let inner = Some(place.inner.unwrap_or(usize::MAX));
     gets_past(alloc, script, start, Place { command, inner })
 }

@@ -47,6 +47,9 @@ fn with_patterns(alloc: Global, start: &Start, patterns: &Texts) -> Result<Start
     })
 }
 
+/// How many bytes of options are shown at most, and then the option that goes beyond them.
+const MOST_OPTIONS: usize = 200;
+
 /// The options that state these patterns, each with a space before it. None where one of them can't be typed.
 fn options_of(alloc: Global, patterns: &Texts) -> Result<Option<String>, AllocError>
     ensures typable { IfOk result (λ options. All IsTypable patterns.now → IsSome options) }
@@ -61,8 +64,12 @@ fn options_of(alloc: Global, patterns: &Texts) -> Result<Option<String>, AllocEr
             [b'-', ..] => " --has=",
             _ => " --has ",
         };
-        options.push_str(option)?;
-        options.push_str(word.as_str())?;
+        if options.len() < MOST_OPTIONS {
+            options.push_str(option)?;
+            options.push_str(word.as_str())?;
+        } else if !options.as_str().ends_with(" ..") {
+            options.push_str(" ..")?;
+        }
     }
     Ok(Some(options))
 }
@@ -81,7 +88,7 @@ fn over_stated(
     requires ordered { IsAtMost opened.now.min opened.now.max }
     requires low { opened.now.min ≤ most_lines }
     requires high { IfSome opened.now.max (λ most. most ≤ most_lines) }
-    ensures tried { IfOk result (λ found. IfSome found (IsTried opened.now place)) }
+    ensures tried { IfOk result (λ found. IfSome found (IsTried script.now opened.now place)) }
     ensures states { IfOk result (λ found. GetsPastAll (script_of script.now) opened.now place ⊎ MoreLinesHelp (script_of script.now) opened.now →
         IsSomeAnd found (λ hint. (hint.script ≡ script.now) × (hint.start.has ≡ opened.now.has))) }
 {
@@ -89,11 +96,10 @@ fn over_stated(
     if fewest.is_some() {
         return Ok(fewest);
     }
-    let or = if alone { "" } else { "or " };
-    let text = format!(in alloc; "{or}vouch with{options}, which run then tests")?;
+    let text = format!(in alloc; "vouch with{options}, which run then tests")?;
     let same = Bytes::from_slice(alloc, script)?;
-    let draft = drafted(Advice::State, text, same, 0);
-    let past = past_by(alloc, opened, place, line, draft)?;
+    let draft = drafted(Advice::State, text, same, 1, 1);
+    let past = past_by(alloc, script, opened, place, line, draft)?;
     if past.is_some() || !alone {
         return Ok(past);
     }
@@ -113,7 +119,7 @@ pub(crate) fn with_stated(
     requires ordered { IsAtMost start.now.min start.now.max }
     requires low { start.now.min ≤ most_lines }
     requires high { IfSome start.now.max (λ most. most ≤ most_lines) }
-    ensures tried { IfOk result (λ found. IfSome found (IsTried start.now place)) }
+    ensures tried { IfOk result (λ found. IfSome found (IsTried script.now start.now place)) }
     ensures states { IfOk result (λ found. All IsTypable patterns.now →
         GetsPastAll (script_of script.now) (stating start.now patterns.now) place ⊎ MoreLinesHelp (script_of script.now) (stating start.now patterns.now) →
         IsSomeAnd found (States script.now start.now patterns.now)) }

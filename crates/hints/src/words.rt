@@ -5,17 +5,29 @@ ghost use Rattle.std.specs.List.{list_all};
 ghost use Rattle.std.specs.Str.{chars};
 ghost use Rattle.hints.specs.Sought.{is_shown, IsTypable};
 
+use crate::bytes::before;
 use std::alloc::{AllocError, Global};
 
-/// Bytes between backquotes. Those that would end the line, or aren't text, are escaped; a tab isn't.
+/// How many bytes of a script, a pattern or a name are shown at most.
+const MOST_SHOWN: usize = 100;
+
+/// Bytes between backquotes, at most a hundred of them. Those that would end the line, or aren't text, are escaped; a tab isn't.
 pub(crate) fn quoted(alloc: Global, bytes: &[u8]) -> Result<String, AllocError> {
+    let mut word = String::from_str(alloc, "`")?;
     match str::from_utf8(bytes) {
-        Ok(text) if are_shown(text) => Ok(format!(in alloc; "`{text}`")?),
-        _ => Ok(format!(in alloc; "`{}`", bytes.escape_ascii())?),
+        Ok(text) if are_shown(text) => push_front(&mut word, text, "'")?,
+        _ => {
+            let front = before(bytes, MOST_SHOWN.saturating_add(1));
+            let escaped = format!(in alloc; "{}", front.escape_ascii())?;
+            push_front(&mut word, escaped.as_str(), "'")?;
+        }
     }
+    word.push_str("`")?;
+    Ok(word)
 }
 
-/// Bytes as one word of a shell. None where they aren't text, or hold what no line shows: then nobody could type them.
+/// Bytes as one word of a shell, at most a hundred of them. None where they aren't text, or hold what no line shows: then nobody could type
+/// them.
 pub(crate) fn shell_word(alloc: Global, bytes: &[u8]) -> Result<Option<String>, AllocError>
     ensures typable { IfOk result (λ word. IsSome word ↔ IsTypable bytes.now) }
 {
@@ -28,14 +40,27 @@ pub(crate) fn shell_word(alloc: Global, bytes: &[u8]) -> Result<Option<String>, 
 /// A text between single quotes, as a shell reads it.
 fn between_quotes(alloc: Global, text: &str) -> Result<String, AllocError> {
     let mut word = String::from_str(alloc, "'")?;
+    push_front(&mut word, text, "'\\''")?;
+    word.push_str("'")?;
+    Ok(word)
+}
+
+/// Appends whole characters of a text, as many as may be shown, and `..` where more come. A single quote is written so.
+fn push_front(word: &mut String, text: &str, quote: &str) -> Result<(), AllocError> {
+    let mut left = MOST_SHOWN;
     for character in text.chars() {
+        let len = character.len_utf8();
+        if len > left {
+            word.push_str("..")?;
+            return Ok(());
+        }
+        left = left.saturating_sub(len);
         match character {
-            '\'' => word.push_str("'\\''")?,
+            '\'' => word.push_str(quote)?,
             other => word.push(other)?,
         }
     }
-    word.push_str("'")?;
-    Ok(word)
+    Ok(())
 }
 
 /// Whether a line shows each character of a text.

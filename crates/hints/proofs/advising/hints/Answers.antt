@@ -1,42 +1,41 @@
+use Rattle.std.proofs.Common.{IfOk}
+use Rattle.std.specs.List.{Any}
 use Rattle.std.proofs.lemmas.Result.{IfOk-weaker}
 use Rattle.ed_syntax.specs.reading.Reading.{script_of}
 use Rattle.hints.specs.Passing.{MoreLinesHelp}
-use Rattle.hints.specs.Hints.{AsksForMore}
+use Rattle.hints.specs.Sought.{StatingHelps}
+use Rattle.hints.specs.Hints.{AsksForMore, States}
 use Rattle.hints.proofs.Asking.{any-kept, any-pushed}
 use Rattle.hints.proofs.advising.hints.Goals as goal
-
-pub returns-then-eq-clause-asks : goal.returns-then-eq-clause-asks
-returns-then-eq-clause-asks c =
-    let asks = AsksForMore c.args.script.now c.args.start.now in
-    let first = c.push_hint.new.found.items in
-    let second = c.push_hint-then-eq.new.found.items in
-    IfOk-weaker c.and_stated.result _ _
-    (λ found kept help. kept (c.in_ok-found.ensures.kept (
-    any-kept asks second c.push_hint-then-eq-2.new.found.items c.in_ok-written.written c.in_ok-push_hint-3.ensures.pushed (
-    any-kept asks first second c.in_ok-most.most c.in_ok-push_hint-2.ensures.pushed (
-    any-pushed asks (MoreLinesHelp (script_of c.args.script.now) c.args.start.now) c.new-found.result.items first c.in_ok-fewest.fewest c.in_ok-fewest.ensures.asks
-    c.in_ok-push_hint.ensures.pushed help
-    )
-    )
-    )))
-    c.and_stated.ensures.kept
 
 pub returns-clause-asks : goal.returns-clause-asks
 returns-clause-asks c =
     let asks = AsksForMore c.args.script.now c.args.start.now in
-    let first = c.push_hint-2.new.found.items in
-    let second = c.push_hint-3.new.found.items in
-    IfOk-weaker c.and_stated-2.result _ _
-    (λ found kept help. kept (
-    any-kept asks second c.push_hint-4.new.found.items c.in_ok-most.most c.in_ok-push_hint-6.ensures.pushed (
-    any-pushed asks (MoreLinesHelp (script_of c.args.script.now) c.args.start.now) first second c.in_ok-fewest.fewest c.in_ok-fewest.ensures.asks
-    c.in_ok-push_hint-5.ensures.pushed help
+    let first = c.push_hint.new.found.items in
+    let second = c.push_hint-2.new.found.items in
+    IfOk-weaker c.or_both.result _ _
+    (λ all kept help. kept (
+    any-kept asks c.in_ok-found-2.found.items c.push_hint-3.new.found.items c.in_ok-written.written c.in_ok-push_hint-3.ensures.pushed (
+    c.in_ok-found-2.ensures.kept (c.in_ok-found.ensures.kept (
+    any-kept asks first second c.in_ok-most.most c.in_ok-push_hint-2.ensures.pushed (
+    any-pushed asks (MoreLinesHelp (script_of c.args.script.now) c.args.start.now) c.new-found.result.items first c.in_ok-fewest.fewest c.in_ok-fewest.ensures.asks
+    c.in_ok-push_hint.ensures.pushed help
     )
     ))
-    c.and_stated-2.ensures.kept
-
-pub returns-then-eq-clause-states : goal.returns-then-eq-clause-states
-returns-then-eq-clause-states c = rw c.in_ok-patterns.ensures.value at c.and_stated.ensures.states
+    )
+    ))
+    c.or_both.ensures.kept
 
 pub returns-clause-states : goal.returns-clause-states
-returns-clause-states c = rw c.in_ok-patterns.ensures.value at c.and_stated-2.ensures.states
+returns-clause-states c =
+    let patterns = c.in_ok-patterns.patterns in
+    let states = States c.args.script.now c.args.start.now patterns in
+    let stated : IfOk c.or_both.result (λ all. StatingHelps (script_of c.args.script.now) c.args.start.now c.args.place patterns → Any states all.items) =
+    IfOk-weaker c.or_both.result _ _
+    (λ all also help. also patterns (
+    any-kept states c.in_ok-found-2.found.items c.push_hint-3.new.found.items c.in_ok-written.written c.in_ok-push_hint-3.ensures.pushed (
+    c.in_ok-found-2.ensures.also patterns (c.in_ok-found.ensures.states help)
+    )
+    ))
+    c.or_both.ensures.also in
+    rw c.in_ok-patterns.ensures.value at stated

@@ -1,9 +1,9 @@
-use Rattle.hints.proofs.Keeping.{keeps-bounded, tried-for}
+use Rattle.hints.proofs.Keeping.{keeps-bounded, tried-for, within-itself}
 use Rattle.hints.proofs.further.with_lines.Goals as goal
 
 pub returns : goal.returns
 returns c = record {
   tried =
-      tried-for c.args.start.now c.in_ok-bounded.bounded c.args.place _
-      (keeps-bounded c.args.start.now c.in_ok-bounded.bounded c.args.min c.args.start.now.max c.in_ok-bounded.ensures.value) c.past_by.ensures.tried;
+      tried-for c.args.script.now c.args.start.now c.in_ok-bounded.bounded c.args.place _
+      (keeps-bounded c.args.start.now c.in_ok-bounded.bounded c.args.min c.args.start.now.max c.in_ok-bounded.ensures.value c.requires.above (within-itself c.args.start.now.max)) c.past_by.ensures.tried;
 }

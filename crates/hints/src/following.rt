@@ -1,0 +1,155 @@
+//! What the commands after one do with the line that it leaves, and what else they do.
+
+use crate::commands::{command_at, first_line, span_of};
+use crate::words::quoted;
+use ed_syntax::{Address, Addresses, Base, Command, Script, Verb, read_script};
+use std::alloc::{AllocError, Global};
+
+/// Whether an address is counted or searched from the current line.
+pub(crate) fn is_from_here(address: Option<&Address>) -> bool {
+    match address {
+        Some(address) => matches!(
+            &address.base,
+            Base::Current | Base::Forward(_) | Base::Backward(_)
+        ),
+        None => false,
+    }
+}
+
+/// Whether the second address or the target of a command is counted or searched from the current line, and not from its first address.
+pub(crate) fn is_also_from_here(command: &Command) -> bool {
+    let target = is_from_here(command.verb.takes().target);
+    match &command.addresses {
+        Addresses::Comma(_, second) => target || is_from_here(Some(second)),
+        Addresses::Without | Addresses::One(_) => target,
+        Addresses::Semicolon(_, _) => false,
+    }
+}
+
+/// Whether what a command does depends on the current line, or on the change before it.
+pub(crate) fn uses_line(command: &Command) -> bool {
+    let own = command.verb.takes().default.addresses();
+    let addresses = match &command.addresses {
+        Addresses::Without => &own,
+        given => given,
+    };
+    let first = match addresses {
+        Addresses::Without => false,
+        Addresses::One(first) | Addresses::Comma(first, _) | Addresses::Semicolon(first, _) =>
+            is_from_here(Some(first)),
+    };
+    first || is_also_from_here(command) || matches!(&command.verb, Verb::Undo)
+}
+
+/// Whether a command sets the current line, or ends the script.
+pub(crate) fn sets_line(command: &Command) -> bool {
+    match &command.verb {
+        // One line alone isn't joined.
+        Verb::Join => !matches!(&command.addresses, Addresses::One(_)),
+        Verb::Append(_) | Verb::Change(_) | Verb::Insert(_) | Verb::Delete => true,
+        Verb::Move(_) | Verb::Copy(_) | Verb::Substitute { .. } => true,
+        Verb::Null | Verb::Write(_) | Verb::ReadFile(_) => true,
+        Verb::Edit(_) | Verb::EditAnyway(_) | Verb::Quit | Verb::QuitAnyway => true,
+        _ => false,
+    }
+}
+
+/// How many commands after those up to a number come at the lines that the ones before them leave, and may stand in a list.
+pub(crate) fn count_of_users(script: &Script, number: usize) -> usize {
+    let mut count: usize = 0;
+    for (index, command) in script.commands.as_slice().iter().enumerate() {
+        if index < number {
+            continue;
+        }
+        // GNU's `ed` skips an empty line in a list.
+        let may_be_listed = command.verb.takes().listed && command.verb != Verb::Null;
+        if !uses_line(command) || !may_be_listed {
+            return count;
+        }
+        count = count.saturating_add(1);
+    }
+    count
+}
+
+/// The number of the first command after those up to a number that works on the line that they leave. None where one sets it before.
+fn user_after(script: &Script, number: usize) -> Option<usize> {
+    for (index, command) in script.commands.as_slice().iter().enumerate() {
+        if index < number {
+            continue;
+        }
+        if uses_line(command) {
+            return Some(index.saturating_add(1));
+        }
+        if sets_line(command) {
+            return None;
+        }
+    }
+    None
+}
+
+/// Whether a command neither changes the buffer nor writes anything but all of it to the file of the start.
+fn is_quiet(command: &Command, path: Option<&[u8]>) -> bool {
+    match &command.verb {
+        Verb::WriteFile(name) => {
+            matches!(&command.addresses, Addresses::Without)
+                && match name {
+                    Some(name) => path == Some(name.as_slice()),
+                    None => true,
+                }
+        }
+        Verb::FileName(name) => name.is_none(),
+        Verb::Edit(_) | Verb::EditAnyway(_) => false,
+        verb => !verb.takes().alters,
+    }
+}
+
+/// Whether all commands of a script but so many from a number on are quiet, those of lists too.
+fn others_are_quiet(script: &Script, number: usize, count: usize, path: Option<&[u8]>) -> bool {
+    let last = number.saturating_add(count);
+    for (index, command) in script.commands.as_slice().iter().enumerate() {
+        let at = index.saturating_add(1);
+        let own = number <= at && at < last;
+        if !own && !is_quiet(command, path) {
+            return false;
+        }
+    }
+    script.fault.is_none()
+}
+
+/// What is to be told of the script where so many commands from a number on become a global command that takes no line.
+pub(crate) fn on_text(
+    script: &Script,
+    number: usize,
+    count: usize,
+    path: Option<&[u8]>,
+) -> &'static str {
+    if others_are_quiet(script, number, count, path) {
+        ""
+    } else {
+        ", and the script goes on"
+    }
+}
+
+/// Which command works on another line, where those up to a number leave another one; nothing where none does.
+pub(crate) fn other_text(
+    alloc: Global,
+    script: &[u8],
+    read: &Script,
+    number: usize,
+    when: &str,
+) -> Result<String, AllocError> {
+    let Some(user) = user_after(read, number) else {
+        return Ok(String::new(alloc));
+    };
+    match span_of(alloc, script, user)? {
+        Some(span) => {
+            let line = span.line;
+            let shown = quoted(alloc, first_line(command_at(script, span)))?;
+            Ok(format!(in alloc; "; line {line}, {shown}, then works on another line{when}")?)
+        }
+        None => Ok(String::new(alloc)),
+    }
+}
+
+/// When a command works on another line after a global command that leaves the line on which it works.
+pub(crate) const BUT_FOR_ONE: &str = " unless just one line matches";
