@@ -3,10 +3,11 @@
 # Each does all set-up on a fresh machine that has the toolchain's command `rt`.
 
 PREFIX ?= /usr/local
+ROOT = $(DESTDIR)$(PREFIX)
 PROGRAM = crates/ed_main/out/ed_main
 EXAMPLES = $(patsubst examples/%,%,$(wildcard examples/*/script.ed examples/*/before examples/*/after))
 
-.PHONY: all program install check test wrong-bodies wrong-rules bench
+.PHONY: all program install uninstall check test wrong-bodies wrong-rules bench
 
 all: program
 	examples/run --show
@@ -21,15 +22,22 @@ program:
 # Copies what is built, and calls nothing of the toolchain: under `sudo` it makes no file in this tree.
 install:
 	@test -x $(PROGRAM) || { echo "make install: $(PROGRAM) isn't built; run make first" >&2; exit 1; }
-	install -D -m 755 $(PROGRAM) $(DESTDIR)$(PREFIX)/bin/ed_main
-	install -D -m 755 packaging/ed $(DESTDIR)$(PREFIX)/libexec/ed_main/ed
-	install -D -m 644 man/ed_main.1 $(DESTDIR)$(PREFIX)/share/man/man1/ed_main.1
-	install -D -m 644 docs/VERIFIER.md $(DESTDIR)$(PREFIX)/share/doc/ed_main/VERIFIER.md
+	install -D -m 755 $(PROGRAM) "$(ROOT)/bin/ed_main"
+	install -D -m 755 packaging/ed "$(ROOT)/libexec/ed_main/ed"
+	install -D -m 644 man/ed_main.1 "$(ROOT)/share/man/man1/ed_main.1"
+	install -D -m 644 docs/VERIFIER.md "$(ROOT)/share/doc/ed_main/VERIFIER.md"
+	install -D -m 644 docs/RECIPES.md "$(ROOT)/share/doc/ed_main/RECIPES.md"
 	for example in $(EXAMPLES); do \
-	  install -D -m 644 examples/$$example $(DESTDIR)$(PREFIX)/share/doc/ed_main/examples/$$example || exit 1; \
+	  install -D -m 644 examples/$$example "$(ROOT)/share/doc/ed_main/examples/$$example" || exit 1; \
 	done
-	install -D -m 644 packaging/completions/ed_main.bash $(DESTDIR)$(PREFIX)/share/bash-completion/completions/ed_main
-	install -D -m 644 packaging/completions/_ed_main $(DESTDIR)$(PREFIX)/share/zsh/site-functions/_ed_main
+	install -D -m 644 packaging/completions/ed_main.bash "$(ROOT)/share/bash-completion/completions/ed_main"
+	install -D -m 644 packaging/completions/_ed_main "$(ROOT)/share/zsh/site-functions/_ed_main"
+
+# Takes away what `make install` put there, and no folder that others may use.
+uninstall:
+	rm -f "$(ROOT)/bin/ed_main" "$(ROOT)/share/man/man1/ed_main.1" \
+	  "$(ROOT)/share/bash-completion/completions/ed_main" "$(ROOT)/share/zsh/site-functions/_ed_main"
+	rm -rf "$(ROOT)/libexec/ed_main" "$(ROOT)/share/doc/ed_main"
 
 check:
 	tests/check
@@ -37,9 +45,10 @@ check:
 test:
 	tests/gate
 
-# CRATE names one or more crates; with none, all are tried.
+# CRATE names one or more crates; with none, those of all are tried. CHANGED=REV takes those that what changed since then asks for, FOLDER=must-fail
+# those of the gate, and with LIST=1 they are only listed.
 wrong-bodies:
-	tests/wrong-bodies $(CRATE)
+	tests/wrong-bodies $(if $(LIST),--list) $(if $(CHANGED),--changed $(CHANGED)) $(CRATE)
 
 # RULE names one or more rules; with none, all are tried.
 wrong-rules:

@@ -1,4 +1,4 @@
-//! All bytes of a source, up to a limit. That want of memory is told as such, `tests/refused/rows` tries with long scripts and
+//! All bytes of a source, up to a limit. That want of memory is told as such, `tests/refused/run` tries with long scripts and
 //! certificates.
 use crate::asserting::same;
 use ed_base::Bytes;
