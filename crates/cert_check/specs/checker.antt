@@ -3,6 +3,6 @@ pub mod Covering
 pub mod Valid
 pub mod Opening
 pub mod Sound
+pub mod MarkedStart
 -- what only serves clauses inside the crate
 pub mod Passing
-pub mod MarkedStart

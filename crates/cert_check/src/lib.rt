@@ -12,7 +12,8 @@ pub use checker::check;
 pub use checker::verdict::{Place, Verdict};
 pub use laws::{
     accepted_scripts_cannot_fail, checked_globals_go_well, covering_is_decided,
-    readings_are_told_apart, starts_are_sound, texts_are_unambiguous, version_one_is_as_before,
+    marked_starts_stand, marked_starts_suffice, readings_are_told_apart, starts_are_sound,
+    texts_are_unambiguous, version_one_is_as_before,
 };
 pub use sight::Sight;
 pub use text::fault::CertFault;

@@ -58,7 +58,8 @@ pub fn weaker_facts_hold_more()
 {}
 
 /// Facts are covered by themselves; what is joined or widened is covered by either side, and by all that the first side was covered by. A zone
-/// that isn't closed may miss what follows from two steps, so covering isn't an order: of three, the first two and the last two may cover.
+/// that isn't closed may miss what follows from two steps, so covering isn't an order: of three facts
+/// the first may cover the second and the second the third, and the first not the third.
 pub fn joined_facts_are_covered()
     ensures same { (facts : Facts) (zone : Bounds) → AreNamed facts → cover_facts facts zone facts ≡ true }
     ensures both { (one other : Facts) (by zone : Bounds) → cover_facts (both_facts one by other) zone one ≡ true }

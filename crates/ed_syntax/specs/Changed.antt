@@ -17,7 +17,7 @@ pub record IsChangedAt (before removed added : ℕ) (old new : Script) : Type 0 
   pub ended : drop (before + removed) old.steps ≡ drop (before + added) new.steps
   pub readable : is_some old.fault ≡ is_some new.fault
 
--- The new script has all commands of the old one, up to the one that can't be read there, and goes on in a way of its own.
+-- The new script has all commands of the old one, up to the one that can't be read there, and may go on.
 pub record IsReadFurther (old new : Script) : Type 0 where
   pub unreadable : is_some old.fault ≡ true
   pub alike : BeginAlike (length old.steps) old new

@@ -257,7 +257,7 @@ impl Script {
             )
     }
 
-    /// Whether another script has all commands of this one, which can't be read to its end. The other one goes on in a way of its own.
+    /// Whether another script has all commands of this one, which can't be read to its end. The other one may go on.
     pub fn is_read_further(&self, new: &Script) -> bool
         ensures exact { IsTrue result ↔ IsReadFurther (script_value self.now) (script_value new.now) }
     {

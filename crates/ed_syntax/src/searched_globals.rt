@@ -134,8 +134,8 @@ fn is_list_of_both(list: &[Command], second: &Command) -> bool
 
 impl Command {
     /// Whether this is a global command for all lines that match what the first of two commands, a search alone, looks for, with `p` and
-    /// the second one, which works on the current line, for its list. Where one line matches, it does the same as both if the second
-    /// one changes the line that was found.
+    /// the second one, which works on the current line, for its list. Where one line matches and neither of them fails, it does the same as
+    /// both if the second one changes the buffer, but for what undo brings back and for the prompt between them.
     pub fn is_global_of_both(&self, first: &Command, second: &Command) -> bool
         ensures exact { IsTrue result ↔ IsGlobalOfBoth (step_value first.now) (step_value second.now) (step_value self.now) }
     {
@@ -152,7 +152,8 @@ impl Command {
     }
 
     /// Whether this is a global command for all lines that match what another command searches for, with that command at the current
-    /// line for its list. Where one line matches, both do the same if the other one changes or writes the line that it finds.
+    /// line for its list. Where one line matches and the other one doesn't fail, both do the same if that changes the buffer or writes the
+    /// line that it finds; if it only writes it, but for what undo brings back.
     pub fn is_global_of(&self, searching: &Command) -> bool
         ensures exact { IsTrue result ↔ IsGlobalOf (step_value searching.now) (step_value self.now) }
     {
@@ -170,7 +171,7 @@ impl Command {
 }
 
 impl Verb {
-    /// Whether a command always changes the line that its search found, and then says which line is current.
+    /// Whether a command at the line that its search found always changes the buffer, and then says which line is current.
     pub fn changes_found_line(&self) -> bool
         ensures value { result ≡ changes (verb_value self.now) }
     {
