@@ -12,7 +12,7 @@ use Rattle.bre_match.specs.Narrowing.{weight}
 use Rattle.bre_match.proofs.Asking.{rest_within}
 use Rattle.bre_match.proofs.SameWays.{even_at, even_ways}
 use Rattle.bre_match.proofs.Keeping.{keeps_through, keeps_after, keeps_before, keeps_follow, keeps_by_end, keeps_group}
-use Rattle.bre_match.proofs.Tasks.{task_ways, task_steps, flat_map-map, weight-append, weight-map, followed_all, follow_falls, done_step, taken_steps, with_ends}
+use Rattle.bre_match.proofs.Tasks.{task_ways, task_steps, flat_map-map, weight-append, weight-map, follow_falls}
 
 pub kept_tasks : (asked : List Bool) (items : List Node) (s : List ℕ) (j : ℕ) (all kept : List Way) (before : List (ℕ × Way)) → RefersWithin asked (sequence_of items) → KeepsFirsts asked all kept → KeepsFirsts asked (flat_map (task_ways items s) (map (at_item j) all ++ before)) (flat_map (task_ways items s) (map (at_item j) kept ++ before))
 kept_tasks asked items s j all kept before r k =
@@ -22,17 +22,6 @@ kept_tasks asked items s j all kept before r k =
     let followed = keeps_follow asked f all kept (even_at asked (ways (sequence_of (drop j items)) s) (even_ways asked (sequence_of (drop j items)) (rest_within asked items j r) s)) k in
     let whole = keeps_before asked (flat_map f all) (flat_map f kept) (flat_map T before) followed in
     subst (λ l. KeepsFirsts asked l (flat_map T (map (at_item j) kept ++ before))) (sym (split all)) (subst (λ l. KeepsFirsts asked (flat_map f all ++ flat_map T before) l) (sym (split kept)) whole)
-
-pub followed_kept : (asked : List Bool) (items : List Node) (s : List ℕ) (part : Node) (next : Ahead) (left rest new : List Ahead) → RefersWithin asked (sequence_of items) → next.item < length items → part ≡ get_or items next.item part → left ≡ rest ++ next ∷ []
-    → Follows asked (by_end (ways (tree_of part) s next.run.end (groups_at next.run next.run.end))) (next.item + 1) (map (at_item next.item) (other_ways next.run.end next.run.shorter (groups_at next.run)) ++ tasks rest) (tasks new)
-    → KeepsFirsts asked (flat_map (task_ways items s) (tasks left)) (flat_map (task_ways items s) (tasks new))
-followed_kept asked items s part next left rest new r h at popped f =
-    let T = task_ways items s in
-    let before = map (at_item next.item) (other_ways next.run.end next.run.shorter (groups_at next.run)) ++ tasks rest in
-    let all = by_end (ways (tree_of part) s next.run.end (groups_at next.run next.run.end)) in
-    let k = kept_tasks asked items s (next.item + 1) all f.0 before r f.1 in
-    subst (λ l. KeepsFirsts asked (flat_map T (tasks left)) (flat_map T l)) (sym f.2)
-    (subst (λ l. KeepsFirsts asked l (flat_map T (map (at_item (next.item + 1)) f.0 ++ before))) (followed_all items s part next left rest h at popped) k)
 
 pub followed_falls : (asked : List Bool) (items : List Node) (s : List ℕ) (part : Node) (next : Ahead) (left rest new : List Ahead) → next.item < length items → part ≡ get_or items next.item part → left ≡ rest ++ next ∷ []
     → Follows asked (by_end (ways (tree_of part) s next.run.end (groups_at next.run next.run.end))) (next.item + 1) (map (at_item next.item) (other_ways next.run.end next.run.shorter (groups_at next.run)) ++ tasks rest) (tasks new)
@@ -48,33 +37,6 @@ followed_falls asked items s part next left rest new h at popped f =
     let d = weight-map F (at_item (next.item + 1)) all in
     let e = f.1.fewer (λ w. F (at_item (next.item + 1) w)) in
     omega (arith, falls, a, b, c, d, e)
-
--- a sequence's item is taken up
-pub sequence_goes_on : (asked : List Bool) (items : List Node) (s : List ℕ) (part : Node) (next : Ahead) (left rest new : List Ahead) (out whole : List Way) → RefersWithin asked (sequence_of items) → next.item < length items → part ≡ get_or items next.item part → left ≡ rest ++ next ∷ []
-    → Follows asked (by_end (ways (tree_of part) s next.run.end (groups_at next.run next.run.end))) (next.item + 1) (map (at_item next.item) (other_ways next.run.end next.run.shorter (groups_at next.run)) ++ tasks rest) (tasks new)
-    → KeepsFirsts asked whole (out ++ flat_map (task_ways items s) (tasks left)) → KeepsFirsts asked whole (out ++ flat_map (task_ways items s) (tasks new))
-sequence_goes_on asked items s part next left rest new out whole r h at popped f i =
-    let T = task_ways items s in
-    keeps_through asked whole (out ++ flat_map T (tasks left)) (out ++ flat_map T (tasks new)) i
-    (keeps_after asked out (flat_map T (tasks left)) (flat_map T (tasks new)) (followed_kept asked items s part next left rest new r h at popped f))
-
--- a way that has met all items is handed out
-pub sequence_hands_out : (asked : List Bool) (items : List Node) (s : List ℕ) (next : Ahead) (left rest : List Ahead) (out new whole : List Way) → length items ≤ next.item → left ≡ rest ++ next ∷ [] → new ≡ out ++ ways_of next.run
-    → KeepsFirsts asked whole (out ++ flat_map (task_ways items s) (tasks left)) → KeepsFirsts asked whole (new ++ flat_map (task_ways items s) (tasks rest))
-sequence_hands_out asked items s next left rest out new whole h popped put i =
-    let T = task_ways items s in
-    subst (λ l. KeepsFirsts asked whole l) (sym (done_step items s next left rest out new (out ++ flat_map T (tasks left)) h popped put refl)) i
-
-pub narrowed_falls : (asked : List Bool) (items : List Node) (s : List ℕ) (part : Node) (next : Ahead) (ends : ℕ × ℕ) (left rest new : List Ahead) → next.item < length items → part ≡ get_or items next.item part → left ≡ rest ++ next ∷ [] → ((f : Way → ℕ) → weight f (ways_of (with_ends next ends).run) ≤ weight f (ways_of next.run))
-    → Follows asked (by_end (ways (tree_of part) s ends.0 (groups_at next.run ends.0))) (next.item + 1) (map (at_item next.item) (other_ways ends.0 ends.1 (groups_at next.run)) ++ tasks rest) (tasks new)
-    → weight (task_steps items s) (tasks new) < weight (task_steps items s) (tasks left)
-narrowed_falls asked items s part next ends left rest new h at popped fewer put =
-    let kept = with_ends next ends in
-    let a = followed_falls asked items s part kept (rest ++ kept ∷ []) rest new h at refl put in
-    let b = taken_steps items s kept (rest ++ kept ∷ []) rest refl in
-    let d = taken_steps items s next left rest popped in
-    let e = fewer (λ w. task_steps items s (next.item, w)) in
-    omega (arith, a, b, d, e)
 
 -- a group's ways, by those of its content
 pub group_kept : (asked : List Bool) (i p : ℕ) (all inner none old new : List Way) → none ≡ [] → KeepsFirsts asked (none ++ all) inner → new ≡ old ++ map (with_group i p) inner → KeepsFirsts asked (old ++ map (with_group i p) all) new

@@ -12,6 +12,7 @@ pub mod GroupRuns
 pub mod Narrowing
 pub mod Turning
 pub mod MergedTurns
+pub mod Meeting
 pub mod Starts
 pub mod PartKinds
 pub mod Columns

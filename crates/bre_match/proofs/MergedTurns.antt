@@ -273,16 +273,16 @@ each_turn_if : (b : Bounds) (high : ℕ) (c : Bool) (w : Way) → EachTurn b hig
 each_turn_if b high true w = tt
 each_turn_if b high false w = tt
 
-each_push : (P : Mark → Type 0) (ms : List Mark) (m : Mark) → EachMark P ms → P m → EachMark P (ms ++ m ∷ [])
+pub each_push : (P : Mark → Type 0) (ms : List Mark) (m : Mark) → EachMark P ms → P m → EachMark P (ms ++ m ∷ [])
 each_push P [] m h p = (p, tt)
 each_push P (x ∷ ms) m h p = (h.0, each_push P ms m h.1 p)
 
-each_map : (P Q : Mark → Type 0) (ms : List Mark) → ((m : Mark) → P m → Q m) → EachMark P ms → EachMark Q ms
+pub each_map : (P Q : Mark → Type 0) (ms : List Mark) → ((m : Mark) → P m → Q m) → EachMark P ms → EachMark Q ms
 each_map P Q [] f h = tt
 each_map P Q (m ∷ ms) f h = (f m h.0, each_map P Q ms f h.1)
 
 -- of a turn of a kind that was taken up, one was
-each_has : (P : Mark → Type 0) (b : Bounds) (asked : List Bool) (ms : List Mark) (u : Mark) → HasTurn b asked ms u → EachMark P ms → (m : Mark) × (same_turn b asked m u ≡ true) × P m
+pub each_has : (P : Mark → Type 0) (b : Bounds) (asked : List Bool) (ms : List Mark) (u : Mark) → HasTurn b asked ms u → EachMark P ms → (m : Mark) × (same_turn b asked m u ≡ true) × P m
 each_has P b asked [] u h i = absurd h
 each_has P b asked (m ∷ ms) u (inl e) i = (m, e, i.0)
 each_has P b asked (m ∷ ms) u (inr h) i = each_has P b asked ms u h i.1
@@ -296,7 +296,7 @@ pub record Merged (asked : List Bool) (b : Bounds) (t : Tree) (s : List ℕ) (wh
   pub covered : EachMark (IsCovered asked b t s all left) marks
   pub room : EachTurn b (length s) left
 
-covers_alone : (asked : List Bool) (xs ws : List Way) → Covers asked (xs ++ []) ws → Covers asked xs ws
+pub covers_alone : (asked : List Bool) (xs ws : List Way) → Covers asked (xs ++ []) ws → Covers asked xs ws
 covers_alone asked xs ws c = subst (λ l. Covers asked l ws) (append-nil xs) c
 
 -- where some turns take the place of the next one, and keep the first of its ways, what was covered still is

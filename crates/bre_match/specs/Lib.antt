@@ -13,6 +13,7 @@ pub mod Narrowing
 pub mod Keeping
 pub mod Order
 pub mod Turns
+pub mod Meeting
 pub mod Starts
 pub mod Needs
 pub mod RowEnds

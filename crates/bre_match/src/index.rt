@@ -28,6 +28,13 @@ impl Index {
         }
     }
 
+    /// Takes all out.
+    pub(crate) fn clear(&mut self) {
+        self.numbers.clear();
+        self.before.clear();
+        self.rows.clear();
+    }
+
     // The row of a number.
     fn row(&self, number: usize) -> usize {
         if self.rows.is_empty() {

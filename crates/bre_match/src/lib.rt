@@ -18,6 +18,7 @@ mod column;
 mod ending;
 mod grouping;
 mod index;
+mod join;
 pub mod laws;
 mod learned;
 mod narrow;
@@ -42,9 +43,11 @@ mod word;
 
 use crate::asked::asked_groups;
 use crate::grouping::set_row;
+use crate::join::first_meeting_of_starts;
 use crate::needed::{first_start, lacks_needed};
 use crate::row::{is_quick_row, is_told_in_order, is_too_wide};
 use crate::row_search::{RowMatch, row_match};
+use crate::seen::Seen;
 use crate::span::span;
 use crate::start::{begins_at_start, longest_from, starts_without};
 use crate::word::find_word;
@@ -98,8 +101,9 @@ fn find_items(
     ensures within { IfOk result (λ found. IfSome found (LiesWithin from (length text.now))) }
 {
     let items = pattern.items();
-    if pattern.refers() || is_quick_row(items) {
-        return first_match(alloc, items, text, from);
+    let refers = pattern.refers();
+    if refers || is_quick_row(items) {
+        return first_match(alloc, items, text, from, refers);
     }
     if is_told_in_order(items) {
         if let Some(found) = match_here(alloc, items, text, from)? {
@@ -107,7 +111,7 @@ fn find_items(
         }
     }
     if is_too_wide(items) {
-        return first_match(alloc, items, text, from);
+        return first_match(alloc, items, text, from, true);
     }
     match span(alloc, items, text, from)? {
         None => Ok(None),
@@ -135,8 +139,9 @@ fn matches_items(alloc: Global, pattern: &Bre, text: &[u8]) -> Result<bool, Allo
     ensures value { IfOk result (λ matches. matches ≡ is_some (match_from (bre_tree pattern.now) text.now 0)) }
 {
     let items = pattern.items();
-    if is_quick_row(items) || is_too_wide(items) || pattern.refers() {
-        let found = first_match(alloc, items, text, 0)?;
+    let is_quick = is_quick_row(items);
+    if is_quick || is_too_wide(items) || pattern.refers() {
+        let found = first_match(alloc, items, text, 0, !is_quick)?;
         return Ok(found.is_some());
     }
     let found = span(alloc, items, text, 0)?;
@@ -157,7 +162,17 @@ fn match_here(
 {
     let asked = asked_groups(items);
     let mut left = Vec::new(alloc);
-    match longest_from(&mut left, alloc, items, &asked, text, from)? {
+    let mut seen = Seen::new(alloc);
+    match longest_from(
+        &mut left,
+        &mut seen,
+        alloc,
+        items,
+        &asked,
+        usize::MAX,
+        text,
+        from,
+    )? {
         Some(way) => {
             let end = way.0;
             let groups = way.1;
@@ -171,22 +186,30 @@ fn match_here(
     }
 }
 
-// The first match in a text of items one after another, from one start after another.
+// No more ways than these are kept in mind from one start to the next, which costs memory.
+const MOST_SEEN: usize = 50_000;
+
+// The first match in a text of items one after another, from one start after another. A way that is like one that was taken up from an
+// earlier start, where ways may meet, leads to no match and isn't taken up again.
 fn searched_match(
     alloc: Global,
     items: &[Node],
     text: &[u8],
     from: usize,
+    may_meet: bool,
 ) -> Result<Option<Match>, AllocError>
     requires place { from ≤ length text.now }
     ensures value { IfOk result (λ found. option_map spans found ≡ match_from (sequence_of items.now) text.now from) }
     ensures within { IfOk result (λ found. IfSome found (LiesWithin from (length text.now))) }
 {
     let asked = asked_groups(items);
+    let met = first_meeting_of_starts(items, &asked, may_meet);
     let mut left = Vec::new(alloc);
+    let mut seen = Seen::new(alloc);
     let mut start = first_start(items, text, from);
     while start <= text.len() {
-        match longest_from(&mut left, alloc, items, &asked, text, start)? {
+        seen.keep_at_most(MOST_SEEN);
+        match longest_from(&mut left, &mut seen, alloc, items, &asked, met, text, start)? {
             Some(way) => {
                 let end = way.0;
                 let groups = way.1;
@@ -198,12 +221,13 @@ fn searched_match(
     Ok(None)
 }
 
-// The first match in a text of items one after another.
+// The first match in a text of items one after another. It pays to look where ways may meet, but in a quick row.
 fn first_match(
     alloc: Global,
     items: &[Node],
     text: &[u8],
     from: usize,
+    may_meet: bool,
 ) -> Result<Option<Match>, AllocError>
     requires place { from ≤ length text.now }
     ensures value { IfOk result (λ found. option_map spans found ≡ match_from (sequence_of items.now) text.now from) }
@@ -220,7 +244,7 @@ fn first_match(
         }
         RowMatch::Nowhere => Ok(None),
         RowMatch::Untold(start) => {
-            let found = searched_match(alloc, items, text, start)?;
+            let found = searched_match(alloc, items, text, start, may_meet)?;
             Ok(found)
         }
     }

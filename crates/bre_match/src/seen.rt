@@ -1,4 +1,5 @@
-//! The turns of a repeat that were taken up, so that none is taken up twice.
+//! The turns of a repeat that were taken up, so that none is taken up twice; and the ways of a sequence, by the item that each
+//! meets next in place of the turns that are done.
 
 ghost use Rattle.std.specs.Prelude.{◌≡◌, ℕ, ◌<◌, ◌⊎◌, ◌++◌, ◌∷◌, [], IsTrue, OnOk, IfOk, true, false};
 ghost use Rattle.bre_match.specs.Turns.{same_turn, HasTurn, rank};
@@ -33,6 +34,18 @@ pub(crate) fn rank(bounds: Bounds, done: usize) -> usize
         (bounds.least as usize).max(1)
     } else {
         done
+    }
+}
+
+/// The numbers by which ways of a sequence are told apart by the items that they meet next.
+pub(crate) fn items_apart() -> Bounds
+    ensures apart { result.unbounded ≡ false }
+{
+    Bounds {
+        least: 0,
+        most: None,
+        enough: 0,
+        unbounded: false,
     }
 }
 
@@ -71,6 +84,16 @@ impl Seen {
         Seen {
             marks: Vec::new(alloc),
             index: Index::new(alloc),
+        }
+    }
+
+    /// Forgets all, where there are more than so many.
+    pub(crate) fn keep_at_most(&mut self, most: usize)
+        ensures value { (self.new.marks.items ≡ []) ⊎ (self.new.marks.items ≡ self.old.marks.items) }
+    {
+        if self.marks.len() > most {
+            self.marks.clear();
+            self.index.clear();
         }
     }
 

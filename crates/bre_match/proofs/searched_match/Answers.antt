@@ -1,5 +1,6 @@
-use Rattle.std.proofs.Common.{◌+◌, ◌-◌, length, sym, ◌∙◌, arith}
+use Rattle.std.proofs.Common.{◌+◌, ◌-◌, length, subst, sym, ◌∙◌, arith, ⊎_elim}
 use Rattle.bre_parse.specs.Tree.{sequence_of}
+use Rattle.bre_match.specs.Meeting.{LeadNowhere}
 use Rattle.bre_match.proofs.Needs.{passed_to}
 use Rattle.bre_match.proofs.Starts.{skip_starts, longest_within}
 use Rattle.bre_match.proofs.searched_match.Goals as goal
@@ -10,6 +11,7 @@ loop-start-init c =
       passed = c.first_start-start.ensures.after;
       within = omega arith;
       left = passed_to (sequence_of c.args.items.now) c.args.text.now c.args.from c.first_start-start.result c.first_start-start.ensures.after c.first_start-start.ensures.within c.first_start-start.ensures.sound;
+      nowhere = subst (λ l. LeadNowhere c.args.items.now c.args.text.now l) (sym c.new-seen.ensures.value) tt;
     }
 
 pub returns-in-Some-clause-within : goal.returns-in-Some-clause-within
@@ -27,4 +29,12 @@ loop-start-preserved c =
           ∙ skip_starts c.starts_without.result (length c.args.text.now + 1 - (c.loop-start.start + (1 + c.starts_without.result))) (length c.args.text.now + 1 - c.loop-start.start) (sequence_of c.args.items.now) c.args.text.now c.loop-start.start (c.loop-start.start + (1 + c.starts_without.result))
           (omega arith) (omega arith)
           (c.starts_without.ensures.sound (sym c.in_ok-way.ensures.value ∙ c.in-None.is));
+      nowhere = c.in_ok-way.ensures.seen c.in-None.is;
     }
+
+pub longest_from-requires-clause-seen : goal.longest_from-requires-clause-seen
+longest_from-requires-clause-seen c =
+    ⊎_elim
+    (λ none. subst (λ l. LeadNowhere c.args.items.now c.args.text.now l) (sym none) tt)
+    (λ same. subst (λ l. LeadNowhere c.args.items.now c.args.text.now l) (sym same) c.loop-start.invariant.nowhere)
+    c.keep_at_most.ensures.value
