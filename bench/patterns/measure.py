@@ -288,6 +288,8 @@ REFERENCES = (
     (r'\(a*b*\)*\1$', 'ab, c', lambda size: 'ab' * (size // 2) + 'c'),
     (r'\(.\{1,3\}\)*\1\1$', 'a', lambda size: 'a' * size),
     (r'\(a*\)\{2,\}\1b', 'a, b', lambda size: 'a' * size + 'b'),
+    (r'\(a\)*\(a\)*\(a\)*\(a\)*b\1b', 'b, a, cb', lambda size: 'b' + 'a' * size + 'cb'),
+    (r'\(\(a*a*\)\(a*a*\)\)*b\1b', 'b, a, cb', lambda size: 'b' + 'a' * size + 'cb'),
     (r'\([^,]*\),\(.*,\)*\1$', 'ab,', lambda size: 'ab,' * (size // 3) + 'cd'),
 )
 

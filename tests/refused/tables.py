@@ -150,6 +150,8 @@ MATCHES = [
     Match('places', r'a\{0,1\}\(ab\)\{0,1\}', 'ab', '0-2 0-2 -'),
     Match('places', r'\(a\{0,1\}\(ab\)\{0,1\}\)b*', 'abb', '0-3 0-2 0-2'),
     Match('places', r'\(.*\)=\(.*\)=\1$', 'ab=c=ab', '0-7 0-2 3-4'),
+    Match('places', r'\(a\{1,2\}[\a]\)*a\1$', 'b' + 'a' * 40, '1-41 36-38 -'),
+    Match('places', r'\(a\)*\(a\)*\(a\)*b\1$', 'c' + 'a' * 20 + 'ba', '1-23 20-21 -'),
     Match('places_searched', 'x.*y.*z', BLANKS + 'xayz', '300-304 - -'),
     Match('places_searched', r'\(ab*\)*c[0-9]', BLANKS + 'abac7', '300-305 302-303 -'),
     Match('places_searched', r'\(x\)*[yz]$', BLANKS + 'xy', '300-302 300-301 -'),

@@ -4,8 +4,9 @@
     python3 compare.py COUNT SEED
 
 Patterns are small and hostile: groups in groups, optional groups of two or three bytes side by side, repeats of repeats,
-turns that may be empty, anchors within groups and repeats, and back-references, also to groups in repeats. A pattern with a
-back-reference whose ways are too many for the reference is left out. Build crates/bre_ask first.
+turns that may be empty, anchors within groups and repeats, and back-references, also to groups in repeats and after several
+repeats, through which ways meet. A pattern with a back-reference whose ways are too many for the reference is left out. Build
+crates/bre_ask first.
 """
 import collections
 import os
@@ -18,6 +19,9 @@ import reference
 
 PROGRAM = os.path.join(os.path.dirname(os.path.abspath(__file__)), '../../../crates/bre_ask/out/bre_ask')
 REPEATS = [(0, None)] * 4 + [(0, 1)] * 4 + [(1, 2), (0, 2), (2, None), (1, None), (2, 2), (2, 3), (3, 5), (0, 0), (1, 1)]
+
+# How many items a sequence has. Ways meet where several items of it are repeated.
+SIZES = {'empty': (0, 1, 1, 2), 'meeting': (2, 3, 4, 5)}
 
 
 class Maker:
@@ -43,7 +47,7 @@ class Maker:
 
     def atom(self, depth):
         chance = self.chance.random()
-        if self.kind == 'reference' and self.closed and chance < 0.35:
+        if self.kind in ('reference', 'meeting') and self.closed and chance < 0.35:
             return ('reference', self.chance.choice(self.closed[-3:]))
         if depth > 0 and self.opened < 11 and chance < (0.7 if self.kind in ('nested', 'empty') else 0.55):
             return self.group(lambda: self.content(depth - 1))
@@ -53,7 +57,7 @@ class Maker:
 
     def item(self, depth):
         made = self.atom(depth)
-        repeated = {'repeats': 0.75, 'empty': 0.7}.get(self.kind, 0.4)
+        repeated = {'repeats': 0.75, 'empty': 0.7, 'meeting': 0.6}.get(self.kind, 0.4)
         while self.chance.random() < repeated:
             least, most = self.chance.choice(REPEATS)
             made = ('repeat', least, most, made)
@@ -69,7 +73,7 @@ class Maker:
         items = []
         if self.chance.random() < anchored:
             items.append(('text start',))
-        for _ in range(self.chance.choice((0, 1, 1, 2) if self.kind == 'empty' else (1, 1, 2, 2, 3))):
+        for _ in range(self.chance.choice(SIZES.get(self.kind, (1, 1, 2, 2, 3)))):
             items.append(self.optional() if self.kind == 'optional' and self.chance.random() < 0.5 else self.item(depth))
         if self.chance.random() < anchored:
             items.append(('text end',))
@@ -79,7 +83,7 @@ class Maker:
         return self.content(self.chance.choice((1, 2, 2, 3)))
 
 
-KINDS = ('mixed', 'nested', 'optional', 'repeats', 'empty', 'anchors', 'reference', 'reference')
+KINDS = ('mixed', 'nested', 'optional', 'repeats', 'empty', 'anchors', 'reference', 'meeting')
 
 
 def cases(count, seed):
