@@ -11,10 +11,11 @@ use Rattle.bre_parse.specs.Groups.{Groups}
 use Rattle.bre_match.specs.declared.run.Ahead.{Ahead}
 use Rattle.bre_match.specs.declared.run.Run.{Run}
 use Rattle.bre_match.specs.declared.seen.Mark.{Mark}
+use Rattle.bre_match.specs.declared.seen.Seen.{Seen}
 use Rattle.bre_match.specs.declared.turn.Bounds.{Bounds}
 use Rattle.bre_match.specs.Alike.{RefersWithin, alike, HasAlike, AreAlike}
 use Rattle.bre_match.specs.Keeping.{KeepsFirsts, Follows}
-use Rattle.bre_match.specs.Meeting.{HasMet, MayMark, TakenAhead, HandedOut, LeadNowhere}
+use Rattle.bre_match.specs.Meeting.{HasMet, MayMark, mark_of, others_of, TakenAhead, HandedOut, LeadNowhere}
 use Rattle.bre_match.specs.Narrowing.{weight}
 use Rattle.bre_match.specs.Runs.{groups_at, shorter_ways, ways_of, other_ways, at_item, tasks}
 use Rattle.bre_match.specs.Turns.{rank, HasTurn}
@@ -57,7 +58,8 @@ abbrev pub IsThere : List Bool → List Node → List ℕ → List Way → List 
 IsThere asked items s out left m = Covers asked (out ++ flat_map (task_ways items s) (beyond m left)) (follows items s m)
 
 -- what the search keeps
-pub record Met (asked : List Bool) (items : List Node) (s : List ℕ) (whole out : List Way) (left : List (ℕ × Way)) (marks : List Mark) : Type 0 where
+pub record Met (asked : List Bool) (items : List Node) (s : List ℕ) (whole out : List Way) (left : List (ℕ × Way))
+    (marks : List Mark) : Type 0 where
   pub kept : KeepsFirsts asked whole (out ++ flat_map (task_ways items s) left)
   pub there : EachMark (IsThere asked items s out left) marks
 
@@ -65,11 +67,15 @@ pub record Met (asked : List Bool) (items : List Node) (s : List ℕ) (whole out
 
 abbrev KeepFront : List Bool → List Node → List ℕ → (out given : List Way) → (old new : List (ℕ × Way)) → Type 0
 KeepFront asked items s out given old new =
-    (X : List (ℕ × Way)) → KeepsFirsts asked (out ++ flat_map (task_ways items s) (old ++ X)) (given ++ flat_map (task_ways items s) (new ++ X))
+    (X : List (ℕ × Way)) → KeepsFirsts asked (out ++ flat_map (task_ways items s) (old ++ X))
+    (given ++ flat_map (task_ways items s) (new ++ X))
 
-still_there : (asked : List Bool) (items : List Node) (s : List ℕ) (out given : List Way) (i : ℕ) (w : Way) (ws : List Way) (new rest : List (ℕ × Way))
-    → KeepFront asked items s out given (map (at_item i) (w ∷ ws)) new → ((xs : List Way) → Covers asked out xs → Covers asked given xs)
-    → ((m : Mark) → ltb m.done i ≡ true → AllBeyond m new) → (m : Mark) → IsThere asked items s out (map (at_item i) (w ∷ ws) ++ rest) m → IsThere asked items s given (new ++ rest) m
+still_there : (asked : List Bool) (items : List Node) (s : List ℕ) (out given : List Way) (i : ℕ) (w : Way) (ws : List Way)
+    (new rest : List (ℕ × Way))
+    → KeepFront asked items s out given (map (at_item i) (w ∷ ws)) new
+    → ((xs : List Way) → Covers asked out xs → Covers asked given xs)
+    → ((m : Mark) → ltb m.done i ≡ true → AllBeyond m new) → (m : Mark)
+    → IsThere asked items s out (map (at_item i) (w ∷ ws) ++ rest) m → IsThere asked items s given (new ++ rest) m
 still_there asked items s out given i w ws new rest keeps grows later m c = by_cases (ltb m.done i) refl
   where
     T : ℕ × Way → List Way
@@ -81,42 +87,63 @@ still_there asked items s out given i w ws new rest keeps grows later m c = by_c
     by_cases : (b : Bool) → ltb m.done i ≡ b → IsThere asked items s given (new ++ rest) m
     by_cases true e =
         let opened = beyond_all m old rest (beyond_here m i (w ∷ ws) e) in
-        let before : Covers asked (out ++ flat_map T (old ++ beyond m rest)) (follows items s m) = subst (λ l. Covers asked (out ++ flat_map T l) (follows items s m)) opened c in
-        let after = covers_same asked (out ++ flat_map T (old ++ beyond m rest)) (given ++ flat_map T (new ++ beyond m rest)) (follows items s m) (sym (keeps (beyond m rest)).same) before in
+        let before : Covers asked (out ++ flat_map T (old ++ beyond m rest)) (follows items s m) = subst
+        (λ l. Covers asked (out ++ flat_map T l) (follows items s m)) opened c in
+        let after = covers_same asked (out ++ flat_map T (old ++ beyond m rest)) (given ++ flat_map T (new ++ beyond m rest))
+        (follows items s m) (sym (keeps (beyond m rest)).same) before in
         subst (λ l. Covers asked (given ++ flat_map T l) (follows items s m)) (sym (beyond_all m new rest (later m e))) after
     by_cases false e =
-        let none : beyond m (old ++ rest) ≡ [] = ap (λ b. elim b [ true ↦ at_item i w ∷ beyond m (map (at_item i) ws ++ rest) | false ↦ [] ]) e in
-        let alone = covers_alone asked out (follows items s m) (subst (λ l. Covers asked (out ++ flat_map T l) (follows items s m)) none c) in
+        let none : beyond m (old ++ rest) ≡ [] = ap
+        (λ b. elim b [ true ↦ at_item i w ∷ beyond m (map (at_item i) ws ++ rest) | false ↦ [] ]) e in
+        let alone = covers_alone asked out (follows items s m)
+        (subst (λ l. Covers asked (out ++ flat_map T l) (follows items s m)) none c) in
         covers_more asked given (flat_map T (beyond m (new ++ rest))) (follows items s m) (grows (follows items s m) alone)
 
-met_step : (asked : List Bool) (items : List Node) (s : List ℕ) (whole out given : List Way) (i : ℕ) (w : Way) (ws : List Way) (new rest : List (ℕ × Way)) (marks : List Mark)
-    → KeepFront asked items s out given (map (at_item i) (w ∷ ws)) new → ((xs : List Way) → Covers asked out xs → Covers asked given xs)
-    → ((m : Mark) → ltb m.done i ≡ true → AllBeyond m new) → Met asked items s whole out (map (at_item i) (w ∷ ws) ++ rest) marks → Met asked items s whole given (new ++ rest) marks
+met_step : (asked : List Bool) (items : List Node) (s : List ℕ) (whole out given : List Way) (i : ℕ) (w : Way) (ws : List Way)
+    (new rest : List (ℕ × Way)) (marks : List Mark)
+    → KeepFront asked items s out given (map (at_item i) (w ∷ ws)) new
+    → ((xs : List Way) → Covers asked out xs → Covers asked given xs)
+    → ((m : Mark) → ltb m.done i ≡ true → AllBeyond m new)
+    → Met asked items s whole out (map (at_item i) (w ∷ ws) ++ rest) marks → Met asked items s whole given (new ++ rest) marks
 met_step asked items s whole out given i w ws new rest marks keeps grows later h = record {
-  kept = keeps_through asked whole (out ++ flat_map (task_ways items s) (map (at_item i) (w ∷ ws) ++ rest)) (given ++ flat_map (task_ways items s) (new ++ rest)) h.kept (keeps rest);
-  there = each_map (IsThere asked items s out (map (at_item i) (w ∷ ws) ++ rest)) (IsThere asked items s given (new ++ rest)) marks (still_there asked items s out given i w ws new rest keeps grows later) h.there;
+  kept = keeps_through asked whole (out ++ flat_map (task_ways items s) (map (at_item i) (w ∷ ws) ++ rest))
+      (given ++ flat_map (task_ways items s) (new ++ rest)) h.kept (keeps rest);
+  there = each_map (IsThere asked items s out (map (at_item i) (w ∷ ws) ++ rest)) (IsThere asked items s given (new ++ rest)) marks
+      (still_there asked items s out given i w ws new rest keeps grows later) h.there;
 }
 
+-- the ways of a run but the first
+abbrev rest_of : Ahead → List Way
+rest_of next = other_ways next.run.end next.run.shorter (groups_at next.run)
+
 -- the way of a run that is taken up, and the others
-opened : (next : Ahead) (left rest : List Ahead) → left ≡ rest ++ next ∷ [] → tasks left ≡ map (at_item next.item) ((next.run.end, groups_at next.run next.run.end) ∷ other_ways next.run.end next.run.shorter (groups_at next.run)) ++ tasks rest
+opened : (next : Ahead) (left rest : List Ahead) → left ≡ rest ++ next ∷ []
+    → tasks left ≡ map (at_item next.item) ((mark_of next).way ∷ rest_of next) ++ tasks rest
 opened next left rest popped =
-    ap tasks popped ∙ tasks_push rest next ∙ ap (λ l. map (at_item next.item) l ++ tasks rest) (first_and_others next.run.end next.run.shorter (groups_at next.run))
+    ap tasks popped ∙ tasks_push rest next
+    ∙ ap (λ l. map (at_item next.item) l ++ tasks rest) (first_and_others next.run.end next.run.shorter (groups_at next.run))
 
 -- with a way taken out in front, and others put there
-front_of : (asked : List Bool) (items : List Node) (s : List ℕ) (out given : List Way) (i : ℕ) (w : Way) (ws : List Way) (new : List (ℕ × Way))
+front_of : (asked : List Bool) (items : List Node) (s : List ℕ) (out given : List Way) (i : ℕ) (w : Way) (ws : List Way)
+    (new : List (ℕ × Way))
     → ((Y : List Way) → KeepsFirsts asked (out ++ (task_ways items s (i, w) ++ Y)) (given ++ (flat_map (task_ways items s) new ++ Y)))
     → KeepFront asked items s out given (map (at_item i) (w ∷ ws)) (new ++ map (at_item i) ws)
 front_of asked items s out given i w ws new keeps X =
     let T = task_ways items s in
     let Y = flat_map T (map (at_item i) ws ++ X) in
-    let split : flat_map T ((new ++ map (at_item i) ws) ++ X) ≡ flat_map T new ++ Y = ap (flat_map T) (append_assoc new (map (at_item i) ws) X) ∙ flat_map-append T new (map (at_item i) ws ++ X) in
+    let split : flat_map T ((new ++ map (at_item i) ws) ++ X) ≡ flat_map T new ++ Y = ap (flat_map T)
+    (append_assoc new (map (at_item i) ws) X) ∙ flat_map-append T new (map (at_item i) ws ++ X) in
     subst (λ l. KeepsFirsts asked (out ++ (T (i, w) ++ Y)) (given ++ l)) (sym split) (keeps Y)
 
-later_and_here : (m : Mark) (i j : ℕ) (kept ws : List Way) → ltb m.done i ≡ true → i ≤ j → AllBeyond m (map (at_item j) kept ++ map (at_item i) ws)
-later_and_here m i j kept ws e le = beyond_append m (map (at_item j) kept) (map (at_item i) ws) (beyond_here m j kept (grind (arith, nat_tests))) (beyond_here m i ws e)
+later_and_here : (m : Mark) (i j : ℕ) (kept ws : List Way) → ltb m.done i ≡ true → i ≤ j
+    → AllBeyond m (map (at_item j) kept ++ map (at_item i) ws)
+later_and_here m i j kept ws e le = beyond_append m (map (at_item j) kept) (map (at_item i) ws)
+    (beyond_here m j kept (grind (arith, nat_tests))) (beyond_here m i ws e)
 
 -- what was marked, with one more mark
-may_mark : (asked : List Bool) (items : List Node) (s : List ℕ) (whole out : List Way) (left : List (ℕ × Way)) (mark : Mark) (old new : List Mark) → MayMark mark old new → IsThere asked items s out left mark → Met asked items s whole out left old → Met asked items s whole out left new
+may_mark : (asked : List Bool) (items : List Node) (s : List ℕ) (whole out : List Way) (left : List (ℕ × Way)) (mark : Mark)
+    (old new : List Mark) → MayMark mark old new → IsThere asked items s out left mark → Met asked items s whole out left old
+    → Met asked items s whole out left new
 may_mark asked items s whole out left mark old new (inl e) here h = subst (λ l. Met asked items s whole out left l) (sym e) h
 may_mark asked items s whole out left mark old new (inr e) here h = subst (λ l. Met asked items s whole out left l) (sym e) (record {
   kept = h.kept;
@@ -124,7 +151,9 @@ may_mark asked items s whole out left mark old new (inr e) here h = subst (λ l.
 })
 
 -- a way like one that met the same item before leads to what that one led to
-covers_met : (asked : List Bool) (items : List Node) (s : List ℕ) (out : List Way) (i : ℕ) (w : Way) (ws : List Way) (rest : List (ℕ × Way)) (marks : List Mark) → RefersWithin asked (sequence_of items) → HasMet asked marks (record { done = i; way = w })
+covers_met : (asked : List Bool) (items : List Node) (s : List ℕ) (out : List Way) (i : ℕ) (w : Way) (ws : List Way)
+    (rest : List (ℕ × Way)) (marks : List Mark) → RefersWithin asked (sequence_of items)
+    → HasMet asked marks (record { done = i; way = w })
     → EachMark (IsThere asked items s out (map (at_item i) (w ∷ ws) ++ rest)) marks → Covers asked out (task_ways items s (i, w))
 covers_met asked items s out i w ws rest marks r has there =
     let b = has.0 in
@@ -134,11 +163,15 @@ covers_met asked items s out i w ws rest marks r has there =
     let like = both_right (eqb (rank b m.0.done) (rank b i)) (alike asked m.0.way w) m.1 in
     let one : m.0.done ≡ i = one_item b m.0.done i has.1 same in
     let apart : ltb m.0.done i ≡ false = grind (arith, nat_tests) in
-    let none : beyond m.0 (map (at_item i) (w ∷ ws) ++ rest) ≡ [] = ap (λ c. elim c [ true ↦ at_item i w ∷ beyond m.0 (map (at_item i) ws ++ rest) | false ↦ [] ]) apart in
-    let alone = covers_alone asked out (follows items s m.0) (subst (λ l. Covers asked (out ++ flat_map (task_ways items s) l) (follows items s m.0)) none m.2) in
-    let at : Covers asked out (task_ways items s (i, m.0.way)) = subst (λ k. Covers asked out (task_ways items s (k, m.0.way))) one alone in
+    let none : beyond m.0 (map (at_item i) (w ∷ ws) ++ rest) ≡ [] = ap
+    (λ c. elim c [ true ↦ at_item i w ∷ beyond m.0 (map (at_item i) ws ++ rest) | false ↦ [] ]) apart in
+    let alone = covers_alone asked out (follows items s m.0)
+    (subst (λ l. Covers asked (out ++ flat_map (task_ways items s) l) (follows items s m.0)) none m.2) in
+    let at : Covers asked out (task_ways items s (i, m.0.way)) = subst (λ k. Covers asked out (task_ways items s (k, m.0.way))) one alone
+    in
     covers_like asked out (task_ways items s (i, m.0.way)) (task_ways items s (i, w))
-    (even_at asked (ways (sequence_of (drop i items)) s) (even_ways asked (sequence_of (drop i items)) (rest_within asked items i r) s) m.0.way w like) at
+    (even_at asked (ways (sequence_of (drop i items)) s) (even_ways asked (sequence_of (drop i items)) (rest_within asked items i r) s)
+    m.0.way w like) at
   where
     as_it_is : (b : Bounds) (k : ℕ) → b.unbounded ≡ false → rank b k ≡ k
     as_it_is b k e = ap (λ u. elim (u && (leb b.least k && ltb 0 k)) [ true ↦ max b.least 1 | false ↦ k ]) e
@@ -152,14 +185,16 @@ covers_met asked items s out i w ws rest marks r has there =
 
 -- The steps of the search
 
-pub taken_ahead : (asked : List Bool) (items : List Node) (s : List ℕ) (part : Node) (next : Ahead) (left rest new : List Ahead) (whole out : List Way) (marks marks' : List Mark) → RefersWithin asked (sequence_of items) → next.item < length items → part ≡ get_or items next.item part → left ≡ rest ++ next ∷ []
-    → TakenAhead asked (by_end (ways (tree_of part) s next.run.end (groups_at next.run next.run.end))) (record { done = next.item; way = (next.run.end, groups_at next.run next.run.end) }) marks marks' (map (at_item next.item) (other_ways next.run.end next.run.shorter (groups_at next.run)) ++ tasks rest) (tasks new)
-    → Met asked items s whole out (tasks left) marks → Met asked items s whole out (tasks new) marks'
-taken_ahead asked items s part next left rest new whole out marks marks' r h at popped (inl up) met =
+pub taken_ahead : (asked : List Bool) (items : List Node) (s : List ℕ) (part : Node) (next : Ahead) (left rest new : List Ahead)
+    (whole out : List Way) (seen seen' : Seen) → RefersWithin asked (sequence_of items) → next.item < length items
+    → part ≡ get_or items next.item part → left ≡ rest ++ next ∷ []
+    → TakenAhead asked (tree_of part) s next seen seen' rest new
+    → Met asked items s whole out (tasks left) seen.marks.items → Met asked items s whole out (tasks new) seen'.marks.items
+taken_ahead asked items s part next left rest new whole out seen seen' r h at popped (inl up) met =
     let T = task_ways items s in
     let i = next.item in
-    let w : Way = (next.run.end, groups_at next.run next.run.end) in
-    let ws = other_ways next.run.end next.run.shorter (groups_at next.run) in
+    let w = (mark_of next).way in
+    let ws = rest_of next in
     let all = by_end (ways (tree_of part) s next.run.end (groups_at next.run next.run.end)) in
     let kept = up.1.0 in
     let children = map (at_item (i + 1)) kept in
@@ -167,39 +202,55 @@ taken_ahead asked items s part next left rest new whole out marks marks' r h at 
     let keeps : KeepsFirsts asked (T (i, w)) (flat_map T children) =
     subst (λ l. KeepsFirsts asked l (flat_map T children)) (sym gives)
     (subst (λ l. KeepsFirsts asked (flat_map T (map (at_item (i + 1)) all)) (flat_map T l)) (append-nil children)
-    (subst (λ l. KeepsFirsts asked (flat_map T l) (flat_map T (children ++ []))) (append-nil (map (at_item (i + 1)) all)) (kept_tasks asked items s (i + 1) all kept [] r up.1.1))) in
-    let front = front_of asked items s out out i w ws children (λ Y. keeps_after asked out (T (i, w) ++ Y) (flat_map T children ++ Y) (keeps_before asked (T (i, w)) (flat_map T children) Y keeps)) in
-    let stepped = met_step asked items s whole out out i w ws (children ++ map (at_item i) ws) (tasks rest) marks front (λ xs c. c) (λ m e. later_and_here m i (i + 1) kept ws e (omega arith)) (subst (λ l. Met asked items s whole out l marks) (opened next left rest popped) met) in
-    let is : (children ++ map (at_item i) ws) ++ tasks rest ≡ tasks new = append_assoc children (map (at_item i) ws) (tasks rest) ∙ sym up.1.2 in
+    (subst (λ l. KeepsFirsts asked (flat_map T l) (flat_map T (children ++ []))) (append-nil (map (at_item (i + 1)) all))
+    (kept_tasks asked items s (i + 1) all kept [] r up.1.1))) in
+    let front = front_of asked items s out out i w ws children
+    (λ Y. keeps_after asked out (T (i, w) ++ Y) (flat_map T children ++ Y)
+    (keeps_before asked (T (i, w)) (flat_map T children) Y keeps)) in
+    let stepped = met_step asked items s whole out out i w ws (children ++ map (at_item i) ws) (tasks rest) seen.marks.items front
+    (λ xs c. c) (λ m e. later_and_here m i (i + 1) kept ws e (omega arith))
+    (subst (λ l. Met asked items s whole out l seen.marks.items) (opened next left rest popped) met) in
+    let is : (children ++ map (at_item i) ws) ++ tasks rest ≡ tasks new = append_assoc children (map (at_item i) ws) (tasks rest)
+    ∙ sym up.1.2 in
     let mark : Mark = record { done = i; way = w } in
     let first : AllBeyond mark children = beyond_here mark (i + 1) kept (grind (arith, nat_tests)) in
-    let split : flat_map T (beyond mark (children ++ (map (at_item i) ws ++ tasks rest))) ≡ flat_map T children ++ flat_map T (beyond mark (map (at_item i) ws ++ tasks rest)) =
-    ap (flat_map T) (beyond_all mark children (map (at_item i) ws ++ tasks rest) first) ∙ flat_map-append T children (beyond mark (map (at_item i) ws ++ tasks rest)) in
-    let there = covers_more asked (flat_map T children) (flat_map T (beyond mark (map (at_item i) ws ++ tasks rest))) (T (i, w)) (covers_all asked (T (i, w)) (flat_map T children) (sym keeps.same)) in
+    let split : flat_map T (beyond mark (children ++ (map (at_item i) ws ++ tasks rest))) ≡ flat_map T children ++ flat_map T
+    (beyond mark (map (at_item i) ws ++ tasks rest)) =
+    ap (flat_map T) (beyond_all mark children (map (at_item i) ws ++ tasks rest) first)
+    ∙ flat_map-append T children (beyond mark (map (at_item i) ws ++ tasks rest)) in
+    let there = covers_more asked (flat_map T children) (flat_map T (beyond mark (map (at_item i) ws ++ tasks rest))) (T (i, w))
+    (covers_all asked (T (i, w)) (flat_map T children) (sym keeps.same)) in
     let here : IsThere asked items s out (tasks new) mark =
     subst (λ l. Covers asked (out ++ flat_map T (beyond mark l)) (T (i, w))) (sym up.1.2)
-    (covers_after asked out (flat_map T (beyond mark (children ++ (map (at_item i) ws ++ tasks rest)))) (T (i, w)) (subst (λ l. Covers asked l (T (i, w))) (sym split) there)) in
-    may_mark asked items s whole out (tasks new) mark marks marks' up.0 here (subst (λ l. Met asked items s whole out l marks) is stepped)
-taken_ahead asked items s part next left rest new whole out marks marks' r h at popped (inr up) met =
+    (covers_after asked out (flat_map T (beyond mark (children ++ (map (at_item i) ws ++ tasks rest)))) (T (i, w))
+    (subst (λ l. Covers asked l (T (i, w))) (sym split) there)) in
+    may_mark asked items s whole out (tasks new) mark seen.marks.items seen'.marks.items up.0 here
+    (subst (λ l. Met asked items s whole out l seen.marks.items) is stepped)
+taken_ahead asked items s part next left rest new whole out seen seen' r h at popped (inr up) met =
     let T = task_ways items s in
     let i = next.item in
-    let w : Way = (next.run.end, groups_at next.run next.run.end) in
-    let ws = other_ways next.run.end next.run.shorter (groups_at next.run) in
-    let front_way = subst (λ l. Met asked items s whole out l marks) (opened next left rest popped) met in
-    let covered = covers_met asked items s out i w ws (tasks rest) marks r up.0 front_way.there in
+    let w = (mark_of next).way in
+    let ws = rest_of next in
+    let front_way = subst (λ l. Met asked items s whole out l seen.marks.items) (opened next left rest popped) met in
+    let covered = covers_met asked items s out i w ws (tasks rest) seen.marks.items r up.0 front_way.there in
     let front = front_of asked items s out out i w ws [] (λ Y. keeps_uncovered asked out (T (i, w)) Y covered) in
-    let stepped = met_step asked items s whole out out i w ws (map (at_item i) ws) (tasks rest) marks front (λ xs c. c) (λ m e. beyond_here m i ws e) front_way in
-    subst (λ l. Met asked items s whole out (tasks new) l) (sym up.1) (subst (λ l. Met asked items s whole out l marks) (sym up.2) stepped)
+    let stepped = met_step asked items s whole out out i w ws (map (at_item i) ws) (tasks rest) seen.marks.items front (λ xs c. c)
+    (λ m e. beyond_here m i ws e) front_way in
+    subst (λ l. Met asked items s whole out (tasks new) l) (sym up.1)
+    (subst (λ l. Met asked items s whole out l seen.marks.items) (sym up.2) stepped)
 
 -- a way that has met all items gives itself
 task_done : (items : List Node) (s : List ℕ) (i : ℕ) (w : Way) → length items ≤ i → task_ways items s (i, w) ≡ w ∷ []
 task_done items s i w h = ap (λ l. ways (sequence_of l) s w.0 w.1) (drop_all i items h)
 
 -- the ways of a run that have met all items are handed out
-pub hands_out_all : (asked : List Bool) (items : List Node) (s : List ℕ) (next : Ahead) (left rest : List Ahead) (whole out given : List Way) (marks : List Mark) → length items ≤ next.item → left ≡ rest ++ next ∷ [] → given ≡ out ++ ways_of next.run
+pub hands_out_all : (asked : List Bool) (items : List Node) (s : List ℕ) (next : Ahead) (left rest : List Ahead)
+    (whole out given : List Way) (marks : List Mark) → length items ≤ next.item → left ≡ rest ++ next ∷ []
+    → given ≡ out ++ ways_of next.run
     → Met asked items s whole out (tasks left) marks → Met asked items s whole given (tasks rest) marks
 hands_out_all asked items s next left rest whole out given marks h popped put met =
-    met_step asked items s whole out given next.item w ws [] (tasks rest) marks front (λ xs c. subst (λ l. Covers asked l xs) (sym put) (covers_more asked out (ways_of next.run) xs c)) (λ m e. tt)
+    met_step asked items s whole out given next.item w ws [] (tasks rest) marks front
+    (λ xs c. subst (λ l. Covers asked l xs) (sym put) (covers_more asked out (ways_of next.run) xs c)) (λ m e. tt)
     (subst (λ l. Met asked items s whole out l marks) (opened next left rest popped) met)
   where
     T : ℕ × Way → List Way
@@ -213,62 +264,80 @@ hands_out_all asked items s next left rest whole out given marks h popped put me
 
     all_done : (vs : List Way) → flat_map T (map (at_item next.item) vs) ≡ vs
     all_done [] = refl
-    all_done (v ∷ vs) = ap (λ l. l ++ flat_map T (map (at_item next.item) vs)) (task_done items s next.item v h) ∙ ap (λ l. v ∷ l) (all_done vs)
+    all_done (v ∷ vs) = ap (λ l. l ++ flat_map T (map (at_item next.item) vs)) (task_done items s next.item v h)
+        ∙ ap (λ l. v ∷ l) (all_done vs)
 
     front : KeepFront asked items s out given (map (at_item next.item) (w ∷ ws)) []
     front X =
         let is : flat_map T (map (at_item next.item) (w ∷ ws) ++ X) ≡ ways_of next.run ++ flat_map T X =
-        flat_map-append T (map (at_item next.item) (w ∷ ws)) X ∙ ap (λ l. l ++ flat_map T X) (all_done (w ∷ ws) ∙ sym (first_and_others next.run.end next.run.shorter (groups_at next.run))) in
+        flat_map-append T (map (at_item next.item) (w ∷ ws)) X
+        ∙ ap (λ l. l ++ flat_map T X)
+        (all_done (w ∷ ws) ∙ sym (first_and_others next.run.end next.run.shorter (groups_at next.run))) in
         keeps_same asked (out ++ flat_map T (map (at_item next.item) (w ∷ ws) ++ X)) (given ++ flat_map T X)
         (ap (λ l. l ++ flat_map T X) put ∙ append_assoc out (ways_of next.run) (flat_map T X) ∙ ap (λ l. out ++ l) (sym is))
 
 -- the first of them is, unless one like it was
-pub hands_out_new : (asked : List Bool) (items : List Node) (s : List ℕ) (next : Ahead) (left rest new : List Ahead) (whole out given : List Way) (marks marks' : List Mark) → RefersWithin asked (sequence_of items) → length items ≤ next.item → left ≡ rest ++ next ∷ []
-    → HandedOut asked (record { done = next.item; way = (next.run.end, groups_at next.run next.run.end) }) marks marks' out given
-    → tasks new ≡ map (at_item next.item) (other_ways next.run.end next.run.shorter (groups_at next.run)) ++ tasks rest
-    → Met asked items s whole out (tasks left) marks → Met asked items s whole given (tasks new) marks'
-hands_out_new asked items s next left rest new whole out given marks marks' r h popped (inl put) others met =
+pub hands_out_new : (asked : List Bool) (items : List Node) (s : List ℕ) (next : Ahead) (left rest new : List Ahead)
+    (whole out given : List Way) (seen seen' : Seen) → RefersWithin asked (sequence_of items) → length items ≤ next.item
+    → left ≡ rest ++ next ∷ []
+    → HandedOut asked next seen seen' out given → tasks new ≡ others_of next ++ tasks rest
+    → Met asked items s whole out (tasks left) seen.marks.items → Met asked items s whole given (tasks new) seen'.marks.items
+hands_out_new asked items s next left rest new whole out given seen seen' r h popped (inl put) others met =
     let T = task_ways items s in
     let i = next.item in
-    let w : Way = (next.run.end, groups_at next.run next.run.end) in
-    let ws = other_ways next.run.end next.run.shorter (groups_at next.run) in
+    let w = (mark_of next).way in
+    let ws = rest_of next in
     let mark : Mark = record { done = i; way = w } in
     let done : T (i, w) ≡ w ∷ [] = task_done items s i w h in
     let front = front_of asked items s out given i w ws []
-    (λ Y. keeps_same asked (out ++ (T (i, w) ++ Y)) (given ++ Y) (ap (λ l. l ++ Y) put.1 ∙ append_assoc out (w ∷ []) Y ∙ ap (λ l. out ++ (l ++ Y)) (sym done))) in
-    let stepped = met_step asked items s whole out given i w ws (map (at_item i) ws) (tasks rest) marks front (λ xs c. subst (λ l. Covers asked l xs) (sym put.1) (covers_more asked out (w ∷ []) xs c)) (λ m e. beyond_here m i ws e)
-    (subst (λ l. Met asked items s whole out l marks) (opened next left rest popped) met) in
-    let given_it : Covers asked given (T (i, w)) = subst (λ l. Covers asked given l) (sym done) (subst (λ l. Covers asked l (w ∷ [])) (sym put.1) (covers_after asked out (w ∷ []) (w ∷ []) (covers_itself asked (w ∷ [])))) in
-    let here : IsThere asked items s given (tasks new) mark = covers_more asked given (flat_map T (beyond mark (tasks new))) (T (i, w)) given_it in
-    may_mark asked items s whole given (tasks new) mark marks marks' put.0 here (subst (λ l. Met asked items s whole given l marks) (sym others) stepped)
-hands_out_new asked items s next left rest new whole out given marks marks' r h popped (inr put) others met =
+    (λ Y. keeps_same asked (out ++ (T (i, w) ++ Y)) (given ++ Y)
+    (ap (λ l. l ++ Y) put.1 ∙ append_assoc out (w ∷ []) Y ∙ ap (λ l. out ++ (l ++ Y)) (sym done))) in
+    let stepped = met_step asked items s whole out given i w ws (map (at_item i) ws) (tasks rest) seen.marks.items front
+    (λ xs c. subst (λ l. Covers asked l xs) (sym put.1) (covers_more asked out (w ∷ []) xs c)) (λ m e. beyond_here m i ws e)
+    (subst (λ l. Met asked items s whole out l seen.marks.items) (opened next left rest popped) met) in
+    let given_it : Covers asked given (T (i, w)) = subst (λ l. Covers asked given l) (sym done)
+    (subst (λ l. Covers asked l (w ∷ [])) (sym put.1)
+    (covers_after asked out (w ∷ []) (w ∷ []) (covers_itself asked (w ∷ [])))) in
+    let here : IsThere asked items s given (tasks new) mark = covers_more asked given (flat_map T (beyond mark (tasks new))) (T (i, w))
+    given_it in
+    may_mark asked items s whole given (tasks new) mark seen.marks.items seen'.marks.items put.0 here
+    (subst (λ l. Met asked items s whole given l seen.marks.items) (sym others) stepped)
+hands_out_new asked items s next left rest new whole out given seen seen' r h popped (inr put) others met =
     let T = task_ways items s in
     let i = next.item in
-    let w : Way = (next.run.end, groups_at next.run next.run.end) in
-    let ws = other_ways next.run.end next.run.shorter (groups_at next.run) in
-    let front_way = subst (λ l. Met asked items s whole out l marks) (opened next left rest popped) met in
-    let covered = covers_met asked items s out i w ws (tasks rest) marks r put.0 front_way.there in
+    let w = (mark_of next).way in
+    let ws = rest_of next in
+    let front_way = subst (λ l. Met asked items s whole out l seen.marks.items) (opened next left rest popped) met in
+    let covered = covers_met asked items s out i w ws (tasks rest) seen.marks.items r put.0 front_way.there in
     let front = front_of asked items s out out i w ws [] (λ Y. keeps_uncovered asked out (T (i, w)) Y covered) in
-    let stepped = met_step asked items s whole out out i w ws (map (at_item i) ws) (tasks rest) marks front (λ xs c. c) (λ m e. beyond_here m i ws e) front_way in
-    subst (λ l. Met asked items s whole l (tasks new) marks') (sym put.2) (subst (λ l. Met asked items s whole out (tasks new) l) (sym put.1) (subst (λ l. Met asked items s whole out l marks) (sym others) stepped))
+    let stepped = met_step asked items s whole out out i w ws (map (at_item i) ws) (tasks rest) seen.marks.items front (λ xs c. c)
+    (λ m e. beyond_here m i ws e) front_way in
+    subst (λ l. Met asked items s whole l (tasks new) seen'.marks.items) (sym put.2)
+    (subst (λ l. Met asked items s whole out (tasks new) l) (sym put.1)
+    (subst (λ l. Met asked items s whole out l seen.marks.items) (sym others) stepped))
 
 -- ways of a run that lead nowhere are left out
-pub left_out : (asked : List Bool) (items : List Node) (s : List ℕ) (whole out : List Way) (i e n : ℕ) (g : ℕ → Groups) (vs : List Way) (rest : List (ℕ × Way)) (marks : List Mark)
+pub left_out : (asked : List Bool) (items : List Node) (s : List ℕ) (whole out : List Way) (i e n : ℕ) (g : ℕ → Groups)
+    (vs : List Way) (rest : List (ℕ × Way)) (marks : List Mark)
     → flat_map (task_ways items s) (map (at_item i) vs) ≡ flat_map (task_ways items s) (map (at_item i) (shorter_ways e n g))
-    → Met asked items s whole out (map (at_item i) (shorter_ways e n g) ++ rest) marks → Met asked items s whole out (map (at_item i) vs ++ rest) marks
+    → Met asked items s whole out (map (at_item i) (shorter_ways e n g) ++ rest) marks
+    → Met asked items s whole out (map (at_item i) vs ++ rest) marks
 left_out asked items s whole out i e n g vs rest marks same met =
     let T = task_ways items s in
     let w : Way = (e, g e) in
     let ws = other_ways e n g in
     let front_way = subst (λ l. Met asked items s whole out (map (at_item i) l ++ rest) marks) (first_and_others e n g) met in
-    let all : flat_map T (map (at_item i) vs) ≡ flat_map T (map (at_item i) (w ∷ ws)) = same ∙ ap (λ l. flat_map T (map (at_item i) l)) (first_and_others e n g) in
+    let all : flat_map T (map (at_item i) vs) ≡ flat_map T (map (at_item i) (w ∷ ws)) = same
+    ∙ ap (λ l. flat_map T (map (at_item i) l)) (first_and_others e n g) in
     met_step asked items s whole out out i w ws (map (at_item i) vs) rest marks
     (λ X. keeps_same asked (out ++ flat_map T (map (at_item i) (w ∷ ws) ++ X)) (out ++ flat_map T (map (at_item i) vs ++ X))
-    (ap (λ l. out ++ l) (flat_map-append T (map (at_item i) vs) X ∙ ap (λ l. l ++ flat_map T X) all ∙ sym (flat_map-append T (map (at_item i) (w ∷ ws)) X))))
+    (ap (λ l. out ++ l) (flat_map-append T (map (at_item i) vs) X ∙ ap (λ l. l ++ flat_map T X) all
+    ∙ sym (flat_map-append T (map (at_item i) (w ∷ ws)) X))))
     (λ xs c. c) (λ m f. beyond_here m i vs f) front_way
 
 -- where nothing is handed out and nothing is left, what was taken up leads nowhere
-pub nothing_there : (asked : List Bool) (items : List Node) (s : List ℕ) (marks : List Mark) → EachMark (IsThere asked items s [] []) marks → LeadNowhere items s marks
+pub nothing_there : (asked : List Bool) (items : List Node) (s : List ℕ) (marks : List Mark)
+    → EachMark (IsThere asked items s [] []) marks → LeadNowhere items s marks
 nothing_there asked items s [] h = tt
 nothing_there asked items s (m ∷ marks) h = (none (follows items s m) h.0, nothing_there asked items s marks h.1)
   where
@@ -276,18 +345,24 @@ nothing_there asked items s (m ∷ marks) h = (none (follows items s m) h.0, not
     none [] c = refl
     none (w ∷ ws) c = absurd c.0
 
-pub nowhere_there : (asked : List Bool) (items : List Node) (s : List ℕ) (out : List Way) (left : List (ℕ × Way)) (marks : List Mark) → LeadNowhere items s marks → EachMark (IsThere asked items s out left) marks
+pub nowhere_there : (asked : List Bool) (items : List Node) (s : List ℕ) (out : List Way) (left : List (ℕ × Way)) (marks : List Mark)
+    → LeadNowhere items s marks → EachMark (IsThere asked items s out left) marks
 nowhere_there asked items s out left [] h = tt
-nowhere_there asked items s out left (m ∷ marks) h =
-    (subst (λ l. Covers asked (out ++ flat_map (task_ways items s) (beyond m left)) l) (sym h.0) tt, nowhere_there asked items s out left marks h.1)
+nowhere_there asked items s out left (m ∷ marks) h = (
+  subst (λ l. Covers asked (out ++ flat_map (task_ways items s) (beyond m left)) l) (sym h.0) tt,
+  nowhere_there asked items s out left
+      marks h.1,
+)
 
 -- What is left gets less
 
-pub taken_falls : (asked : List Bool) (items : List Node) (s : List ℕ) (part : Node) (next : Ahead) (left rest new : List Ahead) (marks marks' : List Mark) → next.item < length items → part ≡ get_or items next.item part → left ≡ rest ++ next ∷ []
-    → TakenAhead asked (by_end (ways (tree_of part) s next.run.end (groups_at next.run next.run.end))) (record { done = next.item; way = (next.run.end, groups_at next.run next.run.end) }) marks marks' (map (at_item next.item) (other_ways next.run.end next.run.shorter (groups_at next.run)) ++ tasks rest) (tasks new)
+pub taken_falls : (asked : List Bool) (items : List Node) (s : List ℕ) (part : Node) (next : Ahead) (left rest new : List Ahead)
+    (seen seen' : Seen) → next.item < length items → part ≡ get_or items next.item part → left ≡ rest ++ next ∷ []
+    → TakenAhead asked (tree_of part) s next seen seen' rest new
     → weight (task_steps items s) (tasks new) < weight (task_steps items s) (tasks left)
-taken_falls asked items s part next left rest new marks marks' h at popped (inl up) = followed_falls asked items s part next left rest new h at popped up.1
-taken_falls asked items s part next left rest new marks marks' h at popped (inr up) =
+taken_falls asked items s part next left rest new seen seen' h at popped (inl up) = followed_falls asked items s part next left rest new h
+    at popped up.1
+taken_falls asked items s part next left rest new seen seen' h at popped (inr up) =
     let F = task_steps items s in
     let before = map (at_item next.item) (other_ways next.run.end next.run.shorter (groups_at next.run)) ++ tasks rest in
     let found = map (at_item (next.item + 1)) (by_end (ways (tree_of part) s next.run.end (groups_at next.run next.run.end))) in
@@ -296,20 +371,26 @@ taken_falls asked items s part next left rest new marks marks' h at popped (inr 
     let b = ap (weight F) up.2 in
     omega (arith, falls, a, b)
 
-pub others_fall : (items : List Node) (s : List ℕ) (next : Ahead) (left rest new : List Ahead) → left ≡ rest ++ next ∷ [] → tasks new ≡ map (at_item next.item) (other_ways next.run.end next.run.shorter (groups_at next.run)) ++ tasks rest
+pub others_fall : (items : List Node) (s : List ℕ) (next : Ahead) (left rest new : List Ahead) → left ≡ rest ++ next ∷ []
+    → tasks new ≡ others_of next ++ tasks rest
     → weight (task_steps items s) (tasks new) < weight (task_steps items s) (tasks left)
 others_fall items s next left rest new popped others =
     let F = task_steps items s in
-    let a : weight F (tasks left) ≡ F (next.item, (next.run.end, groups_at next.run next.run.end)) + weight F (tasks new) = ap (weight F) (opened next left rest popped ∙ ap (λ l. at_item next.item (next.run.end, groups_at next.run next.run.end) ∷ l) (sym others)) in
+    let a : weight F (tasks left) ≡ F (next.item, (next.run.end, groups_at next.run next.run.end)) + weight F (tasks new) = ap
+    (weight F) (opened next left rest popped ∙ ap (λ l. at_item next.item (next.run.end, groups_at next.run next.run.end) ∷ l)
+    (sym others)) in
     let b = some_steps (sequence_of (drop next.item items)) s (next.run.end, groups_at next.run next.run.end) in
     omega (arith, a, b)
 
-pub narrowed_falls : (asked : List Bool) (items : List Node) (s : List ℕ) (part : Node) (next : Ahead) (ends : ℕ × ℕ) (left rest new : List Ahead) (marks marks' : List Mark) → next.item < length items → part ≡ get_or items next.item part → left ≡ rest ++ next ∷ [] → ((f : Way → ℕ) → weight f (ways_of (with_ends next ends).run) ≤ weight f (ways_of next.run))
-    → TakenAhead asked (by_end (ways (tree_of part) s ends.0 (groups_at next.run ends.0))) (record { done = next.item; way = (ends.0, groups_at next.run ends.0) }) marks marks' (map (at_item next.item) (other_ways ends.0 ends.1 (groups_at next.run)) ++ tasks rest) (tasks new)
+pub narrowed_falls : (asked : List Bool) (items : List Node) (s : List ℕ) (part : Node) (next : Ahead) (ends : ℕ × ℕ)
+    (left rest new : List Ahead) (seen seen' : Seen) → next.item < length items → part ≡ get_or items next.item part
+    → left ≡ rest ++ next ∷ [] →
+    ((f : Way → ℕ) → weight f (ways_of (with_ends next ends).run) ≤ weight f (ways_of next.run))
+    → TakenAhead asked (tree_of part) s (with_ends next ends) seen seen' rest new
     → weight (task_steps items s) (tasks new) < weight (task_steps items s) (tasks left)
-narrowed_falls asked items s part next ends left rest new marks marks' h at popped fewer put =
+narrowed_falls asked items s part next ends left rest new seen seen' h at popped fewer put =
     let kept = with_ends next ends in
-    let a = taken_falls asked items s part kept (rest ++ kept ∷ []) rest new marks marks' h at refl put in
+    let a = taken_falls asked items s part kept (rest ++ kept ∷ []) rest new seen seen' h at refl put in
     let b = taken_steps items s kept (rest ++ kept ∷ []) rest refl in
     let d = taken_steps items s next left rest popped in
     let e = fewer (λ w. task_steps items s (next.item, w)) in
@@ -317,14 +398,18 @@ narrowed_falls asked items s part next ends left rest new marks marks' h at popp
 
 -- A sequence begins with one way, and ends with none left
 
-pub begins_met : (asked : List Bool) (items : List Node) (s : List ℕ) (p : ℕ) (g : Groups) (none left : List Ahead) (run : Run) (out : List Way) (marks : List Mark) → none ≡ [] → left ≡ none ++ record { item = 0; run = run } ∷ [] → ways_of run ≡ (p, g) ∷ [] → marks ≡ []
+pub begins_met : (asked : List Bool) (items : List Node) (s : List ℕ) (p : ℕ) (g : Groups) (none left : List Ahead) (run : Run)
+    (out : List Way) (marks : List Mark) → none ≡ [] → left ≡ none ++ record { item = 0; run = run } ∷ []
+    → ways_of run ≡ (p, g) ∷ [] → marks ≡ []
     → Met asked items s (out ++ ways (sequence_of items) s p g) out (tasks left) marks
 begins_met asked items s p g none left run out marks e put r em =
     subst (λ l. Met asked items s (out ++ ways (sequence_of items) s p g) out (tasks left) l) (sym em) (record {
-      kept = keeps_same asked (out ++ ways (sequence_of items) s p g) (out ++ flat_map (task_ways items s) (tasks left)) (ap (λ l. out ++ l) (first_task items s p g none left run e put r));
+      kept = keeps_same asked (out ++ ways (sequence_of items) s p g) (out ++ flat_map (task_ways items s) (tasks left))
+          (ap (λ l. out ++ l) (first_task items s p g none left run e put r));
       there = tt;
     })
 
-pub all_met : (asked : List Bool) (items : List Node) (s : List ℕ) (whole out : List Way) (left : List Ahead) (marks : List Mark) → length left ≡ 0 → Met asked items s whole out (tasks left) marks → KeepsFirsts asked whole out
+pub all_met : (asked : List Bool) (items : List Node) (s : List ℕ) (whole out : List Way) (left : List Ahead) (marks : List Mark)
+    → length left ≡ 0 → Met asked items s whole out (tasks left) marks → KeepsFirsts asked whole out
 all_met asked items s whole out [] marks e met = subst (λ l. KeepsFirsts asked whole l) (append-nil out) met.kept
 all_met asked items s whole out (x ∷ left) marks e met = absurd (omega arith)

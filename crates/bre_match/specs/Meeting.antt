@@ -1,11 +1,14 @@
 -- The ways of a sequence, of which none is taken up that is like one that met the same item before.
-use Rattle.std.specs.Prelude.{◌≡◌, ◌⊎◌, ℕ, ◌+◌, Bool, false, List, [], ◌∷◌, ◌++◌, drop}
+use Rattle.std.specs.Prelude.{◌≡◌, ◌⊎◌, ℕ, ◌+◌, Bool, false, List, [], ◌∷◌, ◌++◌, drop, map}
 use Rattle.bre_parse.specs.declared.tree.Node.{Node}
-use Rattle.bre_parse.specs.Tree.{sequence_of}
-use Rattle.bre_parse.specs.Ways.{Way, ways}
+use Rattle.bre_parse.specs.Tree.{Tree, sequence_of}
+use Rattle.bre_parse.specs.Ways.{Way, ways, by_end}
 use Rattle.bre_match.specs.Keeping.{Follows}
+use Rattle.bre_match.specs.Runs.{groups_at, other_ways, at_item, tasks}
 use Rattle.bre_match.specs.Turns.{HasTurn}
+use Rattle.bre_match.specs.declared.run.Ahead.{Ahead}
 use Rattle.bre_match.specs.declared.seen.Mark.{Mark}
+use Rattle.bre_match.specs.declared.seen.Seen.{Seen}
 use Rattle.bre_match.specs.declared.turn.Bounds.{Bounds}
 
 -- A way like this one has met the same item. A mark tells the item where one of a repeat tells how many turns are done.
@@ -16,18 +19,32 @@ HasMet asked marks mark = (bounds : Bounds) × (bounds.unbounded ≡ false) × H
 abbrev pub MayMark : (mark : Mark) → (old new : List Mark) → Type 0
 MayMark mark old new = (new ≡ old) ⊎ (new ≡ old ++ mark ∷ [])
 
--- What comes of taking up a way that meets an item: those of the item's ways that are kept come before what was left; or one like it
--- has met the item before, and nothing comes of it.
-abbrev pub TakenAhead : List Bool → (all : List Way) → (mark : Mark) → (old new : List Mark) → (before after : List (ℕ × Way)) → Type 0
-TakenAhead asked all mark old new before after =
-    (MayMark mark old new × Follows asked all (mark.done + 1) before after)
-    ⊎ (HasMet asked old mark × (new ≡ old) × (after ≡ before))
+-- the mark of the first of some ways
+abbrev pub mark_of : Ahead → Mark
+mark_of taken = record { done = taken.item; way = (taken.run.end, groups_at taken.run taken.run.end) }
 
--- what comes of a way that has met all items: it is handed out, unless one like it was
-abbrev pub HandedOut : List Bool → (mark : Mark) → (old new : List Mark) → (out given : List Way) → Type 0
-HandedOut asked mark old new out given =
-    (MayMark mark old new × (given ≡ out ++ mark.way ∷ []))
-    ⊎ (HasMet asked old mark × (new ≡ old) × (given ≡ out))
+-- the others, each with the item that it meets
+abbrev pub others_of : Ahead → List (ℕ × Way)
+others_of taken = map (at_item taken.item) (other_ways taken.run.end taken.run.shorter (groups_at taken.run))
+
+-- the first way's ways through an item
+abbrev pub ways_through : Tree → List ℕ → Mark → List Way
+ways_through item text mark = by_end (ways item text mark.way.0 mark.way.1)
+
+-- What comes of taking up the first of some ways: those of the item's ways that are kept come before all else; or a way like it has met
+-- the item before, and nothing comes of it. The other ways are left.
+abbrev pub TakenAhead : List Bool → (item : Tree) → List ℕ → Ahead → (old new : Seen) → (before after : List Ahead) → Type 0
+TakenAhead asked item text taken old new before after =
+    (MayMark (mark_of taken) old.marks.items new.marks.items
+    × Follows asked (ways_through item text (mark_of taken)) (taken.item + 1) (others_of taken ++ tasks before) (tasks after))
+    ⊎ (HasMet asked old.marks.items (mark_of taken) × (new.marks.items ≡ old.marks.items)
+    × (tasks after ≡ others_of taken ++ tasks before))
+
+-- what comes of the first of some ways that have met all items: it is handed out, unless one like it was
+abbrev pub HandedOut : List Bool → Ahead → (old new : Seen) → (out given : List Way) → Type 0
+HandedOut asked taken old new out given =
+    (MayMark (mark_of taken) old.marks.items new.marks.items × (given ≡ out ++ (mark_of taken).way ∷ []))
+    ⊎ (HasMet asked old.marks.items (mark_of taken) × (new.marks.items ≡ old.marks.items) × (given ≡ out))
 
 -- from each way that is marked no way leads through the items that are left
 abbrev pub LeadNowhere : List Node → List ℕ → List Mark → Type 0

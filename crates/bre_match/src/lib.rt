@@ -187,7 +187,7 @@ fn match_here(
 }
 
 // No more ways than these are kept in mind from one start to the next, which costs memory.
-const MOST_SEEN: usize = 50_000;
+const MOST_SEEN: usize = 100_000;
 
 // The first match in a text of items one after another, from one start after another. A way that is like one that was taken up from an
 // earlier start, where ways may meet, leads to no match and isn't taken up again.
