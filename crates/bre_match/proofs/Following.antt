@@ -1,5 +1,5 @@
 -- A part's ways are taken up, those that are kept of them, and what comes after gives the same first ways.
-use Rattle.std.proofs.Common.{◌≡◌, ℕ, ◌+◌, ◌<◌, ◌≤◌, List, [], ◌∷◌, ◌++◌, map, flat_map, length, get_or, drop, Bool, refl, subst, ap, sym, ◌∙◌, arith}
+use Rattle.std.proofs.Common.{◌≡◌, ℕ, ◌+◌, ◌<◌, List, [], ◌∷◌, ◌++◌, map, flat_map, length, get_or, drop, Bool, subst, ap, sym, ◌∙◌, arith}
 use Rattle.std.proofs.lemmas.Grind.{flat_map-append}
 use Rattle.bre_parse.specs.declared.tree.Node.{Node}
 use Rattle.bre_parse.specs.Tree.{tree_of, sequence_of}
@@ -7,11 +7,11 @@ use Rattle.bre_parse.specs.Ways.{Way, ways, by_end, with_group}
 use Rattle.bre_match.specs.declared.run.Ahead.{Ahead}
 use Rattle.bre_match.specs.Alike.{RefersWithin}
 use Rattle.bre_match.specs.Keeping.{KeepsFirsts, Follows}
-use Rattle.bre_match.specs.Runs.{groups_at, ways_of, other_ways, at_item, tasks}
+use Rattle.bre_match.specs.Runs.{groups_at, other_ways, at_item, tasks}
 use Rattle.bre_match.specs.Narrowing.{weight}
 use Rattle.bre_match.proofs.Asking.{rest_within}
 use Rattle.bre_match.proofs.SameWays.{even_at, even_ways}
-use Rattle.bre_match.proofs.Keeping.{keeps_through, keeps_after, keeps_before, keeps_follow, keeps_by_end, keeps_group}
+use Rattle.bre_match.proofs.Keeping.{keeps_after, keeps_before, keeps_follow, keeps_by_end, keeps_group}
 use Rattle.bre_match.proofs.Tasks.{task_ways, task_steps, flat_map-map, weight-append, weight-map, follow_falls}
 
 pub kept_tasks : (asked : List Bool) (items : List Node) (s : List ℕ) (j : ℕ) (all kept : List Way) (before : List (ℕ × Way)) → RefersWithin asked (sequence_of items) → KeepsFirsts asked all kept → KeepsFirsts asked (flat_map (task_ways items s) (map (at_item j) all ++ before)) (flat_map (task_ways items s) (map (at_item j) kept ++ before))

@@ -1,5 +1,5 @@
 -- The ways of a sequence, of which none is taken up that is like one that met the same item before.
-use Rattle.std.proofs.Common.{◌≡◌, ◌⊎◌, inl, inr, ℕ, zero, suc, ◌+◌, ◌<◌, ◌≤◌, List, [], ◌∷◌, ◌++◌, map, flat_map, length, get_or, drop, Bool, true, false, leb, ltb, eqb, max, refl, ap, sym, ◌∙◌, subst, append_assoc, append-nil, arith}
+use Rattle.std.proofs.Common.{◌≡◌, inl, inr, ℕ, ◌+◌, ◌<◌, ◌≤◌, List, [], ◌∷◌, ◌++◌, map, flat_map, length, get_or, drop, Bool, true, false, leb, ltb, eqb, max, refl, ap, sym, ◌∙◌, subst, append_assoc, append-nil, arith}
 use Rattle.std.specs.Prelude.{◌&&◌}
 use Rattle.std.proofs.lemmas.Bool.Decides.{nat_tests}
 use Rattle.std.proofs.lemmas.Grind.{flat_map-append}
@@ -13,19 +13,19 @@ use Rattle.bre_match.specs.declared.run.Run.{Run}
 use Rattle.bre_match.specs.declared.seen.Mark.{Mark}
 use Rattle.bre_match.specs.declared.seen.Seen.{Seen}
 use Rattle.bre_match.specs.declared.turn.Bounds.{Bounds}
-use Rattle.bre_match.specs.Alike.{RefersWithin, alike, HasAlike, AreAlike}
-use Rattle.bre_match.specs.Keeping.{KeepsFirsts, Follows}
+use Rattle.bre_match.specs.Alike.{RefersWithin, alike}
+use Rattle.bre_match.specs.Keeping.{KeepsFirsts}
 use Rattle.bre_match.specs.Meeting.{HasMet, MayMark, mark_of, others_of, TakenAhead, HandedOut, LeadNowhere}
 use Rattle.bre_match.specs.Narrowing.{weight}
 use Rattle.bre_match.specs.Runs.{groups_at, shorter_ways, ways_of, other_ways, at_item, tasks}
-use Rattle.bre_match.specs.Turns.{rank, HasTurn}
+use Rattle.bre_match.specs.Turns.{rank}
 use Rattle.bre_match.proofs.Asking.{rest_within}
 use Rattle.bre_match.proofs.Following.{kept_tasks, followed_falls}
 use Rattle.bre_match.proofs.Keeping.{keeps_same, keeps_through, keeps_after, keeps_before, keeps_uncovered, covers_same, covers_all}
 use Rattle.bre_match.proofs.Likeness.{both_left, both_right, Covers}
 use Rattle.bre_match.proofs.MergedTurns.{EachMark, each_map, each_push, each_has, covers_alone}
 use Rattle.bre_match.proofs.SameWays.{even_at, even_ways, covers_more, covers_after, covers_like, covers_itself}
-use Rattle.bre_match.proofs.Tasks.{task_ways, task_steps, tasks_push, flat_map-map, flat_map-alone, first_and_others, first_task, followed, weight-append, follow_falls, taken_steps, some_steps, with_ends}
+use Rattle.bre_match.proofs.Tasks.{task_ways, task_steps, tasks_push, first_and_others, first_task, followed, weight-append, follow_falls, taken_steps, some_steps, with_ends}
 
 -- what follows a way that met an item
 abbrev pub follows : List Node → List ℕ → Mark → List Way
