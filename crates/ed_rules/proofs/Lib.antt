@@ -1,5 +1,6 @@
 pub mod Choosing
 pub mod Texting
+pub mod through
 pub mod matches
 pub mod sound
 pub mod Basics

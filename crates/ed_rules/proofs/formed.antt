@@ -7,6 +7,6 @@ pub mod RisingChoices
 pub mod CountedLines
 pub mod RisingTexts
 pub mod Forming
-pub mod FormingAddresses
-pub mod FormingEffects
+pub mod GivenBytes
+pub mod FormingPieces
 pub mod StatesFormed

@@ -5,4 +5,5 @@ pub mod Aside
 pub mod MatchedLeft
 pub mod MatchedPhases
 pub mod OldMatches
+pub mod Sayings
 pub mod MatchesFormed

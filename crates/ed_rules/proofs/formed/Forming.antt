@@ -1,11 +1,9 @@
 -- Formed states: on the way through a rule, and at its end.
-use Rattle.std.proofs.Common.{◌≡◌, ◌||◌, inl, inr, ℕ, Bool, true, false, List, length, Option, None, Some, Result, refl}
-use Rattle.std.specs.Prelude.{is_some, IfOk}
-use Rattle.ed_base.specs.declared.fault.Fault.{Fault}
+use Rattle.std.proofs.Common.{◌≡◌, ◌||◌, inl, inr, ℕ, Bool, true, false, List, length, Option, None, Some, refl}
+use Rattle.std.specs.Prelude.{is_some}
 use Rattle.std.proofs.lemmas.Bool.{or_cases, or_left, or_right}
 use Rattle.zones.specs.Zone.{Bounds}
 use Rattle.zones.specs.Steps.{join_of, widening_of}
-use Rattle.ed_syntax.specs.meaning.Values.{◌>>◌}
 use Rattle.ed_rules.specs.declared.state.Old.{Old}
 use Rattle.ed_rules.specs.declared.state.Changed.{Changed}
 use Rattle.ed_rules.specs.declared.state.Replacements.{Replacements}
@@ -16,7 +14,7 @@ use Rattle.ed_rules.specs.Marks.{both_sure}
 use Rattle.ed_rules.specs.Formed.{has_name, OldIsFormed, OldIsLow, SetIsFormed, StateIsFormed, IsFormed, IsCounted, IsEnded}
 use Rattle.ed_rules.specs.States.{changed}
 use Rattle.ed_rules.specs.Order.{old_of_both, undo_of_both, united, join, widen}
-use Rattle.ed_rules.specs.Pieces.{needing, with_zone, undo_after, modified}
+use Rattle.ed_rules.specs.Pieces.{with_zone, undo_after, modified}
 use Rattle.ed_rules.specs.Globals.{finished}
 use Rattle.ed_rules.proofs.formed.CountedLines.{ended-counted}
 use Rattle.ed_rules.proofs.formed.Speaking.{Speaks, IsOfBoth, Speaks-join, Speaks-widening}
@@ -221,13 +219,3 @@ unfolding widen
 Closed-widen old new h k =
     Says-united has_name old new (widening_of old.zone new.zone)
     (Speaks-widening (has_name old.marks) (has_name new.marks) (has_name (both_sure old.marks new.marks)) old.zone new.zone (named-both old.marks new.marks) h.zone k.zone) h k
-
--- RESULTS
-
-pub IfOk-needing : {A : Type 0} (P : A → Type 0) (b : Bool) (f : Fault) (a : A) → (b ≡ true → P a) → IfOk (needing b f a) P
-IfOk-needing P true f a h = h refl
-IfOk-needing P false f a h = tt
-
-pub IfOk-need_then : {A B : Type 0} (P : B → Type 0) (b : Bool) (f : Fault) (a : A) (k : A → Result B Fault) → (b ≡ true → IfOk (k a) P) → IfOk (needing b f a >> k) P
-IfOk-need_then P true f a k h = h refl
-IfOk-need_then P false f a k h = tt

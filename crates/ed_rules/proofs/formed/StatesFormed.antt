@@ -1,32 +1,28 @@
 -- States stay formed: the start, each rule, join and widening, the list of a global command.
-use Rattle.std.proofs.Common.{ℕ, pos, negsuc, neg_ℤ, Bool, true, false, List, length, Option, None, Some, refl}
+use Rattle.std.proofs.Common.{ℕ, pos, neg_ℤ, Bool, true, false, List, Option, None, refl}
 use Rattle.std.specs.Prelude.{IfOk}
-use Rattle.ed_base.specs.declared.fault.Fault.TheVariants as fault
-use Rattle.zones.specs.Known.{known}
-use Rattle.ed_syntax.specs.Commands as ed
-use Rattle.ed_syntax.specs.Commands.{Addresses, Verb, Form, Command, Step}
-use Rattle.ed_syntax.specs.meaning.Verbs.{takes, given_or}
+use Rattle.ed_syntax.specs.Commands.{Verb, Command, Step}
 use Rattle.ed_rules.specs.declared.state.Undo.{Undo}
 use Rattle.ed_rules.specs.declared.state.State.{State}
 use Rattle.ed_rules.specs.Choices.{Choice}
 use Rattle.ed_rules.specs.Marks.{no_marks}
-use Rattle.ed_rules.specs.Formed.{ChoiceIsBytes, AddressesAreBytes, VerbIsBytes, TextsAreBytes, IsFormed, IsEnded}
+use Rattle.ed_rules.specs.Formed.{ChoiceIsBytes, TextsAreBytes, IsFormed, IsEnded}
 use Rattle.ed_rules.specs.States.{start}
 use Rattle.ed_rules.specs.Order.{join, widen}
-use Rattle.ed_rules.specs.Pieces.{with_zone, ended}
-use Rattle.ed_rules.specs.Addresses.{addressed, standing, targeted}
-use Rattle.ed_syntax.specs.spelling.Readable.{enters_lines}
-use Rattle.ed_rules.specs.Rules.{taken, effect, suffixed, step_at, step}
+use Rattle.ed_rules.specs.Pieces.{with_zone}
+use Rattle.ed_rules.specs.Rules.{effect, step}
 use Rattle.ed_rules.specs.Globals.{taken_matches, old_has_if, finished, line_taken, body_entry, list_may_alter, old_if, undo_of_global, loop_end}
-use Rattle.ed_rules.specs.Matching.{matched_after, old_matched_after, with_matches}
+use Rattle.ed_rules.specs.Matching.{matched_after, old_matched_after}
 use Rattle.ed_rules.proofs.formed.SpeakingPieces.{Speaks-start, Inner-line_taken}
 use Rattle.ed_rules.proofs.formed.RisingChoices.{SetIsFormed-only}
 use Rattle.ed_rules.proofs.formed.CountedLines.{start-counted}
-use Rattle.ed_syntax.proofs.meaning.ResultLemmas.{IfOk-bind}
 use Rattle.std.proofs.lemmas.Result.{IfOk-weaker}
-use Rattle.ed_rules.proofs.formed.Forming.{OldSpeaks, Forming, Closed, Closed-forming, formed-Closed, Closed-formed, forming-zone, forming-change, AtEnd, finished-AtEnd, AtEnd-ended, Closed-join, Closed-widen, IfOk-needing, IfOk-need_then}
-use Rattle.ed_rules.proofs.formed.FormingAddresses.{addressed-formed, targeted-formed, given-bytes, own-bytes, target-bytes, taken-formed}
-use Rattle.ed_rules.proofs.formed.FormingEffects.{appended-formed, inserted-formed, changed_to-formed, joined_given-formed, mark-formed, current_at-formed, copied_lines-formed, moved_lines-formed, pattern-formed, substituted-formed, read-formed, written-formed, saved-formed, edited_anyway-formed, edited-formed, file_named-formed, undone-formed}
+use Rattle.ed_rules.proofs.formed.Forming.{OldSpeaks, Forming, Closed, Closed-forming, formed-Closed, Closed-formed, forming-zone, AtEnd}
+use Rattle.ed_rules.proofs.formed.Forming.{forming-change, finished-AtEnd, AtEnd-ended, Closed-join, Closed-widen}
+use Rattle.ed_rules.proofs.through.Effects.{effect-through}
+use Rattle.ed_rules.proofs.through.Steps.{rule-through}
+use Rattle.ed_rules.proofs.formed.GivenBytes.{TextIsBytes, sought-bytes, pattern-bytes, path-bytes}
+use Rattle.ed_rules.proofs.formed.FormingPieces.{forming-at, forming-kept}
 
 Closed-start : (path : Choice) (min : ℕ) (max : Option ℕ) (has : List (List ℕ)) → ChoiceIsBytes path → Closed (start path min max has)
 unfolding start
@@ -81,52 +77,13 @@ end-formed x before invariant h k =
 
 -- ONE COMMAND
 
-effect-formed : (listed : Bool) (given : Addresses) (verb : Verb) (start s : State) → VerbIsBytes verb → Closed start → Forming s → IfOk (effect listed given verb start s) Forming
-effect-formed listed given (ed.Append text) start s b c h = appended-formed listed start (length text) s c h
-effect-formed listed given (ed.Change text) start s b c h = changed_to-formed listed start (length text) s c h
-effect-formed listed given ed.Delete start s b c h = changed_to-formed listed start 0 s c h
-effect-formed listed given (ed.Insert text) start s b c h = inserted-formed listed start (length text) s c h
-effect-formed listed given ed.Join start s b c h = joined_given-formed given listed start s c h
-effect-formed listed given (ed.Mark letter) start s b c h = mark-formed letter s h
-effect-formed listed given (ed.Move to) start s b c h = moved_lines-formed listed start s c h
-effect-formed listed given (ed.Copy to) start s b c h = copied_lines-formed listed start s c h
-effect-formed listed given (ed.Substitute pattern replacement choice form) start s b c h = substituted-formed listed pattern replacement choice start s b c h
-effect-formed listed given ed.LineNumber start s b c h = h
-effect-formed listed given ed.Null start s b c h = current_at-formed 3 s refl h
-effect-formed listed given (ed.Write form) start s b c h = current_at-formed 4 s refl h
-effect-formed listed given (ed.ReadFile path) start s b c h = read-formed listed path start s b c h
-effect-formed listed given (ed.WriteFile path) start s b c h = written-formed given path s b h
-effect-formed listed given (ed.Edit path) start s b c h = edited-formed path s b h
-effect-formed listed given (ed.EditAnyway path) start s b c h = edited_anyway-formed path s b h
-effect-formed listed given (ed.FileName path) start s b c h = file_named-formed path s b h
-effect-formed listed given (ed.Global sense pattern) start s b c h = pattern-formed pattern s b h
-effect-formed listed given ed.Undo start s b c h = undone-formed s h
-effect-formed listed given ed.Help start s b c h = h
-effect-formed listed given ed.HelpMode start s b c h = h
-effect-formed listed given ed.PromptMode start s b c h = h
-effect-formed listed given ed.Quit start s b c h = saved-formed s h
-effect-formed listed given ed.QuitAnyway start s b c h = h
-
-suffixed-formed : (suffix : Option Form) (s : State) → AtEnd s → IfOk (suffixed suffix s) AtEnd
-suffixed-formed None s h = h
-suffixed-formed (Some form) s h = IfOk-needing AtEnd (known s.zone 0 1 (negsuc 0)) fault.Address s (λ e. h)
-
-step_at-formed : (watched : List (List ℕ)) (a : Addresses) (c : Command) (s : State) → AddressesAreBytes a → VerbIsBytes c.verb → Closed s →
-    IfOk (step_at watched a c s) AtEnd
-step_at-formed watched a c s b v h =
-    IfOk-bind Forming AtEnd (addressed a s) _ (addressed-formed a s b (Closed-forming s h))
-    (λ t f.
-    IfOk-bind Forming AtEnd (targeted (takes c.verb).target t) _ (targeted-formed (takes c.verb).target t (target-bytes c.verb v) f)
-    (λ p g.
-    IfOk-bind Forming AtEnd (taken (takes c.verb).taking c.addresses a p) _ (taken-formed (takes c.verb).taking c.addresses a p g)
-    (λ u k.
-    IfOk-bind Forming AtEnd (effect c.listed c.addresses c.verb s u) _ (effect-formed c.listed c.addresses c.verb s u v h k)
-    (λ r q. suffixed-formed c.suffix (with_matches watched c.listed c.addresses c.verb s u (with_zone (ended r.marks r.zone) r))
-    (matching-ended (with_zone (ended r.marks r.zone) r) (matched_after watched c.addresses c.verb u) (old_matched_after c.listed c.addresses c.verb s u) (finished-AtEnd r q))))))
-
 pub command-formed : (watched : List (List ℕ)) (c : Command) (s : State) → TextsAreBytes c → IsFormed s → IfOk (step watched c s) IsEnded
 command-formed watched c s b h =
-    let a : Addresses = given_or c.addresses (standing (takes c.verb).default) in
+    let closed : Closed s = formed-Closed s h in
     IfOk-weaker (step watched c s) AtEnd IsEnded AtEnd-ended
-    (IfOk-need_then AtEnd (enters_lines c.verb) fault.Syntax s (step_at watched a c)
-    (λ e. step_at-formed watched a c s (given-bytes c.addresses (standing (takes c.verb).default) b.0 (own-bytes c.verb)) b.1 (formed-Closed s h)))
+    (rule-through Forming TextIsBytes forming-at AtEnd watched c s (sought-bytes c b) (Closed-forming s closed)
+    (λ u k. IfOk-weaker (effect c.listed c.addresses c.verb s u) Forming _
+    (λ r q. matching-ended (finished r) (matched_after watched c.addresses c.verb u) (old_matched_after c.listed c.addresses c.verb s u)
+    (finished-AtEnd r q))
+    (effect-through Forming TextIsBytes TextIsBytes (Unit {0}) s (forming-kept s closed) c.listed c.addresses c.verb u
+    (pattern-bytes c.verb b.1) (path-bytes c.verb b.1) (λ _. tt) k)))

@@ -1,5 +1,6 @@
 -- What is known of matches, through the phases of a command.
-use Rattle.std.proofs.Common.{◌≡◌, ◌<◌, ◌≤◌, ◌-◌, ℕ, pos, negsuc, Bool, true, false, ◌&&◌, List, length, Option, None, Some, Result, Ok, Err, IfOk, arith, refl, ◌∙◌, sym, ap, subst, nat_lt}
+use Rattle.std.proofs.Common.{◌≡◌, ◌<◌, ◌≤◌, ◌-◌, ℕ, pos, negsuc, Bool, true, false, List, length, Option, Some, Ok}
+use Rattle.std.proofs.Common.{Result, Err, IfOk, arith, refl, ◌∙◌, sym, ap, subst}
 use Rattle.std.proofs.lemmas.Int.{ints}
 use Rattle.std.proofs.lemmas.Bool.{lt-ltb, le-ltb}
 use Rattle.std.proofs.lemmas.List.{length-map, length-take, length-drop}
@@ -26,19 +27,10 @@ use Rattle.ed_syntax.specs.meaning.Applied.{completed, effect_of, command}
 use Rattle.ed_rules.specs.declared.state.State.{State}
 use Rattle.ed_rules.specs.declared.state.Undo.{Undo}
 use Rattle.ed_rules.specs.StandsFor.{StandsFor, AllowsPast, KeepsMatched}
-use Rattle.ed_rules.specs.Matched.{AreMatched}
+use Rattle.ed_rules.specs.Matched.{AreMatched, sought_by, sought_at_target}
 use Rattle.ed_rules.specs.Pieces.{needing, with_zone, ended}
-use Rattle.std.specs.List.{list_all}
-use Rattle.std.proofs.Common.{ℤ, ◌+ℤ◌, cond, take}
-use Rattle.zones.specs.Steps.{after_set}
-use Rattle.ed_rules.specs.Choices.{Choice}
-use Rattle.zones.specs.Name.{mark}
-use Rattle.ed_rules.specs.Marks.{is_sure}
-use Rattle.ed_rules.specs.Pieces.{lifted}
-use Rattle.ed_rules.specs.Lines.{lifted_range}
-use Rattle.ed_rules.specs.Addresses as addresses
-use Rattle.ed_rules.specs.Addresses.{is_found, found, copied, possible_patterns, in_buffer, set_from, evaluated_base, evaluated, addressed, standing, last_given, targeted, ranged}
-use Rattle.ed_rules.specs.Files.{whole_or_ranged}
+use Rattle.std.proofs.Common.{cond, take}
+use Rattle.ed_rules.specs.Addresses.{evaluated, addressed, standing, targeted, ranged}
 use Rattle.ed_rules.specs.declared.matching.Alteration.TheVariants.{Never, Maybe, Surely}
 use Rattle.ed_rules.specs.Matching.{joining, joining_given, matched_after, old_matched_after, with_matches}
 use Rattle.ed_rules.specs.Rules.{taken, effect, suffixed, step_at, step}
@@ -51,94 +43,33 @@ use Rattle.ed_rules.proofs.sound.Spans.{Spans}
 use Rattle.ed_rules.proofs.sound.Addressing.{NamesOf, Addressed, AddressedIn, command_addressed}
 use Rattle.ed_rules.proofs.sound.Commanding.{command-is, IsGiven, RangeWith, Nothing_more, Equal, At_target, Targeted, names-given, given_or-given, range-with, range-sound, targeted-sound}
 use Rattle.ed_rules.proofs.sound.Outcomes.{always, OnMade, SameBuffer, values-same, targeted-same}
+use Rattle.ed_rules.proofs.through.Needs.{Any, all-any}
+use Rattle.ed_rules.proofs.through.Addresses.{KeptAt, Property, Of, beside, addressed-through, targeted-through, taken-through}
+use Rattle.ed_rules.proofs.through.Steps.{suffixed-through}
 use Rattle.ed_rules.proofs.matches.MatchedLeft.{MatchedIn, Joins, Suiting, effect-left, completed-left}
 
 -- THE RULE'S SIDE: addresses leave it as it is
 
-abbrev pub SameMatches : State → State → Type 0
-SameMatches s t = (t.has ≡ s.has) × (t.old_has ≡ s.old_has) × (t.undo ≡ s.undo)
+abbrev Same : State → Property
+Same s _ _ undo has old_has = (has ≡ s.has) × (old_has ≡ s.old_has) × (undo ≡ s.undo)
+
+abbrev SameMatches : State → State → Type 0
+SameMatches s t = Of (Same s) t
+
+same-at : (s : State) → KeptAt (SameMatches s) Any
+same-at s = beside (Same s) Any (λ t text _ h. h)
 
 then-same : (s t u : State) → SameMatches s t → SameMatches t u → SameMatches s u
 then-same s t u h k = (k.0 ∙ h.0, k.1 ∙ h.1, k.2 ∙ h.2)
 
-needed : {A : Type 0} (P : A → Type 0) (b : Bool) (f : Fault) (a : A) → P a → IfOk (needing b f a) P
-needed P true f a h = h
-needed P false f a h = tt
+addressed-same : (a : Addresses) (s : State) → IfOk (addressed a s) (SameMatches s)
+addressed-same a s = addressed-through (SameMatches s) Any (same-at s) a s (all-any (sought_by a)) (refl, refl, refl)
 
--- one after another
-weaker-same : (s t : State) (x : Result State Fault) → SameMatches s t → IfOk x (SameMatches t) → IfOk x (SameMatches s)
-weaker-same s t (Ok u) h k = then-same s t u h k
-weaker-same s t (Err e) h k = tt
+target-same : (a : Option Address) (s : State) → IfOk (targeted a s) (SameMatches s)
+target-same a s = targeted-through (SameMatches s) Any (same-at s) a s (all-any (sought_at_target a)) (refl, refl, refl)
 
-chain-same : (s : State) (x : Result State Fault) (f : State → Result State Fault) → IfOk x (SameMatches s) → ((t : State) → IfOk (f t) (SameMatches t)) → IfOk (x >> f) (SameMatches s)
-chain-same s (Err e) f h k = tt
-chain-same s (Ok t) f h k = weaker-same s t (f t) h (k t)
-
-as-it-is : (s : State) → SameMatches s s
-as-it-is s = (refl, refl, refl)
-
-in_buffer-same : (x : ℕ) (s t : State) → SameMatches s t → IfOk (in_buffer x t) (SameMatches s)
-in_buffer-same x s t h = needed (SameMatches s) (known t.zone 0 x (pos 0) && known t.zone x 2 (pos 0)) fault.Address t h
-
-searched-same : (x : ℕ) (text : Option (List ℕ)) (k : ℤ) (s : State) → IfOk (addresses.searched x text k s) (SameMatches s)
-searched-same x text k s =
-    IfOk-bind (λ (_ : List Choice). Unit {0}) (SameMatches s) (possible_patterns text s) _ (always (possible_patterns text s))
-    (λ possible _. chain-same s (needing (list_all (is_found s) possible) fault.NoMatch (record s { zone = found x k s.zone; patterns = possible })) (in_buffer x)
-    (needed (SameMatches s) (list_all (is_found s) possible) fault.NoMatch (record s { zone = found x k s.zone; patterns = possible }) (refl, refl, refl))
-    (λ t. in_buffer-same x t t (as-it-is t)))
-
-base-same : (x : ℕ) (b : Base) (k : ℤ) (s : State) → IfOk (evaluated_base x b k s) (SameMatches s)
-base-same x (ed.Number n) k s = in_buffer-same x s (with_zone (after_set s.zone x 0 (pos n +ℤ k)) s) (refl, refl, refl)
-base-same x ed.Current k s = in_buffer-same x s (with_zone (after_set s.zone x 1 k) s) (refl, refl, refl)
-base-same x ed.Last k s = in_buffer-same x s (with_zone (after_set s.zone x 2 k) s) (refl, refl, refl)
-base-same x (ed.Marked letter) k s =
-    chain-same s (needing (nat_lt letter 26 && is_sure s.marks letter) fault.Mark s) (set_from x (mark letter) k)
-    (needed (SameMatches s) (nat_lt letter 26 && is_sure s.marks letter) fault.Mark s (as-it-is s))
-    (λ t. in_buffer-same x t (with_zone (after_set t.zone x (mark letter) k) t) (refl, refl, refl))
-base-same x (ed.Forward text) k s = searched-same x text k s
-base-same x (ed.Backward text) k s = searched-same x text k s
-
-evaluated-same : (x : ℕ) (a : Address) (s : State) → IfOk (evaluated x a s) (SameMatches s)
-evaluated-same x a s = base-same x a.base a.offset s
-
-pub addressed-same : (a : Addresses) (s : State) → IfOk (addressed a s) (SameMatches s)
-addressed-same Without s = as-it-is s
-addressed-same (One a) s = chain-same s (evaluated 3 a s) _ (evaluated-same 3 a s) (λ t. (refl, refl, refl))
-addressed-same (Comma a b) s = chain-same s (evaluated 3 a s) _ (evaluated-same 3 a s) (λ t. evaluated-same 4 b t)
-addressed-same (Semicolon a None) s = chain-same s (evaluated 3 a s) _ (evaluated-same 3 a s) (λ t. (refl, refl, refl))
-addressed-same (Semicolon a (Some b)) s = chain-same s (evaluated 3 a s) _ (evaluated-same 3 a s) (λ t. weaker-same t (copied 1 3 t) (evaluated 4 b (copied 1 3 t)) (refl, refl, refl) (evaluated-same 4 b (copied 1 3 t)))
-
-pub target-same : (a : Option Address) (s : State) → IfOk (targeted a s) (SameMatches s)
-target-same None s = as-it-is s
-target-same (Some a) s = evaluated-same 5 a s
-
-last-same : (a : Addresses) (s : State) → SameMatches s (last_given a s)
-last-same Without s = as-it-is s
-last-same (One a) s = as-it-is s
-last-same (Comma a b) s = (refl, refl, refl)
-last-same (Semicolon a b) s = (refl, refl, refl)
-
-ranged-same : (s t : State) → SameMatches s t → IfOk (ranged t) (SameMatches s)
-ranged-same s t h = needed (SameMatches s) (known t.zone 0 3 (negsuc 0) && known t.zone 3 4 (pos 0) && known t.zone 4 2 (pos 0)) fault.Address t h
-
-whole-same : (given : Addresses) (s : State) → IfOk (whole_or_ranged given s) (SameMatches s)
-whole-same Without s = as-it-is s
-whole-same (One a) s = ranged-same s s (as-it-is s)
-whole-same (Comma a b) s = ranged-same s s (as-it-is s)
-whole-same (Semicolon a b) s = ranged-same s s (as-it-is s)
-
-pub taken-same : (k : Taking) (given a : Addresses) (s : State) → IfOk (taken k given a s) (SameMatches s)
-taken-same many.NoAddress given a s = as-it-is s
-taken-same many.Place given a s = last-same a s
-taken-same many.FirstPlace given a s =
-    let t : State = last_given a s in then-same s t (with_zone (lifted 3 t.zone) t) (last-same a s) (refl, refl, refl)
-taken-same many.OneLine given a s =
-    let t : State = last_given a s in needed (SameMatches s) (known t.zone 0 3 (negsuc 0)) fault.Address t (last-same a s)
-taken-same many.Lines given a s =
-    let t : State = with_zone (lifted_range given s.zone) s in
-    chain-same s (needing (known s.zone 3 4 (pos 0)) fault.Address t) ranged (needed (SameMatches s) (known s.zone 3 4 (pos 0)) fault.Address t (refl, refl, refl)) (λ w. ranged-same w w (as-it-is w))
-taken-same many.Range given a s = ranged-same s s (as-it-is s)
-taken-same many.Whole given a s = whole-same given s
+taken-same : (k : Taking) (given a : Addresses) (s : State) → IfOk (taken k given a s) (SameMatches s)
+taken-same k given a s = taken-through (SameMatches s) Any (same-at s) k given a s (refl, refl, refl)
 
 -- BOTH SIDES
 
@@ -176,10 +107,6 @@ tells-so has old_has (Ok t) (Err f) h k = tt
 tells-so has old_has (Ok t) (Ok (Asks r)) h k = tt
 tells-so has old_has (Ok t) (Ok (Makes o)) h k =
     (subst (λ (l : List (List ℕ)). AreMatched l o.state.lines) (sym h.0) k.0, subst (λ (l : List (List ℕ)). KeepsMatched l o.state.past) (sym h.1) k.1)
-
-pub suffixed-is : (P : State → Type 0) (suffix : Option Form) (t : State) → P t → IfOk (suffixed suffix t) P
-suffixed-is P None t h = h
-suffixed-is P (Some form) t h = needed P (known t.zone 0 1 (negsuc 0)) fault.Address t h
 
 -- WHAT IS ASKED OF THE LINES
 
@@ -245,7 +172,8 @@ module _ (watched : List (List ℕ)) (c : Command) (answer : Option Answer) (s :
       let P : State → Type 0 = λ (t : State). (t.has ≡ has) × (t.old_has ≡ old_has) in
       tells-so has old_has _ _
       (IfOk-bind (λ (_ : State). Unit {0}) P (effect c.listed c.addresses c.verb s u) _ (always (effect c.listed c.addresses c.verb s u))
-      (λ r _. suffixed-is P c.suffix (with_matches watched c.listed c.addresses c.verb s u (with_zone (ended r.marks r.zone) r)) (refl, refl)))
+      (λ r _. suffixed-through P c.suffix (with_matches watched c.listed c.addresses c.verb s u (with_zone (ended r.marks r.zone) r))
+      (refl, refl)))
       (completed-left watched c.listed c.addresses s u e q st.matched now kept_now may c refl has old_has (effect_of c.verb c.listed x target q answer)
       (effect-left watched c.listed c.addresses s u e q st.matched now kept_now may c.verb x target answer order k))
 
@@ -254,12 +182,6 @@ module _ (watched : List (List ℕ)) (c : Command) (answer : Option Answer) (s :
 
   abbrev a : Addresses
   a = given_or c.addresses d
-
-  abbrev after_taken : State → Result State Fault
-  after_taken u = effect c.listed c.addresses c.verb s u >> λ r. suffixed c.suffix (with_matches watched c.listed c.addresses c.verb s u (with_zone (ended r.marks r.zone) r))
-
-  abbrev after_target : State → Result State Fault
-  after_target p = taken (takes c.verb).taking c.addresses a p >> after_taken
 
   -- of most commands
   phases-told : asks_nothing c.verb ≡ true → Tells Holds (step_at watched a c s) (command e c answer)
@@ -315,7 +237,7 @@ module _ (watched : List (List ℕ)) (addresses_given : Addresses) (suffix : Opt
       (addressed-same a s) (values-same (given_or addresses_given (takes ed.Join).default) e)
       (λ t v h i j. tells-agreed Holds (λ (u : State) (x : Span). Joins (joining_given addresses_given u.zone) x) (SameMatches t) InOrder (ranged t) (spanned many.Range (length e.lines) v.1) _ _
       (join-suits addresses_given d tt t v (length e.lines) h.0)
-      (ranged-same t t (as-it-is t)) (spans_are_in_order many.Range (length e.lines) v.1)
+      (taken-same many.Range addresses_given a t) (spans_are_in_order many.Range (length e.lines) v.1)
       (λ u x k m order. acted watched c answer s e st u v.0 x 0 (then-same s t u i m) j order k)))
 
   copy-told : (to : Address) → Tells Holds (step_at watched (given_or addresses_given (standing (takes (ed.Copy to)).default)) (command_with (ed.Copy to)) s) (command e (command_with (ed.Copy to)) answer)
@@ -331,10 +253,10 @@ module _ (watched : List (List ℕ)) (addresses_given : Addresses) (suffix : Opt
       let n = names-given a (given_or-given addresses_given d tt) v.1 v.0.lines h.0.numbers h.0.names in
       tells-agreed Holds (Targeted v.0 v.1) (SameMatches t) (λ (q : editor.State × ℕ). SameBuffer v.0 q.0) (evaluated 5 to t) (concrete.targeted (Some to) v.0) _ _
       (targeted-sound to t v.0 v.1 h.0.numbers h.0.stands n h.0.matched)
-      (evaluated-same 5 to t) (targeted-same (Some to) v.0)
+      (target-same (Some to) t) (targeted-same (Some to) v.0)
       (λ p q k l m. tells-agreed Holds (λ (w : State) (x : Span). 1 ≤ length (texts (parts.between x.first x.last q.0.lines))) (SameMatches p) InOrder (ranged p) (spanned many.Range (length e.lines) v.1) _ _
       (copy-suits a (given_or-given addresses_given d tt) to t v p q (length e.lines) h.0 k)
-      (ranged-same p p (as-it-is p)) (spans_are_in_order many.Range (length e.lines) v.1)
+      (taken-same many.Range addresses_given a p) (spans_are_in_order many.Range (length e.lines) v.1)
       (λ u x some n order. acted watched c answer s e st u q.0 x q.1 (then-same s p u (then-same s t p i l) n) (m.0 ∙ j.0, m.1 ∙ j.1, m.2 ∙ j.2, m.3 ∙ j.3) order some))))
 
   verb-told : (verb : Verb) → Tells Holds (step_at watched (given_or addresses_given (standing (takes verb).default)) (command_with verb) s) (command e (command_with verb) answer)

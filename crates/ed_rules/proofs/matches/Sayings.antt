@@ -1,0 +1,110 @@
+-- What holds of the sets of patterns that a state says some line matches: it holds through rules, join, widening and the list of a
+-- global command, where it holds of no patterns, of some of a set, and of a set with others put in.
+use Rattle.std.proofs.Common.{ℕ, Bool, true, false, List, [], ◌∷◌, Option, None, Some, is_some, IfOk}
+use Rattle.std.specs.List.{list_any, filter}
+use Rattle.ed_syntax.specs.declared.command.Sense.TheVariants as sense
+use Rattle.ed_syntax.specs.Commands as ed
+use Rattle.ed_syntax.specs.Commands.{Addresses, Verb, Command}
+use Rattle.ed_syntax.specs.meaning.Values.{matches}
+use Rattle.ed_rules.specs.declared.matching.Alteration.{Alteration}
+use Rattle.ed_rules.specs.declared.matching.Alteration.TheVariants.{Never, Maybe, Surely}
+use Rattle.ed_rules.specs.declared.state.State.{State}
+use Rattle.ed_rules.specs.Texts.{is_member, both_texts, with_texts}
+use Rattle.ed_rules.specs.Matched.{gained, sought}
+use Rattle.ed_rules.specs.Order.{join, widen, old_has_of_both}
+use Rattle.ed_rules.specs.Matching.{joining_given, kept_unless, altering, matched_by_undo, matched_after, old_matched_by}
+use Rattle.ed_rules.specs.Matching.{old_matched_unless, old_matched_after}
+use Rattle.ed_rules.specs.Rules.{effect, step}
+use Rattle.ed_rules.specs.Globals.{taken_matches, body_entry}
+use Rattle.ed_rules.proofs.through.Needs.{Any, all-any, anyway}
+use Rattle.ed_rules.proofs.through.Addresses.{beside}
+use Rattle.ed_rules.proofs.through.Steps.{rule-through}
+
+pub record OfSets (S : List (List ℕ) → Type 0) : Type 0 where
+  pub none : S []
+  pub some : (keep : List ℕ → Bool) (set : List (List ℕ)) → S set → S (filter keep set)
+  pub more : (new set : List (List ℕ)) → S new → S set → S (with_texts new set)
+
+abbrev pub Says : (List (List ℕ) → Type 0) → State → Type 0
+Says S s = S s.has × S s.old_has
+
+module _ (S : List (List ℕ) → Type 0) (sets : OfSets S) where
+  says-gained : (watched entered : List (List ℕ)) → S watched → S (gained watched entered)
+  says-gained watched entered w = sets.some (λ text. list_any (matches text) entered) watched w
+
+  says-more : (watched entered has : List (List ℕ)) → S watched → S has → S (with_texts (gained watched entered) has)
+  says-more watched entered has w h = sets.more (gained watched entered) has (says-gained watched entered w) h
+
+  says-unless : (a : Alteration) (has : List (List ℕ)) → S has → S (kept_unless a has)
+  says-unless Never has h = h
+  says-unless Maybe has h = sets.none
+  says-unless Surely has h = sets.none
+
+  says-both : (one other : List (List ℕ)) → S one → S (both_texts one other)
+  says-both one other h = sets.some (is_member other) one h
+
+  says-undo : (same was : Bool) (has old_has : List (List ℕ)) → S has → S old_has → S (matched_by_undo same was has old_has)
+  says-undo same false has old_has h k = h
+  says-undo true true has old_has h k = says-both has old_has h
+  says-undo false true has old_has h k = k
+
+  pub says-after : (watched : List (List ℕ)) (given : Addresses) (verb : Verb) (s : State) → S watched → Says S s →
+      S (matched_after watched given verb s)
+  says-after watched given (ed.Append text) s w h = says-more watched text s.has w h.0
+  says-after watched given (ed.Insert text) s w h = says-more watched text s.has w h.0
+  says-after watched given (ed.Change text) s w h = says-gained watched text w
+  says-after watched given ed.Delete s w h = sets.none
+  says-after watched given ed.Join s w h = says-unless (joining_given given s.zone) s.has h.0
+  says-after watched given (ed.Substitute pattern replacement which form) s w h = sets.none
+  says-after watched given (ed.Edit path) s w h = sets.none
+  says-after watched given (ed.EditAnyway path) s w h = sets.none
+  says-after watched given ed.Undo s w h = says-undo s.undo.same (is_some s.undo.was) s.has s.old_has h.0 h.1
+  says-after watched given verb s w h = h.0
+
+  says-of_both : {A B : Type 0} (one : Option A) (other : Option B) (has old : List (List ℕ)) → S has → S old →
+      S (old_has_of_both one other has old)
+  says-of_both None other has old h k = k
+  says-of_both (Some a) None has old h k = h
+  says-of_both (Some a) (Some b) has old h k = says-both has old h
+
+  says-by : (a : Alteration) (start s : State) → Says S start → Says S s → S (old_matched_by a start s)
+  says-by Never start s h k = k.1
+  says-by Maybe start s h k = says-of_both s.undo.was (Some start.zone) s.old_has start.has k.1 h.0
+  says-by Surely start s h k = h.0
+
+  says-if : (listed : Bool) (a : Alteration) (start s : State) → Says S start → Says S s → S (old_matched_unless listed a start s)
+  says-if true a start s h k = k.1
+  says-if false a start s h k = says-by a start s h k
+
+  pub says-old : (listed : Bool) (given : Addresses) (verb : Verb) (start s : State) → Says S start → Says S s →
+      S (old_matched_after listed given verb start s)
+  says-old listed given (ed.Edit path) start s h k = sets.none
+  says-old listed given (ed.EditAnyway path) start s h k = sets.none
+  says-old listed given ed.Undo start s h k = says-undo s.undo.same (is_some s.undo.was) s.old_has s.has k.1 k.0
+  says-old listed given verb start s h k = says-if listed (altering given verb s.zone) start s h k
+
+  pub says-step : (watched : List (List ℕ)) (c : Command) (s : State) → S watched → Says S s → IfOk (step watched c s) (Says S)
+  says-step watched c s w h =
+      rule-through (Says S) Any (beside (λ _ _ _ has old_has. S has × S old_has) Any (λ t text _ q. q)) (Says S) watched c s
+      (all-any (sought c)) h
+      (λ u k. anyway _ (effect c.listed c.addresses c.verb s u)
+      (λ r. (says-after watched c.addresses c.verb u w k, says-old c.listed c.addresses c.verb s u h k)))
+
+  pub says-join : (one other : State) → Says S one → Says S other → Says S (join one other)
+  unfolding join
+  says-join one other h k = (says-both one.has other.has h.0, says-of_both one.undo.was other.undo.was one.old_has other.old_has h.1 k.1)
+
+  pub says-widen : (old new : State) → Says S old → Says S new → Says S (widen old new)
+  unfolding widen
+  says-widen old new h k = (says-both old.has new.has h.0, says-of_both old.undo.was new.undo.was old.old_has new.old_has h.1 k.1)
+
+  -- what `g` takes is put in
+  says-taken : (verb : Verb) (has : List (List ℕ)) → S (taken_matches verb []) → S has → S (taken_matches verb has)
+  says-taken (ed.Global sense.Matching (Some text)) has g h = sets.more (text ∷ []) has g h
+  says-taken (ed.Global sense.Matching None) has g h = h
+  says-taken (ed.Global sense.Others pattern) has g h = h
+  says-taken verb has g h = h
+
+  pub says-entry : (verb : Verb) (invariant : State) → S (taken_matches verb []) → Says S invariant →
+      Says S (body_entry verb invariant)
+  says-entry verb invariant g h = (says-taken verb invariant.has g h.0, h.1)
