@@ -1,15 +1,13 @@
 -- How the analyser goes through the commands: what its own functions answer.
 use Rattle.std.specs.Prelude.{◌≡◌, ℕ, List, [], ◌∷◌, map, length, Option, Some, None, option_map, if◌then◌else◌}
 use Rattle.std.specs.List.{All}
-use Rattle.std.specs.Ordering.{nat_cmp}
-use Rattle.std.specs.Cmp.Lexicographic.{slice_cmp}
-use Rattle.std.specs.declared.cmp.Ordering.TheVariants.{Less, Equal, Greater}
 use Rattle.ed_base.specs.declared.fault.Fault.{Fault}
 use Rattle.ed_syntax.specs.Commands.{Command, Step}
 use Rattle.zones.specs.Limits.{IsZone}
 use Rattle.ed_rules.specs.declared.state.Old.{Old}
 use Rattle.ed_rules.specs.declared.state.State.{State}
 use Rattle.ed_rules.specs.Choices.{Choice}
+use Rattle.ed_rules.specs.Texts.{with_text}
 use Rattle.ed_rules.specs.Formed.{TextsAreBytes}
 use Rattle.cert_check.specs.declared.sight.Sight.{Sight}
 use Rattle.cert_check.specs.checker.Covering.{covers}
@@ -25,17 +23,11 @@ use Rattle.analyser.specs.declared.walk.Outcome.TheVariants.{Left, Fails}
 use Rattle.analyser.specs.Rounds.{left_by_list, AreInner, InnerFail, entered, next_invariant, IsSettled}
 use Rattle.analyser.specs.Following.{IsNote, NeedFails, AreNotes, NotesFail, result_from, paths_from}
 
--- a path put in its place, where it isn't there already
-abbrev pub with_path : List ℕ → List (List ℕ) → List (List ℕ)
-with_path path [] = path ∷ []
-with_path path (p ∷ paths) =
-    elim (slice_cmp nat_cmp path p) [ Less ↦ path ∷ p ∷ paths | Equal ↦ p ∷ paths | Greater ↦ p ∷ with_path path paths ]
-
 -- the paths among choices, put in one after another
 abbrev pub with_paths : List Choice → List (List ℕ) → List (List ℕ)
 with_paths [] paths = paths
 with_paths (None ∷ choices) paths = with_paths choices paths
-with_paths (Some path ∷ choices) paths = with_paths choices (with_path path paths)
+with_paths (Some path ∷ choices) paths = with_paths choices (with_text path paths)
 
 -- what is known before each command of a list, from a state on, up to the first one with a need that fails
 abbrev pub AreKnown : Sight → List Command → State → List State → (failed : Option Fault) → Type 0

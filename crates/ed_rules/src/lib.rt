@@ -45,5 +45,5 @@ pub use marks::Marks;
 pub use matched::some_line_matches;
 pub use rules::{after, needs, outcome_into};
 pub use state::{Changed, Old, Replacements, State, Undo};
-pub use texts::Texts;
+pub use texts::{Texts, put_text, texts_rise};
 pub use watch::Watch;

@@ -41,15 +41,6 @@ all-end {X} P xs i h before = subst (λ (ys : List X). All P ys) (taken xs i h) 
 pub all-fails : {X : Type 0} (P : X → Type 0) (xs : List X) (i : ℕ) (x : X) → i < length xs → x ≡ get_or xs i x → (P x → ⊥) → All P xs → ⊥
 all-fails {X} P xs i x h is not_here all = not_here (subst (λ (y : X). P y) (sym is) (all i x h))
 
--- the last path alone rises
-pub last-path-rises : (paths : List (List ℕ)) (next : ℕ) → length paths ≤ next → 1 ≤ next → (1 ≤ length paths → next ≤ length paths) →
-    is_rising (map Some (drop (next - 1) paths)) ≡ true
-last-path-rises [] next l one most = ap (λ (s : List (List ℕ)). is_rising (map Some s)) (none-left (next - 1))
-last-path-rises (c ∷ paths) next l one most =
-    let high : next ≤ length (c ∷ paths) = most (omega arith) in
-    ap (λ (s : List (List ℕ)). is_rising (map Some s)) (drop-cons (c ∷ paths) (next - 1) c (omega arith))
-    ∙ ap (λ (s : List (List ℕ)). is_rising (Some (get_or (c ∷ paths) (next - 1) c) ∷ map Some s)) (past-end (c ∷ paths) (suc (next - 1)) (omega arith))
-
 pub from-map : {X Y : Type 0} (P : X → Type 0) (f : Y → X) (ys : List Y) → All P (map f ys) → All (λ y. P (f y)) ys
 from-map {X} P f ys h k d l =
     let size = length-map ys f in

@@ -1,11 +1,9 @@
 //! Whether a certificate has a text.
 
 ghost use Rattle.std.specs.Prelude.{◌≡◌, ◌<◌, ◌↔◌, ◌&&◌, ◌||◌, nat_lt, is_some, true, Some, IsTrue, All, length, map, option_map};
-ghost use Rattle.std.specs.Ordering.{is_lt};
 ghost use Rattle.zones.specs.Limits.{IsZone};
-ghost use Rattle.ed_rules.specs.Choices.{order_of};
 ghost use Rattle.cert_check.specs.Certificates.{boxed_value, note_value, certificate_value};
-ghost use Rattle.ed_rules.specs.Formed.{has_name, may_say, ZoneIsFormed, OldIsFormed, ChoiceIsBytes, is_rising, SetIsFormed, StateIsFormed};
+ghost use Rattle.ed_rules.specs.Formed.{has_name, may_say, ZoneIsFormed, OldIsFormed, ChoiceIsBytes, SetIsFormed, StateIsFormed};
 ghost use Rattle.cert_check.specs.text.HasText.{IsSaidIn, OldIsSaidIn, StateHasText, LoopedHasText, NoteHasText, HasText};
 ghost use Rattle.ed_rules.specs.Formed.{says_nothing};
 
@@ -13,8 +11,8 @@ use crate::certificate::{Certificate, Looped, Note, Version};
 use ed_base::{Bytes, Letter};
 use ed_rules::{
     Changed, Choices, KeptOld, KeptState, KeptUndo, LineBounds, Marks, Replacements, Texts,
+    texts_rise,
 };
-use std::cmp::Ordering;
 use zones::{KeptZone, Name};
 
 /// Whether a name is neither a letter's nor that of an address of one command, which no text has.
@@ -222,23 +220,6 @@ fn notes_have_text(version: Version, notes: &[Note]) -> bool
     true
 }
 
-fn path_is_before(one: &Bytes, other: &Bytes) -> bool
-    ensures value { result ≡ is_lt (order_of (Some one.now) (Some other.now)) }
-{
-    one.as_slice().cmp(&other.as_slice()) == Ordering::Less
-}
-
-pub(crate) fn paths_rise(paths: &[Bytes]) -> bool
-    ensures value { result ≡ is_rising (map Some paths.now) }
-{
-    for next in 1..paths.len() {
-        if !path_is_before(&paths[next - 1], &paths[next]) {
-            return false;
-        }
-    }
-    true
-}
-
 impl Certificate {
     /// Whether the certificate has a text: the fewest lines of its start aren't above the most, no bound on lines is above 10^12, each
     /// zone speaks only of the letters beside it, the paths that may be written rise, and nothing is said of what some line matches if
@@ -268,6 +249,6 @@ impl Certificate {
             min: self.low,
             max: self.high,
         };
-        end.are_few() && paths_rise(self.writes.as_slice())
+        end.are_few() && texts_rise(self.writes.as_slice())
     }
 }

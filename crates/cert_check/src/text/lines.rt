@@ -6,14 +6,12 @@ ghost use Rattle.ed_rules.specs.LineBounds.{is_few, is_limit, is_within};
 ghost use Rattle.cert_check.specs.text.Text.{spaced, choice_word, replacements_line, changed_line, bounds_line, path_line, choices_line, texts_line};
 ghost use Rattle.cert_check.specs.text.Reading.{ReadsAs, WordReadsAs, undo_words_line};
 
-use crate::text::has_text::{
-    choices_are_bytes, paths_rise, some_changed, some_replacement, texts_are_bytes,
-};
+use crate::text::has_text::{choices_are_bytes, some_changed, some_replacement, texts_are_bytes};
 use crate::text::words_in::{
     after_key, choice_in, limit_in, next_word, number_in, path_word_in, possible_in,
 };
 use ed_base::Bytes;
-use ed_rules::{Changed, Choices, LineBounds, Replacements, Texts};
+use ed_rules::{Changed, Choices, LineBounds, Replacements, Texts, texts_rise};
 use std::alloc::{AllocError, Global};
 
 /// What undo may find: nothing, the buffer as it is, an earlier one.
@@ -238,7 +236,7 @@ pub(crate) fn writes_in(alloc: Global, line: &[u8]) -> Result<Option<Vec<Bytes>>
     let Some(paths) = texts_of(alloc, b"writes", line)? else {
         return Ok(None);
     };
-    if !paths_rise(paths.as_slice()) {
+    if !texts_rise(paths.as_slice()) {
         return Ok(None);
     }
     Ok(Some(paths))

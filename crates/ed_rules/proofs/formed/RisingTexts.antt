@@ -1,7 +1,8 @@
 -- Sets of texts stay formed: their order and their bytes.
-use Rattle.std.proofs.Common.{◌≡◌, ◌≤◌, ◌-◌, ℕ, Bool, true, false, cond, List, [], ◌∷◌, ◌++◌, length, drop, map, Some, arith, refl, ◌∙◌, ap, sym, subst}
+use Rattle.std.proofs.Common.{◌≡◌, ◌≤◌, ◌-◌, ℕ, Bool, true, false, cond, List, [], ◌∷◌, ◌++◌, length, drop}
+use Rattle.std.proofs.Common.{map, Some, Result, Ok, Err, arith, refl, ap, sym, subst}
 use Rattle.std.specs.List.{filter}
-use Rattle.std.specs.Prelude.{All, insert}
+use Rattle.std.specs.Prelude.{All, OnOk, OnErr}
 use Rattle.std.proofs.lemmas.Bool.{and_from, and_parts}
 use Rattle.std.proofs.lemmas.List.{length-drop}
 use Rattle.std.specs.Cmp.Lexicographic.{slice_cmp, nat_list_cmp_total}
@@ -9,7 +10,7 @@ use Rattle.std.specs.Ordering.{nat_cmp, is_lt}
 use Rattle.std.specs.declared.cmp.Ordering.TheVariants.{Less, Equal, Greater}
 use Rattle.std.proofs.lemmas.List.Elements.{All-nil, All-cons, All-head, All-tail}
 use Rattle.ed_rules.specs.Choices.{Choice, order_of, with_choice, is_rising}
-use Rattle.ed_rules.specs.Texts.{are_rising, is_member, both_texts, with_text, with_texts}
+use Rattle.ed_rules.specs.Texts.{are_rising, with_text, with_texts}
 use Rattle.ed_rules.specs.Formed.{ChoiceIsBytes, TextsAreFormed}
 use Rattle.ed_rules.proofs.formed.RisingChoices.{is_before, rising-cons, rising-before, rising-rest, rising-with_choice}
 
@@ -72,17 +73,12 @@ short-rises (t ∷ u ∷ set) h = absurd (omega arith)
 pub last-rises : (set : List (List ℕ)) (next : ℕ) → length set ≤ next → 1 ≤ next → are_rising (drop (next - 1) set) ≡ true
 last-rises set next l one = let left = length-drop (next - 1) set in short-rises (drop (next - 1) set) (omega arith)
 
--- a text that was put in its place
-pub added-rises : (items members after : List (List ℕ)) (place : ℕ) (text written : List ℕ) → after ≡ insert items place written → written ≡ text →
-    members ≡ items → insert members place text ≡ with_text text members → are_rising items ≡ true → are_rising after ≡ true
-added-rises items members after place text written is wrote same put h =
-    let put_in : after ≡ with_text text items =
-    is
-    ∙ ap (λ (t : List ℕ). insert items place t) wrote
-    ∙ ap (λ (set : List (List ℕ)). insert set place text) (sym same)
-    ∙ put
-    ∙ ap (λ (set : List (List ℕ)). with_text text set) same in
-    subst (λ (set : List (List ℕ)). are_rising set ≡ true) (sym put_in) (rising-with_text text items h)
+-- a text that is put in leaves texts that rise, and so does one for which there is no memory
+pub put-rises : {A E : Type 0} (result : Result A E) (text : List ℕ) (set after : List (List ℕ)) →
+    OnOk result (after ≡ with_text text set) → OnErr result (after ≡ set) →
+    are_rising set ≡ true → are_rising after ≡ true
+put-rises (Ok a) text set after put kept h = subst (λ (s : List (List ℕ)). are_rising s ≡ true) (sym put) (rising-with_text text set h)
+put-rises (Err e) text set after put kept h = subst (λ (s : List (List ℕ)). are_rising s ≡ true) (sym kept) h
 
 -- THEIR BYTES
 
@@ -111,9 +107,6 @@ none-formed = record { bytes = All-nil ChoiceIsBytes; rising = refl }
 
 pub filter-formed : (keep : List ℕ → Bool) (set : List (List ℕ)) → TextsAreFormed set → TextsAreFormed (filter keep set)
 filter-formed keep set h = record { bytes = bytes-filter keep set h.bytes; rising = rising-filter keep set h.rising }
-
-pub both-formed : (one other : List (List ℕ)) → TextsAreFormed one → TextsAreFormed (both_texts one other)
-both-formed one other h = filter-formed (is_member other) one h
 
 pub with_text-formed : (text : List ℕ) (set : List (List ℕ)) → ChoiceIsBytes (Some text) → TextsAreFormed set → TextsAreFormed (with_text text set)
 with_text-formed text set a h = record { bytes = bytes-with_text text set a h.bytes; rising = rising-with_text text set h.rising }

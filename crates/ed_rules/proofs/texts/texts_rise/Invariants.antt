@@ -1,6 +1,6 @@
 use Rattle.std.proofs.Common.{◌≡◌, ◌-◌, drop}
 use Rattle.ed_rules.specs.Texts.{are_rising}
-use Rattle.ed_rules.proofs.texts.are_rising.Given as goal
+use Rattle.ed_rules.proofs.texts.texts_rise.Given as goal
 
 -- the texts before this one rise
 abbrev pub invariant-loop-next : goal.invariant-loop-next

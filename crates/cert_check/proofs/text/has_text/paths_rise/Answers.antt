@@ -1,8 +1,0 @@
-use Rattle.std.proofs.Common.{◌∙◌, arith, sym}
-use Rattle.cert_check.proofs.texts.Limited.{last-path-rises}
-use Rattle.cert_check.proofs.text.has_text.paths_rise.Goals as goal
-
-pub returns : goal.returns
-returns c = record {
-  value = sym (c.loop-next.invariant ∙ last-path-rises c.args.paths.now c.loop-next.next (omega arith) (omega arith) c.loop-next.auto.next-end);
-}
