@@ -3,12 +3,10 @@ use Rattle.std.proofs.Common.{◌≡◌, ◌↔◌, ◌<◌, ◌≤◌, inl, inr
 use Rattle.std.specs.Prelude.{nat_lt}
 use Rattle.std.specs.List.{All, list_all}
 use Rattle.std.proofs.lemmas.List.Elements.{All-nil, All-cons}
-use Rattle.std.proofs.lemmas.Bool.{and_from, and_parts}
 use Rattle.ed_base.specs.declared.fault.Fault.{Fault}
 use Rattle.ed_syntax.specs.Commands.{Command, Step, Script}
 use Rattle.ed_syntax.specs.meaning.Verbs.{is_global}
 use Rattle.ed_rules.specs.declared.state.State.{State}
-use Rattle.ed_rules.specs.Choices.{Choice}
 use Rattle.ed_rules.specs.Order.{join, widen, Covers}
 use Rattle.ed_rules.specs.Files.{written_paths}
 use Rattle.cert_check.specs.declared.sight.Sight.{Sight}
@@ -24,6 +22,7 @@ use Rattle.analyser.specs.Checked.{IsBefore, IsBeforeInside, ChecksHoldBefore}
 use Rattle.analyser.proofs.Listing.{listed-each}
 use Rattle.analyser.proofs.Rounding.{inner-met}
 use Rattle.analyser.proofs.Results.{either}
+use Rattle.analyser.proofs.Sets.{append-all}
 
 -- the laws that this rests on
 pub record Laws : Type 0 where
@@ -35,13 +34,6 @@ pub record Laws : Type 0 where
 
 pub covers-same : Laws → (weak s : State) → weak ≡ s → covers weak s ≡ true
 covers-same k weak s e = subst (λ (t : State). covers t s ≡ true) (sym e) ((k.decided s s).1 (k.same s))
-
-all-append : (p : Choice → Bool) (cs ds : List Choice) → list_all p (cs ++ ds) ≡ true → (list_all p cs ≡ true) × (list_all p ds ≡ true)
-all-append p [] ds h = (refl, h)
-all-append p (c ∷ cs) ds h =
-    let here = and_parts (p c) (list_all p (cs ++ ds)) h in
-    let later = all-append p cs ds here.1 in
-    (and_from (p c) (list_all p cs) here.0 later.0, later.1)
 
 -- THE INVARIANT of a list's last round
 
@@ -80,7 +72,7 @@ module _ (k : Laws) (w : Sight) (P : Check → Type 0) (holds : (check : Check) 
   list-holds number inner turned_checks [] s ts h p rest = let z : inner + 0 ≡ inner = omega arith in subst (λ n. All P (turned_checks n s)) z rest
   list-holds number inner turned_checks (c ∷ cs) s [] h p rest = absurd h
   list-holds number inner turned_checks (c ∷ cs) s (t ∷ ts) h p rest =
-      let listed = all-append (is_listed writes) (written_paths c.verb t) (list_paths cs ts) p in
+      let listed = append-all (is_listed writes) (written_paths c.verb t) (list_paths cs ts) p in
       let same : s ≡ t = sym h.0 in
       let z : inner + length (c ∷ cs) ≡ inner + 1 + length cs = omega arith in
       command-holds (inner_at number inner) c t s (list_checks w number (inner + 1) writes (left_by w c t) cs ts turned_checks) h.0 (subst (λ (u : State). are_met c u ≡ true) same h.1) listed.0
@@ -102,7 +94,7 @@ module _ (k : Laws) (w : Sight) (P : Check → Type 0) (holds : (check : Check) 
   pub note-holds : (number : ℕ) (x : Step) (s : State) (n : Note) (later : List Check) → IsNote w x s n → list_all (is_listed writes) (written_paths x.command.verb n.state ++ looped_paths x.list n.looped) ≡ true →
       All P later → All P (step_checks w number writes x n s later)
   note-holds number x s n later h p rest =
-      let listed = all-append (is_listed writes) (written_paths x.command.verb n.state) (looped_paths x.list n.looped) p in
+      let listed = append-all (is_listed writes) (written_paths x.command.verb n.state) (looped_paths x.list n.looped) p in
       let same : s ≡ n.state = sym h.state in
       command-holds (command_at number) x.command n.state s (looped_checks w n.looped number writes x n.state later) h.state (subst (λ (u : State). are_met x.command u ≡ true) same h.met) listed.0
       (looped-holds number (is_global x.command.verb) x n.state n.looped later (subst (λ (u : State). IsKnownOfList w (is_global x.command.verb) x u n.looped) same h.list) listed.1 rest)
@@ -112,7 +104,8 @@ module _ (k : Laws) (w : Sight) (P : Check → Type 0) (holds : (check : Check) 
   notes-hold end number s [] ns h p rest = let z : number + 0 ≡ number = omega arith in subst (λ n. All P (end n s)) z rest
   notes-hold end number s (x ∷ xs) [] h p rest = absurd h
   notes-hold end number s (x ∷ xs) (n ∷ ns) h p rest =
-      let listed = all-append (is_listed writes) (written_paths x.command.verb n.state ++ looped_paths x.list n.looped) (paths_from xs ns) p in
+      let listed = append-all (is_listed writes) (written_paths x.command.verb n.state ++ looped_paths x.list n.looped)
+      (paths_from xs ns) p in
       let same : s ≡ n.state = sym h.0.state in
       let z : number + length (x ∷ xs) ≡ number + 1 + length xs = omega arith in
       note-holds number x s n (checks_from w writes end (number + 1) (left_after w n.looped x n.state) xs ns) h.0 listed.0
@@ -169,7 +162,7 @@ module _ (k : Laws) (w : Sight) (place : Place) (writes : List (List ℕ)) where
       (not-before-inner number inner (Some last) place here is (λ m e. let same : last ≡ m = cc in omega arith))
       (list-ends number (inner + 1) turned_checks cs (left_by w c t) (rest (inner + 1) (left_by w c t) (omega arith)))
   list-fails number inner last turned_checks why (c ∷ cs) s (t ∷ u ∷ ts) h here is size p rest =
-      let listed = all-append (is_listed writes) (written_paths c.verb t) (list_paths cs (u ∷ ts)) p in
+      let listed = append-all (is_listed writes) (written_paths c.verb t) (list_paths cs (u ∷ ts)) p in
       let same : s ≡ t = sym h.0 in
       command-holds k w HoldsBefore holds writes (inner_at number inner) c t s (list_checks w number (inner + 1) writes (left_by w c t) cs (u ∷ ts) turned_checks) h.0 (subst (λ (v : State). are_met c v ≡ true) same h.1) listed.0
       (list-fails number (inner + 1) last turned_checks why cs (left_by w c t) (u ∷ ts) (subst (λ (v : State). InnerFail w why cs (left_by w c v) (u ∷ ts)) same h.2) here is (omega arith) listed.1 rest)
@@ -182,7 +175,7 @@ module _ (k : Laws) (w : Sight) (place : Place) (writes : List (List ℕ)) where
   need-fails None number why x s (Some l) known later h same here is p rest = absurd h
   need-fails (Some inner) number why x s None known later h same here is p rest = absurd h
   need-fails (Some inner) number why x s (Some l) known later h same here is p rest =
-      let listed = all-append (is_listed writes) (written_paths x.command.verb known) (list_paths x.list l.inner) p in
+      let listed = append-all (is_listed writes) (written_paths x.command.verb known) (list_paths x.list l.inner) p in
       let turned_checks : ℕ → State → List Check = λ (n : ℕ) (left : State). at_place (inner_at number n) (covers l.invariant left) ∷ later in
       let counts : inner ≡ length l.inner = h.number in
       command-holds k w HoldsBefore holds writes (command_at number) x.command known s (looped_checks w (Some l) number writes x known later) same (subst (λ (u : State). are_met x.command u ≡ true) (sym same) h.met) listed.0
@@ -196,11 +189,13 @@ module _ (k : Laws) (w : Sight) (place : Place) (writes : List (List ℕ)) where
   notes-fail inner number why s [] ns h size is p = absurd h
   notes-fail inner number why s (x ∷ xs) [] h size is p = absurd h
   notes-fail inner number why s (x ∷ xs) (n ∷ []) h size is p =
-      let listed = all-append (is_listed writes) (written_paths x.command.verb n.state ++ looped_paths x.list n.looped) (paths_from xs []) p in
+      let listed = append-all (is_listed writes) (written_paths x.command.verb n.state ++ looped_paths x.list n.looped)
+      (paths_from xs []) p in
       need-fails inner number why x s n.looped n.state (checks_from w writes (λ number left. []) (number + 1) (left_after w n.looped x n.state) xs []) h.1 h.0 (omega arith) is listed.0
       (none-left w HoldsBefore writes (number + 1) (left_after w n.looped x n.state) xs)
   notes-fail inner number why s (x ∷ xs) (n ∷ m ∷ ns) h size is p =
-      let listed = all-append (is_listed writes) (written_paths x.command.verb n.state ++ looped_paths x.list n.looped) (paths_from xs (m ∷ ns)) p in
+      let listed = append-all (is_listed writes) (written_paths x.command.verb n.state ++ looped_paths x.list n.looped)
+      (paths_from xs (m ∷ ns)) p in
       let same : s ≡ n.state = sym h.0.state in
       note-holds k w HoldsBefore holds writes number x s n (checks_from w writes (λ number left. []) (number + 1) (left_after w n.looped x n.state) xs (m ∷ ns)) h.0 listed.0
       (notes-fail inner (number + 1) why (left_after w n.looped x n.state) xs (m ∷ ns) (subst (λ (u : State). NotesFail w inner why xs (left_after w n.looped x u) (m ∷ ns)) same h.1) (omega arith) is listed.1)

@@ -8,7 +8,6 @@ use Rattle.ed_syntax.specs.Commands.{Command, Step, Script}
 use Rattle.ed_syntax.specs.meaning.Verbs.{is_global}
 use Rattle.ed_rules.specs.declared.state.State.{State}
 use Rattle.ed_rules.specs.Choices.{Choice}
-use Rattle.cert_check.specs.declared.certificate.Version.{Version}
 use Rattle.cert_check.specs.declared.sight.Sight.{Sight}
 use Rattle.cert_check.specs.declared.checker.verdict.Place.{Place}
 use Rattle.cert_check.specs.Certificates.{Looped, Note, Certificate}
@@ -83,10 +82,10 @@ inner-fails-once w why other (c ∷ cs) s (t ∷ v ∷ ts) (u ∷ z ∷ us) h k 
 -- ONE COMMAND
 
 same-looped : (one other : Looped) → one.invariant ≡ other.invariant → one.inner ≡ other.inner → one ≡ other
-same-looped one other e f = ap (λ (s : State). let l : Looped = record { invariant = s; inner = one.inner } in l) e ∙ ap (λ (ts : List State). let l : Looped = record { invariant = other.invariant; inner = ts } in l) f
+same-looped one other e f = λ k. record { invariant = e k; inner = f k }
 
 same-note : (one other : Note) → one.state ≡ other.state → one.looped ≡ other.looped → one ≡ other
-same-note one other e f = ap (λ (s : State). let n : Note = record { state = s; looped = one.looped } in n) e ∙ ap (λ (l : Option Looped). let n : Note = record { state = other.state; looped = l } in n) f
+same-note one other e f = λ k. record { state = e k; looped = f k }
 
 known-once : (w : Sight) (global : Bool) (x : Step) (s : State) (l m : Option Looped) → IsKnownOfList w global x s l → IsKnownOfList w global x s m → l ≡ m
 known-once w false x s None None h k = refl
@@ -199,33 +198,20 @@ either-comes script start c place why notes h (inr fails) =
     let faults : None ≡ Some why = sym none ∙ fails.fails in
     absurd cc
 
-abbrev made : Version → (path : Option (List ℕ)) → (min : ℕ) → (max : Option ℕ) → (has : List (List ℕ)) → List Note → (last : State) → (low : ℕ) → (high : Option ℕ) → (writes : List (List ℕ)) → Certificate
-made version path min max has notes last low high writes = record {
-  version = version;
-  path = path;
-  min = min;
-  max = max;
-  has = has;
-  notes = notes;
-  last = last;
-  low = low;
-  high = high;
-  writes = writes;
-}
-
 same-certificate : (one other : Certificate) → one.version ≡ other.version → one.path ≡ other.path → one.min ≡ other.min → one.max ≡ other.max → one.has ≡ other.has → one.notes ≡ other.notes → one.last ≡ other.last →
     one.low ≡ other.low → one.high ≡ other.high → one.writes ≡ other.writes → one ≡ other
-same-certificate one other version path min max has notes last low high writes =
-    ap (λ (x : Version). made x one.path one.min one.max one.has one.notes one.last one.low one.high one.writes) version
-    ∙ ap (λ (x : Option (List ℕ)). made other.version x one.min one.max one.has one.notes one.last one.low one.high one.writes) path
-    ∙ ap (λ (x : ℕ). made other.version other.path x one.max one.has one.notes one.last one.low one.high one.writes) min
-    ∙ ap (λ (x : Option ℕ). made other.version other.path other.min x one.has one.notes one.last one.low one.high one.writes) max
-    ∙ ap (λ (x : List (List ℕ)). made other.version other.path other.min other.max x one.notes one.last one.low one.high one.writes) has
-    ∙ ap (λ (x : List Note). made other.version other.path other.min other.max other.has x one.last one.low one.high one.writes) notes
-    ∙ ap (λ (x : State). made other.version other.path other.min other.max other.has other.notes x one.low one.high one.writes) last
-    ∙ ap (λ (x : ℕ). made other.version other.path other.min other.max other.has other.notes other.last x one.high one.writes) low
-    ∙ ap (λ (x : Option ℕ). made other.version other.path other.min other.max other.has other.notes other.last other.low x one.writes) high
-    ∙ ap (λ (x : List (List ℕ)). made other.version other.path other.min other.max other.has other.notes other.last other.low other.high x) writes
+same-certificate one other version path min max has notes last low high writes = λ k. record {
+  version = version k;
+  path = path k;
+  min = min k;
+  max = max k;
+  has = has k;
+  notes = notes k;
+  last = last k;
+  low = low k;
+  high = high k;
+  writes = writes k;
+}
 
 pub certificate-once : (script : Script) (start : Start) (one other : Certificate) → IsCertificate script start one → IsCertificate script start other → one ≡ other
 certificate-once script start one other h k =

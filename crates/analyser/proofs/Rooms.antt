@@ -1,15 +1,12 @@
 -- How often the invariant of the rounds of a list can still be weakened, and that this falls from each round to the next.
-use Rattle.std.proofs.Common.{pos, negsuc, ℤ, ◌≡◌, ◌≤◌, ◌<◌, ◌+◌, ◌*◌, ℕ, zero, suc, Bool, true, false, ◌||◌, ◌&&◌, List, [], ◌∷◌, length, get_or, Option, None, Some, ◌⊎◌, inl, inr, refl, sym, ap, subst, cond, nat_eq, arith}
+use Rattle.std.proofs.Common.{pos, negsuc, ℤ, ◌≡◌, ◌≤◌, ◌<◌, ◌+◌, ◌*◌, ℕ, zero, suc, Bool, true, false, ◌||◌, ◌&&◌, List, [], ◌∷◌, length, get_or, Option, None, Some, ◌⊎◌, inl, inr, refl, sym, subst, cond, nat_eq, arith}
 use Rattle.std.specs.Prelude.{nat_lt}
 use Rattle.std.specs.List.{list_all, filter}
-use Rattle.std.specs.Ordering.{is_eq, nat_cmp}
-use Rattle.std.specs.Cmp.Lexicographic.{pointwise, slice_cmp, bytes_decides}
-use Rattle.std.specs.declared.cmp.Ordering.{Ordering}
-use Rattle.std.specs.declared.cmp.Ordering.TheVariants.{Less, Equal, Greater}
+use Rattle.std.specs.Ordering.{is_eq}
+use Rattle.std.specs.Cmp.Lexicographic.{pointwise, bytes_decides}
 use Rattle.std.proofs.lemmas.Int.{ints}
 use Rattle.std.proofs.lemmas.Bool.{cases_lt, and_parts, or_cases, or_left, or_right}
 use Rattle.std.proofs.lemmas.List.FromFn.{get_or-map-range_with_len}
-use Rattle.std.proofs.lemmas.Map.Lookups.{exact_bytes}
 use Rattle.zones.specs.Bound.{IsKept, covers_bound}
 use Rattle.zones.specs.Zone.{Bounds}
 use Rattle.zones.specs.Zone as zones
@@ -25,7 +22,7 @@ use Rattle.ed_rules.specs.Choices.{Choice, order_of, has_choice, union, are_choi
 use Rattle.ed_rules.specs.Marks.{is_sure, both_sure}
 use Rattle.ed_rules.specs.Texts.{is_member, are_members, both_texts}
 use Rattle.ed_rules.specs.Order.{old_of_both, old_has_of_both, united, join, widen, CoversOld, Covers}
-use Rattle.ed_rules.proofs.Choosing.{choice-itself}
+use Rattle.ed_rules.proofs.Choosing.{choice-itself, same-choices}
 use Rattle.ed_rules.proofs.Texting.{member-passes, members-both, members-both_other}
 use Rattle.cert_check.specs.checker.Covering.{zone_covers, allows, are_among, old_covers, old_has_covers, covers}
 use Rattle.cert_check.proofs.verdicts.Covering.{below-each}
@@ -129,17 +126,6 @@ falls-zone old other new h n covers_old covers_other = record {
 }
 
 -- SETS
-
-is-equal : (o : Ordering) → is_eq o ≡ true → o ≡ Equal
-is-equal Less h = absurd cc
-is-equal Equal h = refl
-is-equal Greater h = absurd cc
-
-same-choices : (c d : Choice) → is_eq (order_of c d) ≡ true → c ≡ d
-same-choices None None h = refl
-same-choices None (Some d) h = absurd cc
-same-choices (Some c) None h = absurd cc
-same-choices (Some c) (Some d) h = ap (λ (t : List ℕ). Some t) (exact_bytes c d (is-equal (slice_cmp nat_cmp c d) h))
 
 -- how many members of a list a set lacks
 abbrev pub lacking : List Choice → (set : List Choice) → ℕ

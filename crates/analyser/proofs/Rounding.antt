@@ -27,7 +27,8 @@ use Rattle.analyser.specs.Following.{IsKnownOfList, IsNote, ListFails}
 use Rattle.analyser.specs.Walking.{AreKnown, IsRound, invariant_after, HasZones, IsLastRound, IsTaken}
 use Rattle.analyser.proofs.Going.{at-place, counted-none}
 use Rattle.analyser.proofs.Results.{either}
-use Rattle.analyser.proofs.Sets.{append-all, are-front, are-back, are-same, members-append}
+use Rattle.analyser.proofs.Sets.{append-all, are-front, are-back, members-append}
+use Rattle.ed_rules.proofs.Choosing.{choices-same}
 use Rattle.analyser.proofs.Remembering.{command_patterns, verb_paths, Within, within-step, within-join, within-widen, within-told}
 use Rattle.analyser.proofs.Gaining.{Among, among-join, among-widen, among-entry, among-told, among-left_by}
 use Rattle.analyser.proofs.Rooms.{Laws, state_room, falls-next}
@@ -104,7 +105,10 @@ pub known-first : (w : Sight) (x : Step) (first : State) → Known w x first fir
 known-first w x first =
     let texts = members-append (first.has ++ first.old_has) (w.watch ++ taken_matches x.command.verb []) in
     let both = members-append first.has first.old_has in (
-      (are-front first.patterns first.patterns (list_patterns x.list) (are-same first.patterns), are-front first.names first.names (list_names x.list) (are-same first.names)),
+      (
+        are-front first.patterns first.patterns (list_patterns x.list) (choices-same first.patterns),
+        are-front first.names first.names (list_names x.list) (choices-same first.names),
+      ),
       (
         members-through first.has (first.has ++ first.old_has) (texts_of w x first) both.0 texts.0,
         members-through first.old_has (first.has ++ first.old_has) (texts_of w x first) both.1 texts.0,
@@ -119,8 +123,8 @@ known-turned w x first invariant q =
     let gains = members-through w.watch (w.watch ++ taken_matches verb []) (texts_of w x first) both.0 texts.1 in
     let takes = members-through (taken_matches verb []) (w.watch ++ taken_matches verb []) (texts_of w x first) both.1 texts.1 in (
       within-list (patterns_of x first) (names_of x first) w x.list (entered w x invariant)
-          (are-back (list_patterns x.list) first.patterns (list_patterns x.list) (are-same (list_patterns x.list)))
-          (are-back (list_names x.list) first.names (list_names x.list) (are-same (list_names x.list)))
+          (are-back (list_patterns x.list) first.patterns (list_patterns x.list) (choices-same (list_patterns x.list)))
+          (are-back (list_names x.list) first.names (list_names x.list) (choices-same (list_names x.list)))
           (within-told (patterns_of x first) (names_of x first) w (body_entry verb invariant) q.0),
       among-list (texts_of w x first) w x.list (entered w x invariant) gains
           (among-told (texts_of w x first) w (body_entry verb invariant) (among-entry (texts_of w x first) verb invariant takes q.1)),
@@ -246,9 +250,6 @@ pub record Passing (w : Sight) (all : List Command) (entry : State) (inner : Lis
   pub on : (ts : List State) → AreInner w left coming ts → AreInner w all entry (inner ++ ts)
   pub off : (why : Fault) (t : State) (ts : List State) → InnerFail w why left coming (t ∷ ts) → InnerFail w why all entry (inner ++ t ∷ ts)
   pub result : left_by_list w all entry ≡ left_by_list w left coming
-
-pub passing-start : (w : Sight) (all : List Command) (entry : State) → Passing w all entry [] entry all
-passing-start w all entry = record { on = λ ts h. h; off = λ why t ts h. h; result = refl }
 
 push-state : (inner later : List State) (t : State) → inner ++ (t ∷ later) ≡ (inner ++ t ∷ []) ++ later
 push-state [] later t = refl

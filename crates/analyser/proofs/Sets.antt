@@ -1,29 +1,22 @@
 -- Sets of choices: those within another set, and how many of a list a set lacks.
-use Rattle.std.proofs.Common.{◌≡◌, ℕ, Bool, true, List, [], ◌∷◌, ◌++◌, map, None, Some, inl, inr, refl, nat_eq}
+use Rattle.std.proofs.Common.{◌≡◌, ℕ, Bool, true, List, [], ◌∷◌, ◌++◌, map, None, Some, refl, sym, ◌∙◌, nat_eq}
 use Rattle.std.specs.Prelude.{unwrap_or}
 use Rattle.std.specs.List.{list_all}
 use Rattle.std.specs.Ordering.{is_eq}
 use Rattle.std.specs.Cmp.Lexicographic.{pointwise}
 use Rattle.std.specs.declared.cmp.Ordering.TheVariants.{Less, Equal, Greater}
-use Rattle.std.proofs.lemmas.Bool.{and_from, and_parts, or_cases, or_left, or_right}
+use Rattle.std.proofs.lemmas.Bool.{and_from, and_parts, or_left, or_right}
+use Rattle.std.proofs.lemmas.List.Folds.{list_all-append, list_any-append}
 use Rattle.ed_rules.specs.Choices.{Choice, order_of, has_choice, with_choice, union, are_choices}
 use Rattle.ed_rules.specs.Texts.{is_member, are_members}
 use Rattle.ed_rules.specs.Files.{filled}
-use Rattle.ed_rules.proofs.Choosing.{choice-itself}
+use Rattle.ed_rules.proofs.Choosing.{choices-more, has-are_choices}
 use Rattle.ed_rules.proofs.Texting.{members-more}
 
 -- WITHIN A SET
 
-pub all-append : (p : Choice → Bool) (cs ds : List Choice) → list_all p cs ≡ true → list_all p ds ≡ true → list_all p (cs ++ ds) ≡ true
-all-append p [] ds e f = f
-all-append p (c ∷ cs) ds e f = let h = and_parts (p c) (list_all p cs) e in and_from (p c) (list_all p (cs ++ ds)) h.0 (all-append p cs ds h.1 f)
-
 pub append-all : (p : Choice → Bool) (cs ds : List Choice) → list_all p (cs ++ ds) ≡ true → (list_all p cs ≡ true) × (list_all p ds ≡ true)
-append-all p [] ds e = (refl, e)
-append-all p (c ∷ cs) ds e =
-    let here = and_parts (p c) (list_all p (cs ++ ds)) e in
-    let later = append-all p cs ds here.1 in
-    (and_from (p c) (list_all p cs) here.0 later.0, later.1)
+append-all p cs ds e = and_parts (list_all p cs) (list_all p ds) (sym (list_all-append p cs ds) ∙ e)
 
 are-with_choice : (many : List Choice) (c : Choice) (set : List Choice) → has_choice many c ≡ true → are_choices set many ≡ true → are_choices (with_choice c set) many ≡ true
 are-with_choice many c [] h e = and_from (has_choice many c) true h refl
@@ -53,48 +46,25 @@ pub are-filled : (many : List Choice) (path : List ℕ) (set : List Choice) → 
 unfolding filled
 are-filled many path set h e = are-union many (map (λ (c : Choice). Some (unwrap_or c path)) set) [] (are-named many path set h e) refl
 
-has-first : (c : Choice) (cs : List Choice) → has_choice (c ∷ cs) c ≡ true
-has-first c cs = or_left (is_eq (order_of c c)) (has_choice cs c) (choice-itself c)
-
-are-more : (d : Choice) (few many : List Choice) → are_choices few many ≡ true → are_choices few (d ∷ many) ≡ true
-are-more d [] many e = refl
-are-more d (c ∷ few) many e =
-    let h = and_parts (has_choice many c) (are_choices few many) e in
-    and_from (has_choice (d ∷ many) c) (are_choices few (d ∷ many)) (or_right (is_eq (order_of c d)) (has_choice many c) h.0) (are-more d few many h.1)
-
-pub are-same : (set : List Choice) → are_choices set set ≡ true
-are-same [] = refl
-are-same (c ∷ set) = and_from (has_choice (c ∷ set) c) (are_choices set (c ∷ set)) (has-first c set) (are-more c set set (are-same set))
-
-has-front : (c : Choice) (cs ds : List Choice) → has_choice cs c ≡ true → has_choice (cs ++ ds) c ≡ true
-has-front c [] ds h = absurd cc
-has-front c (d ∷ cs) ds h = elim (or_cases (is_eq (order_of c d)) (has_choice cs c) h) [
-  | inl e ↦ or_left (is_eq (order_of c d)) (has_choice (cs ++ ds) c) e
-  | inr e ↦ or_right (is_eq (order_of c d)) (has_choice (cs ++ ds) c) (has-front c cs ds e)
-]
-
 pub are-front : (few cs ds : List Choice) → are_choices few cs ≡ true → are_choices few (cs ++ ds) ≡ true
-are-front [] cs ds e = refl
-are-front (c ∷ few) cs ds e =
-    let h = and_parts (has_choice cs c) (are_choices few cs) e in and_from (has_choice (cs ++ ds) c) (are_choices few (cs ++ ds)) (has-front c cs ds h.0) (are-front few cs ds h.1)
+are-front few cs ds e =
+    choices-more few (cs ++ ds)
+    (λ c h. list_any-append (λ d. is_eq (order_of c d)) cs ds ∙ or_left (has_choice cs c) (has_choice ds c)
+    (has-are_choices few cs c e h))
 
 pub are-back : (few cs ds : List Choice) → are_choices few ds ≡ true → are_choices few (cs ++ ds) ≡ true
-are-back few [] ds e = e
-are-back few (c ∷ cs) ds e = are-more c few (cs ++ ds) (are-back few cs ds e)
+are-back few cs ds e =
+    choices-more few (cs ++ ds)
+    (λ c h. list_any-append (λ d. is_eq (order_of c d)) cs ds ∙ or_right (has_choice cs c) (has_choice ds c)
+    (has-are_choices few ds c e h))
 
 -- SETS OF TEXTS
 
-member-front : (one other : List (List ℕ)) (t : List ℕ) → is_member one t ≡ true → is_member (one ++ other) t ≡ true
-member-front [] other t h = absurd cc
-member-front (u ∷ one) other t h = elim (or_cases (pointwise nat_eq u t) (is_member one t) h) [
-  | inl e ↦ or_left (pointwise nat_eq u t) (is_member (one ++ other) t) e
-  | inr e ↦ or_right (pointwise nat_eq u t) (is_member (one ++ other) t) (member-front one other t e)
-]
-
-member-back : (one other : List (List ℕ)) (t : List ℕ) → is_member other t ≡ true → is_member (one ++ other) t ≡ true
-member-back [] other t h = h
-member-back (u ∷ one) other t h = or_right (pointwise nat_eq u t) (is_member (one ++ other) t) (member-back one other t h)
-
 -- both are among all of them
 pub members-append : (one other : List (List ℕ)) → (are_members one (one ++ other) ≡ true) × (are_members other (one ++ other) ≡ true)
-members-append one other = (members-more one (one ++ other) (member-front one other), members-more other (one ++ other) (member-back one other))
+members-append one other = (
+  members-more one (one ++ other)
+      (λ t h. list_any-append (λ u. pointwise nat_eq u t) one other ∙ or_left (is_member one t) (is_member other t) h),
+  members-more other (one ++ other)
+      (λ t h. list_any-append (λ u. pointwise nat_eq u t) one other ∙ or_right (is_member one t) (is_member other t) h),
+)

@@ -37,19 +37,10 @@ Agrees-map R S (Ok a) (Err e) g h k = absurd h
 pub Agrees-ok : {A B : Type 0} (R : A → B → Type 0) (a : A) (b : B) (y : Result B Fault) → y ≡ Ok b → R a b → Agrees R (Ok a) y
 Agrees-ok {B = B} R a b y e r = subst (λ (z : Result B Fault). Agrees R (Ok a) z) (sym e) r
 
--- what a rule refuses agrees with everything
-pub Agrees-never : {A B C : Type 0} (S : B → C → Type 0) (x : Result A Fault) (f : Fault) (y : Result C Fault) → Agrees S (x >> λ (_ : A). Err f) y
-Agrees-never S (Ok a) f y = tt
-Agrees-never S (Err e) f y = tt
-
 pub Agrees-need_then : {A B C : Type 0} (R : B → C → Type 0) (b : Bool) (f : Fault) (a : A) (k : A → Result B Fault) (y : Result C Fault) →
     (b ≡ true → Agrees R (k a) y) → Agrees R (needing b f a >> k) y
 Agrees-need_then R true f a k y h = h refl
 Agrees-need_then R false f a k y h = tt
-
-pub Agrees-refused : {A B C : Type 0} (S : B → C → Type 0) (x : Result A Fault) (k : A → Result B Fault) (y : Result C Fault) → ((a : A) → Agrees S (k a) y) → Agrees S (x >> k) y
-Agrees-refused S (Ok a) k y h = h a
-Agrees-refused S (Err e) k y h = tt
 
 -- a chain of steps may be read from either end
 pub bind-twice : {A B C : Type 0} (x : Result A Fault) (f : A → Result B Fault) (g : B → Result C Fault) → (x >> f) >> g ≡ x >> λ a. f a >> g

@@ -1,18 +1,17 @@
 -- Covering is an order of states, in which what unites two states covers both.
-use Rattle.std.proofs.Common.{◌≡◌, ◌<◌, ℕ, Bool, true, false, ◌&&◌, List, [], ◌∷◌, Option, None, Some, refl, ◌∙◌, sym, arith}
-use Rattle.std.specs.Ordering.{is_eq}
+use Rattle.std.proofs.Common.{◌≡◌, ◌<◌, ℕ, Bool, true, false, ◌&&◌, List, Option, None, Some, ◌∙◌, sym, arith}
 use Rattle.std.proofs.lemmas.List.FromFn.{get_or-map-range_with_len}
-use Rattle.std.proofs.lemmas.Bool.{and_from, and_parts, or_left, or_right}
+use Rattle.std.proofs.lemmas.Bool.{and_parts, or_left, or_right}
 use Rattle.zones.specs.Zone as zones
 use Rattle.zones.specs.Zone.{Bounds}
 use Rattle.zones.specs.Steps.{join_of, widening_of}
 use Rattle.ed_rules.specs.declared.state.Old.{Old}
 use Rattle.ed_rules.specs.declared.state.State.{State}
-use Rattle.ed_rules.specs.Choices.{Choice, order_of, has_choice, union, are_choices}
+use Rattle.ed_rules.specs.Choices.{Choice, has_choice, union, are_choices}
 use Rattle.ed_rules.specs.Marks.{is_sure, both_sure}
 use Rattle.ed_rules.specs.Order.{old_of_both, old_has_of_both, united, join, widen, CoversOld, CoversOldHas, Covers}
 use Rattle.ed_rules.proofs.Texting.{members-same, members-through, members-both, members-both_other}
-use Rattle.ed_rules.proofs.Choosing.{choice-itself, has_choice-all, has-union, has-union_other}
+use Rattle.ed_rules.proofs.Choosing.{has_choice-all, has-union, has-union_other, choices-more, choices-same}
 
 -- the laws on zones that this rests on
 pub record Laws : Type 0 where
@@ -24,15 +23,6 @@ pub record Laws : Type 0 where
   pub widen_other : (old new : Bounds) → zones.Covers (widening_of old new) new
 
 -- SETS OF CHOICES
-
-choices-more : (few many : List Choice) → ((c : Choice) → has_choice few c ≡ true → has_choice many c ≡ true) → are_choices few many ≡ true
-choices-more [] many h = refl
-choices-more (c ∷ few) many h =
-    and_from (has_choice many c) (are_choices few many) (h c (or_left (is_eq (order_of c c)) (has_choice few c) (choice-itself c)))
-    (choices-more few many (λ d k. h d (or_right (is_eq (order_of d c)) (has_choice few d) k)))
-
-choices-same : (set : List Choice) → are_choices set set ≡ true
-choices-same set = choices-more set set (λ c h. h)
 
 choices-through : (few many more : List Choice) → are_choices few many ≡ true → are_choices many more ≡ true → are_choices few more ≡ true
 choices-through few many more h k = choices-more few more (λ c e. has_choice-all (has_choice more) many c k (has_choice-all (has_choice many) few c h e))

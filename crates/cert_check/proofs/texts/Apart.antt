@@ -11,7 +11,6 @@ use Rattle.cert_check.specs.text.HasText.{HasText, IsText}
 use Rattle.cert_check.specs.text.Faults.{Begins, IsWhole, IsVersionFault, IsLineFault, IsSizeFault, more, less}
 use Rattle.cert_check.specs.text.Pieces.{texts, IsReadAs, rest_lines}
 use Rattle.cert_check.proofs.texts.Pieces.{first-of, later-of, bytes_of-append}
-use Rattle.cert_check.proofs.texts.Stated.{after-same}
 use Rattle.cert_check.proofs.texts.OneText.{version-same}
 use Rattle.cert_check.proofs.texts.Certified.{rest-ends}
 use Rattle.cert_check.proofs.texts.Told.{version_text, no-newline, first-cut, no-bytes, begins-goes, text-is, text-lines}
@@ -76,10 +75,6 @@ text-line bytes c number t f =
           f.refused (begins-of c (f.above ++ f.line ∷ []) [] t.0 (sym (append-nil (lines_of c)) ∙ ap (λ (l : List (List ℕ)). lines_of c ++ l) (sym none) ∙ is ∙ sym (append-nil (f.above ++ f.line ∷ []))))
       | shorter r is before ↦ f.refused (begins-of c (f.above ++ f.line ∷ []) r t.0 is)
     ]
-
--- the text of one certificate isn't the front of another's
-cancelled : (a later : List ℕ) → a ≡ a ++ later → later ≡ []
-cancelled a later e = sym (after-same a [] later (append-nil a ∙ e))
 
 text-more : (c w : Certificate) (later : List ℕ) → HasText c → HasText w → text_of c ≡ text_of w ++ later → later ≡ []
 text-more c w later h k e =

@@ -1,7 +1,6 @@
 -- Items that are written one after another, each so that it shows where it ends: what is read of them is all that they can be.
-use Rattle.std.proofs.Common.{◌≡◌, ◌<◌, ◌++◌, ◌∷◌, [], ℕ, List, map, length, arith, refl, ◌∙◌, sym, ap, subst, append_assoc, append-nil}
+use Rattle.std.proofs.Common.{◌≡◌, ◌<◌, ◌++◌, ◌∷◌, [], ℕ, List, map, length, arith, refl, ◌∙◌, sym, ap, subst, append_assoc}
 use Rattle.std.specs.List.{flat_map}
-use Rattle.std.proofs.lemmas.Grind.{flat_map-append}
 use Rattle.cert_check.specs.text.Text.{Word, space, spaced}
 
 -- how an item is spelled, and what may stand after one
@@ -38,13 +37,6 @@ left-of spell Follows code (x ∷ done) (y ∷ all) left ends e =
     let first : y ≡ x = both.0 in
     let others : all ≡ done ++ later.later = later.is in
     record { later = later.later; is = cc; rest = later.rest }
-
--- one item more
-pub item-more : {A : Type 0} (spell : A → List ℕ) (done : List A) (x : A) (left later whole : List ℕ) → flat_map spell done ++ left ≡ whole → spell x ++ later ≡ left →
-    flat_map spell (done ++ x ∷ []) ++ later ≡ whole
-item-more {A} spell done x left later whole e here =
-    ap (λ (t : List ℕ). t ++ later) (flat_map-append spell done (x ∷ []) ∙ ap (λ (t : List ℕ). flat_map spell done ++ t) (append-nil (spell x)))
-    ∙ append_assoc (flat_map spell done) (spell x) later ∙ ap (λ (t : List ℕ). flat_map spell done ++ t) here ∙ e
 
 -- words after spaces are such items
 pub spaced-map : {A : Type 0} (word : A → Word) (xs : List A) → spaced (map word xs) ≡ flat_map (λ x. space ∷ word x) xs

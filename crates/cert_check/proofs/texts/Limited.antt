@@ -1,10 +1,10 @@
 -- Which certificates have a text, test by test.
-use Rattle.std.proofs.Common.{◌≡◌, ◌<◌, ◌≤◌, ◌+◌, ◌-◌, ◌*◌, ◌/◌, ◌%◌, ◌∷◌, [], ℕ, zero, suc, Bool, true, List, length, get_or, map, take, drop, None, Some, arith, refl, ◌∙◌, sym, ap, subst, drop-cons}
+use Rattle.std.proofs.Common.{◌≡◌, ◌<◌, ◌≤◌, ◌+◌, ◌-◌, ◌*◌, ◌/◌, ◌%◌, ◌∷◌, [], ℕ, zero, suc, Bool, List, length, get_or, map, take, drop, None, arith, refl, sym, ap, subst}
 use Rattle.std.specs.List.{All}
 use Rattle.std.proofs.lemmas.List.{take_more, length-map, get_or-map}
 use Rattle.std.proofs.lemmas.List.Elements.{All-nil, All-cons, All-append}
 use Rattle.zones.specs.Zone.{Bounds, bound}
-use Rattle.ed_rules.specs.Formed.{may_say, is_rising}
+use Rattle.ed_rules.specs.Formed.{may_say}
 
 -- the test at a place
 pub at-place : (marks : List Bool) (zone : Bounds) (place : ℕ) →

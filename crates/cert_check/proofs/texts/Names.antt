@@ -27,13 +27,3 @@ has-fixed marks name low =
 later-word : (name : ℕ) → (name ≡ 0 → ⊥) → (name ≡ 1 → ⊥) → (name ≡ 2 → ⊥) → name_word name ≡ (97 + (name - 6)) ∷ []
 later-word name zero current last =
     cond-false (name == 0) _ _ (ne_eqb name 0 zero) ∙ cond-false (name == 1) _ _ (ne_eqb name 1 current) ∙ cond-false (name == 2) _ _ (ne_eqb name 2 last)
-
-pub letter-word : (name letter byte : ℕ) → 6 + letter ≡ name → byte ≡ 97 + letter → name_word name ≡ byte ∷ []
-letter-word name letter byte is b =
-    let at : 97 + (name - 6) ≡ byte = omega arith in
-    later-word name (λ e. omega arith) (λ e. omega arith) (λ e. omega arith) ∙ ap (λ (x : ℕ). x ∷ []) at
-
-pub temporary-word : (name : ℕ) → name < 6 → (name ≡ 0 → ⊥) → (name ≡ 1 → ⊥) → (name ≡ 2 → ⊥) → name_word name ≡ 97 ∷ []
-temporary-word name low zero current last =
-    let at : 97 + (name - 6) ≡ 97 = omega arith in
-    later-word name zero current last ∙ ap (λ (x : ℕ). x ∷ []) at

@@ -11,7 +11,7 @@ use Rattle.cert_check.specs.declared.certificate.Version.{Version}
 use Rattle.cert_check.specs.Certificates.{Looped, Note}
 use Rattle.cert_check.specs.text.HasText.{StateHasText, LoopedHasText, NoteHasText}
 use Rattle.cert_check.specs.text.Text as text
-use Rattle.cert_check.specs.text.Text.{Word, line_text, state_lines, headed_lines, looped_lines, note_lines}
+use Rattle.cert_check.specs.text.Text.{Word, state_lines, headed_lines, looped_lines, note_lines}
 use Rattle.cert_check.specs.text.Pieces.{Left, Took, texts, IsOf, alone, either_line, head_line, inner_lines, list_lines, ListIsFormed, noted_lines, NotedIsFormed, notes_lines}
 use Rattle.cert_check.proofs.texts.Separated.{head-same, Above-from_test, AreLinesOfWords, AreLinesOfWords-append}
 use Rattle.cert_check.proofs.texts.Unambiguous.{state-same, notes-same, after_notes, after_inner, inner-same, looped_made, looped-by, note_made}
@@ -623,6 +623,3 @@ module _ (version : Version) where
   -- the turn before a note is the word that says so
   pub took-notes : {old new : Left} (notes : List Note) (a b : Bool) → a ≡ b → Took (note_texts notes ++ turn_texts a) old new → Took (note_texts notes ++ turn_texts b) old new
   took-notes {old} {new} notes a b e t = subst (λ (c : Bool). Took (note_texts notes ++ turn_texts c) old new) e t
-
-  pub notes-all : (notes : List Note) → note_texts notes ++ turn_texts false ≡ texts (notes_lines version notes)
-  notes-all notes = sym (texts-append (flat_map (note_lines version) notes) ((codes "end" ∷ []) ∷ []))

@@ -187,17 +187,7 @@ certificate_made version path min max has notes last low high writes = record {
 }
 
 certificate-by : (a b : Certificate) → a.version ≡ b.version → a.path ≡ b.path → a.min ≡ b.min → a.max ≡ b.max → a.has ≡ b.has → a.notes ≡ b.notes → a.last ≡ b.last → a.low ≡ b.low → a.high ≡ b.high → a.writes ≡ b.writes → a ≡ b
-certificate-by a b v p m x t n l w h s =
-    ap (λ (z : Version). certificate_made z a.path a.min a.max a.has a.notes a.last a.low a.high a.writes) v
-    ∙ ap (λ (z : Option (List ℕ)). certificate_made b.version z a.min a.max a.has a.notes a.last a.low a.high a.writes) p
-    ∙ ap (λ (z : ℕ). certificate_made b.version b.path z a.max a.has a.notes a.last a.low a.high a.writes) m
-    ∙ ap (λ (z : Option ℕ). certificate_made b.version b.path b.min z a.has a.notes a.last a.low a.high a.writes) x
-    ∙ ap (λ (z : List (List ℕ)). certificate_made b.version b.path b.min b.max z a.notes a.last a.low a.high a.writes) t
-    ∙ ap (λ (z : List Note). certificate_made b.version b.path b.min b.max b.has z a.last a.low a.high a.writes) n
-    ∙ ap (λ (z : State). certificate_made b.version b.path b.min b.max b.has b.notes z a.low a.high a.writes) l
-    ∙ ap (λ (z : ℕ). certificate_made b.version b.path b.min b.max b.has b.notes b.last z a.high a.writes) w
-    ∙ ap (λ (z : Option ℕ). certificate_made b.version b.path b.min b.max b.has b.notes b.last b.low z a.writes) h
-    ∙ ap (λ (z : List (List ℕ)). certificate_made b.version b.path b.min b.max b.has b.notes b.last b.low b.high z) s
+certificate-by a b v p m x t n l w h s = λ k. certificate_made (v k) (p k) (m k) (x k) (t k) (n k) (l k) (w k) (h k) (s k)
 
 -- the lines of a certificate below the first, in a version
 abbrev pub lines_in : Version → Certificate → List Line

@@ -8,7 +8,6 @@ use Rattle.cert_check.specs.text.Text.{spaced, sure_letters, letters_words}
 use Rattle.cert_check.specs.text.Reading.{all_marks}
 use Rattle.cert_check.proofs.texts.Separated.{tail-same}
 use Rattle.cert_check.proofs.texts.Chosen.{later-letters}
-use Rattle.cert_check.proofs.texts.Limited.{past-end}
 
 -- the byte that spells a letter
 pub letter-byte : (byte letter : ℕ) → letter_of byte ≡ Some letter → byte ≡ 97 + letter
@@ -76,10 +75,6 @@ pub letter-kept : (marks : List Bool) (k : ℕ) (left : List ℕ) → k < length
     sure_letters (97 + (k + 1)) (drop (k + 1) marks) ≡ left
 letter-kept marks k left l absent e =
     one-further marks k left (letters-not-here (get_or marks k false) (97 + k) (drop (suc k) marks) left (letters-at marks k left l e) absent)
-
--- after the last letter nothing is left
-pub letters-end : (marks : List Bool) (k : ℕ) (left : List ℕ) → length marks ≤ k → sure_letters (97 + k) (drop k marks) ≡ left → [] ≡ left
-letters-end marks k left l e = ap (λ (ms : List Bool). sure_letters (97 + k) ms) (sym (past-end marks k l)) ∙ e
 
 -- letters say which word they are
 pub letters-word-same : (a b : List ℕ) → spaced (letters_words a) ≡ spaced (letters_words b) → a ≡ b

@@ -4,7 +4,7 @@ use Rattle.std.specs.Prelude.{IsErrAnd}
 use Rattle.cert_check.specs.declared.text.fault.Unread.{Unread}
 use Rattle.cert_check.specs.text.Text as text
 use Rattle.cert_check.specs.text.Pieces.{Left, Took, texts, IsOf, IsFault, Reads, alone}
-use Rattle.cert_check.proofs.texts.Pieces.{later-of, texts-append, took-more, took-none, Expects, Determined, texts-determined, exits}
+use Rattle.cert_check.proofs.texts.Pieces.{later-of, texts-append, took-more, took-none, Expects, exits}
 
 -- a piece and those after it
 unfoldable pub followed : {A B : Type 0} → (A → List text.Line) → (B → List text.Line) → A × B → List text.Line
@@ -19,9 +19,6 @@ Cuts {A} here Here = (a b : A) (x y : List (List ℕ)) → Here a → Here b →
 
 pub cuts-line : {A : Type 0} (spell : A → text.Line) (Has : A → Type 0) → Cuts (alone spell) Has
 cuts-line spell Has a b x y h k e = later-of e
-
-pub cuts-determined : {A : Type 0} (here : A → List text.Line) (Here : A → Type 0) → Determined here Here → Cuts here Here
-cuts-determined here Here d a b x y h k e = (texts-determined here Here a b x y d h k e).1
 
 module _ {A B : Type 0} (here : A → List text.Line) (later : B → List text.Line) (Here : A → Type 0) (Later : B → Type 0) where
   lines-of : (values : A × B) → texts (followed here later values) ≡ texts (here values.0) ++ texts (later values.1)

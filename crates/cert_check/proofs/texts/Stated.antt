@@ -376,17 +376,6 @@ module _ (version : Version) where
       SoFar (IsOf (undo_lines version) (UndoIsFormed version)) (IsOf (matched_lines version (codes "old-has")) (IsSaidIn version)) old new
   old-read so_far value read = on _ _ _ _ so_far (cuts-marked (codes "old-zone") (codes "old-marks")) value read
 
-  -- undo finds no earlier buffer
-  pub undo-none : {old new : Left} (f : Found) → f.was ≡ false → IsFound f × Took (texts (found_line f ∷ [])) old new →
-      UndoIsFormed version (undo_without f, []) × Took (texts (undo_lines version (undo_without f, []))) old new
-  undo-none {old} {new} f was read = (
-    (ap (λ (b : Bool). f.nothing || f.same || b) (sym was) ∙ read.0, (tt, refl)),
-    subst
-        (λ (b : Bool).
-        Took (line_text (codes "undo" ∷ possible f.nothing (codes "nothing") ++ possible f.same (codes "same") ++ possible b (codes "was")) ∷ []) old new)
-        was read.1,
-  )
-
   -- what undo may find, the earlier buffer, and what some line of it matches, were read
   pub undo-read : {before mid after new : Left} (f : Found) (old : Old) (has : List (List ℕ)) → f.was ≡ true → IsFound f × Took (texts (found_line f ∷ [])) before mid →
       MarkedIsFormed old × Took (texts (marked_lines (codes "old-zone") (codes "old-marks") old)) mid after →

@@ -80,16 +80,7 @@ state_made zone marks patterns replacements names changed undo has old_has = rec
 }
 
 state-by : (a b : State) → a.zone ≡ b.zone → a.marks ≡ b.marks → a.patterns ≡ b.patterns → a.replacements ≡ b.replacements → a.names ≡ b.names → a.changed ≡ b.changed → a.undo ≡ b.undo → a.has ≡ b.has → a.old_has ≡ b.old_has → a ≡ b
-state-by a b z m p r n c u h o =
-    ap (λ (x : Bounds). state_made x a.marks a.patterns a.replacements a.names a.changed a.undo a.has a.old_has) z
-    ∙ ap (λ (x : List Bool). state_made b.zone x a.patterns a.replacements a.names a.changed a.undo a.has a.old_has) m
-    ∙ ap (λ (x : List Choice). state_made b.zone b.marks x a.replacements a.names a.changed a.undo a.has a.old_has) p
-    ∙ ap (λ (x : Replacements). state_made b.zone b.marks b.patterns x a.names a.changed a.undo a.has a.old_has) r
-    ∙ ap (λ (x : List Choice). state_made b.zone b.marks b.patterns b.replacements x a.changed a.undo a.has a.old_has) n
-    ∙ ap (λ (x : Changed). state_made b.zone b.marks b.patterns b.replacements b.names x a.undo a.has a.old_has) c
-    ∙ ap (λ (x : Undo). state_made b.zone b.marks b.patterns b.replacements b.names b.changed x a.has a.old_has) u
-    ∙ ap (λ (x : List (List ℕ)). state_made b.zone b.marks b.patterns b.replacements b.names b.changed b.undo x a.old_has) h
-    ∙ ap (λ (x : List (List ℕ)). state_made b.zone b.marks b.patterns b.replacements b.names b.changed b.undo b.has x) o
+state-by a b z m p r n c u h o = λ k. state_made (z k) (m k) (p k) (r k) (n k) (c k) (u k) (h k) (o k)
 
 -- lines that begin with different letters
 pub letter-differs : {x y : ℕ} {v w : Word} {vs ws : Line} {r s : List Line} → x < y → ((x ∷ v) ∷ vs) ∷ r ≡ ((y ∷ w) ∷ ws) ∷ s → ⊥
@@ -99,13 +90,13 @@ abbrev pub looped_made : State → List State → Looped
 looped_made invariant inner = record { invariant = invariant; inner = inner }
 
 pub looped-by : (a b : Looped) → a.invariant ≡ b.invariant → a.inner ≡ b.inner → a ≡ b
-looped-by a b i n = ap (λ (x : State). looped_made x a.inner) i ∙ ap (λ (x : List State). looped_made b.invariant x) n
+looped-by a b i n = λ k. looped_made (i k) (n k)
 
 abbrev pub note_made : State → Option Looped → Note
 note_made state looped = record { state = state; looped = looped }
 
 pub note-by : (a b : Note) → a.state ≡ b.state → a.looped ≡ b.looped → a ≡ b
-note-by a b i n = ap (λ (x : State). note_made x a.looped) i ∙ ap (λ (x : Option Looped). note_made b.state x) n
+note-by a b i n = λ k. note_made (i k) (n k)
 
 -- what some line matches, before other lines
 pub matched-same : (version : Version) (key : Word) (m n : List (List ℕ)) (r s : List Line) → IsSaidIn version m → IsSaidIn version n →

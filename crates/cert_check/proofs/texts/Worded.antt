@@ -6,7 +6,7 @@ use Rattle.std.proofs.lemmas.Bool.{eqb-false, eqb-true}
 use Rattle.std.proofs.lemmas.Fmt.{decimal_by_steps, signed_decimal_injective}
 use lib.Signed.{mag}
 use Rattle.cert_check.specs.text.Text.{Word, name_word}
-use Rattle.cert_check.proofs.texts.Separated.{Above, Above-append, AreWords}
+use Rattle.cert_check.proofs.texts.Separated.{Above, Above-append}
 
 pub decimal-above : (n : ℕ) → n < 2 ^ 64 → Above 32 (decimal n)
 decimal-above n h = decimal_by_steps (λ n ds. Above 32 ds) (λ k l. (omega arith, tt)) (λ k ds l rest. Above-append 32 ds ((48 + k % 10) ∷ []) rest (omega arith, tt)) n h
@@ -18,10 +18,6 @@ signed-above (negsuc n) h = (omega arith, decimal-above (suc n) (omega arith))
 above-if : (b : Bool) (t e : List ℕ) → Above 32 t → Above 32 e → Above 32 (cond b t e)
 above-if true t e h k = h
 above-if false t e h k = k
-
-words-if : (b : Bool) (t e : List Word) → AreWords t → AreWords e → AreWords (cond b t e)
-words-if true t e h k = h
-words-if false t e h k = k
 
 -- a name is one byte
 abbrev pub name_byte : ℕ → ℕ

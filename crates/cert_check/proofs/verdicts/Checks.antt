@@ -1,5 +1,5 @@
 -- What an accepted row of checks says, one check after another.
-use Rattle.std.proofs.Common.{◌≡◌, ℕ, Bool, true, false, not, ◌&&◌, ◌||◌, ◌∙◌, List, [], Option, None, Some, is_none, is_some, cond, Result, Ok, Err, refl, ap}
+use Rattle.std.proofs.Common.{◌≡◌, ℕ, Bool, true, false, not, ◌||◌, ◌∙◌, List, [], Option, None, Some, is_none, is_some, cond, Result, Ok, Err, refl, ap}
 use Rattle.ed_base.specs.declared.fault.Fault.{Fault}
 use Rattle.ed_syntax.specs.Commands.{Command}
 use Rattle.ed_rules.specs.declared.state.State.{State}
@@ -13,14 +13,6 @@ use Rattle.cert_check.specs.declared.checker.verdict.Verdict.TheVariants.{Accept
 use Rattle.cert_check.specs.Certificates.{Certificate}
 use Rattle.cert_check.specs.checker.Valid.{verdict_of, told, are_met, left_by, knows_least, knows_most, end_checks}
 use Rattle.cert_check.specs.checker.Passing.{Passes, left_where_met}
-
-pub and-first : (a b : Bool) → a && b ≡ true → a ≡ true
-and-first true b h = refl
-and-first false b h = absurd cc
-
-pub and-second : (a b : Bool) → a && b ≡ true → b ≡ true
-and-second true b h = h
-and-second false b h = absurd cc
 
 -- the first check holds, and those after it are accepted
 pub first-holds : (b : Bool) (p : Place) (later : Verdict) → (elim b as (λ _. Verdict) [ true ↦ later | false ↦ Refused p ]) ≡ Accepted →

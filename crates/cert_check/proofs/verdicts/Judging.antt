@@ -1,5 +1,6 @@
 -- The verdict, one command further.
 use Rattle.std.proofs.Common.{◌≡◌, ◌<◌, ℕ, suc, ◌+◌, Bool, true, false, not, ◌&&◌, ◌||◌, List, [], ◌∷◌, length, map, get_or, drop, Option, None, Some, is_none, Result, Ok, Err, IfOk, cond, arith, IsTrue, refl, ◌∙◌, sym, ap, subst, add-one, drop-cons}
+use Rattle.std.proofs.lemmas.Bool.{and_parts}
 use Rattle.std.proofs.lemmas.List.{drop-map, length-map}
 use Rattle.ed_syntax.specs.declared.command.Command as public_command
 use Rattle.ed_syntax.specs.Commands.{Command, Step, Script}
@@ -20,7 +21,6 @@ use Rattle.cert_check.specs.checker.Passing.{verdict_at, passed, ends_well, List
 use Rattle.cert_check.specs.checker.Sound.{CannotFail}
 use Rattle.ed_syntax.specs.meaning.Verbs.{is_step}
 use Rattle.std.specs.List.{list_all}
-use Rattle.cert_check.proofs.verdicts.Checks.{and-first, and-second}
 use Rattle.cert_check.proofs.verdicts.Counting.{counted-next}
 
 -- one check and those after it, which stand at one number
@@ -229,7 +229,7 @@ pub shaped-length : (xs : List Step) (notes : List Note) → are_shaped xs notes
 shaped-length [] [] h = refl
 shaped-length [] (n ∷ notes) h = absurd cc
 shaped-length (x ∷ xs) [] h = absurd cc
-shaped-length (x ∷ xs) (n ∷ notes) h = ap suc (shaped-length xs notes (and-second (fits x n) (are_shaped xs notes) h))
+shaped-length (x ∷ xs) (n ∷ notes) h = ap suc (shaped-length xs notes (and_parts (fits x n) (are_shaped xs notes) h).1)
 
 unshaped-length : (xs : List Step) (notes : List Note) → (length notes ≡ length xs → ⊥) → are_shaped xs notes ≡ false
 unshaped-length [] [] h = absurd (h refl)
@@ -280,7 +280,8 @@ module _ (commands : List public_command.Command) (notes : List public.Note) whe
   pub shape-fits : (index : ℕ) (d : public_command.Command) (n : public.Note) → index < length notes → d ≡ get_or commands index d → n ≡ get_or notes index n →
       are_shaped (counted (steps_value commands)) (map note_value notes) ≡ true → shape_from commands notes index ≡ true → fits (step_value d) (note_value n) ≡ true
   shape-fits index d n h is_d is_n all from =
-      and-first (fits (step_value d) (note_value n)) (shape_from commands notes (index + 1)) (sym (shape-here index d n h (noted-length all) is_d is_n) ∙ from)
+      (and_parts (fits (step_value d) (note_value n)) (shape_from commands notes (index + 1))
+      (sym (shape-here index d n h (noted-length all) is_d is_n) ∙ from)).0
 
 -- what is accepted can't fail, by the law
 pub sound-by : {E : Type 0} (r : Result Verdict E) (script : Script) (c : Certificate) → ((s : Script) (d : Certificate) → IsTrue (list_all is_step s.steps) → judged s d ≡ Accepted → CannotFail s d) →

@@ -1,14 +1,13 @@
 -- Accepted steps run to their end, from each state that what comes in stands for.
-use Rattle.std.proofs.Common.{◌≡◌, ℕ, ◌+◌, Bool, true, false, not, ◌&&◌, ◌||◌, List, [], ◌∷◌, length, Option, None, Some, refl, ◌∙◌, sym, ap, subst}
+use Rattle.std.proofs.Common.{◌≡◌, ℕ, ◌+◌, Bool, true, false, not, ◌||◌, List, [], ◌∷◌, length, Option, None, Some, refl, ◌∙◌, sym, ap, subst}
 use Rattle.std.specs.Prelude.{◌==◌}
 use Rattle.std.specs.List.{list_all}
-use Rattle.std.proofs.lemmas.Bool.{not-true}
-use Rattle.ed_syntax.specs.declared.request.Answer.{Answer}
+use Rattle.std.proofs.lemmas.Bool.{and_parts, not-true}
 use Rattle.ed_syntax.specs.Commands as ed
-use Rattle.ed_syntax.specs.Commands.{Verb, Command, Step}
+use Rattle.ed_syntax.specs.Commands.{Verb, Step}
 use Rattle.ed_syntax.specs.meaning.States as editor
 use Rattle.ed_syntax.specs.meaning.Verbs as verbs
-use Rattle.ed_syntax.specs.meaning.Progress.{Present, Progress}
+use Rattle.ed_syntax.specs.meaning.Progress.{Progress}
 use Rattle.ed_syntax.specs.meaning.Runs.{Further, step_by, step, at_end, steps}
 use Rattle.ed_syntax.specs.meaning.Verbs.{is_global, ends_run}
 use Rattle.ed_rules.specs.declared.state.State.{State}
@@ -19,7 +18,7 @@ use Rattle.cert_check.specs.declared.sight.Sight.{Sight}
 use Rattle.cert_check.specs.Certificates.{Looped, Note, Certificate}
 use Rattle.cert_check.specs.checker.Valid.{Check, verdict_of, has_quit, counted, are_met, left_by, are_listed, end_checks, left_after, step_checks, checks_from, fits_list, fits, are_shaped}
 use Rattle.cert_check.specs.checker.Sound.{RunsWell, IsUnflagged, GoesWell}
-use Rattle.cert_check.proofs.verdicts.Checks.{and-first, and-second, first-holds, EndsSo, end-holds}
+use Rattle.cert_check.proofs.verdicts.Checks.{first-holds, EndsSo, end-holds}
 use Rattle.cert_check.proofs.verdicts.Flags.{kept-unflagged}
 use Rattle.cert_check.proofs.verdicts.Running.{RunLaws, covers-stands, prompted-well, at_end-well, one-well, going-on, ended-well}
 use Rattle.cert_check.proofs.verdicts.Turning.{global-holds, later-holds, inner-sized}
@@ -71,7 +70,7 @@ module _ (k : RunLaws) (w : Sight) (c : Certificate) (bad : Option ℕ) (quit : 
     -- a global command
     looped-well : (l : Looped) → verbs.is_step x ≡ true → fits_list (is_global v) x.list (Some l) ≡ true → Holds (Some l) → GoesWell c w coming (λ m. step x m go)
     looped-well l stands fit h =
-        let g = and-first (is_global v) (length l.inner == length x.list) fit in
+        let g = (and_parts (is_global v) (length l.inner == length x.list) fit).0 in
         let t : State = left_after w (Some l) x s in
         let e : ends_run v ≡ false = global-goes-on v g in
         let after = later-holds w c number x s l coming (later t) (inner-sized (is_global v) x.list l fit) (global-holds w c number x s l coming (later t) h) in
@@ -93,8 +92,10 @@ steps-well k w c bad quit (x ∷ xs) number s [] q stands shape h m st none answ
 steps-well k w c bad quit (x ∷ xs) number s (n ∷ notes) q stands shape h m st none answers =
     let v : Verb = x.command.verb in
     let go : Further = λ t more. steps xs bad t more in
-    let others = and-second (verbs.is_step x) (list_all verbs.is_step xs) stands in
+    let others = (and_parts (verbs.is_step x) (list_all verbs.is_step xs) stands).1 in
     prompted-well c m (step x m go answers)
-    (step-well k w c bad quit x xs number n.state s notes go q (and-second (fits x n) (are_shaped (later_counted (ends_run v) xs) notes) shape)
+    (step-well k w c bad quit x xs number n.state s notes go q
+    (and_parts (fits x n) (are_shaped (later_counted (ends_run v) xs) notes) shape).1
     (λ t r l a u known clean more. steps-well k w c bad quit xs (number + 1) t notes r others l a u known clean more)
-    n.looped (and-first (verbs.is_step x) (list_all verbs.is_step xs) stands) (and-first (fits x n) (are_shaped (later_counted (ends_run v) xs) notes) shape) h m st none answers)
+    n.looped (and_parts (verbs.is_step x) (list_all verbs.is_step xs) stands).0
+    (and_parts (fits x n) (are_shaped (later_counted (ends_run v) xs) notes) shape).0 h m st none answers)

@@ -2,7 +2,7 @@
 use Rattle.std.proofs.Common.{◌≡◌, ◌≤◌, inl, inr, ℕ, zero, suc, ◌+◌, Bool, true, false, not, ◌&&◌, List, [], ◌∷◌, length, Option, None, Some, option_map, Ok, arith, refl, ◌∙◌, sym, ap, subst}
 use Rattle.std.specs.Prelude.{◌==◌}
 use Rattle.std.specs.List.{list_all}
-use Rattle.std.proofs.lemmas.Bool.{eqb-true, or_left, or_right}
+use Rattle.std.proofs.lemmas.Bool.{and_parts, eqb-true, or_left, or_right}
 use Rattle.std.proofs.lemmas.List.Elements.{All-nil, All-cons}
 use Rattle.ed_base.specs.Buffer.{Line}
 use Rattle.ed_syntax.specs.declared.request.Answer.{Answer}
@@ -30,7 +30,7 @@ use Rattle.cert_check.specs.Certificates.{Looped, Certificate}
 use Rattle.cert_check.specs.checker.Covering.{covers}
 use Rattle.cert_check.specs.checker.Valid.{told_by, told, Check, at_place, inner_at, verdict_of, are_met, left_by, are_listed, list_checks, left_after, step_checks, fits_list}
 use Rattle.cert_check.specs.checker.Sound.{RunsWell, IsUnflagged, GoesWell, GlobalGoesWell}
-use Rattle.cert_check.proofs.verdicts.Checks.{and-first, and-second, first-holds, plainly_left, met-gives}
+use Rattle.cert_check.proofs.verdicts.Checks.{first-holds, plainly_left, met-gives}
 use Rattle.cert_check.proofs.verdicts.Flags.{is-taken, none-left, none-found, over-unflagged}
 use Rattle.cert_check.proofs.verdicts.Running.{Laws, Leads, told-stands-by, told-stands, left-stands, covers-stands, one-well}
 
@@ -132,8 +132,8 @@ module _ (k : ListLaws) (w : Sight) (c : Certificate) (number : ℕ) (test : Lis
       let covered = first-holds (covers s coming) _ _ a in
       let met = first-holds (are_met d s) _ _ covered.1 in
       let paths = first-holds (are_listed c.writes d s) _ _ met.1 in
-      let is_listed = and-first (verbs.is_listed d) (list_all verbs.is_listed cs) all in
-      let others = and-second (verbs.is_listed d) (list_all verbs.is_listed cs) all in
+      let is_listed = (and_parts (verbs.is_listed d) (list_all verbs.is_listed cs) all).0 in
+      let others = (and_parts (verbs.is_listed d) (list_all verbs.is_listed cs) all).1 in
       one-well k.single w c d s m (λ t. listed cs t go) answers met.0 paths.0 (covers-stands k.single s coming m.state covered.0 st)
       (λ q more leads stands.
       listed-well cs states (inner + 1) (left_by w d s) (omega arith) others (λ l. may (or_right (may_alter d.verb) (list_may_alter cs) l)) paths.1 q stands
@@ -233,7 +233,7 @@ single-or-global false single g = absurd cc
 
 -- of a list that fits something is known of each command
 pub inner-sized : (global : Bool) (list : List Command) (l : Looped) → fits_list global list (Some l) ≡ true → length l.inner ≡ length list
-inner-sized global list l fit = eqb-true _ _ (and-second global (length l.inner == length list) fit)
+inner-sized global list l fit = eqb-true _ _ (and_parts global (length l.inner == length list) fit).1
 
 looped-goes-well : ListLaws → (w : Sight) (c : Certificate) (number : ℕ) (x : Step) (s : State) (looped : Option Looped) (coming : State) (later : List Check) (go : Further) → verbs.is_step x ≡ true →
     is_global x.command.verb ≡ true → fits_list (is_global x.command.verb) x.list looped ≡ true → verdict_of (step_checks w number c.writes x (record { state = s; looped = looped }) coming later) ≡ Accepted →
@@ -241,7 +241,7 @@ looped-goes-well : ListLaws → (w : Sight) (c : Certificate) (number : ℕ) (x 
 looped-goes-well k w c number x s None coming later go stands g fit h goes m st none answers = absurd (single-or-global (is_global x.command.verb) fit g)
 looped-goes-well k w c number x s (Some l) coming later go stands g fit h goes m st none answers =
     let holds = global-holds w c number x s l coming later h in
-    let listed = and-second (not x.command.listed && verbs.marks_by_letter x.command.verb) (list_all verbs.is_listed x.list) stands in
+    let listed = (and_parts (not x.command.listed && verbs.marks_by_letter x.command.verb) (list_all verbs.is_listed x.list) stands).1 in
     subst (λ (p : Progress). RunsWell c p) (sym (global-step x.command.verb x m go answers g))
     (global-well k w c number x s l m (covers-stands k.single s coming m.state holds.comes st) none g later (inner-sized (is_global x.command.verb) x.list l fit) listed holds.met holds.paths holds.covered holds.turns go
     goes answers)

@@ -110,12 +110,6 @@ shifted zone x c number hx holds =
     let e : w x ≡ number x +ℤ c = updated-same number x (number x +ℤ c) in
     Holds-after_shift zone x (Some c) (Some c) number w hx holds (updated-other number x (number x +ℤ c)) (omega (arith, ints)) (omega (arith, ints))
 
-not-moved : (x y : ℕ) (number : Numbers) → updated number x (number x +ℤ pos 0) y ≡ number y
-not-moved x y number = elim (cases_eq y x) [
-  | inl e ↦ ap (updated number x (number x +ℤ pos 0)) e ∙ updated-same number x (number x +ℤ pos 0) ∙ (let z : number x +ℤ pos 0 ≡ number x = omega (arith, ints) in z) ∙ ap number (sym e)
-  | inr d ↦ updated-other number x (number x +ℤ pos 0) y d
-]
-
 -- the same numbers
 pub moved-holds : (x : ℕ) (c : ℤ) (k : Known) (number : Numbers) (lines : List Line) → x < 32 → (2 ≡ x → ⊥) → KnownHolds k number lines → (c ≡ pos 0 → ⊥) → KnownHolds (moved x c k) (updated number x (number x +ℤ c)) lines
 moved-holds x (pos zero) k number lines hx ne h some = absurd (some refl)

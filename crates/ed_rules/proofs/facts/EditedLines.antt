@@ -22,10 +22,6 @@ pub record Sizes (a b n count count' : ℕ) : Type 0 where
   pub inside : b ≤ count
   pub left : count' + (b + 1) ≡ count + (n + a)
 
--- the test of a line by its place, counted from 0
-abbrev text_at : List ℕ → List Line → ℕ → Bool
-text_at pattern lines i = matches pattern (get_or lines i (plain_line [])).bytes
-
 abbrev pub test_of : List ℕ → List Line → ℕ → Bool
 test_of pattern new i = matches pattern (get_or new i (plain_line [])).bytes
 

@@ -1,9 +1,11 @@
 -- What a zone with facts says is true of the numbers that the zone and the facts hold of.
-use Rattle.std.proofs.Common.{◌≡◌, ◌<◌, ◌≤◌, inl, inr, ℕ, ℤ, pos, ◌+ℤ◌, ◌-ℤ◌, ◌≤ℤ◌, int_le, Bool, true, false, cond, not, eqb, List, [], ◌∷◌, length, All, Option, Some, None, refl, ap, subst, ◌∙◌, arith}
+use Rattle.std.proofs.Common.{◌≡◌, ◌<◌, ◌≤◌, inl, inr, ℕ, ℤ, pos, ◌+ℤ◌, ◌-ℤ◌, ◌≤ℤ◌, int_le, Bool}
+use Rattle.std.proofs.Common.{true, false, cond, not, List, [], ◌∷◌, length, All, Option, Some, None, refl, ap, subst, ◌∙◌}
+use Rattle.std.proofs.Common.{arith}
 use Rattle.std.specs.List.{list_any}
 use Rattle.std.specs.Cmp.Lexicographic.{bytes_decides}
 use Rattle.std.proofs.lemmas.Int.{ints}
-use Rattle.std.proofs.lemmas.Bool.{eq-eqb, ne_eqb, and_parts, or_cases}
+use Rattle.std.proofs.lemmas.Bool.{and_parts, or_cases}
 use Rattle.std.proofs.lemmas.Bool.Decides.{eqb_tells}
 use Rattle.std.proofs.lemmas.List.Elements.{All-head, All-tail}
 use Rattle.zones.specs.Zone.{Bounds, Numbers, Holds}
@@ -35,12 +37,6 @@ point-named x h = elim (eqb_tells x 32) [
 
 int_le-true : (a b : ℤ) → int_le a b ≡ true → a ≤ℤ b
 int_le-true a b h = grind (arith, ints)
-
-pub le-same : (zone : Bounds) (x y : Point) (c d : ℤ) → d ≡ (c +ℤ y.plus) -ℤ x.plus → x.name ≡ y.name → int_le (pos 0) d ≡ le zone x y c
-le-same zone x y c d e q = let k : eqb x.name y.name ≡ true = eq-eqb x.name y.name q in rw (e, k) refl
-
-pub le-other : (zone : Bounds) (x y : Point) (c d : ℤ) → d ≡ (c +ℤ y.plus) -ℤ x.plus → (x.name ≡ y.name → ⊥) → known zone x.name y.name d ≡ le zone x y c
-le-other zone x y c d e q = let k : eqb x.name y.name ≡ false = ne_eqb x.name y.name q in rw (e, k) refl
 
 pub le-true : (zone : Bounds) (number : Numbers) (x y : Point) (c : ℤ) → le zone x y c ≡ true → x.name < 32 → y.name < 32 →
     Holds zone number → value_of number x ≤ℤ (value_of number y +ℤ c)

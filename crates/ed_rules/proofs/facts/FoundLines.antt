@@ -140,9 +140,6 @@ with_stretch-holds w lines pattern a b facts ha hb clear h = record {
   of_clear = All-cons (StretchHolds w lines) (record { after = a; before = b; pattern = pattern }) facts.clear (record { after_named = ha; before_named = hb; holds = clear }) h.of_clear;
 }
 
-point-at : (x : ℕ) → x < 32 → point x ≡ at x
-point-at x h = let e : eqb x 32 ≡ false = ne_eqb x 32 (λ q. omega arith) in rw e refl
-
 pub value-at : (w : Numbers) (x : ℕ) → x < 32 → value_of w (point x) ≡ w x
 value-at w x h = let e : eqb x 32 ≡ false = ne_eqb x 32 (λ q. omega arith) in rw e (omega (arith, ints))
 

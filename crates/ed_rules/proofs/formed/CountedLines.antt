@@ -12,6 +12,7 @@ use Rattle.ed_rules.specs.States.{limited}
 use Rattle.ed_rules.specs.Pieces.{mark_bounded, ended}
 use Rattle.ed_rules.specs.Formed.{IsCounted}
 use Rattle.ed_rules.proofs.sound.Finishing.{for_each_sure-by}
+use Rattle.ed_rules.proofs.formed.Speaking.{at_most-zero}
 
 -- BOUNDS
 
@@ -46,10 +47,6 @@ guarded-way zone x y c p q hp hq h l f =
     (lesser-way (bound zone p q) (sum_of (sum_of (bound zone p x) (Some c)) (bound zone y q))
     (sum-low (bound zone p x) (bound zone y q) c h l f))
 
-diagonal : (zone : Bounds) (x : ℕ) → x < 32 → HasLowDiagonal zone → IsAtMostZero (bound zone x x)
-unfolding HasLowDiagonal
-diagonal zone x l h = h x l
-
 -- THE END OF A RULE
 
 marks-stay : (marks : List Bool) (zone : Bounds) → IsCounted zone → IsCounted (for_each_sure mark_bounded marks 26 zone)
@@ -67,11 +64,11 @@ ended-counted marks zone h =
     HasLowDiagonal-after_forget _ 5 (HasLowDiagonal-after_forget _ 4 (HasLowDiagonal-after_forget zone 3 h)) in
     let once : Bounds = after_guard forgot 0 1 (pos 0) in
     let first : IsAtMostZero (bound once 0 1) =
-    guarded-way forgot 0 1 (pos 0) 0 1 (omega arith) (omega arith) (diagonal forgot 0 (omega arith) low) (omega (arith, ints))
-    (diagonal forgot 1 (omega arith) low) in
+    guarded-way forgot 0 1 (pos 0) 0 1 (omega arith) (omega arith) (at_most-zero forgot 0 (omega arith) low) (omega (arith, ints))
+    (at_most-zero forgot 1 (omega arith) low) in
     let then_low : HasLowDiagonal once = HasLowDiagonal-after_guard forgot 0 1 (pos 0) low in
     marks-stay marks (after_guard once 1 2 (pos 0))
-    (guarded-way once 1 2 (pos 0) 0 2 (omega arith) (omega arith) first (omega (arith, ints)) (diagonal once 2 (omega arith) then_low))
+    (guarded-way once 1 2 (pos 0) 0 2 (omega arith) (omega arith) first (omega (arith, ints)) (at_most-zero once 2 (omega arith) then_low))
 
 -- THE START
 
@@ -88,5 +85,5 @@ pub start-counted : (min : ℕ) (max : Option ℕ) →
 start-counted min max =
     let low : HasLowDiagonal any_zone = HasLowDiagonal-any_zone in
     set-counted _ (limited-counted max _
-    (guarded-way any_zone 0 2 (neg_ℤ (pos min)) 0 2 (omega arith) (omega arith) (diagonal any_zone 0 (omega arith) low)
-    (omega (arith, ints)) (diagonal any_zone 2 (omega arith) low)))
+    (guarded-way any_zone 0 2 (neg_ℤ (pos min)) 0 2 (omega arith) (omega arith) (at_most-zero any_zone 0 (omega arith) low)
+    (omega (arith, ints)) (at_most-zero any_zone 2 (omega arith) low)))

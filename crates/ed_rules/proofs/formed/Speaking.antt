@@ -111,7 +111,7 @@ widened-any : (b : Option ℤ) → widen_bound b None ≡ None
 widened-any None = refl
 widened-any (Some d) = refl
 
-at_most-zero : (zone : Bounds) (x : ℕ) → x < 32 → HasLowDiagonal zone → IsAtMostZero (bound zone x x)
+pub at_most-zero : (zone : Bounds) (x : ℕ) → x < 32 → HasLowDiagonal zone → IsAtMostZero (bound zone x x)
 unfolding HasLowDiagonal
 at_most-zero zone x hx h = h x hx
 

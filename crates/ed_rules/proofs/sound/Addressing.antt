@@ -166,12 +166,6 @@ pub valued-sound : (x : ℕ) (a : Address) (s : State) (e : editor.State) (v : N
     Agrees (Valued x (concrete.evaluated a e) v) (evaluated x a s) (value a e)
 valued-sound x a s e v lo hi st m = valued_base-sound x a.base a.offset s e v lo hi st m
 
-abbrev pub IsOne : Addresses → Type 0
-IsOne Without = ⊥
-IsOne (One a) = Unit {0}
-IsOne (Comma a b) = ⊥
-IsOne (Semicolon a b) = ⊥
-
 -- the first two temporaries have the values of two addresses, or of one twice
 pub record Names (one : Type 0) (vs : List ℕ) (lines : List Line) (v : Numbers) : Type 0 where
   pub first_is : v 3 ≡ pos (first_of_two vs)
