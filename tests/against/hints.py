@@ -51,13 +51,13 @@ def failing(random):
 
 LATER = [
     'd', 's/.$//', '.d', '.,$d', 'a\nlater\n.', 'i\nlater\n.', '+1d', '-1d', 's//z/', '.r extra', 'u', 'p', '=', '$d', '1d', '$a\nend\n.',
-    '1,2p', 'g/a/s//A/', 'w copy', 'k', 'kb', 't.', 'm0', 'j', 'n', '/x/d', '1p', '.t$',
+    '1,2p', 'g/a/s//A/', 'w copy', 'k', 'kb', 't.', 'm0', 'j', 'n', '/x/d', '1p', '.t$', "'ad", '1p\nu', '$d\nu', 'u\nd',
 ]
 
 
 def script_of(random):
     """A script: commands before, one that may fail, commands after, and its end."""
-    before = random.choices(['', '1p\n', '1d\n', '$a\ntop\n.\n', '2p\n', '/x/p\n', 'g/a/s//b/\n'], [6, 1, 1, 1, 1, 1, 1])[0]
+    before = random.choices(['', '1p\n', '1d\n', '$a\ntop\n.\n', '2p\n', '/x/p\n', 'g/a/s//b/\n', '$ka\n'], [6, 1, 1, 1, 1, 1, 1, 1])[0]
     later = [random.choice(LATER) for _ in range(random.randrange(1, 4))]
     later = ['ka' if command == 'k' else command for command in later]
     return (before + failing(random) + '\n' + '\n'.join(later) + '\nw\nq\n').encode()

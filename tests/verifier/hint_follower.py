@@ -9,6 +9,7 @@ import subprocess
 import tempfile
 
 HERE = os.path.dirname(os.path.abspath(__file__))
+ELSE = 'then (?:works on another line|takes back something else)'
 PROGRAM = os.environ.get('PROGRAM', f'{HERE}/../../crates/ed_main/out/ed_main')
 
 
@@ -55,9 +56,8 @@ def end_of_command(lines, at):
 def globally(lines, at, hint):
     """The lines with a global command in the place of those from one on, as a hint says it."""
     shown = re.match(r'`(.*?)` can\'t fail: ', hint).group(1)
-    first = end_of_command(lines, at) if 'it stands for two commands' in hint else at
-    end = end_of_command(lines, first)
-    rest = lines[first + 1:end]
+    end = end_of_command(lines, at)
+    rest = lines[at + 1:end]
     more = re.search(r'the next (?:(\d+) commands|command), ', hint)
     if more:
         for _ in range(int(more.group(1) or 1)):
@@ -205,14 +205,14 @@ def silent(lines, at, text, new, files):
     if before == after:
         return None
     if "can't fail" in text:
-        if failed is not None and failed <= at + ('it stands for two commands' in text):
+        if failed is not None and failed <= at:
             said = 'and the script goes on' in text or 'replaces nothing is no fault' in text
         else:
             count = count_of_matches(lines, at, files)
             many = count is not None and count > 1
             said = many or bool(re.search(r'current line (on|back)|wherever the search began', text))
-            said = said or bool(re.search(r'then works on another line(?! unless)|replaces nothing is no fault', text))
+            said = said or bool(re.search(rf'{ELSE}(?! unless)|replaces nothing is no fault', text))
     else:
-        said = bool(re.search('then works on another line|the changes are lost|both searches', text))
+        said = bool(re.search(rf'{ELSE}|the changes are lost|both searches', text))
         said = said or bool(re.search(r'write first \(w\)|has no `\.`|^end the text of|^leave ', text))
     return None if said else f'command at line {failed} failed: {before} became {after}'

@@ -7,26 +7,40 @@ also of a file in which no line matches, or the hint says what else. Rows withou
 import re
 import sys
 
-from hint_follower import left_by_script, silent, steps, vouch
+from hint_follower import ELSE, left_by_script, silent, steps, vouch
 
 NONE = b'alpha\nbeta\n'
 ROWS = [
-    # name, script, file, what is left of it, a word that one of the hints has; with other bounds or patterns than one line at least
+    # name, script, file, what is left of it, a word that one of the hints has; what is left by the hint, where that is another file, other files
+    # that are written, and the patterns that are stated
     ('several lines, backward', '?^port=?d\nw\nq\n', 'port=1\na\nport=2\nb\n', 'port=1\na\nb\n', 'every line that matches'),
     ('several lines, copied', '/x/t$\nw\nq\n', 'x\na\n', 'x\na\nx\n', 'every line that matches'),
+    ('moved to the top', '/x/m0\nw\nq\n', 'a\nx\nb\n', 'x\na\nb\n', 'every line that matches'),
+    ('another line in the place of one', '/x/c\nnew\n.\nw\nq\n', 'a\nx\nb\n', 'a\nnew\nb\n', 'and its `.` goes'),
     ('twice the same deletion', '/x/d\n/x/d\nw\nq\n', 'x1\nx2\nx3\n', 'x2\n', 'then works on another line'),
     ('d after s', '/^port=/s/=.*/=1/\nd\nw\nq\n', 'a\nport=8\nc\n', 'a\nc\n', 'put both into one list'),
-    ('u after d', '/x/d\nu\nw\nq\n', 'a\nx\nc\n', 'a\nx\nc\n', 'line 2, `u`, then works on another line'),
+    ('u after d', '/x/d\nu\nw\nq\n', 'a\nx\nc\n', 'a\nx\nc\n', 'line 2, `u`, then takes back something else unless just one line matches'),
+    ('u after a list', '/x/s/x/y/\ns/$/z/\nu\nw\nq\n', 'a\nx\nc\n', 'a\ny\nc\n', 'line 3, `u`, then takes back something else'),
+    ('u after a line is written', '1d\n/x/p\n1p\nu\nw\nq\n', 'a\nx\nc\n', 'a\nx\nc\n', 'line 4, `u`, then takes back something else'),
+    ('u after another change', '/x/d\n1d\nu\nd\nw\nq\n', 'a\nx\nc\nd\n', 'a\nd\n', 'line 4, `d`, then works on another line unless just one line matches'),
     ('a after d', '/x/d\na\nnew\n.\nw\nq\n', 'a\nx\nc\n', 'a\nc\nnew\n', 'put both into one list'),
+    ('i after s', '/x/s/x/y/\ni\nnew\n.\nw\nq\n', 'a\nx\nc\n', 'a\nnew\ny\nc\n', 'put both into one list'),
+    ('the remembered pattern after s', '/x/s/x/y/\ns//z/\nw\nq\n', 'a\nxx\nc\n', 'a\nyz\nc\n', 'put both into one list'),
     ('from the line on after s', '/^x/s/x/y/\n.,$d\nw\nq\n', 'a\nx\nc\n', 'a\n', 'put both into one list'),
     ('a period as diff writes it', '/^main/a\n..\n.\ns/.//\nw\nq\n', 'a\nmain\nlast\n', 'a\nmain\n.\nlast\n', 'put both into one list'),
     ('r after s', '/x/s/x/y/\n.r extra\nw\nq\n', 'a\nx\nc\n', 'a\ny\nextra\nc\n', 'put both into one list'),
     ('a command between', '/x/s/x/y/\nw\nd\nw\nq\n', 'a\nx\nc\n', 'a\nc\n', 'line 3, `d`, then works on another line'),
     ('a line by its number after', '/x/s/x/y/\n1d\nw\nq\n', 'a\nx\nc\n', 'y\nc\n', 'and the script goes on'),
     ('a line by its number before', '1d\n/x/d\nw\nq\n', 'a\nx\nc\n', 'c\n', 'and the script goes on'),
-    ('an s after a search alone, and d', '/x/\ns/x/y/\nd\nw\nq\n', 'a\nx\nc\n', 'a\nc\n', 'it stands for two commands'),
+    ('an s after a search alone, and d', '/x/\ns/x/y/\nd\nw\nq\n', 'a\nx\nc\n', 'a\nc\n', '`g/x/p\\` can\'t fail: it takes every line that matches'),
+    ('a text after a search alone', '/x/\na\nnew\n.\nw\nq\n', 'a\nx\nc\n', 'a\nx\nnew\nc\n', '`g/x/p\\` can\'t fail'),
+    ('a search from the line of another one', '/^.other/\n/^port=/s/=.*/=9/\nw\nq\n', '[main]\nport=1\n[other]\nport=2\n',
+     '[main]\nport=1\n[other]\nport=9\n', '`.,$g/^port=/s/=.*/=9/`', None, None, ['^.other']),
+    ('a deletion from the line of another one', '/^.other/\n/^port=/d\nw\nq\n', '[main]\nport=1\n[other]\nport=2\n',
+     '[main]\nport=1\n[other]\n', '`.,$g/^port=/d`', None, None, ['^.other']),
     ('s over lines, and p', ',s/x/y/\np\nw\nq\n', 'a\nx\nc\n', 'a\ny\nc\n', 'line 2, `p`, then works on another line'),
     ('a line to itself', '/^log=/w out\nw\nq\n', 'a\nlog=1\nb\n', 'a\nlog=1\nb\n', '`g/^log=/.w out`', '', {'out': b'log=1\n'}),
+    ('a mark', "/x/ka\n'ad\nw\nq\n", 'a\nx\nc\n', 'a\nc\n', 'so that the last one stays marked'),
     ('a file after a line', '/^log=/r extra\nw\nq\n', 'a\nlog=1\nb\n', 'a\nlog=1\nextra\nb\n', '`g/^log=/.r extra`'),
     ('a number', '/^log=/=\nw\nq\n', 'a\nlog=1\nb\n', 'a\nlog=1\nb\n', '`g/^log=/.=`'),
     ('a join of one line', '/x/j\nw\nq\n', 'a\nx\nb\n', 'a\nx\nb\n', '`g/x/.j`'),
@@ -51,6 +65,8 @@ TOLD = [
     ('the current line as a target', '/^port=/t.\nw\nq\n', '', "can't fail"),
     ('the current line as a target of lines', '/RE/,$t.\nw\nq\n', '', "can't fail"),
     ('the current line as a second address', '/x/,.d\nw\nq\n', '', "can't fail"),
+    ('a second address counted from the current line', '/x/,+2d\nw\nq\n', 'counted from the current line as it was before', "can't fail"),
+    ('alternatives, of which one begins the other', ',s/foo\\|foobar/X/g\nw\nq\n', 'no single command does that', 'a command for each'),
     ('alternatives kept', 'v/port\\|host/d\nw\nq\n', 'no single command does that', 'a command for each'),
     ('alternatives replaced', ',s/foo\\|bar/X/\nw\nq\n', 'no single command does that', 'a command for each'),
     ('alternatives both of which match', 'g/a\\|z/s/$/;/\nw\nq\n', 'no single command does that', 'a command for each'),
@@ -67,7 +83,7 @@ TOLD = [
 ]
 
 
-def row_fault(name, script, file, after, word, hinted=None, others=None):
+def row_fault(name, script, file, after, word, hinted=None, others=None, has=()):
     """What is wrong with a row, or nothing."""
     files = {'F': file.encode(), 'extra': b'extra\n'}
     lines = script.split('\n')[:-1]
@@ -75,7 +91,7 @@ def row_fault(name, script, file, after, word, hinted=None, others=None):
         left = left_by_script(lines, files)[1]
         if left != {**files, 'F': after.encode(), **(others or {})} and 'wq' not in script:
             return f'GNU ed leaves {left}'
-    _, at, lines, found = steps(script.encode(), 1, 'any', [])
+    _, at, lines, found = steps(script.encode(), 1, 'any', list(has))
     if not any(word in text for text, *_ in found):
         return f'no hint says {word!r}: {[text for text, *_ in found]}'
     for text, new, *_ in found:
@@ -95,7 +111,7 @@ def row_fault(name, script, file, after, word, hinted=None, others=None):
 
 def silent_is_told(text, left, want):
     """Whether a difference over the file of a row is one that its hint names: another line, or several that match."""
-    return bool(re.search(r'then works on another line|every line that matches', text)) and left != want
+    return bool(re.search(ELSE + '|every line that matches', text)) and left != want
 
 
 def told_fault(name, script, told, never):

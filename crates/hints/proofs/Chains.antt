@@ -1,5 +1,5 @@
 -- Refusals one after another.
-use Rattle.std.proofs.Common.{◌≡◌, ◌<◌, ◌+◌, ℕ, List, [], ◌∷◌, ◌++◌, length, drop, get_or, refl, sym, subst, arith, ap, map, length-append}
+use Rattle.std.proofs.Common.{◌≡◌, ◌<◌, ◌+◌, ℕ, List, [], ◌∷◌, ◌++◌, length, drop, get_or, IsTrue, inl, refl, sym, subst, arith, ap, map, length-append}
 use Rattle.std.specs.List.{All, Any}
 use Rattle.std.proofs.lemmas.List.Elements.{All-head, All-same}
 use Rattle.analyser.specs.declared.analysis.Start.{Start}
@@ -12,7 +12,7 @@ use Rattle.ed_syntax.specs.reading.Reading.{script_of}
 use Rattle.cert_check.specs.declared.checker.verdict.Place.{Place}
 use Rattle.hints.specs.Passing.{IsAllowed, IsVouched, MoreLinesHelp, Keeps, GetsPast, last_of}
 use Rattle.hints.specs.Passing as passing
-use Rattle.hints.specs.Hints.{IsUnchanged, IsFrom, IsTried, AsksForMore, IsStated, IsRefusal, IsMended, none, more, AreRefusals, mended, stopped, cut}
+use Rattle.hints.specs.Hints.{IsUnchanged, IsFrom, DoesTheSame, IsTried, AsksForMore, IsStated, IsRefusal, IsMended, none, more, AreRefusals, mended, stopped, cut}
 use Rattle.hints.specs.Hints as hints
 
 -- a list that isn't empty is its first element and the others
@@ -70,11 +70,12 @@ stays-allowed r h hs bounded is hints starts =
 -- a hint of a script and a start that were tried, over a start that keeps what another one says
 pub tried-by : (old : List ℕ) (given : Start) (place : Place) (h : Hint) (script : List ℕ) (start : Start) (count : ℕ) → Keeps given start → IsAllowed start →
     GetsPast (script_of script) start (last_of place count) → h.script ≡ script → h.start ≡ start → h.past ≡ count → IsFrom place old script count h.change →
-    IsTried old given place h
-tried-by old given place h script start count kept allowed past reads starts counts is-from = record {
+    (IsTrue h.same → DoesTheSame old script h.change) → IsTried old given place h
+tried-by old given place h script start count kept allowed past reads starts counts is-from same = record {
   from =
       subst (λ (s : List ℕ). IsFrom place old s h.past h.change) (sym reads)
       (subst (λ (n : ℕ). IsFrom place old script n h.change) (sym counts) is-from);
+  same = λ told. subst (λ (s : List ℕ). DoesTheSame old s h.change) (sym reads) (same told);
   kept = subst (λ (s : Start). Keeps given s) (sym starts) kept;
   allowed = subst IsAllowed (sym starts) allowed;
   past =
@@ -130,4 +131,4 @@ goes-on-count told all r n pushed count = subst (λ (rs : List Refusal). length 
 pub tried-vouched : (given : Start) (place : Place) (h : Hint) (script : List ℕ) (start : Start) → Keeps given start → IsAllowed start → IsVouched (script_of script) start →
     h.script ≡ script → h.start ≡ start → IsUnchanged place h.past h.change → IsTried script given place h
 tried-vouched given place h script start kept allowed is reads starts unchanged =
-    tried-by script given place h script start h.past kept allowed (passing.vouched is) reads starts refl (hints.same refl unchanged)
+    tried-by script given place h script start h.past kept allowed (passing.vouched is) reads starts refl (hints.same refl unchanged) (λ told. inl refl)

@@ -65,6 +65,7 @@ pub tried-for : (script : List ℕ) (start then : Start) (place : Place) (r : Re
     IfOk r (λ found. IfSome found (IsTried script then place)) → IfOk r (λ found. IfSome found (IsTried script start place))
 tried-for script start then place (Ok (Some h)) kept tried = record {
   from = tried.from;
+  same = tried.same;
   kept = keeps-through start then h.start kept tried.kept;
   allowed = tried.allowed;
   past = tried.past;

@@ -1,8 +1,10 @@
 -- What a hint promises, and which refusals are told of a script (our own).
-use Rattle.std.specs.Prelude.{◌≡◌, ◌+◌, ◌-◌, ◌<◌, ◌⊎◌, ℕ, List, [], ◌∷◌, ◌++◌, false, is_some, map, length, All, Any}
+use Rattle.std.specs.Prelude.{◌≡◌, ◌+◌, ◌-◌, ◌<◌, ◌⊎◌, ℕ, List, [], ◌∷◌, ◌++◌, false, ◌||◌, IsTrue, Some, is_some, slice_get, map, length, All, Any}
 use Rattle.ed_base.specs.declared.fault.Fault.{Fault}
-use Rattle.ed_syntax.specs.Commands.{Script}
+use Rattle.ed_syntax.specs.Commands.{Step, Script}
 use Rattle.ed_syntax.specs.Changed.{BeginAlike, IsChangedAt, IsReadFurther}
+use Rattle.ed_syntax.specs.meaning.SearchedGlobals.{changes, writes, IsGlobalOf}
+use Rattle.ed_syntax.specs.meaning.SearchedPairs.{IsGlobalOfBoth}
 use Rattle.ed_syntax.specs.reading.Reading.{script_of}
 use Rattle.cert_check.specs.declared.checker.verdict.Place.{Place}
 use Rattle.cert_check.specs.Certificates.{Note, note_value}
@@ -58,11 +60,29 @@ pub data IsFrom (place : Place) (old new : List ℕ) (past : ℕ) (c : Change) :
   further : IsFurther place (script_of old) (script_of new) c → (0 < c.written) ⊎ (length new < length old) → IsFrom place old new past c
   closed : IsClosed place (script_of old) (script_of new) c → IsFrom place old new past c
 
+-- WHERE ITS COMMANDS DO THE SAME
+
+-- The one command that is written is a global command for one that searches for its line and changes or writes it, or for a search alone and
+-- a command after it that changes the line. Where one line matches it does what they did (the law searches_are_globals_of_one_line of ed_syntax).
+pub data AreGlobal (old new : Script) (c : Change) : Type 0 where
+  one : (searching global : Step) → slice_get old.steps c.kept ≡ Some searching → slice_get new.steps c.kept ≡ Some global → c.removed ≡ 1 → c.written ≡ 1 →
+      IsGlobalOf searching global → IsTrue (changes searching.command.verb || writes searching.command.verb) → AreGlobal old new c
+  both : (first second global : Step) → slice_get old.steps c.kept ≡ Some first → slice_get old.steps (c.kept + 1) ≡ Some second →
+      slice_get new.steps c.kept ≡ Some global → c.removed ≡ 2 → c.written ≡ 1 → IsGlobalOfBoth first second global → IsTrue (changes second.command.verb) →
+      AreGlobal old new c
+
+-- what a hint's script has in the stead of what it takes away does the same where one line matches: nothing is changed, or the written command
+-- is such a global command
+abbrev pub DoesTheSame : (old new : List ℕ) → Change → Type 0
+DoesTheSame old new c = (new ≡ old) ⊎ AreGlobal (script_of old) (script_of new) c
+
 -- A hint on a script over a start was tried: the script as it reads by it, over the start that it names, gets past as many commands from the
--- place on as the hint tells. Of none, it gets past those before the place. It comes from the first script by the change that the hint tells.
+-- place on as the hint tells. Of none, it gets past those before the place. It comes from the first script by the change that the hint tells,
+-- and where it tells so, that does the same.
 -- That start keeps the path of the first one and the patterns that it states, and asks for no other number of lines than that one allows.
 pub record IsTried (script : List ℕ) (start : Start) (place : Place) (h : Hint) : Type 0 where
   pub from : IsFrom place script h.script h.past h.change
+  pub same : IsTrue h.same → DoesTheSame script h.script h.change
   pub kept : Keeps start h.start
   pub allowed : IsAllowed h.start
   pub past : GetsPast (script_of h.script) h.start (last_of place h.past)

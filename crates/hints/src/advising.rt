@@ -8,7 +8,7 @@ ghost use Rattle.hints.specs.Passing.{MoreLinesHelp};
 ghost use Rattle.hints.specs.Sought.{GetsPastAll, StatingHelps};
 ghost use Rattle.hints.specs.Hints.{IsTried, AsksForMore, States, IsStated};
 
-use crate::changing::{change_of, unchanged_at};
+use crate::changing::{change_of, does_the_same, unchanged_at};
 use crate::commands::{command_at, command_of, count_of_lines, line_at, line_of_span, span_of};
 use crate::drafts::{Draft, Spot};
 use crate::endings::{push_end, push_losing};
@@ -137,6 +137,7 @@ pub(crate) fn past_by(
     let Some(change) = change_of(alloc, script, new.as_slice(), place, past, given)? else {
         return Ok(None);
     };
+    let same = does_the_same(alloc, script, new.as_slice(), change)?;
     Ok(Some(Hint {
         advice,
         line,
@@ -145,6 +146,7 @@ pub(crate) fn past_by(
         start: copy_of(start)?,
         past,
         change,
+        same,
     }))
 }
 
@@ -197,6 +199,7 @@ pub(crate) fn at_least(
         start: with_bounds(start, min, start.max)?,
         past: 1,
         change: unchanged_at(place),
+        same: true,
     }))
 }
 
@@ -230,6 +233,7 @@ fn at_most(
             start: with_bounds(start, start.min, Some(most))?,
             past: 1,
             change: unchanged_at(place),
+            same: true,
         })),
         _ => Ok(None),
     }

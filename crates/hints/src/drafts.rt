@@ -4,7 +4,7 @@ ghost use Rattle.std.specs.Prelude.{◌≡◌, Some};
 
 use crate::bytes::{joined, replaced};
 use crate::commands::Span;
-use crate::following::{BUT_FOR_ONE, on_text, other_text};
+use crate::following::{on_text, other_text};
 use crate::globals::{Reach, as_global};
 use crate::hint::Advice;
 use crate::words::quoted;
@@ -90,7 +90,7 @@ pub(crate) fn push_line(
         let other = replaced(alloc, script, span.low, span.high, ends.as_slice())?;
         let read = read_script(alloc, other.as_slice())?;
         let on = on_text(&read, spot.number, 1, spot.path);
-        let later = other_text(alloc, other.as_slice(), &read, spot.number, BUT_FOR_ONE)?;
+        let later = other_text(alloc, other.as_slice(), &read, spot.number, true, true)?;
         let both = format!(in alloc;
             "{text}; {shown} can't fail: it changes every line that matches, none if none does{on}{later}"
         )?;

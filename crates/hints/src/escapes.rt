@@ -179,7 +179,7 @@ fn push_alternatives(
             let all = read_script(alloc, mended.as_slice())?;
             let written = added.saturating_add(1);
             let last = number.saturating_add(added);
-            let other = other_text(alloc, mended.as_slice(), &all, last, "")?;
+            let other = other_text(alloc, mended.as_slice(), &all, last, false, false)?;
             let text = format!(in alloc; "POSIX has no `\\|`: write a command for each{other}")?;
             drafts.push(drafted(Advice::Spelling, text, mended, 1, written))?;
             return Ok(());

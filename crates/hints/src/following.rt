@@ -1,6 +1,6 @@
 //! What the commands after one do with the line that it leaves, and what else they do.
 
-use crate::commands::{command_at, first_line, span_of};
+use crate::commands::{command_at, first_line, pair, span_of};
 use crate::words::quoted;
 use ed_syntax::{Address, Addresses, Base, Command, Script, Verb, read_script};
 use std::alloc::{AllocError, Global};
@@ -26,19 +26,14 @@ pub(crate) fn is_also_from_here(command: &Command) -> bool {
     }
 }
 
-/// Whether what a command does depends on the current line, or on the change before it.
+/// Whether what a command does depends on the current line.
 pub(crate) fn uses_line(command: &Command) -> bool {
     let own = command.verb.takes().default.addresses();
     let addresses = match &command.addresses {
         Addresses::Without => &own,
         given => given,
     };
-    let first = match addresses {
-        Addresses::Without => false,
-        Addresses::One(first) | Addresses::Comma(first, _) | Addresses::Semicolon(first, _) =>
-            is_from_here(Some(first)),
-    };
-    first || is_also_from_here(command) || matches!(&command.verb, Verb::Undo)
+    is_from_here(pair(addresses).0) || is_also_from_here(command)
 }
 
 /// Whether a command sets the current line, or ends the script.
@@ -71,20 +66,38 @@ pub(crate) fn count_of_users(script: &Script, number: usize) -> usize {
     count
 }
 
-/// The number of the first command after those up to a number that works on the line that they leave. None where one sets it before.
-fn user_after(script: &Script, number: usize) -> Option<usize> {
+/// The first command after those up to a number that works on the line that they leave, or takes back what they do, with its number. None
+/// where others set the line before.
+fn user_after(script: &Script, number: usize) -> Option<(usize, &Command)> {
+    let mut is_left = true;
+    // What `u` would take back, and whether it would bring back that line.
+    let mut is_own = true;
+    let mut was_left = true;
     for (index, command) in script.commands.as_slice().iter().enumerate() {
         if index < number {
             continue;
         }
-        if uses_line(command) {
-            return Some(index.saturating_add(1));
+        let undoes = matches!(&command.verb, Verb::Undo);
+        if is_left && uses_line(command) || is_own && undoes {
+            return Some((index.saturating_add(1), command));
         }
-        if sets_line(command) {
-            return None;
+        let before = is_left;
+        is_left = if undoes {
+            was_left
+        } else {
+            is_left && !sets_line(command)
+        };
+        if undoes || always_changes(command) {
+            is_own = false;
+            was_left = before;
         }
     }
     None
+}
+
+/// Whether it is this command that a `u` after it takes back.
+fn always_changes(command: &Command) -> bool {
+    command.verb.changes_found_line() || matches!(&command.verb, Verb::Global { .. })
 }
 
 /// Whether a command neither changes the buffer nor writes anything but all of it to the file of the start.
@@ -130,26 +143,33 @@ pub(crate) fn on_text(
     }
 }
 
-/// Which command works on another line, where those up to a number leave another one; nothing where none does.
+/// Which command works on another line, or takes back something else, after a global command in the place of those up to a number; nothing where
+/// none does. With `line` it leaves the same line where just one line matches, and with `undo` the same to take back.
 pub(crate) fn other_text(
     alloc: Global,
     script: &[u8],
     read: &Script,
     number: usize,
-    when: &str,
+    line: bool,
+    undo: bool,
 ) -> Result<String, AllocError> {
-    let Some(user) = user_after(read, number) else {
+    let Some((user, command)) = user_after(read, number) else {
         return Ok(String::new(alloc));
     };
+    let (then, is_left) = match &command.verb {
+        Verb::Undo => ("takes back something else", undo),
+        _ => ("works on another line", line),
+    };
+    let when = if is_left { BUT_FOR_ONE } else { "" };
     match span_of(alloc, script, user)? {
         Some(span) => {
             let line = span.line;
             let shown = quoted(alloc, first_line(command_at(script, span)))?;
-            Ok(format!(in alloc; "; line {line}, {shown}, then works on another line{when}")?)
+            Ok(format!(in alloc; "; line {line}, {shown}, then {then}{when}")?)
         }
         None => Ok(String::new(alloc)),
     }
 }
 
-/// When a command works on another line after a global command that leaves the line on which it works.
-pub(crate) const BUT_FOR_ONE: &str = " unless just one line matches";
+/// When that is so after a global command that leaves what the commands did for which it stands.
+const BUT_FOR_ONE: &str = " unless just one line matches";

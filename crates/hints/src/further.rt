@@ -5,7 +5,7 @@ ghost use Rattle.ed_rules.specs.LineBounds.{most_lines, IsAtMost};
 ghost use Rattle.hints.specs.Hints.{IsTried};
 
 use crate::advising::{first_past, past_by};
-use crate::commands::command_of;
+use crate::commands::{addresses_of, command_of};
 use crate::drafts::{Draft, drafted};
 use crate::hint::{Advice, Hint};
 use crate::starts::with_bounds;
@@ -13,7 +13,7 @@ use analyser::Start;
 use cert_check::Place;
 use ed_base::Bytes;
 use ed_rules::LineBounds;
-use ed_syntax::{Address, Addresses, Base, Command, read_script};
+use ed_syntax::{Address, Base, Command, read_script};
 use std::alloc::{AllocError, Global};
 
 /// How many lines beyond those that a command names are tried: so many may be deleted before it.
@@ -30,17 +30,14 @@ fn needed_for(address: &Address) -> i128 {
 
 /// How many lines there have to be for a command.
 fn needed_by(command: &Command) -> i128 {
-    let own = match &command.addresses {
-        Addresses::Without => 1,
-        Addresses::One(only) => needed_for(only),
-        Addresses::Comma(first, second) => needed_for(first).max(needed_for(second)),
-        Addresses::Semicolon(first, None) => needed_for(first),
-        Addresses::Semicolon(first, Some(second)) => needed_for(first).max(needed_for(second)),
-    };
-    match command.verb.takes().target {
-        Some(target) => own.max(needed_for(target)),
-        None => own,
+    let mut most: i128 = 1;
+    for address in addresses_of(command) {
+        most = match address {
+            Some(address) => most.max(needed_for(address)),
+            None => most,
+        };
     }
+    most
 }
 
 /// How many lines there have to be for the command at a place, where it is no command of a list.

@@ -72,14 +72,6 @@ fn search_in_front(alloc: Global, line: &[u8]) -> Result<Option<Searched<'_>>, A
     }
 }
 
-/// Whether a command, without the newline after its last line, is a search alone.
-pub(crate) fn is_search(alloc: Global, command: &[u8]) -> Result<bool, AllocError> {
-    match search_in_front(alloc, after_blanks(command))? {
-        Some(searched) => Ok(searched.rest.is_empty()),
-        None => Ok(false),
-    }
-}
-
 /// Appends lines as a list has them after its first: each but the last ends in a backslash. False where one of them can't stand there.
 pub(crate) fn push_lines(list: &mut Bytes, lines: &[u8]) -> Result<bool, AllocError> {
     let mut left = lines;
@@ -114,7 +106,8 @@ fn here(command: &Command, rest: &[u8]) -> &'static [u8] {
     }
 }
 
-/// A command that begins with a search, as a global command: what was searched for is what each line matches that it is applied to.
+/// A command that begins with a search, as a global command: what was searched for is what each line matches that it is applied to. A search
+/// alone writes its line; it is one only in front of other commands.
 fn searching(
     alloc: Global,
     bytes: &[u8],
@@ -126,10 +119,15 @@ fn searching(
     let Some(Searched { pattern, rest }) = search_in_front(alloc, line)? else {
         return Ok(None);
     };
-    if rest.is_empty() || !command.verb.takes().listed || is_also_from_here(command) {
+    let is_alone = rest.is_empty();
+    if (is_alone && !in_front) || !command.verb.takes().listed || is_also_from_here(command) {
         return Ok(None);
     }
-    let here = here(command, rest);
+    let (here, rest): (&[u8], &[u8]) = if is_alone {
+        (b"", b"p")
+    } else {
+        (here(command, rest), rest)
+    };
     let mut global = Bytes::from_slice(alloc, reach.addresses())?;
     global.extend_from_slice(b"g")?;
     global.extend_from_slice(pattern)?;

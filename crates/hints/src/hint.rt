@@ -51,6 +51,7 @@ pub struct Hint {
     pub(crate) start: Start,
     pub(crate) past: usize,
     pub(crate) change: Change,
+    pub(crate) same: bool,
 }
 
 impl Hint {
@@ -102,6 +103,15 @@ impl Hint {
         ensures value { result ≡ self.now.change }
     {
         self.change
+    }
+
+    /// Whether what it writes is known to do the same where just one line matches: the script is the refused one, or has a global command in
+    /// the stead of one that changes or writes the line for which it searches, or of a search alone and a command that changes its line. The
+    /// buffer, the current line and the files are then the same; not always what a `u` takes back.
+    pub fn does_the_same(&self) -> bool
+        ensures value { result ≡ self.now.same }
+    {
+        self.same
     }
 }
 

@@ -1,7 +1,7 @@
 //! What may help where a command of a list fails.
 
 use crate::bytes::{joined, replaced};
-use crate::commands::{command_at, command_of, line_at};
+use crate::commands::{command_at, command_of, line_at, pair};
 use crate::drafts::{Draft, Spot, drafted, remark};
 use crate::hint::Advice;
 use cert_check::Place;
@@ -9,30 +9,18 @@ use ed_syntax::{Address, Addresses, Base, Verb, read_script};
 use std::alloc::{AllocError, Global};
 
 /// How many lines an address of a list goes on from the line that was taken, or back.
-fn distance(address: &Address) -> Option<i128> {
-    match &address.base {
-        Base::Current if address.offset != 0 => Some(address.offset),
+fn distance(address: Option<&Address>) -> Option<i128> {
+    let Address { base, offset } = address?;
+    match base {
+        Base::Current if *offset != 0 => Some(*offset),
         _ => None,
     }
 }
 
 /// The distance of the last address that has one.
 fn distance_of(addresses: &Addresses) -> Option<i128> {
-    match addresses {
-        Addresses::Without => None,
-        Addresses::One(only) => distance(only),
-        Addresses::Comma(one, other) => last_of(distance(one), distance(other)),
-        Addresses::Semicolon(one, None) => distance(one),
-        Addresses::Semicolon(one, Some(other)) => last_of(distance(one), distance(other)),
-    }
-}
-
-/// The second one, where it is there.
-fn last_of(one: Option<i128>, other: Option<i128>) -> Option<i128> {
-    match other {
-        Some(distance) => Some(distance),
-        None => one,
-    }
+    let (one, other) = pair(addresses);
+    distance(other).or(distance(one))
 }
 
 /// What is told of so many lines on from a match, or back from it.

@@ -3,29 +3,24 @@
 use crate::bytes::{between, blanks, first, from, joined, replaced};
 use crate::commands::{command_at, first_line, span_of};
 use crate::drafts::{Draft, Spot, drafted, remark};
-use crate::following::{BUT_FOR_ONE, count_of_users, on_text, other_text, sets_line, uses_line};
-use crate::globals::{Reach, as_global, is_at_one_place, is_search, push_lines};
+use crate::following::{count_of_users, on_text, other_text, sets_line};
+use crate::globals::{Reach, as_global, is_at_one_place, push_lines};
 use crate::hint::Advice;
 use crate::patterns::{Quoted, pattern_at};
 use crate::words::quoted;
 use ed_base::Bytes;
-use ed_syntax::{Addresses, Command, Script, Verb, read_script};
+use ed_syntax::{Addresses, Base, Command, Script, Verb, read_script};
 use std::alloc::{AllocError, Global};
 
 /// How many commands go into one list at most.
 const MOST_LISTED: usize = 8;
 
-/// The commands for which a global command stands: the one that fails, or a search alone and the one after it, and so many more.
+/// A global command that stands for one that fails, with so many after it in its list.
 #[derive(Clone, Copy)]
 struct Taken<'a> {
-    /// The command that begins the list.
     command: &'a Command,
-    /// How many stand on the first line, and how many more in the list.
-    joined: usize,
     listed: usize,
     reach: Reach,
-    /// Whether one of them is an `s`.
-    replaces: bool,
     /// Whether it stands for a search that began elsewhere, but takes all lines.
     wide: bool,
 }
@@ -53,30 +48,20 @@ fn bytes_of(
 /// The global command that stands for these. None where they can't be written so.
 fn global_of(alloc: Global, spot: Spot<'_>, taken: Taken<'_>) -> Result<Option<Bytes>, AllocError> {
     let script = spot.script;
-    let mut first = Bytes::new(alloc);
-    if taken.joined > 1 {
-        first.extend_from_slice(command_at(script, spot.span))?;
-    }
-    let head = spot.number.saturating_add(taken.joined).saturating_sub(1);
-    let Some((low, high)) = bytes_of(alloc, script, head, 1)? else {
-        return Ok(None);
-    };
-    first.extend_from_slice(between(script, low, high))?;
     let in_front = taken.listed > 0;
-    let Some(global) = as_global(alloc, first.as_slice(), taken.reach, in_front)? else {
+    let first = command_at(script, spot.span);
+    let Some(mut global) = as_global(alloc, first, taken.reach, in_front)? else {
         return Ok(None);
     };
     if !in_front {
         return Ok(Some(global));
     }
-    let mut global = global;
-    let Some((low, high)) = bytes_of(alloc, script, head.saturating_add(1), taken.listed)? else {
-        return Ok(None);
-    };
-    if push_lines(&mut global, between(script, low, high))? {
-        Ok(Some(global))
-    } else {
-        Ok(None)
+    let next = spot.number.saturating_add(1);
+    match bytes_of(alloc, script, next, taken.listed)? {
+        Some((low, high)) if push_lines(&mut global, between(script, low, high))? => Ok(Some(
+            global,
+        )),
+        _ => Ok(None),
     }
 }
 
@@ -84,6 +69,7 @@ fn global_of(alloc: Global, spot: Spot<'_>, taken: Taken<'_>) -> Result<Option<B
 fn effect_text(alloc: Global, taken: Taken<'_>, on: &str) -> Result<String, AllocError> {
     let does = match &taken.command.verb {
         Verb::WriteFile(_) => "it writes every line that matches, so that the last one stays",
+        Verb::Mark(_) => "it marks every line that matches, so that the last one stays marked",
         verb if verb.takes().alters => "it changes every line that matches",
         _ => "it takes every line that matches",
     };
@@ -100,37 +86,34 @@ fn effect_text(alloc: Global, taken: Taken<'_>, on: &str) -> Result<String, Allo
 fn list_text(
     alloc: Global,
     spot: Spot<'_>,
+    read: &Script,
     taken: Taken<'_>,
     has_lines: bool,
 ) -> Result<String, AllocError> {
-    if taken.listed == 0 {
-        let text = if has_lines {
-            "; each line of its text but the last ends in a backslash, and its `.` goes"
-        } else {
-            ""
-        };
-        return String::from_str(alloc, text);
-    }
-    let next = spot.number.saturating_add(taken.joined);
+    let count = taken.listed;
+    let next = spot.number.saturating_add(1);
     let Some((low, high)) = bytes_of(alloc, spot.script, next, 1)? else {
         return Ok(String::new(alloc));
     };
     let shown = quoted(alloc, first_line(between(spot.script, low, high)))?;
-    let fault = if taken.replaces {
+    let fault = if has_substitution(read, spot.number, spot.number.saturating_add(count)) {
         ", where an `s` that replaces nothing is no fault"
     } else {
         ""
     };
     let ends = "each line but the last ends in a backslash";
-    if taken.listed == 1 {
-        return Ok(format!(in alloc;
+    Ok(match (count, has_lines) {
+        (0, true) => format!(in alloc;
+            "; each line of its text but the last ends in a backslash, and its `.` goes"
+        )?,
+        (0, false) => String::new(alloc),
+        (1, _) => format!(in alloc;
             "; the next command, {shown}, is at the line that this one leaves: put both into one list{fault}; {ends}"
-        )?);
-    }
-    let count = taken.listed;
-    Ok(format!(in alloc;
-        "; the next {count} commands, from {shown} on, are at the line that this one leaves: put all into one list{fault}; {ends}"
-    )?)
+        )?,
+        _ => format!(in alloc;
+            "; the next {count} commands, from {shown} on, are at the line that this one leaves: put all into one list{fault}; {ends}"
+        )?,
+    })
 }
 
 /// A global command in the place of these, as a draft.
@@ -138,9 +121,10 @@ fn push_taken(
     drafts: &mut Vec<Draft>,
     alloc: Global,
     spot: Spot<'_>,
+    read: &Script,
     taken: Taken<'_>,
 ) -> Result<(), AllocError> {
-    let count = taken.joined.saturating_add(taken.listed);
+    let count = taken.listed.saturating_add(1);
     let (Some(global), Some((low, high))) = (
         global_of(alloc, spot, taken)?,
         bytes_of(alloc, spot.script, spot.number, count)?,
@@ -149,20 +133,15 @@ fn push_taken(
     };
     let line = first_line(global.as_slice());
     let shown = quoted(alloc, line)?;
-    let read = read_script(alloc, spot.script)?;
-    let on = on_text(&read, spot.number, count, spot.path);
+    let on = on_text(read, spot.number, count, spot.path);
     let effect = effect_text(alloc, taken, on)?;
-    let list = list_text(alloc, spot, taken, line.len() < global.len())?;
-    let two = if taken.joined > 1 {
-        "; it stands for two commands"
-    } else {
-        ""
-    };
-    let last = spot.number.saturating_add(count).saturating_sub(1);
-    let is_left = taken.listed > 0 || sets_line(taken.command);
-    let when = if is_left { BUT_FOR_ONE } else { "" };
-    let other = other_text(alloc, spot.script, &read, last, when)?;
-    let text = format!(in alloc; "{shown} can't fail: {effect}{list}{two}{other}")?;
+    let list = list_text(alloc, spot, read, taken, line.len() < global.len())?;
+    let is_alone = taken.listed == 0;
+    let sets = sets_line(taken.command);
+    let undo = is_alone && sets && taken.command.verb.takes().alters;
+    let last = spot.number.saturating_add(taken.listed);
+    let other = other_text(alloc, spot.script, read, last, !is_alone || sets, undo)?;
+    let text = format!(in alloc; "{shown} can't fail: {effect}{list}{other}")?;
     let mended = replaced(alloc, spot.script, low, high, global.as_slice())?;
     drafts.push(drafted(Advice::Global, text, mended, count, 1))?;
     Ok(())
@@ -179,7 +158,8 @@ fn has_substitution(script: &Script, low: usize, high: usize) -> bool {
     false
 }
 
-/// The commands as a global command: with those after them that come at the line that they leave, and alone.
+/// The commands as a global command: with those after them that come at the line that they leave, and with as few as can be. A search
+/// alone writes its line, by which nobody is helped without another command.
 fn push_reach(
     drafts: &mut Vec<Draft>,
     alloc: Global,
@@ -187,21 +167,24 @@ fn push_reach(
     read: &Script,
     taken: Taken<'_>,
 ) -> Result<(), AllocError> {
-    let last = spot.number.saturating_add(taken.joined).saturating_sub(1);
-    let users = count_of_users(read, last);
+    let users = count_of_users(read, spot.number);
     let one = is_at_one_place(taken.command) && sets_line(taken.command);
-    if one && 0 < users && users <= MOST_LISTED {
-        let chained = Taken {
-            listed: users,
-            replaces: has_substitution(read, spot.number, last.saturating_add(users)),
-            ..taken
-        };
-        push_taken(drafts, alloc, spot, chained)?;
+    let fewest: usize = match &taken.command.verb {
+        Verb::Null => 1,
+        _ => 0,
+    };
+    if one && fewest < users && users <= MOST_LISTED {
+        let listed = users;
+        push_taken(drafts, alloc, spot, read, Taken { listed, ..taken })?;
     }
-    push_taken(drafts, alloc, spot, taken)
+    if fewest <= users {
+        let listed = fewest;
+        push_taken(drafts, alloc, spot, read, Taken { listed, ..taken })?;
+    }
+    Ok(())
 }
 
-/// The command as a global command, or a search alone and the command after it, which works on the line that was found.
+/// The command as a global command. Where it takes the lines on one side of the current one, another one for all comes after it.
 fn push_global(
     drafts: &mut Vec<Draft>,
     alloc: Global,
@@ -209,40 +192,26 @@ fn push_global(
     reach: Reach,
 ) -> Result<(), AllocError> {
     let read = read_script(alloc, spot.script)?;
-    let commands = read.commands.as_slice();
-    let alone = is_search(alloc, command_at(spot.script, spot.span))?;
-    let index = if alone {
-        spot.number
-    } else {
-        spot.number.saturating_sub(1)
-    };
-    let Some(command) = commands.get(index) else {
+    let index = spot.number.saturating_sub(1);
+    let Some(command) = read.commands.as_slice().get(index) else {
         return Ok(());
     };
-    if alone && !(uses_line(command) && command.verb.takes().listed) {
-        return Ok(());
-    }
-    let joined = if alone { 2 } else { 1 };
     let taken = Taken {
         command,
-        joined,
         listed: 0,
         reach,
-        replaces: false,
         wide: false,
     };
     push_reach(drafts, alloc, spot, &read, taken)?;
-    match reach {
-        Reach::All => Ok(()),
-        _ => {
-            let wide = Taken {
-                reach: Reach::All,
-                wide: true,
-                ..taken
-            };
-            push_reach(drafts, alloc, spot, &read, wide)
-        }
+    if matches!(reach, Reach::All) {
+        return Ok(());
     }
+    let wide = Taken {
+        reach: Reach::All,
+        wide: true,
+        ..taken
+    };
+    push_reach(drafts, alloc, spot, &read, wide)
 }
 
 /// The patterns of two searches with a `,` between them, in front of a line.
@@ -293,6 +262,25 @@ fn push_semicolon(
     Ok(())
 }
 
+/// What is told where a second address after a search and a `,` is counted from the current line.
+fn push_counted(drafts: &mut Vec<Draft>, alloc: Global, spot: Spot<'_>) -> Result<(), AllocError> {
+    let read = read_script(alloc, spot.script)?;
+    let index = spot.number.saturating_sub(1);
+    let Some(command) = read.commands.as_slice().get(index) else {
+        return Ok(());
+    };
+    let Addresses::Comma(found, counted) = &command.addresses else {
+        return Ok(());
+    };
+    let is_search = matches!(&found.base, Base::Forward(_) | Base::Backward(_));
+    if is_search && matches!(&counted.base, Base::Current) {
+        let text =
+            "after a `,` the second address is counted from the current line as it was before; after a `;` from the line that is found";
+        drafts.push(remark(String::from_str(alloc, text)?))?;
+    }
+    Ok(())
+}
+
 /// What `sed` would do by an `s` without addresses.
 fn push_everywhere(
     drafts: &mut Vec<Draft>,
@@ -320,6 +308,7 @@ pub(crate) fn push_searching(
 ) -> Result<(), AllocError> {
     push_global(drafts, alloc, spot, reach)?;
     push_semicolon(drafts, alloc, spot)?;
+    push_counted(drafts, alloc, spot)?;
     push_everywhere(drafts, alloc, spot)
 }
 
@@ -334,7 +323,7 @@ pub(crate) fn push_blank(
     let line = first_line(command_at(script, span));
     if blanks(line) == line.len() {
         let read = read_script(alloc, script)?;
-        let other = other_text(alloc, script, &read, spot.number, "")?;
+        let other = other_text(alloc, script, &read, spot.number, false, false)?;
         let text = format!(in alloc;
             "a blank line is a command, which goes on to the next line: leave it out{other}"
         )?;
