@@ -10,7 +10,7 @@ use Rattle.hints.specs.declared.hint.Hint.{Hint}
 use Rattle.hints.specs.declared.refusing.Refusal.{Refusal}
 use Rattle.ed_syntax.specs.reading.Reading.{script_of}
 use Rattle.cert_check.specs.declared.checker.verdict.Place.{Place}
-use Rattle.hints.specs.Passing.{IsAllowed, IsVouched, MoreLinesHelp, Keeps, GetsPast, last_of}
+use Rattle.hints.specs.Passing.{IsAllowed, IsVouched, MoreLinesHelp, Keeps, GetsPastWhole, last_of}
 use Rattle.hints.specs.Passing as passing
 use Rattle.hints.specs.Hints.{IsUnchanged, IsFrom, DoesTheSame, IsTried, AsksForMore, IsStated, IsRefusal, IsMended, none, more, AreRefusals, mended, stopped, cut}
 use Rattle.hints.specs.Hints as hints
@@ -69,7 +69,7 @@ stays-allowed r h hs bounded is hints starts =
 
 -- a hint of a script and a start that were tried, over a start that keeps what another one says
 pub tried-by : (old : List ℕ) (given : Start) (place : Place) (h : Hint) (script : List ℕ) (start : Start) (count : ℕ) → Keeps given start → IsAllowed start →
-    GetsPast (script_of script) start (last_of place count) → h.script ≡ script → h.start ≡ start → h.past ≡ count → IsFrom place old script count h.change →
+    GetsPastWhole (script_of script) start (last_of place count) → h.script ≡ script → h.start ≡ start → h.past ≡ count → IsFrom place old script count h.change →
     (IsTrue h.same → DoesTheSame old script h.change) → IsTried old given place h
 tried-by old given place h script start count kept allowed past reads starts counts is-from same = record {
   from =
@@ -79,9 +79,9 @@ tried-by old given place h script start count kept allowed past reads starts cou
   kept = subst (λ (s : Start). Keeps given s) (sym starts) kept;
   allowed = subst IsAllowed (sym starts) allowed;
   past =
-      subst (λ (s : Start). GetsPast (script_of h.script) s (last_of place h.past)) (sym starts)
-      (subst (λ (s : List ℕ). GetsPast (script_of s) start (last_of place h.past)) (sym reads)
-      (subst (λ (n : ℕ). GetsPast (script_of script) start (last_of place n)) (sym counts) past));
+      subst (λ (s : Start). GetsPastWhole (script_of h.script) s (last_of place h.past)) (sym starts)
+      (subst (λ (s : List ℕ). GetsPastWhole (script_of s) start (last_of place h.past)) (sym reads)
+      (subst (λ (n : ℕ). GetsPastWhole (script_of script) start (last_of place n)) (sym counts) past));
 }
 
 -- a refusal is one of the script and the start that were given, by whatever names they were analysed
@@ -131,4 +131,4 @@ goes-on-count told all r n pushed count = subst (λ (rs : List Refusal). length 
 pub tried-vouched : (given : Start) (place : Place) (h : Hint) (script : List ℕ) (start : Start) → Keeps given start → IsAllowed start → IsVouched (script_of script) start →
     h.script ≡ script → h.start ≡ start → IsUnchanged place h.past h.change → IsTried script given place h
 tried-vouched given place h script start kept allowed is reads starts unchanged =
-    tried-by script given place h script start h.past kept allowed (passing.vouched is) reads starts refl (hints.same refl unchanged) (λ told. inl refl)
+    tried-by script given place h script start h.past kept allowed (λ inner low. passing.vouched is) reads starts refl (hints.same refl unchanged) (λ told. inl refl)

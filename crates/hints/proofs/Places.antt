@@ -1,5 +1,5 @@
 -- The order of places, and what gets past one of them.
-use Rattle.std.proofs.Common.{◌≡◌, ◌<◌, ◌≤◌, ◌↔◌, refl, ℕ, Bool, true, false, IsTrue, List, Option, Some, None, inl, inr, arith, subst, sym}
+use Rattle.std.proofs.Common.{◌≡◌, ◌+◌, ◌^◌, ◌<◌, ◌≤◌, ◌↔◌, refl, ℕ, Bool, true, false, IsTrue, List, Option, Some, None, inl, inr, arith, subst, sym}
 use Rattle.std.proofs.Math.Nat.{eq-or-lt_of_le}
 use Rattle.std.specs.Option.{unwrap_or}
 use Rattle.std.specs.declared.alloc.AllocError.{AllocError}
@@ -11,7 +11,7 @@ use Rattle.cert_check.specs.declared.checker.verdict.Place.{Place}
 use Rattle.cert_check.specs.Certificates.{Note, Certificate}
 use Rattle.analyser.specs.declared.analysis.Start.{Start}
 use Rattle.analyser.specs.Analysis.{IsCertificate, IsFailure}
-use Rattle.hints.specs.Passing.{IsVouched, IsLaterInside, IsAfter, GetsPast, vouched, later}
+use Rattle.hints.specs.Passing.{IsVouched, IsLaterInside, IsAfter, GetsPast, GetsPastWhole, vouched, later}
 use Rattle.hints.specs.Sought.{GetsPastAll}
 
 -- what the law of answers says
@@ -36,35 +36,37 @@ past-decided laws script start place next why notes past fails is =
     (λ t. later next why notes fails (is.0 t), λ g. is.1 (after-of laws script start place next why notes fails g))
 
 -- a place inside that comes after the greatest one comes after each
-inside-back : (next inner : Option ℕ) (most last : ℕ) → last ≡ unwrap_or inner most → IsLaterInside next (Some last) → IsLaterInside next inner
-inside-back None inner most last is after = absurd after
-inside-back (Some next) None most last is after = tt
-inside-back (Some next) (Some inner) most last is after = subst (λ n. n < next) is after
+inside-back : (next inner : Option ℕ) (most last n : ℕ) → last ≡ unwrap_or inner most → n ≤ most → IsLaterInside next (Some last) →
+    IsLaterInside next (Some (unwrap_or inner n))
+inside-back None inner most last n is le after = absurd after
+inside-back (Some next) None most last n is le after = omega (arith, is, le, after)
+inside-back (Some next) (Some inner) most last n is le after = subst (λ m. m < next) is after
 
--- what comes after a later place inside comes after this one
-after-back : (next place last : Place) (most inner : ℕ) → place.command ≤ last.command → last.inner ≡ Some inner → inner ≡ unwrap_or place.inner most →
-    IsAfter next last → IsAfter next place
-after-back next place last most inner le some is (inl lt) = inl (omega arith)
-after-back next place last most inner le some is (inr (same, inside)) =
+-- what comes after the last place of a command comes after each one there
+after-back : (next place last : Place) (most inner n : ℕ) → place.command ≤ last.command → last.inner ≡ Some inner → inner ≡ unwrap_or place.inner most → n ≤ most →
+    IsAfter next last → IsAfter next (record { command = place.command; inner = Some (unwrap_or place.inner n) })
+after-back next place last most inner n le some is low (inl lt) = inl (omega (arith, le, lt))
+after-back next place last most inner n le some is low (inr (same, inside)) =
     elim (eq-or-lt_of_le le) [
-      | inr lt ↦ inl (omega arith)
-      | inl eq ↦ inr (omega arith, inside-back next.inner place.inner most inner is (subst (λ (o : Option ℕ). IsLaterInside next.inner o) some inside))
+      | inr lt ↦ inl (omega (arith, lt, same))
+      | inl eq ↦
+        inr (omega (arith, eq, same), inside-back next.inner place.inner most inner n is low (subst (λ (o : Option ℕ). IsLaterInside next.inner o) some inside))
     ]
 
--- a script that gets past a later place gets past this one
-pub past-back : (script : Script) (start : Start) (place last : Place) (most inner : ℕ) → place.command ≤ last.command → last.inner ≡ Some inner →
-    inner ≡ unwrap_or place.inner most → GetsPast script start last → GetsPast script start place
-past-back script start place last most inner le some is (vouched v) = vouched v
-past-back script start place last most inner le some is (later next why notes fails after) =
-    later next why notes fails (after-back next place last most inner le some is after)
+-- a script that gets past the last place of a command gets past all of it
+past-back : (script : Script) (start : Start) (place last : Place) (most inner : ℕ) → place.command ≤ last.command → last.inner ≡ Some inner →
+    inner ≡ unwrap_or place.inner most → most + 1 ≡ 2 ^ 64 → GetsPast script start last → GetsPastWhole script start place
+past-back script start place last most inner le some is all (vouched v) = λ n low. vouched v
+past-back script start place last most inner le some is all (later next why notes fails after) =
+    λ n low. later next why notes fails (after-back next place last most inner n le some is (omega (arith, low, all)) after)
 
 -- the same of an answer
 pub all-back : (script : Script) (start : Start) (place last : Place) (most inner : ℕ) (r : Result Bool AllocError) → place.command ≤ last.command →
-    last.inner ≡ Some inner → inner ≡ unwrap_or place.inner most → IfOk r (λ b. IsTrue b ↔ GetsPast script start last) →
-    IfOk r (λ b. b ≡ true → GetsPast script start place)
-all-back script start place last most inner (Ok true) le some is past = λ e. past-back script start place last most inner le some is (past.0 refl)
-all-back script start place last most inner (Ok false) le some is past = λ e. cc
-all-back script start place last most inner (Err e) le some is past = tt
+    last.inner ≡ Some inner → inner ≡ unwrap_or place.inner most → most + 1 ≡ 2 ^ 64 → IfOk r (λ b. IsTrue b ↔ GetsPast script start last) →
+    IfOk r (λ b. b ≡ true → GetsPastWhole script start place)
+all-back script start place last most inner (Ok true) le some is all past = λ e. past-back script start place last most inner le some is all (past.0 refl)
+all-back script start place last most inner (Ok false) le some is all past = λ e. cc
+all-back script start place last most inner (Err e) le some is all past = tt
 
 -- a script that gets past all of a command gets past any place there
 pub all-past : (script : Script) (start : Start) (place : Place) (command most inner count : ℕ) (r : Result Bool AllocError) → (count ≡ 1 → command ≡ place.command) →

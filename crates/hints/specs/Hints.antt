@@ -13,7 +13,7 @@ use Rattle.analyser.specs.Analysis.{IsFailure}
 use Rattle.hints.specs.declared.hint.Change.{Change}
 use Rattle.hints.specs.declared.hint.Hint.{Hint}
 use Rattle.hints.specs.declared.refusing.Refusal.{Refusal}
-use Rattle.hints.specs.Passing.{IsAllowed, IsVouched, with_min, MoreLinesHelp, Keeps, GetsPast, last_of}
+use Rattle.hints.specs.Passing.{IsAllowed, IsVouched, with_min, MoreLinesHelp, Keeps, GetsPastWhole, last_of}
 use Rattle.hints.specs.Sought.{to_state, stating, StatingHelps}
 
 -- HOW A HINT'S SCRIPT COMES FROM THE ONE THAT IS REFUSED
@@ -26,14 +26,14 @@ pub record IsUnchanged (place : Place) (past : ℕ) (c : Change) : Type 0 where
   pub one : past ≡ 1
 
 -- Some commands from the place on are taken away, others stand in their stead, and just these are got past. All others are the same. Where
--- none stand there, some are taken away.
+-- none stand there, one is taken away.
 pub record IsChanged (place : Place) (old new : Script) (past : ℕ) (c : Change) : Type 0 where
   pub changed : IsChangedAt c.kept c.removed c.written old new
   pub kept : c.kept ≡ place.command - 1
   pub all : past ≡ c.written
-  pub some : 0 < c.removed + c.written
+  pub some : (0 < c.written) ⊎ (c.removed ≡ 1)
 
--- The place is where the old script can't be read. The new one has all of its commands, and goes on there; what it has then is written.
+-- The place is where the old script can't be read. The new one has all of its commands; what it has after them is written.
 pub record IsFurther (place : Place) (old new : Script) (c : Change) : Type 0 where
   pub further : IsReadFurther old new
   pub front : c.kept ≡ length old.steps
@@ -41,8 +41,8 @@ pub record IsFurther (place : Place) (old new : Script) (c : Change) : Type 0 wh
   pub removed : c.removed ≡ 0
   pub written : c.kept + c.written ≡ length new.steps
 
--- The place is the end of the old script. In the new one its last command ends earlier, as a text does by its period, and the lines after that
--- are commands: it has another one in the stead of that last command, and one more at least.
+-- The place is the end of the old script. The new one has two commands or more in the stead of its last one, as where a text ends earlier by
+-- its period and the lines after that are commands.
 pub record IsClosed (place : Place) (old new : Script) (c : Change) : Type 0 where
   pub alike : BeginAlike c.kept old new
   pub readable : is_some old.fault ≡ false
@@ -52,11 +52,11 @@ pub record IsClosed (place : Place) (old new : Script) (c : Change) : Type 0 whe
   pub written : c.kept + c.written ≡ length new.steps
   pub more : 1 < c.written
 
--- The script of a hint comes from the one that is refused at a place: it is the same, or it is changed in one of these three ways. Where it
--- goes on and no command is written there, it has fewer bytes.
+-- The script of a hint comes from the one that is refused at a place: it is the same, or another one that is changed in one of these three
+-- ways. Where the old one can't be read at the place and no command is written there, the new one has fewer bytes.
 pub data IsFrom (place : Place) (old new : List ℕ) (past : ℕ) (c : Change) : Type 0 where
   same : new ≡ old → IsUnchanged place past c → IsFrom place old new past c
-  changed : IsChanged place (script_of old) (script_of new) past c → IsFrom place old new past c
+  changed : (new ≡ old → ⊥) → IsChanged place (script_of old) (script_of new) past c → IsFrom place old new past c
   further : IsFurther place (script_of old) (script_of new) c → (0 < c.written) ⊎ (length new < length old) → IsFrom place old new past c
   closed : IsClosed place (script_of old) (script_of new) c → IsFrom place old new past c
 
@@ -77,15 +77,15 @@ abbrev pub DoesTheSame : (old new : List ℕ) → Change → Type 0
 DoesTheSame old new c = (new ≡ old) ⊎ AreGlobal (script_of old) (script_of new) c
 
 -- A hint on a script over a start was tried: the script as it reads by it, over the start that it names, gets past as many commands from the
--- place on as the hint tells. Of none, it gets past those before the place. It comes from the first script by the change that the hint tells,
--- and where it tells so, that does the same.
--- That start keeps the path of the first one and the patterns that it states, and asks for no other number of lines than that one allows.
+-- place on as the hint tells, the last of them with all of its list. Of none, it gets past those before the place. It comes from the first
+-- script by the change that the hint tells, and where it tells so, that does the same. That start keeps the path of the first one and the
+-- patterns that it states, and asks for no other number of lines than that one allows.
 pub record IsTried (script : List ℕ) (start : Start) (place : Place) (h : Hint) : Type 0 where
   pub from : IsFrom place script h.script h.past h.change
   pub same : IsTrue h.same → DoesTheSame script h.script h.change
   pub kept : Keeps start h.start
   pub allowed : IsAllowed h.start
-  pub past : GetsPast (script_of h.script) h.start (last_of place h.past)
+  pub past : GetsPastWhole (script_of h.script) h.start (last_of place h.past)
 
 -- A hint asks for more lines at least, with which the script is vouched for as it is. With one line less it isn't.
 pub record AsksForMore (script : List ℕ) (start : Start) (h : Hint) : Type 0 where

@@ -1,5 +1,6 @@
 -- Where a script is vouched for, and which places an analysis gets past (our own).
-use Rattle.std.specs.Prelude.{◌≡◌, ◌<◌, ◌≤◌, ◌⊎◌, ◌+◌, ◌-◌, ℕ, List, Option, Some, None, IfSome, IsSomeAnd}
+use Rattle.std.specs.Prelude.{◌≡◌, ◌<◌, ◌≤◌, ◌⊎◌, ◌+◌, ◌-◌, ◌^◌, ℕ, List, Option, Some, None, IfSome, IsSomeAnd}
+use Rattle.std.specs.Option.{unwrap_or}
 use Rattle.ed_base.specs.declared.fault.Fault.{Fault}
 use Rattle.ed_syntax.specs.Commands.{Script}
 use Rattle.ed_rules.specs.LineBounds.{most_lines, IsAtMost}
@@ -47,7 +48,7 @@ pub record FewerLinesHelp (script : Script) (start : Start) : Type 0 where
 abbrev pub IsStating : (has now : Option (List (List ℕ))) → Type 0
 IsStating has now = (now ≡ has) ⊎ ((patterns : List (List ℕ)) × (now ≡ Some (with_texts patterns (stated_of has))))
 
--- these most lines are none above the given ones
+-- there are at most as many lines as were given, where there was a most
 abbrev pub IsWithin : (given most : Option ℕ) → Type 0
 IsWithin None most = Unit {0}
 IsWithin (Some given) most = IsSomeAnd most (λ m. m ≤ given)
@@ -73,6 +74,12 @@ IsAfter next place = (place.command < next.command) ⊎ ((next.command ≡ place
 pub data GetsPast (script : Script) (start : Start) (place : Place) : Type 0 where
   vouched : IsVouched script start → GetsPast script start place
   later : (next : Place) (why : Fault) (notes : List Note) → IsFailure script start next why notes → IsAfter next place → GetsPast script start place
+
+-- The script gets past a command with all of its list: past each place in it, as far as places are counted. Of a command of a list, it gets
+-- past that one alone.
+abbrev pub GetsPastWhole : Script → Start → Place → Type 0
+GetsPastWhole script start place =
+    (inner : ℕ) → inner < 2 ^ 64 → GetsPast script start (record { command = place.command; inner = Some (unwrap_or place.inner inner) })
 
 -- The last of so many commands, of which the first stands at the place; of none, the command before it.
 abbrev pub last_of : Place → (count : ℕ) → Place

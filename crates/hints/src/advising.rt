@@ -349,7 +349,7 @@ fn and_stated(
 }
 
 /// What to write where a need of a script fails at a place by a fault, before which this is known: the best hint first. Each gets past
-/// the place. Where the script is vouched for with more lines, one hint asks for them. Where searches there fail for want of a line that
+/// as many commands from the place on as it tells. Where the script is vouched for with more lines, one hint asks for them. Where searches there fail for want of a line that
 /// matches, and it helps to state their patterns, one hint states them.
 pub fn hints(
     alloc: Global,

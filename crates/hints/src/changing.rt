@@ -34,7 +34,7 @@ fn is_changed(old: &Script, new: &Script, place: Place, past: usize, change: Cha
     } = change;
     kept == place.command.saturating_sub(1)
         && past == written
-        && (removed > 0 || written > 0)
+        && (written > 0 || removed == 1)
         && old.is_changed_at(new, kept, removed, written)
 }
 
@@ -88,8 +88,12 @@ pub(crate) fn change_of(
     ensures from { IfOk result (λ found. IfSome found (IsFrom place script.now new.now past)) }
     ensures same { IfOk result (λ found. new.now ≡ script.now → past ≡ 1 → IsSome found) }
 {
-    if past == 1 && new == script {
+    let is_same = new == script;
+    if is_same && past == 1 {
         return Ok(Some(unchanged_at(place)));
+    }
+    if is_same {
+        return Ok(None);
     }
     let old = read_script(alloc, script)?;
     let read = read_script(alloc, new)?;

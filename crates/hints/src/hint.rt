@@ -36,7 +36,7 @@ pub struct Change {
     pub kept: usize,
     /// How many after them are taken away.
     pub removed: usize,
-    /// How many stand in their stead; where the first script can't be read to its end, or its last text ended late, all that follow.
+    /// How many stand in their stead; where the first script can't be read at the place, or the place is its end, all that follow.
     pub written: usize,
 }
 

@@ -4,7 +4,7 @@ ghost use Rattle.std.specs.Prelude.{◌≡◌, ◌≤◌, ◌↔◌, ◌+◌, �
 ghost use Rattle.ed_syntax.specs.PublicScript.{script_value};
 ghost use Rattle.ed_syntax.specs.reading.Reading.{script_of};
 ghost use Rattle.ed_rules.specs.LineBounds.{most_lines, IsAtMost};
-ghost use Rattle.hints.specs.Passing.{IsLaterInside, IsAfter, GetsPast, IsVouched, last_of};
+ghost use Rattle.hints.specs.Passing.{IsLaterInside, IsAfter, GetsPast, GetsPastWhole, IsVouched, last_of};
 ghost use Rattle.hints.specs.Sought.{GetsPastAll};
 
 use crate::starts::copy_of;
@@ -103,7 +103,7 @@ pub(crate) fn gets_past_all(
     requires ordered { IsAtMost start.now.min start.now.max }
     requires low { start.now.min ≤ most_lines }
     requires high { IfSome start.now.max (λ most. most ≤ most_lines) }
-    ensures sound { IfOk result (λ yes. yes ≡ true → GetsPast (script_of script.now) start.now (last_of place count)) }
+    ensures sound { IfOk result (λ yes. yes ≡ true → GetsPastWhole (script_of script.now) start.now (last_of place count)) }
     ensures all { IfOk result (λ yes. count ≡ 1 → GetsPastAll (script_of script.now) start.now place → yes ≡ true) }
 {
     let Some(command) = last_number(place.command, count) else {

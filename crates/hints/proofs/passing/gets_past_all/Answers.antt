@@ -8,7 +8,7 @@ pub returns-clause-sound : goal.returns-clause-sound
 returns-clause-sound c =
     let is : c.in-Some.command ≡ (c.args.place.command + c.args.count) - 1 = rw c.in-Some.is at c.last_number.ensures.value in
     all-back (script_of c.args.script.now) c.args.start.now (last_of c.args.place c.args.count) (record { command = c.in-Some.command; inner = Some c.unwrap_or.result }) 18446744073709551615
-    c.unwrap_or.result c.gets_past.result (omega (arith, is)) refl c.unwrap_or.ensures c.gets_past.ensures.exact
+    c.unwrap_or.result c.gets_past.result (omega (arith, is)) refl c.unwrap_or.ensures refl c.gets_past.ensures.exact
 
 pub returns-clause-all : goal.returns-clause-all
 returns-clause-all c =
