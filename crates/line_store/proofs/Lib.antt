@@ -14,3 +14,4 @@ pub mod Found
 pub mod Offsets
 pub mod Ranges
 pub mod Taken
+mod Filled

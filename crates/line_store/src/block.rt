@@ -1,11 +1,12 @@
 //! Blocks of lines outside a store.
 ghost use Rattle.std.specs.Prelude.{◌≡◌, [], ◌∷◌, length, IfErr, IfOk};
 ghost use Rattle.ed_base.specs.Buffer.{plain_line, texts};
+ghost use Rattle.ed_base.specs.Lines.{lines_of};
 ghost use Rattle.line_store.specs.Chunks.{joined};
 ghost use Rattle.line_store.specs.Kept.{flag_count};
 
 use crate::chunk::Chunk;
-use crate::{BareLine, BareLines, Line};
+use crate::{BareLine, BareLines, FileLines, Line};
 use std::alloc::{AllocError, Global};
 use std::marker::Model;
 
@@ -78,6 +79,23 @@ impl Block {
         Block {
             kind: Kind::Chunks { chunks, count },
         }
+    }
+
+    /// The lines of a file, which share its bytes, chunk by chunk. An `Err` comes where there is no memory for a chunk or a line.
+    pub(crate) fn of_file(mut file: FileLines) -> Result<Self, AllocError>
+        ensures value { IfOk result (λ block. block ≡ lines_of file) }
+    {
+        let mut chunks = Vec::new(file.allocator());
+        let mut count: usize = 0;
+        'chunks: while !file.is_done() {
+            let chunk = Chunk::of_file(&mut file)?;
+            let Some(more) = count.checked_add(chunk.len()) else {
+                return Err(AllocError);
+            };
+            chunks.push(chunk)?;
+            count = more;
+        }
+        Ok(Block::of_chunks(chunks, count))
     }
 
     /// Its line, where it was made of a single one; any other comes back.

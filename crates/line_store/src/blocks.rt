@@ -1,9 +1,10 @@
 //! Blocks of lines that go out of a store and come in, in the shortest way that there is.
 ghost use Rattle.std.specs.Prelude.{◌≡◌, ◌≤◌, [], length, map, IfOk, OnErr, OnOk};
 ghost use Rattle.ed_base.specs.Buffer.{plain_line, texts};
+ghost use Rattle.ed_base.specs.Lines.{lines_of};
 ghost use Rattle.ed_base.specs.Parts.{block, exchanged, inserted};
 
-use crate::{BareLine, Block, Line, LineStore};
+use crate::{BareLine, Block, FileLines, Line, LineStore};
 use std::alloc::{AllocError, Global};
 
 /// Takes the lines from place `from` up to `to` out. The letters that mark them mark no line then. Where there is no room to
@@ -67,6 +68,20 @@ pub fn put_block<S: LineStore>(
             Ok(())
         }
     }
+}
+
+/// Puts the lines of a file before place `at`, as one block. Where there is no room for them, the store is as before.
+pub fn put_file_block<S: LineStore>(
+    file: FileLines,
+    at: usize,
+    store: &mut S,
+) -> Result<(), AllocError>
+    requires place { at ≤ length (S.lines store.old) }
+    ensures put { OnOk result (S.lines store.new ≡ inserted at (map plain_line (lines_of file)) (S.lines store.old)) }
+    ensures unchanged { OnErr result (S.lines store.new ≡ S.lines store.old) }
+{
+    let alloc = file.allocator();
+    put_block(alloc, at, Block::of_file(file)?, store)
 }
 
 // Puts lines before place `at`, the first one first. There is room for them.

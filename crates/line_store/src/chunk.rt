@@ -1,11 +1,13 @@
 //! A chunk of lines.
-ghost use Rattle.std.specs.Prelude.{◌≡◌, ◌+◌, ◌<◌, ◌≤◌, [], ◌∷◌, ◌++◌, length, insert, remove, slice_index_or, slice_set, IfOk, OnOk};
-ghost use Rattle.ed_base.specs.Buffer.{flagged_at};
+ghost use Rattle.std.specs.Prelude.{◌≡◌, ◌+◌, ◌<◌, ◌≤◌, [], ◌∷◌, ◌++◌, length, insert, min, remove, slice_index_or, slice_set, IfOk, OnOk};
+ghost use Rattle.ed_base.specs.Buffer.{flagged_at, texts};
+ghost use Rattle.ed_base.specs.Lines.{lines_of};
 ghost use Rattle.line_store.specs.Chunks.{full};
 ghost use Rattle.line_store.specs.Flagged.{FirstFlagged};
+ghost use Rattle.line_store.specs.Kept.{flag_count};
 
-use crate::BareLine;
 use crate::flag_counts::{flags_exchanged, flags_with, flags_without};
+use crate::{BareLine, FileLines};
 use std::alloc::{AllocError, Global};
 use std::collections::VecDeque;
 use std::marker::Model;
@@ -43,6 +45,18 @@ impl Chunk {
     {
         Ok(Chunk {
             ring: VecDeque::with_capacity(alloc, FULL)?,
+            flags: 0,
+        })
+    }
+
+    /// The next lines of a file, as many as there is room for or are left. An `Err` comes where a line or the chunk gets no memory.
+    pub(crate) fn of_file(file: &mut FileLines) -> Result<Self, AllocError>
+        ensures lines { IfOk result (λ chunk. lines_of file.old ≡ texts chunk ++ lines_of file.new) }
+        ensures count { IfOk result (λ chunk. length chunk ≡ min full (length (lines_of file.old))) }
+        ensures unflagged { IfOk result (λ chunk. flag_count chunk ≡ 0) }
+    {
+        Ok(Chunk {
+            ring: file.next_ring()?,
             flags: 0,
         })
     }

@@ -1,12 +1,17 @@
 //! Lines without letters, which may share the block that their bytes stand in.
-ghost use Rattle.std.specs.Prelude.{◌≡◌, ◌↔◌, ◌+◌, ◌≤◌, [], ◌∷◌, ◌++◌, length, slice_range, IsNone, IfOk, IfSome, OnOk, OnErr};
+ghost use Rattle.std.specs.Prelude.{◌≡◌, ◌↔◌, ◌+◌, ◌≤◌, [], ◌∷◌, ◌++◌, length, min, nat_eq, slice_range, IsNone, IsTrue, IfOk, IfSome, OnOk, OnErr};
+ghost use Rattle.std.specs.VecDeque.{deque_capacity};
 ghost use Rattle.ed_base.specs.Lines.{newline, IsLine, lines_of};
-ghost use Rattle.ed_base.specs.Buffer.{plain_line, with_flag};
+ghost use Rattle.ed_base.specs.Buffer.{plain_line, texts, with_flag};
+ghost use Rattle.line_store.specs.Chunks.{full};
+ghost use Rattle.line_store.specs.Kept.{flag_count};
 
 use crate::Line;
+use crate::chunk::FULL;
 use crate::extent::{Extent, WHOLE};
 use ed_base::{Bytes, Pieces, next_line};
 use std::alloc::{AllocError, Global};
+use std::collections::VecDeque;
 use std::marker::Model;
 use std::rc::Rc;
 
@@ -201,5 +206,58 @@ impl FileLines {
         let line = BareLine::part(self.alloc, &self.block, self.next, text.len())?;
         self.next = after;
         Ok(Some(Line::of(line)))
+    }
+
+    /// The next lines, as many as fill a chunk or are left, without flags. They stand in a ring that has room for a whole chunk.
+    /// An `Err` comes where there is no memory for the ring, or for one of the lines as in `next_line`.
+    pub(crate) fn next_ring(&mut self) -> Result<VecDeque<BareLine>, AllocError>
+        ensures lines { IfOk result (λ ring. lines_of self.old ≡ texts ring.items ++ lines_of self.new) }
+        ensures count { IfOk result (λ ring. length ring.items ≡ min full (length (lines_of self.old))) }
+        ensures room { IfOk result (λ ring. full ≤ deque_capacity ring) }
+        ensures unflagged { IfOk result (λ ring. flag_count ring.items ≡ 0) }
+        ensures unchanged { OnErr result (self.new ≡ self.old) }
+    {
+        let mut ring = VecDeque::with_capacity(self.alloc, FULL)?;
+        let bytes = self.block.as_slice();
+        let mut next = self.next;
+        'lines: while ring.len() < FULL {
+            let Some((text, rest)) = next_line(&bytes[next..]) else {
+                break;
+            };
+            let line = BareLine::part(self.alloc, &self.block, next, text.len())?;
+            next = bytes.len() - rest.len();
+            ring.push_back_reserved(line);
+        }
+        self.next = next;
+        Ok(ring)
+    }
+
+    /// Whether there are enough lines to fill a chunk.
+    pub fn fill_chunk(&self) -> bool
+        ensures value { IsTrue result ↔ (full ≤ length (lines_of self.now)) }
+    {
+        let mut rest = &self.block.as_slice()[self.next..];
+        // No line is shorter than a byte with its newline, so that few bytes need no look.
+        if rest.len() < FULL {
+            return false;
+        }
+        for _i in 0..FULL {
+            let Some((_line, after)) = next_line(rest) else {
+                return false;
+            };
+            rest = after;
+        }
+        true
+    }
+
+    /// Whether no line is left.
+    pub(crate) fn is_done(&self) -> bool
+        ensures value { result ≡ nat_eq (length self.now) 0 }
+    {
+        self.next == self.block.as_slice().len()
+    }
+
+    pub(crate) fn allocator(&self) -> Global {
+        self.alloc
     }
 }

@@ -10,7 +10,7 @@ use crate::editor::addressing::Span;
 use crate::editor::forms::push_line;
 use ed_base::{Bytes, Pieces};
 use ed_syntax::Form;
-use line_store::{FileLines, LineStore};
+use line_store::{FileLines, LineStore, put_file_block};
 use std::alloc::{AllocError, Global};
 
 /// Appends the lines of a span, as the form writes them. Plain lines share their bytes with the store, unless they are short and
@@ -91,6 +91,9 @@ pub fn put_file<S: LineStore>(
     ensures put { OnOk result (S.lines store.new ≡ inserted place (map plain_line (lines_of file)) (S.lines store.old)) }
     ensures no_fewer { length (S.lines store.old) ≤ length (S.lines store.new) }
 {
+    if file.fill_chunk() {
+        return put_file_block(file, place, store);
+    }
     // Places are counted from the end, where no sum can be too great.
     let after = store.len() - place;
     while let Some(line) = file.next_line()? {
