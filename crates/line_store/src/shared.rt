@@ -232,9 +232,9 @@ impl FileLines {
         Ok(ring)
     }
 
-    /// Whether there are enough lines to fill a chunk.
+    /// Whether there are as many lines as fill a chunk.
     pub fn fill_chunk(&self) -> bool
-        ensures value { IsTrue result ↔ (full ≤ length (lines_of self.now)) }
+        ensures value { IsTrue result ↔ (1024 ≤ length (lines_of self.now)) }
     {
         let mut rest = &self.block.as_slice()[self.next..];
         // No line is shorter than a byte with its newline, so that few bytes need no look.

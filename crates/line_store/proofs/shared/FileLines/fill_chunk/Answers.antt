@@ -1,5 +1,5 @@
 -- As many lines are there as the loop passes, or they end before.
-use Rattle.std.proofs.Common.{◌≡◌, ◌+◌, ◌≤◌, [], ◌∙◌, ap, sym, subst, refl, arith, drop, length}
+use Rattle.std.proofs.Common.{◌≡◌, [], ◌∙◌, ap, sym, subst, refl, arith, drop, length}
 use Rattle.std.specs.Prelude.{◌↔◌, IsNone}
 use Rattle.ed_base.specs.Lines.{lines_of}
 use Rattle.line_store.proofs.Cuts.{to_end}
