@@ -5,8 +5,6 @@ use Rattle.std.specs.Option.{option_to_list}
 use Rattle.std.specs.List.{concat}
 use Rattle.std.proofs.lemmas.List.{get_or_append_left, get_or-append_right, get_or-take, get_or-drop, take_at, drop_at, take-take, take-append-drop, drop-append-le, length-take-le, length-drop, length-append, take_more, map-append, drop_all, length-take, append-nil, take-set, drop-set}
 use Rattle.std.proofs.lemmas.List.Folds.{concat-append}
-use Rattle.std.proofs.lemmas.List.Elements.{All-append, All-same}
-use Rattle.ed_base.specs.Lines.{newline, IsLine, AreLines, bytes_of}
 use Rattle.ed_base.specs.Buffer.{Line, plain_line, texts}
 use Rattle.ed_base.specs.Parts.{block, exchanged, inserted, carried}
 
@@ -147,26 +145,3 @@ joined-more a i lines text h k e =
     ap concat (texts-more a i lines text h k e)
     ∙ concat-append (texts (block a i lines)) (text ∷ [])
     ∙ ap (λ t. concat (texts (block a i lines)) ++ t) (append-nil text)
-
--- a file of one more line
-bytes-more : (lines : List (List ℕ)) (line : List ℕ) → bytes_of (lines ++ line ∷ []) ≡ (bytes_of lines ++ line) ++ newline ∷ []
-bytes-more [] line = refl
-bytes-more (first ∷ lines) line =
-    ap (λ t. first ++ newline ∷ t) (bytes-more lines line)
-    ∙ sym (ap (λ t. t ++ newline ∷ []) (append_assoc first (newline ∷ bytes_of lines) line)
-    ∙ append_assoc first (newline ∷ (bytes_of lines ++ line)) (newline ∷ []))
-
-one-line : (line : List ℕ) → IsLine line → AreLines (line ∷ [])
-one-line line h zero d b = h
-one-line line h (suc k) d b = absurd (omega arith)
-
--- one more line's text copied after the others
-pub copied-more : (a i : ℕ) (lines : List Line) (text : List ℕ) → a ≤ i → i < length lines → text ≡ (get_or lines i (plain_line [])).bytes →
-    bytes_of (texts (block a (i + 1) lines)) ≡ (bytes_of (texts (block a i lines)) ++ text) ++ newline ∷ []
-copied-more a i lines text h k e = ap bytes_of (texts-more a i lines text h k e) ∙ bytes-more (texts (block a i lines)) text
-
-pub lines-more : (a i : ℕ) (lines : List Line) (text : List ℕ) → a ≤ i → i < length lines → text ≡ (get_or lines i (plain_line [])).bytes →
-    IsLine text → AreLines (texts (block a i lines)) → AreLines (texts (block a (i + 1) lines))
-lines-more a i lines text h k e line before =
-    All-same IsLine (texts (block a (i + 1) lines)) (texts (block a i lines) ++ text ∷ []) (texts-more a i lines text h k e)
-    (All-append IsLine (texts (block a i lines)) (text ∷ []) before (one-line text line))

@@ -15,3 +15,4 @@ pub mod Offsets
 pub mod Ranges
 pub mod Taken
 mod Filled
+pub mod Written

@@ -1,7 +1,8 @@
 //! Lists of lines without letters, however they are kept.
-ghost use Rattle.std.specs.Prelude.{◌≡◌, ◌+◌, ◌<◌, ◌≤◌, ℕ, List, [], length, insert, remove, slice_index_or, slice_set, IfOk, IfErr, IfNone, IfSome, OnOk, OnErr, OnSome, IsOk};
+ghost use Rattle.std.specs.Prelude.{◌≡◌, ◌+◌, ◌<◌, ◌≤◌, ◌++◌, ℕ, List, [], length, insert, remove, slice_index_or, slice_set, IfOk, IfErr, IfNone, IfSome, OnOk, OnErr, OnSome, IsOk};
 ghost use Rattle.std.specs.Bool.{OnTrue, OnFalse};
 ghost use Rattle.ed_base.specs.Buffer.{Line, flagged_at, texts};
+ghost use Rattle.ed_base.specs.Lines.{AreLines, bytes_of};
 ghost use Rattle.ed_base.specs.Parts.{block, exchanged};
 ghost use Rattle.line_store.specs.Blocks.{CameIn};
 ghost use Rattle.line_store.specs.Flagged.{FirstFlagged};
@@ -9,6 +10,7 @@ ghost use Rattle.line_store.specs.Kept.{flag_count};
 ghost use Rattle.line_store.specs.Swaps.{swapped};
 
 use crate::{BareLine, Block};
+use ed_base::Pieces;
 use std::alloc::{AllocError, Global};
 use std::mem::replace;
 
@@ -32,6 +34,19 @@ pub trait BareLines: Drop {
     fn line(&self, i: usize) -> &BareLine
         requires place { i < length (items self.now) }
         ensures value { result.now ≡ slice_index_or (items self.now) i result.now };
+
+    /// Appends the bytes of the lines from place `from` up to `to`, each with a newline.
+    fn push_lines(&self, from: usize, to: usize, output: &mut Pieces) -> Result<(), AllocError>
+        requires order { from ≤ to }
+        requires last { to ≤ length (items self.now) }
+        ensures appended { OnOk result (output.new ≡ output.old ++ bytes_of (texts (block from to (items self.now)))) }
+        ensures lines { OnOk result (AreLines (texts (block from to (items self.now)))) }
+    {
+        for i in from..to {
+            self.line(i).push_to(output)?;
+        }
+        Ok(())
+    }
 
     /// Makes room for `n` more lines.
     fn reserve(&mut self, n: usize) -> Result<(), AllocError>

@@ -1,13 +1,15 @@
 //! A chunk of lines.
 ghost use Rattle.std.specs.Prelude.{◌≡◌, ◌+◌, ◌<◌, ◌≤◌, [], ◌∷◌, ◌++◌, length, insert, min, remove, slice_index_or, slice_set, IfOk, OnOk};
 ghost use Rattle.ed_base.specs.Buffer.{flagged_at, texts};
-ghost use Rattle.ed_base.specs.Lines.{lines_of};
+ghost use Rattle.ed_base.specs.Lines.{AreLines, bytes_of, lines_of};
+ghost use Rattle.ed_base.specs.Parts.{block};
 ghost use Rattle.line_store.specs.Chunks.{full};
 ghost use Rattle.line_store.specs.Flagged.{FirstFlagged};
 ghost use Rattle.line_store.specs.Kept.{flag_count};
 
 use crate::flag_counts::{flags_exchanged, flags_with, flags_without};
 use crate::{BareLine, FileLines};
+use ed_base::Pieces;
 use std::alloc::{AllocError, Global};
 use std::collections::VecDeque;
 use std::marker::Model;
@@ -75,6 +77,24 @@ impl Chunk {
         ensures value { result.now ≡ slice_index_or self.now i result.now }
     {
         &self.ring[i]
+    }
+
+    /// Appends the bytes of its lines from place `from` up to `to`, each with a newline.
+    pub(crate) fn push_lines(
+        &self,
+        from: usize,
+        to: usize,
+        output: &mut Pieces,
+    ) -> Result<(), AllocError>
+        requires order { from ≤ to }
+        requires last { to ≤ length self.now }
+        ensures appended { OnOk result (output.new ≡ output.old ++ bytes_of (texts (block from to self.now))) }
+        ensures lines { OnOk result (AreLines (texts (block from to self.now))) }
+    {
+        for i in from..to {
+            self.line(i).push_to(output)?;
+        }
+        Ok(())
     }
 
     /// Puts a line before place `at`.

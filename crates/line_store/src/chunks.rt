@@ -1,6 +1,8 @@
 //! Lines in chunks.
-ghost use Rattle.std.specs.Prelude.{ℕ, ◌≡◌, ◌↔◌, ◌+◌, ◌-◌, ◌*◌, ◌<◌, ◌≤◌, [], length, ◌^◌, slice_index_or, slice_set, insert, remove, IfOk, IsOk, IsTrue, OnOk};
-ghost use Rattle.ed_base.specs.Buffer.{flagged_at};
+ghost use Rattle.std.specs.Prelude.{ℕ, ◌≡◌, ◌↔◌, ◌+◌, ◌-◌, ◌*◌, ◌<◌, ◌≤◌, ◌++◌, [], length, ◌^◌, slice_index_or, slice_set, insert, remove, IfOk, IsOk, IsTrue, OnOk};
+ghost use Rattle.ed_base.specs.Buffer.{flagged_at, texts};
+ghost use Rattle.ed_base.specs.Lines.{AreLines, bytes_of};
+ghost use Rattle.ed_base.specs.Parts.{block};
 ghost use Rattle.line_store.specs.Chunks.{ChunksValue, Fits, StandsIn, Touches, full, joined, lines_before, with_chunk};
 ghost use Rattle.line_store.specs.Flagged.{FirstFlagged};
 
@@ -11,6 +13,7 @@ use crate::chunk::{Chunk, FULL};
 use crate::chunk_room::{add_chunks, make_room_at, make_room_first, split_chunk};
 use crate::chunk_starts::ChunkStarts;
 use crate::{BareLine, BareLines, Block, Store};
+use ed_base::Pieces;
 use std::alloc::{AllocError, Global};
 use std::marker::Model;
 
@@ -260,6 +263,24 @@ impl ChunkLines {
         self.chunks[k].first_flagged(from)
     }
 
+    // Appends the bytes of the lines of a chunk from place `from` up to `to`, each with a newline.
+    fn push_in(
+        &self,
+        k: usize,
+        from: usize,
+        to: usize,
+        output: &mut Pieces,
+    ) -> Result<(), AllocError>
+        requires chunk { k < length self.now.chunks }
+        requires order { from ≤ to }
+        requires last { to ≤ length (slice_index_or self.now.chunks k []) }
+        ensures appended { OnOk result
+            (output.new ≡ output.old ++ bytes_of (texts (block from to (slice_index_or self.now.chunks k [])))) }
+        ensures lines { OnOk result (AreLines (texts (block from to (slice_index_or self.now.chunks k [])))) }
+    {
+        self.chunks[k].push_lines(from, to, output)
+    }
+
     // How many lines a chunk has.
     fn lines_in(&self, k: usize) -> usize
         requires chunk { k < length self.now.chunks }
@@ -315,6 +336,26 @@ impl BareLines for ChunkLines {
     fn line(&self, i: usize) -> &BareLine {
         let k = self.chunk_of(i);
         self.chunks[k].line(i - self.start(k))
+    }
+
+    fn push_lines(&self, from: usize, to: usize, output: &mut Pieces) -> Result<(), AllocError> {
+        if from == to {
+            return Ok(());
+        }
+        let mut k = self.chunk_of(from);
+        let mut next = from;
+        'chunks: while k < self.chunks.len() {
+            let start = self.start(k);
+            let count = self.lines_in(k);
+            let end = count.min(to - start);
+            self.push_in(k, next - start, end, output)?;
+            if end < count {
+                return Ok(());
+            }
+            next = start + count;
+            k += 1;
+        }
+        Ok(())
     }
 
     fn reserve(&mut self, n: usize) -> Result<(), AllocError> {

@@ -134,8 +134,8 @@ impl<L: BareLines> LineStore for Store<L> {
         self.lines.line(i).as_slice()
     }
 
-    fn push_line(&self, i: usize, output: &mut Pieces) -> Result<(), AllocError> {
-        self.lines.line(i).push_to(output)
+    fn push_lines(&self, from: usize, to: usize, output: &mut Pieces) -> Result<(), AllocError> {
+        self.lines.push_lines(from, to, output)
     }
 
     fn reserve(&mut self, n: usize) -> Result<(), AllocError> {

@@ -1,6 +1,6 @@
 //! A list of lines, however it is kept.
-ghost use Rattle.std.specs.Prelude.{◌≡◌, ◌+◌, ◌-◌, ◌<◌, ◌≤◌, ◌++◌, ℕ, List, [], ◌∷◌, true, false, count_by, length, insert, remove, slice_index_or, slice_set, map, IfOk, IfErr, IfNone, IfSome, OnOk, OnErr, OnSome, IsOk};
-ghost use Rattle.ed_base.specs.Lines.{newline, IsLine};
+ghost use Rattle.std.specs.Prelude.{◌≡◌, ◌+◌, ◌-◌, ◌<◌, ◌≤◌, ◌++◌, ℕ, List, [], true, false, count_by, length, insert, remove, slice_index_or, slice_set, map, IfOk, IfErr, IfNone, IfSome, OnOk, OnErr, OnSome, IsOk};
+ghost use Rattle.ed_base.specs.Lines.{AreLines, IsLine, bytes_of};
 ghost use Rattle.ed_base.specs.Buffer.{Line, plain_line, marked_at, marked_place, texts, flagged_at, flagged_place, AtMostOnce, KnowLetters, SharesNoLetter};
 ghost use Rattle.ed_base.specs.Parts.{block, carried, exchanged, inserted};
 ghost use Rattle.line_store.specs.Marks.{lettered};
@@ -31,12 +31,13 @@ pub trait LineStore: Drop {
         ensures value { result.now ≡ (slice_index_or (lines self.now) i (plain_line [])).bytes }
         ensures line { IsLine result.now };
 
-    /// Appends a line's bytes and a newline. They are shared with the line as far as its block has them.
-    fn push_line(&self, i: usize, output: &mut Pieces) -> Result<(), AllocError>
-        requires place { i < length (lines self.now) }
-        ensures appended { OnOk result
-            (output.new ≡ output.old ++ ((slice_index_or (lines self.now) i (plain_line [])).bytes ++ newline ∷ [])) }
-        ensures line { IsLine (slice_index_or (lines self.now) i (plain_line [])).bytes };
+    /// Appends the bytes of the lines from place `from` up to `to`, each with a newline. They are shared with the lines as far as
+    /// their blocks have them.
+    fn push_lines(&self, from: usize, to: usize, output: &mut Pieces) -> Result<(), AllocError>
+        requires order { from ≤ to }
+        requires last { to ≤ length (lines self.now) }
+        ensures appended { OnOk result (output.new ≡ output.old ++ bytes_of (texts (block from to (lines self.now)))) }
+        ensures lines { OnOk result (AreLines (texts (block from to (lines self.now)))) };
 
     /// Makes room for `n` more lines.
     fn reserve(&mut self, n: usize) -> Result<(), AllocError>

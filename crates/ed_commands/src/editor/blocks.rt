@@ -26,9 +26,7 @@ pub fn file_of<S: LineStore>(
     ensures lines { OnOk result (AreLines (texts (block from to (S.lines store.now)))) }
 {
     let mut bytes = Pieces::new(alloc);
-    for i in from..to {
-        store.push_line(i, &mut bytes)?;
-    }
+    store.push_lines(from, to, &mut bytes)?;
     Ok(bytes)
 }
 

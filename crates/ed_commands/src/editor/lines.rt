@@ -42,10 +42,7 @@ fn write_plain<S: LineStore>(output: &mut Pieces, span: Span, store: &S) -> Resu
     ensures appended { OnOk result
         (output.new ≡ output.old ++ lines_written (form_value Form.Plain) span.first span.last (S.lines store.now)) }
 {
-    for i in span.first - 1..span.last {
-        store.push_line(i, output)?;
-    }
-    Ok(())
+    store.push_lines(span.first - 1, span.last, output)
 }
 
 // Appends the lines of a span, each put into the form first and then copied.
