@@ -5,6 +5,8 @@ use Rattle.std.proofs.lemmas.Bool.{and_parts, or_left, or_right}
 use Rattle.zones.specs.Zone as zones
 use Rattle.zones.specs.Zone.{Bounds}
 use Rattle.zones.specs.Steps.{join_of, widening_of}
+use Rattle.zones.proofs.Order.{Covers-same, Covers-through, Covers-join_of, Covers-join_of_other, Covers-widening_of}
+use Rattle.zones.proofs.Order.{Covers-widening_of_other}
 use Rattle.ed_rules.specs.declared.state.Old.{Old}
 use Rattle.ed_rules.specs.declared.state.State.{State}
 use Rattle.ed_rules.specs.Choices.{Choice, has_choice, union, are_choices}
@@ -12,15 +14,6 @@ use Rattle.ed_rules.specs.Marks.{is_sure, both_sure}
 use Rattle.ed_rules.specs.Order.{old_of_both, old_has_of_both, united, join, widen, CoversOld, CoversOldHas, Covers}
 use Rattle.ed_rules.proofs.Texting.{members-same, members-through, members-both, members-both_other}
 use Rattle.ed_rules.proofs.Choosing.{has_choice-all, has-union, has-union_other, choices-more, choices-same}
-
--- the laws on zones that this rests on
-pub record Laws : Type 0 where
-  pub same : (zone : Bounds) → zones.Covers zone zone
-  pub through : (a b c : Bounds) → zones.Covers a b → zones.Covers b c → zones.Covers a c
-  pub join : (one other : Bounds) → zones.Covers (join_of one other) one
-  pub join_other : (one other : Bounds) → zones.Covers (join_of one other) other
-  pub widen : (old new : Bounds) → zones.Covers (widening_of old new) old
-  pub widen_other : (old new : Bounds) → zones.Covers (widening_of old new) new
 
 -- SETS OF CHOICES
 
@@ -43,25 +36,26 @@ sure-both one other letter l e =
 
 -- WHAT UNDO KEEPS
 
-old-same : Laws → (old : Option Old) → CoversOld old old
-old-same k None = tt
-old-same k (Some old) = (k.same old.zone, λ letter l e. e)
+old-same : (old : Option Old) → CoversOld old old
+old-same None = tt
+old-same (Some old) = (Covers-same old.zone, λ letter l e. e)
 
-old-through : Laws → (a b c : Option Old) → CoversOld a b → CoversOld b c → CoversOld a c
-old-through laws a b None h k = tt
-old-through laws a None (Some c) h k = absurd k
-old-through laws None (Some b) (Some c) h k = absurd h
-old-through laws (Some a) (Some b) (Some c) h k = (laws.through a.zone b.zone c.zone h.0 k.0, λ letter l e. k.1 letter l (h.1 letter l e))
+old-through : (a b c : Option Old) → CoversOld a b → CoversOld b c → CoversOld a c
+old-through a b None h k = tt
+old-through a None (Some c) h k = absurd k
+old-through None (Some b) (Some c) h k = absurd h
+old-through (Some a) (Some b) (Some c) h k = (Covers-through a.zone b.zone c.zone h.0 k.0, λ letter l e. k.1 letter l (h.1 letter l e))
 
-old-both : Laws → (one other : Option Old) → CoversOld (old_of_both one other) one
-old-both k None other = tt
-old-both k (Some one) None = old-same k (Some one)
-old-both k (Some one) (Some other) = (k.join one.zone other.zone, λ letter l e. (sure-both one.marks other.marks letter l e).0)
+pub old-both : (one other : Option Old) → CoversOld (old_of_both one other) one
+old-both None other = tt
+old-both (Some one) None = old-same (Some one)
+old-both (Some one) (Some other) = (Covers-join_of one.zone other.zone, λ letter l e. (sure-both one.marks other.marks letter l e).0)
 
-old-both_other : Laws → (one other : Option Old) → CoversOld (old_of_both one other) other
-old-both_other k one None = tt
-old-both_other k None (Some other) = old-same k (Some other)
-old-both_other k (Some one) (Some other) = (k.join_other one.zone other.zone, λ letter l e. (sure-both one.marks other.marks letter l e).1)
+pub old-both_other : (one other : Option Old) → CoversOld (old_of_both one other) other
+old-both_other one None = tt
+old-both_other None (Some other) = old-same (Some other)
+old-both_other (Some one) (Some other) =
+    (Covers-join_of_other one.zone other.zone, λ letter l e. (sure-both one.marks other.marks letter l e).1)
 
 -- WHAT LINES MATCH OF WHAT UNDO KEEPS
 
@@ -86,9 +80,9 @@ matched-both_other (Some one) (Some other) has old_has = members-both_other has 
 
 -- STATES
 
-pub Covers-itself : Laws → (s : State) → Covers s s
-Covers-itself k s = record {
-  zone = k.same s.zone;
+pub Covers-itself : (s : State) → Covers s s
+Covers-itself s = record {
+  zone = Covers-same s.zone;
   marks = λ letter l e. e;
   patterns = choices-same s.patterns;
   no_replacement = λ e. e;
@@ -99,14 +93,14 @@ Covers-itself k s = record {
   changed = λ e. e;
   nothing = λ e. e;
   same = λ e. e;
-  was = old-same k s.undo.was;
+  was = old-same s.undo.was;
   matched = members-same s.has;
   old_matched = matched-same s.undo.was s.old_has;
 }
 
-pub Covers-on : Laws → (a b c : State) → Covers a b → Covers b c → Covers a c
-Covers-on laws a b c h k = record {
-  zone = laws.through a.zone b.zone c.zone h.zone k.zone;
+pub Covers-on : (a b c : State) → Covers a b → Covers b c → Covers a c
+Covers-on a b c h k = record {
+  zone = Covers-through a.zone b.zone c.zone h.zone k.zone;
   marks = λ letter l e. k.marks letter l (h.marks letter l e);
   patterns = choices-through c.patterns b.patterns a.patterns k.patterns h.patterns;
   no_replacement = λ e. h.no_replacement (k.no_replacement e);
@@ -117,13 +111,13 @@ Covers-on laws a b c h k = record {
   changed = λ e. h.changed (k.changed e);
   nothing = λ e. h.nothing (k.nothing e);
   same = λ e. h.same (k.same e);
-  was = old-through laws a.undo.was b.undo.was c.undo.was h.was k.was;
+  was = old-through a.undo.was b.undo.was c.undo.was h.was k.was;
   matched = members-through a.has b.has c.has h.matched k.matched;
   old_matched = matched-through b.undo.was c.undo.was a.old_has b.old_has c.old_has k.was h.old_matched k.old_matched;
 }
 
-united-covers : Laws → (one other : State) (zone : Bounds) → zones.Covers zone one.zone → Covers (united one other zone) one
-united-covers k one other zone z = record {
+united-covers : (one other : State) (zone : Bounds) → zones.Covers zone one.zone → Covers (united one other zone) one
+united-covers one other zone z = record {
   zone = z;
   marks = λ letter l e. (sure-both one.marks other.marks letter l e).0;
   patterns = choices-union one.patterns other.patterns;
@@ -135,13 +129,13 @@ united-covers k one other zone z = record {
   changed = λ e. or_left one.changed.yes other.changed.yes e;
   nothing = λ e. or_left one.undo.nothing other.undo.nothing e;
   same = λ e. or_left one.undo.same other.undo.same e;
-  was = old-both k one.undo.was other.undo.was;
+  was = old-both one.undo.was other.undo.was;
   matched = members-both one.has other.has;
   old_matched = matched-both one.undo.was other.undo.was one.old_has other.old_has;
 }
 
-united-covers_other : Laws → (one other : State) (zone : Bounds) → zones.Covers zone other.zone → Covers (united one other zone) other
-united-covers_other k one other zone z = record {
+united-covers_other : (one other : State) (zone : Bounds) → zones.Covers zone other.zone → Covers (united one other zone) other
+united-covers_other one other zone z = record {
   zone = z;
   marks = λ letter l e. (sure-both one.marks other.marks letter l e).1;
   patterns = choices-union_other one.patterns other.patterns;
@@ -153,23 +147,23 @@ united-covers_other k one other zone z = record {
   changed = λ e. or_right one.changed.yes other.changed.yes e;
   nothing = λ e. or_right one.undo.nothing other.undo.nothing e;
   same = λ e. or_right one.undo.same other.undo.same e;
-  was = old-both_other k one.undo.was other.undo.was;
+  was = old-both_other one.undo.was other.undo.was;
   matched = members-both_other one.has other.has;
   old_matched = matched-both_other one.undo.was other.undo.was one.old_has other.old_has;
 }
 
-pub Covers-join : Laws → (one other : State) → Covers (join one other) one
+pub Covers-join : (one other : State) → Covers (join one other) one
 unfolding join
-Covers-join k one other = united-covers k one other (join_of one.zone other.zone) (k.join one.zone other.zone)
+Covers-join one other = united-covers one other (join_of one.zone other.zone) (Covers-join_of one.zone other.zone)
 
-pub Covers-join_other : Laws → (one other : State) → Covers (join one other) other
+pub Covers-join_other : (one other : State) → Covers (join one other) other
 unfolding join
-Covers-join_other k one other = united-covers_other k one other (join_of one.zone other.zone) (k.join_other one.zone other.zone)
+Covers-join_other one other = united-covers_other one other (join_of one.zone other.zone) (Covers-join_of_other one.zone other.zone)
 
-pub Covers-widen : Laws → (old new : State) → Covers (widen old new) old
+pub Covers-widen : (old new : State) → Covers (widen old new) old
 unfolding widen
-Covers-widen k old new = united-covers k old new (widening_of old.zone new.zone) (k.widen old.zone new.zone)
+Covers-widen old new = united-covers old new (widening_of old.zone new.zone) (Covers-widening_of old.zone new.zone)
 
-pub Covers-widen_other : Laws → (old new : State) → Covers (widen old new) new
+pub Covers-widen_other : (old new : State) → Covers (widen old new) new
 unfolding widen
-Covers-widen_other k old new = united-covers_other k old new (widening_of old.zone new.zone) (k.widen_other old.zone new.zone)
+Covers-widen_other old new = united-covers_other old new (widening_of old.zone new.zone) (Covers-widening_of_other old.zone new.zone)

@@ -7,7 +7,7 @@ pub mod Finishing
 pub mod Inserting
 pub mod Lifting
 pub mod Replacing
-pub mod Joining
+pub mod Weaker
 pub mod Searching
 pub mod Outcomes
 pub mod Addressing
@@ -27,4 +27,3 @@ pub mod Asking
 pub mod Sound
 pub mod FlagsKept
 pub mod Looping
-pub mod Weaker

@@ -25,7 +25,6 @@ use ed_syntax::{
     answers_are_asked_for, commands_are_placed, commands_keep_lines, commands_keep_marks,
     flags_change_no_line,
 };
-use zones::covering_is_an_order;
 
 /// A command whose needs hold meets no fault, and the state of its rule stands for what it leaves.
 pub fn commands_are_sound()
@@ -77,9 +76,7 @@ pub fn covering_states_is_an_order()
     ensures join_other { (one other : State) → Covers (join one other) other }
     ensures widen { (old new : State) → Covers (widen old new) old }
     ensures widen_other { (old new : State) → Covers (widen old new) new }
-{
-    covering_is_an_order();
-}
+{}
 
 /// The start is formed, and so is what each rule makes of formed states. At its end it is known that there are at least 0 lines.
 pub fn states_stay_formed()

@@ -295,24 +295,13 @@ pub command-addressed : (x : Addresses) (verb : Verb) (s : State) (e : editor.St
 command-addressed (One a) verb s e numbered exact h = addressed-alike (One a) s e numbered h
 command-addressed (Comma a b) verb s e numbered exact h = addressed-alike (Comma a b) s e numbered h
 command-addressed (Semicolon a b) verb s e numbered exact h = addressed-alike (Semicolon a b) s e numbered h
-command-addressed Without (ed.Append text) s e numbered exact h = addressed-alike (One here) s e refl h
 command-addressed Without (ed.Change text) s e numbered exact h = twice-alike s e h
 command-addressed Without ed.Delete s e numbered exact h = twice-alike s e h
-command-addressed Without (ed.Insert text) s e numbered exact h = addressed-alike (One here) s e refl h
-command-addressed Without ed.Join s e numbered exact h = addressed-alike (takes ed.Join).default s e refl h
 command-addressed Without (ed.Move to) s e numbered exact h = twice-alike s e h
 command-addressed Without (ed.Copy to) s e numbered exact h = twice-alike s e h
-command-addressed Without ed.LineNumber s e numbered exact h = addressed-alike (takes ed.LineNumber).default s e refl h
-command-addressed Without ed.Null s e numbered exact h = addressed-alike (takes ed.Null).default s e refl h
 command-addressed Without (ed.Write form) s e numbered exact h = twice-alike s e h
-command-addressed Without (ed.WriteFile path) s e numbered exact h = addressed-alike Without s e refl h
-command-addressed Without (ed.FileName path) s e numbered exact h = addressed-alike Without s e refl h
-command-addressed Without ed.Help s e numbered exact h = addressed-alike Without s e refl h
-command-addressed Without ed.HelpMode s e numbered exact h = addressed-alike Without s e refl h
-command-addressed Without ed.PromptMode s e numbered exact h = addressed-alike Without s e refl h
-command-addressed Without ed.Quit s e numbered exact h = addressed-alike Without s e refl h
-command-addressed Without ed.QuitAnyway s e numbered exact h = addressed-alike Without s e refl h
-command-addressed Without _ s e numbered exact h = absurd cc
+command-addressed Without (ed.Substitute pattern replacement which form) s e numbered exact h = twice-alike s e h
+command-addressed Without verb s e numbered exact h = addressed-alike (takes verb).default s e refl h
 
 -- the target of `m` and `t`
 pub target-of : (to : Address) (t : State) (e : editor.State) (a b : ℤ) → Sees 5 a b (pos 0) t e → is_by_number to.base ≡ true →

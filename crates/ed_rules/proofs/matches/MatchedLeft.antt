@@ -380,9 +380,6 @@ module _ (watched : List (List ℕ)) (listed : Bool) (given : Addresses) (s u : 
   effect-left (ed.Move to) x target answer le k = move-left x target le
   effect-left (ed.Copy to) x target answer le k = copy-left target (texts (parts.between x.first x.last q.lines)) k
   effect-left (ed.Substitute pattern replacement choice form) x target answer le k = substitute-left pattern replacement choice form x
-  effect-left ed.LineNumber x target answer le k = (now, never-kept)
-  effect-left ed.Null x target answer le k = (now, never-kept)
-  effect-left (ed.Write form) x target answer le k = (now, never-kept)
   effect-left (ed.ReadFile path) x target answer le k = read-left path answer x
   effect-left (ed.WriteFile path) x target answer le k = write-left path answer x
   effect-left (ed.Edit path) x target answer le k = edit-left path answer
@@ -390,11 +387,8 @@ module _ (watched : List (List ℕ)) (listed : Bool) (given : Addresses) (s u : 
   effect-left (ed.FileName path) x target answer le k = name-left path
   effect-left (ed.Global sense pattern) x target answer le k = flag-left sense pattern x le
   effect-left ed.Undo x target answer le k = undo-by q.past may kept_now refl
-  effect-left ed.Help x target answer le k = (now, never-kept)
-  effect-left ed.HelpMode x target answer le k = (now, never-kept)
-  effect-left ed.PromptMode x target answer le k = (now, never-kept)
   effect-left ed.Quit x target answer le k = quit-left
-  effect-left ed.QuitAnyway x target answer le k = (now, never-kept)
+  effect-left _ x target answer le k = (now, never-kept)
 
   -- once it is settled
   settled-lines : (has : List (List ℕ)) (o : Outcome) → AreMatched has o.state.lines → AreMatched has (settled listed (kept e) o).lines

@@ -175,30 +175,9 @@ given_or-given (Comma a b) d h = tt
 given_or-given (Semicolon a b) d h = tt
 
 pub suits : (verb : Verb) → Suits (takes verb).taking (standing (takes verb).default)
-suits (ed.Append text) = tt
-suits (ed.Change text) = tt
-suits ed.Delete = tt
-suits (ed.Insert text) = tt
-suits ed.Join = tt
-suits (ed.Mark letter) = tt
-suits (ed.Move to) = tt
-suits (ed.Copy to) = tt
-suits (ed.Substitute pattern replacement choice form) = tt
-suits ed.LineNumber = tt
-suits ed.Null = tt
-suits (ed.Write form) = tt
-suits (ed.ReadFile path) = tt
 suits (ed.WriteFile path) = refl
-suits (ed.Edit path) = tt
-suits (ed.EditAnyway path) = tt
-suits (ed.FileName path) = tt
 suits (ed.Global sense pattern) = refl
-suits ed.Undo = tt
-suits ed.Help = tt
-suits ed.HelpMode = tt
-suits ed.PromptMode = tt
-suits ed.Quit = tt
-suits ed.QuitAnyway = tt
+suits _ = tt
 
 -- 0 stands for 1, for `i`
 abbrev FirstPlaces : editor.State → State → Span → Type 0

@@ -22,7 +22,7 @@ use Rattle.ed_rules.proofs.sound.Inserting.{Pushed}
 use Rattle.std.proofs.Common.{Result, Ok, Err, nat_le, ◌&&◌}
 use Rattle.std.proofs.lemmas.Bool.{le-leb, lt-leb}
 use Rattle.ed_rules.specs.declared.state.State.{State}
-use Rattle.ed_rules.proofs.sound.Joining.{Stands-join, Stands-join_other}
+use Rattle.ed_rules.proofs.sound.Weaker.{Stands-join, Stands-join_other}
 use Rattle.std.specs.List.{concat}
 use Rattle.std.proofs.lemmas.Bool.{cases_lt, cases_eq, lt-ltb, le-ltb}
 use Rattle.std.proofs.lemmas.List.{length-take-le}

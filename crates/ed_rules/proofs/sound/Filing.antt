@@ -34,7 +34,7 @@ use Rattle.ed_rules.proofs.Basics.{Agrees, Agrees-weaker, Agrees-ok, bind-twice}
 use Rattle.ed_rules.proofs.Choosing.{has_choice-only, has-filled}
 use Rattle.ed_rules.proofs.sound.Standing.{Stands}
 use Rattle.ed_rules.proofs.sound.Spans.{Spans, Ranges, Spans-by}
-use Rattle.ed_rules.proofs.sound.Joining.{past-both, past-both_other, change-both}
+use Rattle.ed_rules.proofs.sound.Weaker.{past-both, past-both_other, change-both}
 use Rattle.ed_rules.proofs.sound.SubstitutionEffects.{not-true}
 use Rattle.ed_rules.proofs.sound.Reading.{inserted-none, read-buffer, loaded-buffer}
 use Rattle.ed_rules.proofs.sound.Answering.{Does, Settles, does-need_then}

@@ -23,7 +23,7 @@ use Rattle.ed_rules.specs.Undoing.{present_of, brought_back, undone_by, undone}
 use Rattle.ed_rules.proofs.Basics.{Agrees, Agrees-bind, Agrees-map, Agrees-needing}
 use Rattle.ed_rules.proofs.sound.Standing.{Stands}
 use Rattle.ed_rules.proofs.sound.Finishing.{Follows, Holds-without_addresses}
-use Rattle.ed_rules.proofs.sound.Joining.{Stands-join, Stands-join_other}
+use Rattle.ed_rules.proofs.sound.Weaker.{Stands-join, Stands-join_other}
 use Rattle.ed_rules.proofs.sound.Flags.{HoldsBy-alike, kept-allowed, alike-taken}
 use Rattle.ed_rules.proofs.sound.SubstitutionEffects.{IsPossible, patterns-sound, not-true}
 

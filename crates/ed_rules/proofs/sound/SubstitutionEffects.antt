@@ -38,7 +38,7 @@ use Rattle.ed_rules.proofs.Choosing.{has_choice-only, has_choice-all}
 use Rattle.ed_rules.proofs.sound.LettersInLines.{line_with, line_with-take_before, one_more, one_more-none}
 use Rattle.ed_rules.proofs.sound.Standing.{Stands, StandsBy-patterns}
 use Rattle.ed_rules.proofs.sound.Spans.{Ranges, Ranges-by}
-use Rattle.ed_rules.proofs.sound.Joining.{Stands-join, Stands-join_other}
+use Rattle.ed_rules.proofs.sound.Weaker.{Stands-join, Stands-join_other}
 use Rattle.ed_rules.proofs.sound.Finishing.{Follows}
 use Rattle.ed_rules.proofs.sound.Effects.{altered-aside}
 use Rattle.ed_rules.proofs.sound.Results.{results-none, results-within, results-least, results-same, results-all, made-some, made-one, always-makes}

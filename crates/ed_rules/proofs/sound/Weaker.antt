@@ -1,60 +1,59 @@
--- Weaker states stand for more.
-use Rattle.std.proofs.Common.{◌≡◌, ℕ, Bool, true, false, cond, List, Option, None, Some}
+-- Weaker states stand for more, and so does what is joined or widened.
+use Rattle.std.proofs.Common.{◌≡◌, ◌<◌, ℕ, Bool, true, false, cond, List, get_or, Option, None, Some}
 use Rattle.std.specs.List.{list_any}
+use Rattle.std.proofs.lemmas.Bool.{or_left, or_right}
+use Rattle.ed_base.specs.Buffer.{Line}
+use Rattle.zones.specs.Zone.{Bounds, Numbers, Holds}
 use Rattle.zones.proofs.Soundness.{Holds-covers}
 use Rattle.ed_syntax.specs.declared.replacement.Part.{Part}
 use Rattle.ed_syntax.specs.meaning.States as editor
 use Rattle.ed_syntax.specs.meaning.States.{Past, Nothing, Same, Was, Kept}
 use Rattle.ed_rules.specs.declared.state.Old.{Old}
+use Rattle.ed_rules.specs.declared.state.Changed.{Changed}
+use Rattle.ed_rules.specs.declared.state.Undo.{Undo}
 use Rattle.ed_rules.specs.declared.state.State.{State}
-use Rattle.ed_rules.specs.Order.{old_has_of_both, join, widen, CoversOld, CoversOldHas, Covers}
+use Rattle.ed_rules.specs.Order.{old_of_both, changed_of_both, undo_of_both, join, widen, CoversOld, CoversOldHas, Covers}
 use Rattle.ed_rules.specs.Matched.{is_matched, AreMatched}
-use Rattle.ed_rules.proofs.Texting.{members-pass, both-passes, both-passes_other}
-use Rattle.ed_rules.specs.StandsFor.{StandsFor, AllowsKept, AllowsPast, KeepsMatched, allows_change, allows_replacement, ends_line}
+use Rattle.ed_rules.specs.StandsFor.{HoldsBy, StandsFor, AllowsKept, AllowsPast, KeepsMatched, allows_change, allows_replacement, ends_line}
 use Rattle.ed_rules.proofs.Choosing.{has-are_choices}
-use Rattle.ed_rules.proofs.sound.Joining.{HoldsBy-fewer, Stands-join, Stands-join_other, Stands-widen, Stands-widen_other}
+use Rattle.ed_rules.proofs.Texting.{members-pass}
+use Rattle.ed_rules.proofs.CoveringStates.{old-both, old-both_other, Covers-join, Covers-join_other, Covers-widen, Covers-widen_other}
+use Rattle.ed_rules.proofs.sound.Standing.{Stands}
 
-both-kept : (was other_was : Option Old) (has other : List (List ℕ)) (k : Kept) → AllowsKept was k → AreMatched has k.lines → AreMatched (old_has_of_both was other_was has other) k.lines
-both-kept None other_was has other k a h = absurd a
-both-kept (Some one) None has other k a h = h
-both-kept (Some one) (Some two) has other k a h = both-passes (is_matched k.lines) has other h
-
-both-kept_other : (was other_was : Option Old) (has other : List (List ℕ)) (k : Kept) → AllowsKept other_was k → AreMatched other k.lines → AreMatched (old_has_of_both was other_was has other) k.lines
-both-kept_other was None has other k a h = absurd a
-both-kept_other None (Some two) has other k a h = h
-both-kept_other (Some one) (Some two) has other k a h = both-passes_other (is_matched k.lines) has other h
-
-keeps-both : (one other : State) (p : Past) → AllowsPast one.undo p → KeepsMatched one.old_has p → KeepsMatched (old_has_of_both one.undo.was other.undo.was one.old_has other.old_has) p
-keeps-both one other Nothing a h = tt
-keeps-both one other Same a h = tt
-keeps-both one other (Was k) a h = both-kept one.undo.was other.undo.was one.old_has other.old_has k a h
-
-keeps-both_other : (one other : State) (p : Past) → AllowsPast other.undo p → KeepsMatched other.old_has p → KeepsMatched (old_has_of_both one.undo.was other.undo.was one.old_has other.old_has) p
-keeps-both_other one other Nothing a h = tt
-keeps-both_other one other Same a h = tt
-keeps-both_other one other (Was k) a h = both-kept_other one.undo.was other.undo.was one.old_has other.old_has k a h
-
-pub StandsFor-join : (one other : State) (e : editor.State) → StandsFor one e → StandsFor (join one other) e
-unfolding join
-StandsFor-join one other e st = let q = Stands-join one other e (st.numbers, st.stands) in record { numbers = q.0; stands = q.1; lines = st.lines; kept = st.kept; matched = both-passes (is_matched e.lines) one.has other.has st.matched; kept_matched = keeps-both one other e.past st.stands.past st.kept_matched }
-
-pub StandsFor-join_other : (one other : State) (e : editor.State) → StandsFor other e → StandsFor (join one other) e
-unfolding join
-StandsFor-join_other one other e st = let q = Stands-join_other one other e (st.numbers, st.stands) in record { numbers = q.0; stands = q.1; lines = st.lines; kept = st.kept; matched = both-passes_other (is_matched e.lines) one.has other.has st.matched; kept_matched = keeps-both_other one other e.past st.stands.past st.kept_matched }
-
-pub StandsFor-widen : (old new : State) (e : editor.State) → StandsFor old e → StandsFor (widen old new) e
-unfolding widen
-StandsFor-widen old new e st = let q = Stands-widen old new e (st.numbers, st.stands) in record { numbers = q.0; stands = q.1; lines = st.lines; kept = st.kept; matched = both-passes (is_matched e.lines) old.has new.has st.matched; kept_matched = keeps-both old new e.past st.stands.past st.kept_matched }
-
-pub StandsFor-widen_other : (old new : State) (e : editor.State) → StandsFor new e → StandsFor (widen old new) e
-unfolding widen
-StandsFor-widen_other old new e st = let q = Stands-widen_other old new e (st.numbers, st.stands) in record { numbers = q.0; stands = q.1; lines = st.lines; kept = st.kept; matched = both-passes_other (is_matched e.lines) old.has new.has st.matched; kept_matched = keeps-both_other old new e.past st.stands.past st.kept_matched }
+-- fewer sure letters, and a weaker zone that holds
+pub HoldsBy-fewer : (zone weak : Bounds) (many few : List Bool) (lines : List Line) (current : ℕ) (v : Numbers) →
+    ((letter : ℕ) → letter < 26 → get_or few letter false ≡ true → get_or many letter false ≡ true) → Holds weak v →
+    HoldsBy zone many lines current v → HoldsBy weak few lines current v
+HoldsBy-fewer zone weak many few lines current v among holds h = record {
+  holds = holds;
+  reads = record {
+    zero_is = h.reads.zero_is;
+    current_is = h.reads.current_is;
+    last_is = h.reads.last_is;
+    marks_are = λ letter l e. h.reads.marks_are letter l (among letter l e);
+  };
+  inside = h.inside;
+}
 
 kept-covers : (weak strong : Option Old) (k : Kept) → CoversOld weak strong → AllowsKept strong k → AllowsKept weak k
 kept-covers weak None k c h = absurd h
 kept-covers None (Some strong) k c h = absurd c
 kept-covers (Some weak) (Some strong) k c h =
     (h.0, HoldsBy-fewer strong.zone weak.zone strong.marks weak.marks k.lines k.current h.0 c.1 (Holds-covers weak.zone strong.zone h.0 c.0 h.1.holds) h.1)
+
+pub past-both : (one other : Undo) (p : Past) → AllowsPast one p → AllowsPast (undo_of_both one other) p
+past-both one other Nothing h = or_left one.nothing other.nothing h
+past-both one other Same h = or_left one.same other.same h
+past-both one other (Was k) h = kept-covers (old_of_both one.was other.was) one.was k (old-both one.was other.was) h
+
+pub past-both_other : (one other : Undo) (p : Past) → AllowsPast other p → AllowsPast (undo_of_both one other) p
+past-both_other one other Nothing h = or_right one.nothing other.nothing h
+past-both_other one other Same h = or_right one.same other.same h
+past-both_other one other (Was k) h = kept-covers (old_of_both one.was other.was) other.was k (old-both_other one.was other.was) h
+
+pub change-both : (one other : Changed) (b : Bool) → allows_change one b ≡ true → allows_change (changed_of_both one other) b ≡ true
+change-both one other true h = or_left one.yes other.yes h
+change-both one other false h = or_left one.no other.no h
 
 past-covers : (weak strong : State) (p : Past) → Covers weak strong → AllowsPast strong.undo p → AllowsPast weak.undo p
 past-covers weak strong Nothing c h = c.nothing h
@@ -82,21 +81,51 @@ matched-covers weak strong Nothing c a h = tt
 matched-covers weak strong Same c a h = tt
 matched-covers weak strong (Was k) c a h = old-covers strong.undo.was weak.old_has strong.old_has k c.old_matched a h
 
-pub StandsFor-covers : (weak strong : State) (e : editor.State) → Covers weak strong → StandsFor strong e → StandsFor weak e
-StandsFor-covers weak strong e c st = record {
-  numbers = st.numbers;
-  stands = record {
-    buffer = HoldsBy-fewer strong.zone weak.zone strong.marks weak.marks e.lines e.current st.numbers c.marks (Holds-covers weak.zone strong.zone st.numbers c.zone st.stands.buffer.holds) st.stands.buffer;
+pub Stands-covers : (weak strong : State) (e : editor.State) → Covers weak strong → Stands strong e → Stands weak e
+Stands-covers weak strong e c st = (
+  st.0,
+  record {
+    buffer =
+        HoldsBy-fewer strong.zone weak.zone strong.marks weak.marks e.lines e.current st.0 c.marks
+        (Holds-covers weak.zone strong.zone st.0 c.zone st.1.buffer.holds) st.1.buffer;
     remembered = (
-      has-are_choices strong.patterns weak.patterns e.pattern c.patterns st.stands.remembered.0,
-      replacement-covers weak strong e.replacement c st.stands.remembered.1,
-      has-are_choices strong.names weak.names e.name c.names st.stands.remembered.2,
+      has-are_choices strong.patterns weak.patterns e.pattern c.patterns st.1.remembered.0,
+      replacement-covers weak strong e.replacement c st.1.remembered.1,
+      has-are_choices strong.names weak.names e.name c.names st.1.remembered.2,
     );
-    changed = change-covers weak strong e.changed c st.stands.changed;
-    past = past-covers weak strong e.past c st.stands.past;
-  };
-  lines = st.lines;
-  kept = st.kept;
-  matched = members-pass (is_matched e.lines) weak.has strong.has c.matched st.matched;
-  kept_matched = matched-covers weak strong e.past c st.stands.past st.kept_matched;
-}
+    changed = change-covers weak strong e.changed c st.1.changed;
+    past = past-covers weak strong e.past c st.1.past;
+  },
+)
+
+pub StandsFor-covers : (weak strong : State) (e : editor.State) → Covers weak strong → StandsFor strong e → StandsFor weak e
+StandsFor-covers weak strong e c st =
+    let q = Stands-covers weak strong e c (st.numbers, st.stands) in
+    record {
+      numbers = q.0;
+      stands = q.1;
+      lines = st.lines;
+      kept = st.kept;
+      matched = members-pass (is_matched e.lines) weak.has strong.has c.matched st.matched;
+      kept_matched = matched-covers weak strong e.past c st.stands.past st.kept_matched;
+    }
+
+-- what is joined covers either state
+
+pub Stands-join : (one other : State) (e : editor.State) → Stands one e → Stands (join one other) e
+Stands-join one other e st = Stands-covers (join one other) one e (Covers-join one other) st
+
+pub Stands-join_other : (one other : State) (e : editor.State) → Stands other e → Stands (join one other) e
+Stands-join_other one other e st = Stands-covers (join one other) other e (Covers-join_other one other) st
+
+pub StandsFor-join : (one other : State) (e : editor.State) → StandsFor one e → StandsFor (join one other) e
+StandsFor-join one other e st = StandsFor-covers (join one other) one e (Covers-join one other) st
+
+pub StandsFor-join_other : (one other : State) (e : editor.State) → StandsFor other e → StandsFor (join one other) e
+StandsFor-join_other one other e st = StandsFor-covers (join one other) other e (Covers-join_other one other) st
+
+pub StandsFor-widen : (old new : State) (e : editor.State) → StandsFor old e → StandsFor (widen old new) e
+StandsFor-widen old new e st = StandsFor-covers (widen old new) old e (Covers-widen old new) st
+
+pub StandsFor-widen_other : (old new : State) (e : editor.State) → StandsFor new e → StandsFor (widen old new) e
+StandsFor-widen_other old new e st = StandsFor-covers (widen old new) new e (Covers-widen_other old new) st
