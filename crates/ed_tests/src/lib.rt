@@ -16,6 +16,8 @@ mod editors;
 #[cfg(test)]
 mod expected;
 #[cfg(test)]
+mod failing;
+#[cfg(test)]
 mod pieces;
 #[cfg(test)]
 mod scripts;

@@ -13,8 +13,8 @@ use line_store::{ChunkStore, GapStore, LineStore, PlainStore};
 use std::alloc::Global;
 use std::process::Abort;
 
-// The lines that each editor begins with, of which the last is current.
-const ABCD: &[u8] = b"a\nb\nc\nd\n";
+/// The lines that each editor begins with, of which the last is current.
+pub(crate) const ABCD: &[u8] = b"a\nb\nc\nd\n";
 
 // The lines are these, each with its newline, and this one is current.
 fn check_lines<S: LineStore>(
@@ -149,8 +149,8 @@ static GLOBALS: [GlobalRow; 5] = [
     GlobalRow { sense: Sense::Matching, pattern: b"[ac]", taken: 2, list: b"1,2d", lines: b"", current: 0 },
 ];
 
-// A global command with this pattern, whose list a test applies by itself.
-fn global(alloc: Global, sense: Sense, pattern: Pattern) -> Command
+/// A global command with this pattern, whose list a test applies by itself.
+pub(crate) fn global(alloc: Global, sense: Sense, pattern: Pattern) -> Command
     ensures global { IsTrue (is_global (command_value result).verb) }
 {
     Command {
