@@ -1,23 +1,29 @@
 //! What a rehearsal held back, as a person reads it. No clause speaks of these lines.
 
+use crate::stderr::file_name::quoted_name;
+use crate::stderr::shown::shown_lines;
 use rehearsal::HeldWrite;
+use std::alloc::{AllocError, Global};
 
 /// Shows in one line each the writes that would have been made. Bytes that would end the line, or aren't text, are escaped.
-pub fn show_held(rt: &impl Eprint, writes: &[HeldWrite]) {
+/// A line for which there is no memory is left out.
+pub fn show_held(alloc: Global, rt: &impl Eprint, writes: &[HeldWrite]) {
     for write in writes {
-        let path = write.path.as_slice();
-        let (lines, bytes) = (write.lines, write.bytes);
-        let (of_lines, of_bytes) = (plural(lines), plural(bytes));
-        let _ = match str::from_utf8(path) {
-            Ok(text) => eprintln!(rt;
-                "would write {text:?}: {lines} line{of_lines}, {bytes} byte{of_bytes}"
-            ),
-            Err(_) => eprintln!(rt;
-                "would write \"{}\": {lines} line{of_lines}, {bytes} byte{of_bytes}",
-                path.escape_ascii()
-            ),
-        };
+        if let Ok(line) = held_text(alloc, write) {
+            let _ = rt.eprint(line);
+        }
     }
+}
+
+fn held_text(alloc: Global, write: &HeldWrite) -> Result<String, AllocError> {
+    let name = quoted_name(alloc, write.path.as_slice())?;
+    let name = name.as_str();
+    let (lines, bytes) = (write.lines, write.bytes);
+    let (of_lines, of_bytes) = (plural(lines), plural(bytes));
+    let line = format!(in alloc;
+        "would write {name}: {lines} line{of_lines}, {bytes} byte{of_bytes}"
+    )?;
+    shown_lines(alloc, line.as_str())
 }
 
 // What a noun ends in after this number.

@@ -19,7 +19,10 @@ mod vouch;
 mod words;
 
 use std::process::ExitCode;
+use stderr::notes::show_memory;
 
 fn main(rt: HostRuntime) -> ExitCode {
-    ExitCode::from(program::status_of_run(&rt))
+    let status = program::status_of_run(&rt);
+    show_memory(&rt, status);
+    ExitCode::from(status)
 }

@@ -18,6 +18,7 @@ use crate::held_writes::show_held;
 use crate::job::Job;
 use crate::run::run;
 use crate::stderr::aside::Aside;
+use crate::stderr::notes::show_empty;
 use crate::stderr::refusals::{Explains, Watched, show_input, show_output, show_unread};
 use crate::stderr::usage::USAGE;
 use crate::vouch::vouch_text;
@@ -50,7 +51,10 @@ where
         Ok(job) => {
             let mut input = In::new(rt.reader());
             match script_from(rt.alloc(), &mut input, &job) {
-                Ok(script) => do_job(rt, script.as_slice(), job),
+                Ok(script) => {
+                    show_empty(rt.alloc(), rt, script.as_slice(), &job);
+                    do_job(rt, script.as_slice(), job)
+                }
                 Err(fault) => refuse_script(rt, fault, input.reason()),
             }
         }
@@ -228,7 +232,7 @@ where
     rehearsal.real_files_are_only_read();
     rehearsal.writes_are_done();
     rehearsal.reads_show_what_was_written();
-    show_held(rt, rehearsal.writes());
+    show_held(rt.alloc(), rt, rehearsal.writes());
     status
 }
 
@@ -322,7 +326,7 @@ where
     rehearsal.real_files_are_only_read();
     rehearsal.writes_are_done();
     rehearsal.reads_show_what_was_written();
-    show_held(rt, rehearsal.writes());
+    show_held(rt.alloc(), rt, rehearsal.writes());
     status
 }
 

@@ -1,9 +1,12 @@
 //! What is shown on standard error, for a person to read. No clause speaks of these lines.
 pub mod aside;
 mod command_line;
-mod file_name;
+pub mod file_name;
 pub mod hinted;
+pub mod notes;
 pub mod pattern;
+mod reasons;
 pub mod refusals;
+pub mod shown;
 mod stopped;
 pub mod usage;

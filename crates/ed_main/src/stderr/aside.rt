@@ -1,12 +1,14 @@
 //! What a person is told of a job beside its output. No clause speaks of these lines.
 
 use crate::stderr::command_line::quoted;
-use crate::stderr::file_name::{quoted_name, shell_option, shell_word, start_name};
+use crate::stderr::file_name::{quoted_name, quoted_word, shell_option, shell_word, start_name};
+use crate::stderr::notes::is_named_as_script;
+use crate::stderr::shown::shown_lines;
 use crate::stderr::stopped::{listed_text, stopped_text};
 use cert_check::{CertFault, Certificate, Place, Verdict, Version, wanted};
 use ed_base::{Bytes, Fault, count_lines};
 use ed_session::Session;
-use ed_syntax::{Answer, Ending};
+use ed_syntax::{Answer, Ending, read_script};
 use line_store::LineStore;
 use std::alloc::{AllocError, Global};
 
@@ -49,7 +51,9 @@ impl<'a> Aside<'a> {
 
     fn add(&mut self, lines: Result<String, AllocError>) {
         if let Ok(lines) = lines {
-            let _ = self.lines.push_str(lines.as_str());
+            if let Ok(lines) = shown_lines(self.alloc, lines.as_str()) {
+                let _ = self.lines.push_str(lines.as_str());
+            }
         }
     }
 
@@ -81,6 +85,7 @@ impl<'a> Aside<'a> {
                 self.alloc,
                 self.certificate,
             ),
+            CertFault::Version => script_text(self.alloc, self.certificate, bytes),
             CertFault::Line(_) => wanted_text(self.alloc, self.certificate, bytes),
             _ => return,
         };
@@ -119,6 +124,28 @@ fn answer_text(alloc: Global, path: &[u8]) -> Result<String, AllocError> {
     let name = quoted_name(alloc, path)?;
     let name = name.as_str();
     Ok(format!(in alloc; "hint: {name} holds the answer of a vouch that could not\n")?)
+}
+
+// The file of this name is a script, by its name or by how it begins.
+fn script_text(alloc: Global, path: &[u8], bytes: &[u8]) -> Result<String, AllocError> {
+    if !is_named_as_script(path) && !begins_as_script(alloc, bytes)? {
+        return Ok(String::new(alloc));
+    }
+    let name = quoted_name(alloc, path)?;
+    let word = quoted_word(alloc, path)?;
+    let (name, word) = (name.as_str(), word.as_str());
+    Ok(format!(in alloc;
+        "error: {name} isn't a certificate; to judge a script: ed_main vouch FILE <{word}\n"
+    )?)
+}
+
+// Whether the first line of a file is a command, and not empty.
+fn begins_as_script(alloc: Global, bytes: &[u8]) -> Result<bool, AllocError> {
+    let mut lines = bytes.split(|byte| *byte == b'\n');
+    match lines.next() {
+        Some(line) if !line.is_empty() => Ok(read_script(alloc, line)?.fault.is_none()),
+        _ => Ok(false),
+    }
 }
 
 // A line may not stand where it stands.

@@ -1,5 +1,6 @@
 //! The line of a script that a command begins on, as a person reads it.
 
+use crate::stderr::shown::{escaped, shown};
 use ed_syntax::{Command, Verb, first_lines, read_script};
 use std::alloc::{AllocError, Global};
 
@@ -8,7 +9,8 @@ use std::alloc::{AllocError, Global};
 pub struct CommandLine {
     /// Its number, counted from 1.
     pub number: usize,
-    /// The line without its newline, between backquotes. Bytes that would end the line, or aren't text, are escaped; a tab isn't.
+    /// The line without its newline, as much of it as is shown, between backquotes. Bytes that would end the line, or aren't text, are
+    /// escaped; a tab isn't.
     pub text: String,
 }
 
@@ -97,18 +99,20 @@ fn lines_of_listed(command: &Command) -> usize {
     }
 }
 
-// The line of this number, without its newline; lines count from 1.
-fn line_at(script: &[u8], number: usize) -> &[u8] {
+/// The line of this number, without its newline; lines count from 1.
+pub fn line_at(script: &[u8], number: usize) -> &[u8] {
     let mut lines = script.split(|byte| *byte == b'\n');
     lines.nth(number.wrapping_sub(1)).unwrap_or(script)
 }
 
-/// A line between backquotes. Bytes that would end it, or aren't text, are escaped.
+/// The front of a line between backquotes. Bytes that would end it, or aren't text, are escaped.
 pub fn quoted(alloc: Global, line: &[u8]) -> Result<String, AllocError> {
-    match str::from_utf8(line) {
-        Ok(text) if !text.chars().any(is_strange) => Ok(format!(in alloc; "`{text}`")?),
-        _ => Ok(format!(in alloc; "`{}`", line.escape_ascii())?),
-    }
+    let front = match str::from_utf8(line) {
+        Ok(text) if !text.chars().any(is_strange) => shown(alloc, text)?,
+        _ => escaped(alloc, line)?,
+    };
+    let front = front.as_str();
+    Ok(format!(in alloc; "`{front}`")?)
 }
 
 // Whether a character is none that a line shows.

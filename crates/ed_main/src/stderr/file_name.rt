@@ -1,13 +1,22 @@
 //! The name of a file, as a person reads it.
 
+use crate::stderr::shown::{escaped, shown};
 use ed_base::Bytes;
 use std::alloc::{AllocError, Global};
 
-/// The name between double quotes. Bytes that would end the line, or aren't text, are escaped.
+/// The front of a name between double quotes. Bytes that would end the line, or aren't text, are escaped.
 pub fn quoted_name(alloc: Global, path: &[u8]) -> Result<String, AllocError> {
     match str::from_utf8(path) {
-        Ok(text) => Ok(format!(in alloc; "{text:?}")?),
-        Err(_) => Ok(format!(in alloc; "\"{}\"", path.escape_ascii())?),
+        Ok(text) => {
+            let front = shown(alloc, text)?;
+            let front = front.as_str();
+            Ok(format!(in alloc; "{front:?}")?)
+        }
+        Err(_) => {
+            let front = escaped(alloc, path)?;
+            let front = front.as_str();
+            Ok(format!(in alloc; "\"{front}\"")?)
+        }
     }
 }
 
@@ -40,10 +49,15 @@ pub fn shell_option(alloc: Global, value: &[u8]) -> Result<String, AllocError> {
     Ok(format!(in alloc; "{between}{word}")?)
 }
 
-fn quoted_word(alloc: Global, path: &[u8]) -> Result<String, AllocError> {
+/// The front of a name as it stands in a command of the shell where no option may.
+pub fn quoted_word(alloc: Global, path: &[u8]) -> Result<String, AllocError> {
     match str::from_utf8(path) {
-        Ok(text) if path.iter().all(is_plain) => String::from_str(alloc, text),
-        Ok(text) if !text.chars().any(is_strange) => Ok(format!(in alloc; "'{text}'")?),
+        Ok(text) if path.iter().all(is_plain) => shown(alloc, text),
+        Ok(text) if !text.chars().any(is_strange) => {
+            let front = shown(alloc, text)?;
+            let front = front.as_str();
+            Ok(format!(in alloc; "'{front}'")?)
+        }
         _ => quoted_name(alloc, path),
     }
 }

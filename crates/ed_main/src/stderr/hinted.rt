@@ -2,7 +2,11 @@
 ghost use Rattle.std.specs.Prelude.{◌≤◌, IfSome};
 ghost use Rattle.ed_rules.specs.LineBounds.{IsAtMost, most_lines};
 
+use crate::stderr::reasons::reason_at;
+use crate::stderr::shown::shown_lines;
 use analyser::{Analysis, Start};
+use cert_check::{Note, Place};
+use ed_base::Fault;
 use hints::{MOST_REFUSALS, Refusal, refusals, told};
 use std::alloc::{AllocError, Global};
 
@@ -24,11 +28,49 @@ pub fn show_hinted(
         let text = if all {
             all_told(alloc, script, start)
         } else {
-            told(alloc, script, start, *place, *why, notes.as_slice())
+            one_told(alloc, script, start, *place, *why, notes.as_slice())
         };
         if let Ok(text) = text {
             let _ = rt.eprint(text);
         }
+    }
+}
+
+// The lines of one refusal.
+fn one_told(
+    alloc: Global,
+    script: &[u8],
+    start: &Start,
+    place: Place,
+    why: Fault,
+    notes: &[Note],
+) -> Result<String, AllocError>
+    requires ordered { IsAtMost start.now.min start.now.max }
+    requires low { start.now.min ≤ most_lines }
+    requires high { IfSome start.now.max (λ most. most ≤ most_lines) }
+{
+    let lines = told(alloc, script, start, place, why, notes)?;
+    with_reason(alloc, script, place, why, lines.as_str())
+}
+
+// The lines of a refusal, whose first one tells the fault, with the reason after it where the command can't be read.
+fn with_reason(
+    alloc: Global,
+    script: &[u8],
+    place: Place,
+    why: Fault,
+    lines: &str,
+) -> Result<String, AllocError> {
+    match (
+        reason_at(alloc, script, place.command, why)?,
+        lines.split_once('\n'),
+    ) {
+        (Some(reason), Some((first, others))) => {
+            let reason = reason.as_str();
+            let lines = format!(in alloc; "{first}: {reason}\n{others}")?;
+            shown_lines(alloc, lines.as_str())
+        }
+        _ => shown_lines(alloc, lines),
     }
 }
 
@@ -41,7 +83,10 @@ fn all_told(alloc: Global, script: &[u8], start: &Start) -> Result<String, Alloc
     let found = refusals(alloc, script, start)?;
     let mut lines = String::new(alloc);
     for refusal in found.as_slice() {
-        lines.push_str(refusal.told(alloc)?.as_str())?;
+        let told = refusal.told(alloc)?;
+        let script = refusal.script.as_slice();
+        let told = with_reason(alloc, script, refusal.place, refusal.why, told.as_str())?;
+        lines.push_str(told.as_str())?;
     }
     lines.push_str(rest_told(found.as_slice()))?;
     Ok(lines)

@@ -23,21 +23,23 @@ pub fn wrong_pattern(alloc: Global, text: &[u8], fault: BreFault) -> WordsFault
 fn pattern_text(alloc: Global, text: &[u8], fault: BreFault) -> Result<String, AllocError> {
     let text = quoted(alloc, text)?;
     let text = text.as_str();
-    let why = why_not(fault);
-    Ok(format!(in alloc; "error: --has {text} isn't a pattern: {why}")?)
+    let why = wrong_in_pattern(fault);
+    Ok(format!(in alloc; "error: --has {text} isn't a pattern: it {why}")?)
 }
 
-// Why a text isn't a pattern.
-fn why_not(fault: BreFault) -> &'static str {
+/// What is wrong with a text that isn't a pattern for this reason, after its name.
+pub fn wrong_in_pattern(fault: BreFault) -> &'static str {
     match fault {
-        BreFault::Bracket => "a bracket expression isn't closed",
-        BreFault::Class => "no such class of characters",
-        BreFault::Range => "its ends are no range",
-        BreFault::Group => "`\\(` and `\\)` don't pair",
-        BreFault::Interval => "its interval is none, is too large, or has nothing before it",
-        BreFault::Escape => "a backslash means nothing before this byte, or at the end",
-        BreFault::BackRef => "a back-reference to no group that ends before it",
-        BreFault::Depth => "groups and repeats more than 64 deep",
-        BreFault::Memory => "out of memory",
+        BreFault::Bracket => "has no ]",
+        BreFault::Class => "has a class of characters that is none",
+        BreFault::Range => "has a range that is none",
+        BreFault::Group => "has `\\(` and `\\)` that don't pair",
+        BreFault::Interval => {
+            "has an interval that is none, is too large, or has nothing before it"
+        }
+        BreFault::Escape => "has a backslash that means nothing where it stands",
+        BreFault::BackRef => "has a back-reference to no group that ends before it",
+        BreFault::Depth => "has groups and repeats more than 64 deep",
+        BreFault::Memory => "takes more memory than there is",
     }
 }

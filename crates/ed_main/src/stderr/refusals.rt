@@ -1,6 +1,8 @@
 //! What was refused outside, as a person reads it: a file, standard input, standard output. No clause speaks of these lines.
 ghost use Rattle.std.specs.Prelude.{◌≡◌};
 
+use crate::stderr::file_name::quoted_name;
+use crate::stderr::shown::shown_lines;
 use ed_base::{Bytes, Fault, Pieces};
 use ed_session::{DiskFiles, Outside};
 use ed_syntax::Answer;
@@ -76,6 +78,8 @@ pub struct Watched<O: Outside + Explains + Drop> {
     files: O,
     // Whether the next read is that of the start, which may miss its file.
     starts: bool,
+    // The file of the start, where it is missing.
+    missing: Option<Bytes>,
     refusal: Option<Refusal>,
 }
 
@@ -89,6 +93,7 @@ impl<O: Outside + Explains + Drop> Watched<O> {
             alloc,
             files,
             starts,
+            missing: None,
             refusal: None,
         }
     }
@@ -108,8 +113,19 @@ impl<O: Outside + Explains + Drop> Watched<O> {
         self.refusal = Some(Refusal::new(self.alloc, path, wrong, reason));
     }
 
-    /// Shows in one line what was refused where a run over these files ended with this status: a file, else standard output.
+    // Remembers that the file of the start isn't there.
+    fn miss(&mut self, path: &[u8])
+        ensures unchanged { self.new.files ≡ self.old.files }
+    {
+        self.missing = Bytes::from_slice(self.alloc, path).ok();
+    }
+
+    /// Shows in one line each that the file of the start isn't there, and what was refused where a run over these files ended with this
+    /// status: a file, else standard output.
     pub fn show_refusal(&self, rt: &impl Eprint, status: u8) {
+        if let Some(path) = &self.missing {
+            show_missing(self.alloc, rt, path.as_slice());
+        }
         match &self.refusal {
             Some(refusal) if status == Fault::File.status() => {
                 if let Some(path) = &refusal.path {
@@ -134,7 +150,8 @@ impl<O: Outside + Explains + Drop> Outside for Watched<O> {
         let answer = self.files.read(path)?;
         match &answer {
             Answer::Refused => self.refuse(path, Wrong::Unread),
-            Answer::Missing if !starts => self.refuse(path, Wrong::Missing),
+            Answer::Missing if starts => self.miss(path),
+            Answer::Missing => self.refuse(path, Wrong::Missing),
             _ => {}
         }
         Ok(answer)
@@ -150,7 +167,7 @@ impl<O: Outside + Explains + Drop> Outside for Watched<O> {
 }
 
 // Shows in one line what is wrong with the file at a path, with the system's reason where there is one. Bytes that would end the line,
-// or aren't text, are escaped. Where there is no memory for the reason, it is left out.
+// or aren't text, are escaped. Where there is no memory for the line, it is left out.
 fn show_file(
     alloc: Global,
     rt: &impl Eprint,
@@ -158,12 +175,36 @@ fn show_file(
     wrong: Wrong,
     reason: Option<io::Error>,
 ) {
-    let wrong = wrong.text();
-    let reason = reason_text(alloc, reason).unwrap_or(String::new(alloc));
-    let _ = match str::from_utf8(path) {
-        Ok(text) => eprintln!(rt; "error: {text:?}: {wrong}{reason}"),
-        Err(_) => eprintln!(rt; "error: \"{}\": {wrong}{reason}", path.escape_ascii()),
-    };
+    if let Ok(line) = file_text(alloc, path, wrong, reason) {
+        let _ = rt.eprint(line);
+    }
+}
+
+fn file_text(
+    alloc: Global,
+    path: &[u8],
+    wrong: Wrong,
+    reason: Option<io::Error>,
+) -> Result<String, AllocError> {
+    let name = quoted_name(alloc, path)?;
+    let reason = reason_text(alloc, reason)?;
+    let (name, wrong, reason) = (name.as_str(), wrong.text(), reason.as_str());
+    let line = format!(in alloc; "error: {name}: {wrong}{reason}")?;
+    shown_lines(alloc, line.as_str())
+}
+
+// Shows in one line that the file of the start isn't there.
+fn show_missing(alloc: Global, rt: &impl Eprint, path: &[u8]) {
+    if let Ok(line) = missing_text(alloc, path) {
+        let _ = rt.eprint(line);
+    }
+}
+
+fn missing_text(alloc: Global, path: &[u8]) -> Result<String, AllocError> {
+    let name = quoted_name(alloc, path)?;
+    let name = name.as_str();
+    let line = format!(in alloc; "note: {name} isn't there; the buffer is empty")?;
+    shown_lines(alloc, line.as_str())
 }
 
 /// Shows in one line that the file at a path isn't there or wasn't read, with the system's reason where there is one.

@@ -1,6 +1,7 @@
 //! Where a run stopped by a fault of its script, as a person reads it. No clause speaks of these lines.
 
 use crate::stderr::command_line::{Listed, line_in_list, line_of_command};
+use crate::stderr::reasons::fault_text;
 use ed_base::{Fault, count_lines};
 use std::alloc::{AllocError, Global};
 
@@ -42,7 +43,8 @@ pub fn stopped_text(
         Some(command) => {
             let line = command.number;
             let text = command.text.as_str();
-            let fault = fault.text();
+            let fault = fault_text(alloc, script, number, fault)?;
+            let fault = fault.as_str();
             Ok(format!(in alloc; "error: line {line}: {text}: {fault}\n")?)
         }
         None => end_text(alloc, script, number.saturating_sub(1), fault),

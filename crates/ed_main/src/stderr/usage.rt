@@ -2,6 +2,7 @@
 ghost use Rattle.std.specs.Prelude.{◌≡◌};
 ghost use Rattle.clap.specs.Words.{kind_of};
 
+use crate::stderr::shown::shown_lines;
 use crate::words::WordsFault;
 use clap::error::ErrorKind;
 use std::alloc::{AllocError, Global};
@@ -59,7 +60,8 @@ fn shown(alloc: Global, error: &clap::Error, words: &[&str]) -> Result<String, A
         }
     }
     let wrong = first_sentence(alloc, text.as_str())?;
-    Ok(format!(in alloc; "{wrong}\n{usage}")?)
+    let wrong = shown_lines(alloc, wrong.as_str())?;
+    Ok(format!(in alloc; "{wrong}{usage}")?)
 }
 
 // What is wrong where the first word that `clap` doesn't know is a number below 0 and stands where a bound does.

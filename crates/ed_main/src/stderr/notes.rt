@@ -1,0 +1,63 @@
+//! What a person is told beside faults: an empty script, and want of memory. No clause speaks of these lines.
+
+use crate::job::Job;
+use crate::stderr::file_name::quoted_word;
+use crate::stderr::shown::shown_lines;
+use ed_base::Fault;
+use std::alloc::{AllocError, Global};
+
+/// What the name of a script ends in, by custom.
+const SCRIPT: &[u8] = b".ed";
+
+/// Shows in one line that memory ran out, if what was done ended with the status of that.
+pub fn show_memory(rt: &impl Eprint, status: u8) {
+    if status == Fault::Memory.status() {
+        let _ = rt.eprint("error: out of memory\n");
+    }
+}
+
+/// Shows that the script of a job is empty, where it wants one. Where FILE may be the script that was meant, it is shown how that is given.
+pub fn show_empty(alloc: Global, rt: &impl Eprint, script: &[u8], job: &Job) {
+    if !script.is_empty() || matches!(job, Job::Fits { .. }) {
+        return;
+    }
+    let _ = rt.eprint("note: the script is empty\n");
+    if let Some(file) = file_of(job) {
+        if is_named_as_script(file) {
+            if let Ok(hint) = script_text(alloc, job, file) {
+                let _ = rt.eprint(hint);
+            }
+        }
+    }
+}
+
+// The name of the file that a job with a script starts with.
+fn file_of(job: &Job) -> Option<&[u8]> {
+    let path = match job {
+        Job::Edit { options, .. } | Job::Run { options, .. } => &options.path,
+        Job::Vouch { start, .. } => &start.path,
+        Job::Check(_) | Job::Fits { .. } => return None,
+    };
+    match path {
+        Some(path) => Some(path.as_slice()),
+        None => None,
+    }
+}
+
+/// Whether a file's name is like that of a script.
+pub fn is_named_as_script(path: &[u8]) -> bool {
+    path.ends_with(SCRIPT)
+}
+
+// How the file of this name is given as the script of a job.
+fn script_text(alloc: Global, job: &Job, file: &[u8]) -> Result<String, AllocError> {
+    let words = match job {
+        Job::Vouch { .. } => "judge a script: ed_main vouch FILE",
+        Job::Run { .. } => "run a script: ed_main run CERT FILE",
+        _ => "run a script: ed_main edit FILE",
+    };
+    let file = quoted_word(alloc, file)?;
+    let file = file.as_str();
+    let hint = format!(in alloc; "hint: to {words} <{file}")?;
+    shown_lines(alloc, hint.as_str())
+}
