@@ -11,12 +11,14 @@ use Rattle.line_store.specs.Kept.{flag_count}
 use Rattle.line_store.proofs.Joined.{joined-append}
 
 -- a line without the flag, after others without it
-pub unflagged-more : (lines : List Line) (line : Line) (text : List ℕ) → line ≡ plain_line text → flag_count lines ≡ 0 → flag_count (lines ++ line ∷ []) ≡ 0
+pub unflagged-more : (lines : List Line) (line : Line) (text : List ℕ) →
+    line ≡ plain_line text → flag_count lines ≡ 0 → flag_count (lines ++ line ∷ []) ≡ 0
 unflagged-more lines line text is none =
     sum_by_push (λ (line : Line). cond line.flag 1 0) lines line ∙ omega (arith, none, ap {B = ℕ} (λ (l : Line). cond l.flag 1 0) is)
 
 -- one more line, and those after it
-pub taken-next : (lines : List Line) (line : Line) (text : List ℕ) (all left rest : List (List ℕ)) → line ≡ plain_line text → all ≡ texts lines ++ left → left ≡ text ∷ rest →
+pub taken-next : (lines : List Line) (line : Line) (text : List ℕ) (all left rest : List (List ℕ)) →
+    line ≡ plain_line text → all ≡ texts lines ++ left → left ≡ text ∷ rest →
     all ≡ texts (lines ++ line ∷ []) ++ rest
 taken-next lines line text all left rest is before first =
     before ∙ ap (λ t. texts lines ++ t) (first ∙ ap (λ (l : Line). l.bytes ∷ rest) (sym is))
@@ -67,7 +69,8 @@ taken-chunk chunks now chunk all left rest is before first =
     ∙ ap (λ t. t ++ rest) (sym (map-append (λ (l : Line). l.bytes) (joined chunks) chunk))
     ∙ ap (λ t. texts t ++ rest) (sym (joined-more chunks now chunk is))
 
-pub unflagged-chunk : (chunks now : List (List Line)) (chunk : List Line) → now ≡ chunks ++ chunk ∷ [] → flag_count (joined chunks) ≡ 0 → flag_count chunk ≡ 0 →
+pub unflagged-chunk : (chunks now : List (List Line)) (chunk : List Line) → now ≡ chunks ++ chunk ∷ [] →
+    flag_count (joined chunks) ≡ 0 → flag_count chunk ≡ 0 →
     flag_count (joined now) ≡ 0
 unflagged-chunk chunks now chunk is before none =
     ap flag_count (joined-more chunks now chunk is)

@@ -35,7 +35,8 @@ written-none a lines old = record {
 }
 
 -- one line
-pub written-line : (i : ℕ) (lines : List Line) (line : Line) (old new : List ℕ) → i < length lines → line ≡ get_or lines i line → IsLine line.bytes →
+pub written-line : (i : ℕ) (lines : List Line) (line : Line) (old new : List ℕ) →
+    i < length lines → line ≡ get_or lines i line → IsLine line.bytes →
     new ≡ old ++ (line.bytes ++ newline ∷ []) → Written i (i + 1) lines old new
 written-line i lines line old new h is are put =
     let one = ap texts (block-one i lines line h is) in
@@ -50,7 +51,8 @@ pub written-on : (a i j : ℕ) (lines : List Line) (old mid new : List ℕ) → 
 written-on a i j lines old mid new h k l first second =
     let xs = texts (block a i lines) in
     let ys = texts (block i j lines) in
-    let both : texts (block a j lines) ≡ xs ++ ys = ap texts (block-joined a i j lines h k l) ∙ map-append (λ (l : Line). l.bytes) (block a i lines) (block i j lines) in
+    let both : texts (block a j lines) ≡ xs ++ ys =
+    ap texts (block-joined a i j lines h k l) ∙ map-append (λ (l : Line). l.bytes) (block a i lines) (block i j lines) in
     record {
       bytes = second.bytes ∙ ap (λ t. t ++ bytes_of ys) first.bytes
           ∙ append_assoc old (bytes_of xs) (bytes_of ys)
@@ -77,11 +79,13 @@ block-in_chunk (chunk ∷ chunks) zero a b i j h l e f =
 block-in_chunk (chunk ∷ chunks) (suc k) a b i j h l e f =
     let m = lines_before k chunks + a in
     let n = lines_before k chunks + b in
-    block-after chunk (joined chunks) i j m n (omega arith) (omega arith) ∙ block-in_chunk chunks k a b m n (omega arith) l (omega arith) (omega arith)
+    block-after chunk (joined chunks) i j m n (omega arith) (omega arith)
+    ∙ block-in_chunk chunks k a b m n (omega arith) l (omega arith) (omega arith)
 
 -- lines of a chunk
 pub written-chunk : (chunks : List (List Line)) (k a b i j : ℕ) (old new : List ℕ) → k < length chunks → b ≤ length (get_or chunks k []) →
-    i ≡ lines_before k chunks + a → j ≡ lines_before k chunks + b → Written a b (get_or chunks k []) old new → Written i j (joined chunks) old new
+    i ≡ lines_before k chunks + a → j ≡ lines_before k chunks + b →
+    Written a b (get_or chunks k []) old new → Written i j (joined chunks) old new
 written-chunk chunks k a b i j old new h l e f part =
     let same = ap texts (block-in_chunk chunks k a b i j h l e f) in
     record {

@@ -13,7 +13,9 @@ loop-i-preserved c =
     let lines = c.args.self.now in
     let i = c.loop-i.i in
     let within : i < length lines = omega (arith, c.requires.last) in
-    let line = written-line i lines c.line.result.now _ c.push_to.new.output within c.line.ensures.value c.push_to.ensures.line c.in_ok-push_to.ensures.appended in
-    let before : Written c.args.from i lines c.args.output.now c.loop-i.output = record { bytes = c.loop-i.invariant.bytes; are = c.loop-i.invariant.are } in
+    let line =
+    written-line i lines c.line.result.now _ c.push_to.new.output within c.line.ensures.value c.push_to.ensures.line c.in_ok-push_to.ensures.appended in
+    let before : Written c.args.from i lines c.args.output.now c.loop-i.output =
+    record { bytes = c.loop-i.invariant.bytes; are = c.loop-i.invariant.are } in
     let more = written-on c.args.from i (i + 1) lines _ _ _ (omega arith) (omega arith) (omega arith) before line in
     record { bytes = more.bytes; are = more.are }

@@ -11,7 +11,12 @@ use Rattle.line_store.proofs.kept.StoreLineStore.push_lines.Goals as goal
 
 pub push_lines-requires-clause-last : goal.push_lines-requires-clause-last
 push_lines-requires-clause-last g c =
-    omega (arith, c.requires.last, length-lettered c.self.inside.marks 0 (g.L.BareLines.items c.self.inside.lines), ap (λ v. length (lines_of v)) c.self.view_is)
+    omega (
+      arith,
+      c.requires.last,
+      length-lettered c.self.inside.marks 0 (g.L.BareLines.items c.self.inside.lines),
+      ap (λ v. length (lines_of v)) c.self.view_is,
+    )
 
 pub returns-clause-appended : goal.returns-clause-appended
 returns-clause-appended g c =

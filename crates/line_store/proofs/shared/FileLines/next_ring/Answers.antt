@@ -21,9 +21,11 @@ lines-preserved c =
     let is : line ≡ plain_line text = c.in_ok-line.ensures.value
     ∙ ap (λ f. plain_line (slice_range f next (next + length text))) file
     ∙ ap plain_line (line-between bytes _ text rest next left c.in-Some.ensures.cut) in
-    let after : drop (length bytes - length rest) bytes ≡ rest = rest-after bytes _ text rest next c.lines.invariant.place left c.in-Some.ensures.cut in
+    let after : drop (length bytes - length rest) bytes ≡ rest =
+    rest-after bytes _ text rest next c.lines.invariant.place left c.in-Some.ensures.cut in
     record {
-      taken = taken-next before line text _ (lines_of (drop next bytes)) (lines_of rest) is c.lines.invariant.taken (ap lines_of left ∙ c.in-Some.ensures.first)
+      taken = taken-next before line text _ (lines_of (drop next bytes)) (lines_of rest)
+          is c.lines.invariant.taken (ap lines_of left ∙ c.in-Some.ensures.first)
           ∙ ap (λ t. texts t ++ lines_of rest) (sym items)
           ∙ ap (λ r. texts c.push_back_reserved.new.self.items ++ lines_of r) (sym after);
       place = omega arith;
