@@ -10,7 +10,7 @@ use std::alloc::{AllocError, Global};
 use std::io::Read;
 use std::{io, str};
 
-// How long the first line is, without its newline.
+/// How long the first line is, without its newline.
 fn size_of_line(text: &[u8]) -> usize
     ensures within { result ≤ length text.now }
 {
@@ -20,7 +20,7 @@ fn size_of_line(text: &[u8]) -> usize
     }
 }
 
-// How long the lines are up to the first empty one.
+/// How long the lines are up to the first empty one.
 fn size_of_block(text: &[u8]) -> usize
     ensures within { result ≤ length text.now }
 {
@@ -35,7 +35,7 @@ fn size_of_block(text: &[u8]) -> usize
     text.len()
 }
 
-// What stands for a line `FROM`, tab, `TEXT`: where the first match at or after FROM lies, or whether there is one, if FROM is `-`.
+/// What stands for a line `FROM`, tab, `TEXT`: where the first match at or after FROM lies, or whether there is one, if FROM is `-`.
 fn told(alloc: Global, finder: &mut Finder<'_>, line: &[u8]) -> Result<String, AllocError> {
     let Some(size) = memchr(b'\t', line) else {
         return String::from_str(alloc, "no such line");
@@ -60,7 +60,7 @@ fn told(alloc: Global, finder: &mut Finder<'_>, line: &[u8]) -> Result<String, A
     }
 }
 
-// What stands for the texts of a block, in lines.
+/// What stands for the texts of a block, in lines.
 fn block(alloc: Global, finder: &mut Finder<'_>, texts: &[u8]) -> Result<String, AllocError> {
     let mut out = String::new(alloc);
     let mut start = 0;
@@ -75,7 +75,7 @@ fn block(alloc: Global, finder: &mut Finder<'_>, texts: &[u8]) -> Result<String,
     Ok(out)
 }
 
-// What stands for a block of a pattern and texts.
+/// What stands for a block of a pattern and texts.
 fn answers(alloc: Global, means: Means, word: &[u8], texts: &[u8]) -> Result<String, AllocError> {
     match pattern::read(alloc, word)? {
         Some(pattern) => {

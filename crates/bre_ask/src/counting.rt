@@ -16,7 +16,7 @@ pub(crate) enum Counted {
     Matches,
 }
 
-// How many matches a line has, one after the other.
+/// How many matches a line has, one after the other.
 fn matches_in(finder: &mut Finder<'_>, line: &[u8]) -> Result<usize, AllocError> {
     let mut count = 0usize;
     let mut place = 0;
@@ -35,7 +35,7 @@ fn matches_in(finder: &mut Finder<'_>, line: &[u8]) -> Result<usize, AllocError>
     Ok(count)
 }
 
-// What one line adds to the count.
+/// What one line adds to the count.
 fn count_line(finder: &mut Finder<'_>, counted: Counted, line: &[u8]) -> Result<usize, AllocError> {
     match counted {
         Counted::Lines => {
@@ -46,7 +46,7 @@ fn count_line(finder: &mut Finder<'_>, counted: Counted, line: &[u8]) -> Result<
     }
 }
 
-// A last line without its newline is a line.
+/// A last line without its newline is a line.
 fn count_in(finder: &mut Finder<'_>, counted: Counted, text: &[u8]) -> Result<usize, AllocError> {
     let mut count = 0usize;
     let mut start = 0;

@@ -14,7 +14,7 @@ use std::{env, io};
 const USAGE: &str =
     "usage: bre_ask {count|count_searched|count_anew|all|all_searched} PATTERN | bre_ask {places|places_searched|blocks|blocks_searched}";
 
-// What a task counts, and how, if it counts.
+/// What a task counts, and how, if it counts.
 fn count_task(task: &str) -> Option<(Counted, Means)> {
     match task {
         "count" => Some((Counted::Lines, Means::Alone)),

@@ -23,7 +23,7 @@ pub(crate) fn spelled(alloc: Global, found: Match) -> Result<String, AllocError>
     Ok(told)
 }
 
-// A searcher that ran out of memory is asked once more, so that what it answers after a refused allocation is seen.
+/// A searcher that ran out of memory is asked once more, so that what it answers after a refused allocation is seen.
 fn searched(
     alloc: Global,
     pattern: &Bre,
@@ -39,7 +39,7 @@ fn searched(
     }
 }
 
-// What stands for a line `FROM`, tab, `PATTERN`, tab, `TEXT`: where the pattern's first match at or after FROM lies.
+/// What stands for a line `FROM`, tab, `PATTERN`, tab, `TEXT`: where the pattern's first match at or after FROM lies.
 fn told(alloc: Global, means: Means, line: &str) -> Result<String, AllocError> {
     let fields: Vec<&str> = line.split('\t').collect(alloc)?;
     if fields.len() != 3 {

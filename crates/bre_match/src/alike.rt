@@ -19,7 +19,7 @@ fn same_span(one: Option<(usize, usize)>, other: Option<(usize, usize)>) -> bool
     }
 }
 
-// Whether the spans of a group are the same, if it is asked for.
+/// Whether the spans of a group are the same, if it is asked for.
 fn agree(is_asked: bool, one: Option<(usize, usize)>, other: Option<(usize, usize)>) -> bool
     ensures value { result ≡ (not is_asked || same_span one other) }
 {
@@ -58,7 +58,7 @@ pub(crate) fn number_of(asked: &Asked, way: &Way) -> usize {
     number
 }
 
-// Whether one of the ways is like this one, as far as the index has them.
+/// Whether one of the ways is like this one, as far as the index has them.
 fn has_alike(ways: &[Way], index: &Index, asked: &Asked, way: &Way) -> bool
     ensures sound { IsTrue result → HasAlike asked.now ways.now way.now }
 {

@@ -10,7 +10,7 @@ use bre_parse::tree::Node;
 /// For each of the first nine groups, whether some part refers to it.
 pub(crate) type Asked = [bool; 9];
 
-// Asks for the groups to which a part refers, too.
+/// Asks for the groups to which a part refers, too.
 #[tactic(auto, using(crate::proofs::Asking::asking_laws))]
 #[cycle(ask)]
 fn ask(part: &Node, asked: &mut Asked)

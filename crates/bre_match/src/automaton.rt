@@ -31,7 +31,7 @@ pub(crate) fn state_in(entry: u16) -> usize
     (entry % FOUND) as usize
 }
 
-// The state at which a run begins.
+/// The state at which a run begins.
 fn first_state(alloc: Global, starts: Starts) -> Result<State, AllocError>
     ensures value { IfOk result (λ state. state ≡ first_row starts) }
 {
@@ -45,7 +45,7 @@ fn first_state(alloc: Global, starts: Starts) -> Result<State, AllocError>
     }
 }
 
-// The first two states, with the same row: one for the start of a text, and one for later places.
+/// The first two states, with the same row: one for the start of a text, and one for later places.
 fn first_states(alloc: Global, starts: Starts) -> Result<Vec<State>, AllocError>
     ensures value { IfOk result (λ states. states.items ≡ first_row starts ∷ first_row starts ∷ []) }
 {
@@ -55,7 +55,7 @@ fn first_states(alloc: Global, starts: Starts) -> Result<Vec<State>, AllocError>
     Ok(states)
 }
 
-// Their table, in which nothing is known.
+/// Their table, in which nothing is known.
 fn first_table(alloc: Global) -> Result<Vec<u16>, AllocError>
     ensures value { IfOk result (λ table. table.items ≡ replicate 1024 65535) }
 {
@@ -107,7 +107,7 @@ pub(crate) fn make_room(states: &mut Vec<State>, table: &mut Vec<u16>, state: us
     }
 }
 
-// The number of a state, if it was met after the start of a text.
+/// The number of a state, if it was met after the start of a text.
 fn known_state(states: &[State], state: &State) -> Option<usize>
     ensures value { IfSome result (λ number. (0 < number) × (number < length states.now) × (get_or states.now number [] ≡ state.now)) }
 {
@@ -119,7 +119,7 @@ fn known_state(states: &[State], state: &State) -> Option<usize>
     None
 }
 
-// Makes room in the table for the entries of one more state.
+/// Makes room in the table for the entries of one more state.
 fn widen(table: &mut Vec<u16>, states: usize) -> Result<(), AllocError>
     requires few { states < 128 }
     ensures same { SameEntries table.new.items table.old.items }
@@ -133,7 +133,7 @@ fn widen(table: &mut Vec<u16>, states: usize) -> Result<(), AllocError>
     Ok(())
 }
 
-// The number of a state, which is put after the others if it is new.
+/// The number of a state, which is put after the others if it is new.
 fn number_of(states: &mut Vec<State>, table: &mut Vec<u16>, state: State) -> Result<u16, AllocError>
     requires some { 0 < length states.old.items }
     requires few { length states.old.items < 128 }
@@ -154,7 +154,7 @@ fn number_of(states: &mut Vec<State>, table: &mut Vec<u16>, state: State) -> Res
     }
 }
 
-// The entry of a state, and of whether a match ends.
+/// The entry of a state, and of whether a match ends.
 fn entry_of(number: u16, is_end: bool) -> u16
     requires few { number < 128 }
     ensures value { (states : List (List (Option ℕ))) → meaning_of states result ≡ Some (is_end, get_or states number []) }

@@ -16,7 +16,7 @@ pub(crate) struct Edges {
     pub ends: bool,
 }
 
-// A part that matches nowhere: one byte of a set that has none.
+/// A part that matches nowhere: one byte of a set that has none.
 fn nowhere(alloc: Global) -> Node
     ensures value { tree_of result ≡ Set false [] }
 {
@@ -63,7 +63,7 @@ pub(crate) fn turned(alloc: Global, part: &Node, edges: Edges) -> Result<Node, A
     }
 }
 
-// The items, the last one first.
+/// The items, the last one first.
 #[cycle(turned)]
 fn turned_row(alloc: Global, items: &[Node], edges: Edges) -> Result<Vec<Node>, AllocError>
     ensures value { IfOk result (λ back. repeats_in_order (sequence_of items.now) ≡ true → Backwards edges.starts edges.ends (part_of (sequence_of items.now)) (part_of (sequence_of back.items))) }

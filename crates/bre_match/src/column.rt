@@ -26,7 +26,7 @@ pub(crate) struct Passed {
     pub at: usize,
 }
 
-// The less of two weights.
+/// The less of two weights.
 fn less_of(first: Option<usize>, second: Option<usize>) -> Option<usize>
     ensures value { result ≡ less_of first second }
 {
@@ -53,7 +53,7 @@ pub(crate) fn after_mark(marks: &[Option<usize>], at: usize) -> usize
     if at < marks.len() { at + 1 } else { at }
 }
 
-// What comes out after a part that takes no byte: what came out before it, where it may.
+/// What comes out after a part that takes no byte: what came out before it, where it may.
 fn passed_if(may: bool, before: Passed) -> Passed
     ensures weight { result.weight ≡ where_true may before.weight }
     ensures at { result.at ≡ before.at }
@@ -64,7 +64,7 @@ fn passed_if(may: bool, before: Passed) -> Passed
     }
 }
 
-// Puts the mark of a byte set at the next place after others, if it is asked for.
+/// Puts the mark of a byte set at the next place after others, if it is asked for.
 fn put_mark(
     out: &mut Vec<Option<usize>>,
     asked: Asked,

@@ -40,7 +40,7 @@ pub(crate) enum Found {
     NotBefore(usize),
 }
 
-// The last place where a way ends: this one, where the entry says so, or the one before.
+/// The last place where a way ends: this one, where the entry says so, or the one before.
 #[inline(always)]
 fn end_at(entry: u16, place: usize, before: Option<usize>) -> Option<usize>
     ensures value { result ≡ (if nat_le 256 entry then Some place else before) }
@@ -48,7 +48,7 @@ fn end_at(entry: u16, place: usize, before: Option<usize>) -> Option<usize>
     if entry >= FOUND { Some(place) } else { before }
 }
 
-// Whether no way leads on from a state. It is looked at only where it isn't the one before, which led on.
+/// Whether no way leads on from a state. It is looked at only where it isn't the one before, which led on.
 #[inline(always)]
 fn is_dead(states: &[State], state: usize, before: usize) -> bool
     requires state { state < length states.now }
@@ -57,7 +57,7 @@ fn is_dead(states: &[State], state: usize, before: usize) -> bool
     state != before && states[state].is_empty()
 }
 
-// What the last end of all says.
+/// What the last end of all says.
 fn told(end: Option<usize>) -> LastEnd
     ensures value { result ≡ told_end end }
 {
@@ -67,7 +67,7 @@ fn told(end: Option<usize>) -> LastEnd
     }
 }
 
-// Where the longest way from a start ends. The run goes on where a way ends, up to a state from which none leads on.
+/// Where the longest way from a start ends. The run goes on where a way ends, up to a state from which none leads on.
 fn longest_end(
     states: &mut Vec<State>,
     table: &mut Vec<u16>,

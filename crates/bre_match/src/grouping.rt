@@ -14,7 +14,7 @@ use crate::table::{Table, at, ends_of, ends_of_turns};
 use bre_parse::tree::{Groups, Node};
 use std::alloc::{AllocError, Global};
 
-// Whether no group stands in a part.
+/// Whether no group stands in a part.
 #[tactic(auto, using(crate::proofs::ColumnRows::refer_laws))]
 #[cycle(groupless)]
 fn is_groupless(part: &Node) -> bool
@@ -41,7 +41,7 @@ pub(crate) fn all_groupless(items: &[Node]) -> bool
     true
 }
 
-// Where a part ends, by the table of that number: how far from the piece's end.
+/// Where a part ends, by the table of that number: how far from the piece's end.
 fn end_told(tables: &[Table], number: usize, distance: usize) -> Option<usize>
     requires told { number < length tables.now }
     ensures value { (table : _) → slice_get tables.now number ≡ Some table → result ≡ get_or table.items distance None }
@@ -49,21 +49,21 @@ fn end_told(tables: &[Table], number: usize, distance: usize) -> Option<usize>
     at(&tables[number], distance)
 }
 
-// Whether two places are not those of a piece of the text.
+/// Whether two places are not those of a piece of the text.
 fn is_outside(text: &[u8], low: usize, high: usize) -> bool
     ensures exact { IsFalse result ↔ (low ≤ high) × (high ≤ length text.now) }
 {
     low > high || high > text.len()
 }
 
-// Whether a turn is idle: empty, and not needed.
+/// Whether a turn is idle: empty, and not needed.
 fn is_idle(place: usize, end: usize, least: u8, done: usize) -> bool
     ensures value { result ≡ (nat_eq end place && nat_le least done) }
 {
     end == place && least as usize <= done
 }
 
-// The tables of a row's items, the last one's first, after an empty one.
+/// The tables of a row's items, the last one's first, after an empty one.
 fn tables_of_row(
     alloc: Global,
     items: &[Node],
@@ -94,7 +94,7 @@ fn tables_of_row(
     Ok(tables)
 }
 
-// How many turns of a repeat have a table of their own.
+/// How many turns of a repeat have a table of their own.
 fn told_turns(least: u8, most: Option<u8>) -> usize
     ensures value { result ≡ told_turns least most }
 {
@@ -104,7 +104,7 @@ fn told_turns(least: u8, most: Option<u8>) -> usize
     }
 }
 
-// The table of all turns that are not told apart: there is none, or they have no bound.
+/// The table of all turns that are not told apart: there is none, or they have no bound.
 fn table_of_further_turns(
     alloc: Global,
     content: &Node,
@@ -127,7 +127,7 @@ fn table_of_further_turns(
     }
 }
 
-// The tables of a repeat's turns, the last one's first, after one for all further turns.
+/// The tables of a repeat's turns, the last one's first, after one for all further turns.
 fn tables_of_turns(
     alloc: Global,
     content: &Node,
@@ -154,7 +154,7 @@ fn tables_of_turns(
     Ok(tables)
 }
 
-// Groups past the ninth are kept nowhere.
+/// Groups past the ninth are kept nowhere.
 fn set_group(groups: &mut Groups, group: usize, low: usize, high: usize)
     ensures value { groups.new ≡ slice_set groups.old group (Some (low, high)) }
 {
@@ -228,7 +228,7 @@ pub(crate) fn set_row(
     Ok(())
 }
 
-// The same for a turn of a repeat, which begins with the groups inside it unset.
+/// The same for a turn of a repeat, which begins with the groups inside it unset.
 #[cycle(groups)]
 fn set_turn(
     groups: &mut Groups,
@@ -245,7 +245,7 @@ fn set_turn(
     Ok(())
 }
 
-// The same for a repeat, turn after turn. Each turn but the needed ones takes a byte.
+/// The same for a repeat, turn after turn. Each turn but the needed ones takes a byte.
 #[cycle(groups)]
 fn set_turns(
     groups: &mut Groups,

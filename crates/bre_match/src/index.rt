@@ -35,7 +35,7 @@ impl Index {
         self.rows.clear();
     }
 
-    // The row of a number.
+    /// The row of a number.
     fn row(&self, number: usize) -> usize {
         if self.rows.is_empty() {
             return 0;
@@ -61,7 +61,7 @@ impl Index {
         }
     }
 
-    // Puts the thing that is told by this place at the end of its row.
+    /// Puts the thing that is told by this place at the end of its row.
     fn link(&mut self, number: usize, after: usize) -> Result<(), AllocError>
         ensures same { self.new.numbers.items ≡ self.old.numbers.items }
     {
@@ -74,7 +74,7 @@ impl Index {
         Ok(())
     }
 
-    // Makes more rows, and puts each thing into its own again.
+    /// Makes more rows, and puts each thing into its own again.
     fn widen(&mut self) -> Result<(), AllocError> {
         let wanted = self.rows.len().saturating_mul(4).max(64);
         self.rows.clear();

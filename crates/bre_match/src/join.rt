@@ -5,7 +5,7 @@ use crate::asked::Asked;
 use crate::run::{Run, only_item};
 use bre_parse::tree::Node;
 
-// Whether a group that is asked for stands in a part.
+/// Whether a group that is asked for stands in a part.
 #[cycle(sets)]
 fn sets_asked(part: &Node, asked: &Asked) -> bool {
     match part {
@@ -30,7 +30,7 @@ fn is_asked(group: usize, asked: &Asked) -> bool {
     group < 9 && asked[group]
 }
 
-// Whether a part may have several ways from one place.
+/// Whether a part may have several ways from one place.
 fn may_part(part: &Node) -> bool {
     match part {
         Node::Repeat(_, _, _) => true,
@@ -52,8 +52,8 @@ fn may_part_plainly(part: &Node) -> bool {
     }
 }
 
-// How often ways part at an item and may meet after it: not where a group that is asked for tells them apart, and twice in a
-// group of several items.
+/// How often ways part at an item and may meet after it: not where a group that is asked for tells them apart, and twice in a
+/// group of several items.
 fn partings(item: &Node, asked: &Asked) -> usize {
     match item {
         Node::Group(group, content) => match only_item(content) {

@@ -64,7 +64,7 @@ impl Learned {
     }
 }
 
-// Whether a pattern is looked for in each text by itself, without an automaton.
+/// Whether a pattern is looked for in each text by itself, without an automaton.
 fn is_plain(pattern: &Bre) -> bool
     ensures free { result ≡ false → refers (bre_tree pattern.now) ≡ false }
     ensures word { IsSome (literal (bre_tree pattern.now)) → result ≡ true }

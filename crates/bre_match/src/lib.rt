@@ -89,7 +89,7 @@ pub fn find(
     }
 }
 
-// The match of a pattern by its items. It is apart from `find`, so that a literal pattern doesn't pay for its many locals.
+/// The match of a pattern by its items. It is apart from `find`, so that a literal pattern doesn't pay for its many locals.
 fn find_items(
     alloc: Global,
     pattern: &Bre,
@@ -134,7 +134,7 @@ pub fn matches(alloc: Global, pattern: &Bre, text: &[u8]) -> Result<bool, AllocE
     }
 }
 
-// Whether a pattern matches anywhere in a text, by its items.
+/// Whether a pattern matches anywhere in a text, by its items.
 fn matches_items(alloc: Global, pattern: &Bre, text: &[u8]) -> Result<bool, AllocError>
     ensures value { IfOk result (λ matches. matches ≡ is_some (match_from (bre_tree pattern.now) text.now 0)) }
 {
@@ -148,8 +148,8 @@ fn matches_items(alloc: Global, pattern: &Bre, text: &[u8]) -> Result<bool, Allo
     Ok(found.is_some())
 }
 
-// The match that starts at this very place, if there is one: with its groups, which cost a second look where a match is searched by
-// columns.
+/// The match that starts at this very place, if there is one: with its groups, which cost a second look where a match is searched by
+/// columns.
 fn match_here(
     alloc: Global,
     items: &[Node],
@@ -189,8 +189,8 @@ fn match_here(
 // No more ways than these are kept in mind from one start to the next, which costs memory.
 const MOST_SEEN: usize = 100_000;
 
-// The first match in a text of items one after another, from one start after another. A way that is like one that was taken up from an
-// earlier start, where ways may meet, leads to no match and isn't taken up again.
+/// The first match in a text of items one after another, from one start after another. A way that is like one that was taken up from an
+/// earlier start, where ways may meet, leads to no match and isn't taken up again.
 fn searched_match(
     alloc: Global,
     items: &[Node],
@@ -221,7 +221,7 @@ fn searched_match(
     Ok(None)
 }
 
-// The first match in a text of items one after another. It pays to look where ways may meet, but in a quick row.
+/// The first match in a text of items one after another. It pays to look where ways may meet, but in a quick row.
 fn first_match(
     alloc: Global,
     items: &[Node],

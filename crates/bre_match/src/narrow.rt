@@ -22,7 +22,7 @@ fn is_text_end(part: &Node) -> bool
     }
 }
 
-// The span of a group in all ways of a run.
+/// The span of a group in all ways of a run.
 fn span_in(run: &Run, group: usize) -> Option<(usize, usize)>
     ensures value { result ≡ span_in run.now.closes run.now.groups group }
 {
@@ -34,7 +34,7 @@ fn span_in(run: &Run, group: usize) -> Option<(usize, usize)>
     if group < 9 { run.groups[group] } else { None }
 }
 
-// How many bytes an item takes, where this is told.
+/// How many bytes an item takes, where this is told.
 #[tactic(auto, using(crate::proofs::PartKinds::bytes_laws))]
 fn item_bytes(part: &Node, text: &[u8], run: &Run) -> Option<usize>
     ensures value { result ≡ item_bytes run.now.closes run.now.groups text.now (tree_of part.now) }
@@ -51,7 +51,7 @@ fn item_bytes(part: &Node, text: &[u8], run: &Run) -> Option<usize>
     }
 }
 
-// How many bytes the items before the first `$` take, where this is told.
+/// How many bytes the items before the first `$` take, where this is told.
 fn bytes_to_end(items: &[Node], text: &[u8], run: &Run) -> Option<usize>
     ensures sound { IfSome result (λ bytes. bytes_to_end run.now.closes run.now.groups text.now (sequence_of items.now) 0 ≡ Some bytes) }
 {
@@ -71,7 +71,7 @@ fn bytes_to_end(items: &[Node], text: &[u8], run: &Run) -> Option<usize>
     None
 }
 
-// Of a run's ways the one that ends so many bytes before the end of the text.
+/// Of a run's ways the one that ends so many bytes before the end of the text.
 fn only_end(run: &Run, size: usize, bytes: usize) -> Option<(usize, usize)>
     requires room { run.now.shorter ≤ run.now.end }
     ensures value { (f : Way → List Way) → ((end : ℕ) → end + bytes ≢ size → f (end, groups_at run.now end) ≡ []) → flat_map f (kept_of result (groups_at run.now)) ≡ flat_map f (ways_of run.now) }
@@ -87,7 +87,7 @@ fn only_end(run: &Run, size: usize, bytes: usize) -> Option<(usize, usize)>
     Some((end, 0))
 }
 
-// Of a run's ways all but those at its head after which no byte of the set stands. The last one always stays.
+/// Of a run's ways all but those at its head after which no byte of the set stands. The last one always stays.
 fn ends_before(run: &Run, set: &ByteSet, text: &[u8]) -> (usize, usize)
     ensures value { (f : Way → List Way) → ((end : ℕ) → has_byte_in set.now.negated set.now.ranges.items (slice_get text.now end) ≡ false → f (end, groups_at run.now end) ≡ []) → flat_map f (kept_of (Some result) (groups_at run.now)) ≡ flat_map f (ways_of run.now) }
     ensures fewer { (f : Way → ℕ) → weight f (kept_of (Some result) (groups_at run.now)) ≤ weight f (ways_of run.now) }

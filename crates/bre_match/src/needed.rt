@@ -11,7 +11,7 @@ use crate::start::one_byte_of;
 use bre_parse::tree::{ByteSet, Node};
 use memchr::memchr;
 
-// The ends of a set that is spelled as one range.
+/// The ends of a set that is spelled as one range.
 fn only_range(set: &ByteSet) -> Option<(u8, u8)>
     ensures sound { IfSome result (λ range. (set.now.negated ≡ false) × (set.now.ranges.items ≡ range ∷ [])) }
 {
@@ -22,7 +22,7 @@ fn only_range(set: &ByteSet) -> Option<(u8, u8)>
     }
 }
 
-// The place after the first such byte.
+/// The place after the first such byte.
 fn after_byte(byte: u8, text: &[u8], from: usize) -> Option<usize>
     ensures value { result ≡ after_first false ((byte, byte) ∷ []) from (drop from text.now) }
 {
@@ -38,7 +38,7 @@ fn after_byte(byte: u8, text: &[u8], from: usize) -> Option<usize>
 // How many bytes are looked at together: enough for the compiler to compare them at once, and few beside a line's.
 const BLOCK: usize = 16;
 
-// Whether a byte is in a range. It goes on after one that is, so that nothing hangs on the byte before.
+/// Whether a byte is in a range. It goes on after one that is, so that nothing hangs on the byte before.
 fn has_in_range(low: u8, high: u8, bytes: &[u8]) -> bool
     ensures value { result ≡ list_any (in_set false ((low, high) ∷ [])) bytes.now }
 {
@@ -51,7 +51,7 @@ fn has_in_range(low: u8, high: u8, bytes: &[u8]) -> bool
     found
 }
 
-// The first place from one on that isn't passed over by whole blocks without a byte in a range.
+/// The first place from one on that isn't passed over by whole blocks without a byte in a range.
 fn after_blocks(low: u8, high: u8, text: &[u8], from: usize) -> usize
     ensures value { after_first false ((low, high) ∷ []) result (drop result text.now) ≡ after_first false ((low, high) ∷ []) from (drop from text.now) }
 {
@@ -65,7 +65,7 @@ fn after_blocks(low: u8, high: u8, text: &[u8], from: usize) -> usize
     at
 }
 
-// The place after the first byte in a range.
+/// The place after the first byte in a range.
 fn after_range(low: u8, high: u8, text: &[u8], from: usize) -> Option<usize>
     ensures value { result ≡ after_first false ((low, high) ∷ []) from (drop from text.now) }
 {
@@ -78,7 +78,7 @@ fn after_range(low: u8, high: u8, text: &[u8], from: usize) -> Option<usize>
     None
 }
 
-// The place after the first byte of any set.
+/// The place after the first byte of any set.
 fn after_member(set: &ByteSet, text: &[u8], from: usize) -> Option<usize>
     ensures value { result ≡ after_first set.now.negated set.now.ranges.items from (drop from text.now) }
 {
@@ -90,7 +90,7 @@ fn after_member(set: &ByteSet, text: &[u8], from: usize) -> Option<usize>
     None
 }
 
-// The place after the first byte of a set, from a place on.
+/// The place after the first byte of a set, from a place on.
 fn after_first(set: &ByteSet, text: &[u8], from: usize) -> Option<usize>
     ensures value { result ≡ after_first set.now.negated set.now.ranges.items from (drop from text.now) }
 {
@@ -104,7 +104,7 @@ fn after_first(set: &ByteSet, text: &[u8], from: usize) -> Option<usize>
     }
 }
 
-// Where what comes after an item is looked for.
+/// Where what comes after an item is looked for.
 fn after_item(item: &Node, text: &[u8], from: usize) -> Option<usize>
     ensures value { result ≡ after_item (one_byte_of (tree_of item.now)) text.now from }
 {

@@ -64,7 +64,7 @@ impl Pace {
         }
     }
 
-    // What is left of the credit at a place.
+    /// What is left of the credit at a place.
     fn left(self, place: usize) -> usize {
         self.credit
             .saturating_add(place.saturating_sub(self.counted))
@@ -112,7 +112,7 @@ impl Pace {
         }
     }
 
-    // Where a jump from a place leads, which needs a state without marks.
+    /// Where a jump from a place leads, which needs a state without marks.
     #[inline(never)]
     fn jumped(&mut self, items: &[Node], text: &[u8], place: usize, state: usize) -> usize
         requires place { place ≤ length text.now }
@@ -137,7 +137,7 @@ impl Pace {
     }
 }
 
-// The first start from a place after the text's start on that may have a way, as far as the first item tells.
+/// The first start from a place after the text's start on that may have a way, as far as the first item tells.
 fn later_start(items: &[Node], text: &[u8], place: usize) -> usize
     requires place { place ≤ length text.now }
     requires later { 0 < place }

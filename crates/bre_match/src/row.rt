@@ -4,8 +4,8 @@ use crate::run::only_item;
 use crate::start::{any_number_of, one_byte_of, same_set};
 use bre_parse::tree::{ByteSet, Node};
 
-// Whether the rest of a row of bytes is looked at from no other start: the repeat comes first, or right after a byte of
-// its own set, so that its whole row is passed over, or it can't take the byte with which each start begins.
+/// Whether the rest of a row of bytes is looked at from no other start: the repeat comes first, or right after a byte of
+/// its own set, so that its whole row is passed over, or it can't take the byte with which each start begins.
 fn is_seen_once(items: &[Node], at: usize, set: &ByteSet) -> bool {
     if at >= items.len() {
         return false;
@@ -23,7 +23,7 @@ fn is_seen_once(items: &[Node], at: usize, set: &ByteSet) -> bool {
     }
 }
 
-// The byte sets of a part, counted with the turns of its repeats written out: what a place costs in a search by columns.
+/// The byte sets of a part, counted with the turns of its repeats written out: what a place costs in a search by columns.
 #[cycle(written)]
 fn written_sets(part: &Node) -> usize {
     match part {
@@ -83,8 +83,8 @@ pub(crate) fn is_quick_row(items: &[Node]) -> bool {
     true
 }
 
-// Whether two sets may have a byte in common. It says so of some that have none: of two sets by what they leave out, and of one
-// such and ranges that it leaves out in pieces.
+/// Whether two sets may have a byte in common. It says so of some that have none: of two sets by what they leave out, and of one
+/// such and ranges that it leaves out in pieces.
 fn may_share(set: &ByteSet, other: &ByteSet) -> bool {
     if set.negated && other.negated {
         return true;
@@ -105,7 +105,7 @@ fn may_share(set: &ByteSet, other: &ByteSet) -> bool {
     false
 }
 
-// Whether each range of a set lies in one that the other set, told by what it leaves out, leaves out.
+/// Whether each range of a set lies in one that the other set, told by what it leaves out, leaves out.
 fn leaves_out(set: &ByteSet, ranges: &ByteSet) -> bool {
     for range in &ranges.ranges {
         let mut is_out = false;
@@ -131,7 +131,7 @@ struct ItemBytes<'a> {
     is_repeated: bool,
 }
 
-// What a byte set or a repeat of one takes.
+/// What a byte set or a repeat of one takes.
 fn bytes_taken_plainly(item: &Node) -> Option<ItemBytes<'_>> {
     match item {
         Node::Set(set) => Some(ItemBytes {
@@ -151,7 +151,7 @@ fn bytes_taken_plainly(item: &Node) -> Option<ItemBytes<'_>> {
     }
 }
 
-// What an item takes: a byte set, a repeat of one, or a group round one of these.
+/// What an item takes: a byte set, a repeat of one, or a group round one of these.
 fn bytes_taken(item: &Node) -> Option<ItemBytes<'_>> {
     match item {
         Node::Group(_, content) => match only_item(content) {
@@ -162,7 +162,7 @@ fn bytes_taken(item: &Node) -> Option<ItemBytes<'_>> {
     }
 }
 
-// Whether no byte of the set can be taken by the items that may come right after one.
+/// Whether no byte of the set can be taken by the items that may come right after one.
 fn gives_way(set: &ByteSet, rest: &[Node]) -> bool {
     for item in rest {
         if let Some(next) = bytes_taken(item) {

@@ -18,7 +18,7 @@ pub(crate) enum RowEnd {
     Untold,
 }
 
-// This place, where what is asked holds.
+/// This place, where what is asked holds.
 fn end_if(holds: bool, place: usize) -> RowEnd
     ensures value { result ≡ end_if holds (RowEnd.At place) }
 {
@@ -29,7 +29,7 @@ fn end_if(holds: bool, place: usize) -> RowEnd
     }
 }
 
-// Where one byte of a set, or an anchor, ends.
+/// Where one byte of a set, or an anchor, ends.
 #[tactic(auto, using(crate::proofs::PartKinds::step_laws))]
 fn step_end(part: &Node, text: &[u8], place: usize) -> RowEnd
     ensures value { result ≡ step_end (tree_of part.now) text.now place }
@@ -47,7 +47,7 @@ fn step_end(part: &Node, text: &[u8], place: usize) -> RowEnd
     }
 }
 
-// Where bytes and anchors end, one after another.
+/// Where bytes and anchors end, one after another.
 fn fixed_end(items: &[Node], text: &[u8], place: usize) -> RowEnd
     ensures value { result ≡ fixed_end (sequence_of items.now) text.now place }
 {
@@ -62,7 +62,7 @@ fn fixed_end(items: &[Node], text: &[u8], place: usize) -> RowEnd
     RowEnd::At(at)
 }
 
-// Where the rest ends, from a place or from the last of so many before it from which it has an end.
+/// Where the rest ends, from a place or from the last of so many before it from which it has an end.
 fn last_end(rest: &[Node], text: &[u8], place: usize, more: usize) -> RowEnd
     ensures value { result ≡ last_end (fixed_end (sequence_of rest.now) text.now) place more }
 {
@@ -77,7 +77,7 @@ fn last_end(rest: &[Node], text: &[u8], place: usize, more: usize) -> RowEnd
     fixed_end(rest, text, at)
 }
 
-// The bounds and the set of a part that is a repeat of one.
+/// The bounds and the set of a part that is a repeat of one.
 #[tactic(auto, using(crate::proofs::PartKinds::step_laws))]
 fn repeat_of_set(part: &Node) -> Option<(usize, Option<u8>, &ByteSet)>
     ensures value { option_map (λ bytes. (bytes.0, bytes.1, (bytes.2.now.negated, bytes.2.now.ranges.items))) result ≡ repeat_of_set (tree_of part.now) }
@@ -92,7 +92,7 @@ fn repeat_of_set(part: &Node) -> Option<(usize, Option<u8>, &ByteSet)>
     }
 }
 
-// Where the rest ends after bytes of a set in a row.
+/// Where the rest ends after bytes of a set in a row.
 fn after_bytes(
     least: usize,
     most: Option<u8>,

@@ -60,7 +60,7 @@ pub(crate) fn first_state(from: usize) -> usize
     if from == 0 { 0 } else { 1 }
 }
 
-// The last place before which no start leads on: this one, where the state has no marks, or the one before.
+/// The last place before which no start leads on: this one, where the state has no marks, or the one before.
 #[inline(always)]
 fn clean_place(state: usize, place: usize, before: usize) -> usize
     ensures value { result ≡ (if nat_eq state 1 then place else before) }

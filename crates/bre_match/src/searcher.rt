@@ -66,7 +66,7 @@ impl<'a> Searcher<'a> {
         learned
     }
 
-    // What the automaton tells of the matches at or after a place.
+    /// What the automaton tells of the matches at or after a place.
     fn scan(&mut self, text: &[u8], from: usize) -> Result<Scanned, AllocError>
         requires place { from ≤ length text.now }
         ensures told { IfOk result (IsTold (searched self.old) text.now from) }
@@ -125,7 +125,7 @@ impl<'a> Searcher<'a> {
         self.find_scanned(text, from)
     }
 
-    // The match by an automaton. It is apart from `find`, so that a literal pattern doesn't pay for its locals.
+    /// The match by an automaton. It is apart from `find`, so that a literal pattern doesn't pay for its locals.
     fn find_scanned(&mut self, text: &[u8], from: usize) -> Result<Option<Match>, AllocError>
         requires place { from ≤ length text.now }
         requires general { self.old.learned.is_plain ≡ false }
@@ -141,7 +141,7 @@ impl<'a> Searcher<'a> {
         }
     }
 
-    // The match at or after a place, where one is known to be there: its end by a run from its start, and its groups between both.
+    /// The match at or after a place, where one is known to be there: its end by a run from its start, and its groups between both.
     fn find_after(&mut self, text: &[u8], from: usize) -> Result<Option<Match>, AllocError>
         requires place { from ≤ length text.now }
         requires general { self.old.learned.is_plain ≡ false }

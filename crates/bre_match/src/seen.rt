@@ -25,8 +25,8 @@ pub(crate) struct Seen {
     index: Index,
 }
 
-// How many turns are done, as far as what comes after depends on it: where there is no most, more than are needed are as
-// good as one more than none.
+/// How many turns are done, as far as what comes after depends on it: where there is no most, more than are needed count as the
+/// least that is needed, or as one.
 pub(crate) fn rank(bounds: Bounds, done: usize) -> usize
     ensures value { result ≡ rank bounds done }
 {
@@ -49,14 +49,14 @@ pub(crate) fn items_apart() -> Bounds
     }
 }
 
-// Whether the same ways come of two turns, as far as the groups count that are asked for.
+/// Whether the same ways come of two turns, as far as the groups count that are asked for.
 fn same_turn(bounds: Bounds, asked: &Asked, one: &Mark, other: &Mark) -> bool
     ensures value { result ≡ same_turn bounds asked.now one.now other.now }
 {
     rank(bounds, one.done) == rank(bounds, other.done) && alike(asked, &one.way, &other.way)
 }
 
-// Whether such a turn is among those that were taken up, as far as the index has them.
+/// Whether such a turn is among those that were taken up, as far as the index has them.
 fn has_turn(
     marks: &[Mark],
     index: &Index,

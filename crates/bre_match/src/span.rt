@@ -13,7 +13,7 @@ use bre_parse::tree::Node;
 use std::alloc::{AllocError, Global};
 use std::mem;
 
-// The better of the best match so far and one that ends here.
+/// The better of the best match so far and one that ends here.
 fn better(
     best: Option<(usize, usize)>,
     start: Option<usize>,
@@ -34,7 +34,7 @@ fn better(
     }
 }
 
-// Whether no mark can lead to a better match.
+/// Whether no mark can lead to a better match.
 fn is_over(best: Option<(usize, usize)>, marks: &[Option<usize>]) -> bool
     ensures value { result ≡ is_over best marks.now }
 {
@@ -53,7 +53,7 @@ fn is_over(best: Option<(usize, usize)>, marks: &[Option<usize>]) -> bool
     }
 }
 
-// Where the first match at or after a place starts and ends, by columns at each byte from there on.
+/// Where the first match at or after a place starts and ends, by columns at each byte from there on.
 fn span_by_columns(
     alloc: Global,
     items: &[Node],

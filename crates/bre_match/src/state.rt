@@ -57,7 +57,7 @@ impl State {
     }
 }
 
-// Whether no byte set is marked.
+/// Whether no byte set is marked.
 fn none_marked(marks: &[Option<usize>]) -> bool
     ensures value { result ≡ none_marked marks.now }
 {
@@ -69,7 +69,7 @@ fn none_marked(marks: &[Option<usize>]) -> bool
     true
 }
 
-// Whether two rows have the same marks.
+/// Whether two rows have the same marks.
 fn are_same(marks: &[Option<usize>], others: &[Option<usize>]) -> bool
     ensures sound { result ≡ true → marks.now ≡ others.now }
 {

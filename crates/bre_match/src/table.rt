@@ -27,14 +27,14 @@ pub(crate) fn at(table: &[Option<usize>], distance: usize) -> Option<usize>
     }
 }
 
-// Whether the rest goes on from a distance: its table says so, or it may be nothing and this is the piece's end.
+/// Whether the rest goes on from a distance: its table says so, or it may be nothing and this is the piece's end.
 fn leads_on(stops: bool, table: &[Option<usize>], distance: usize) -> bool
     ensures value { result ≡ leads_on stops table.now distance }
 {
     (stops && distance == 0) || at(table, distance).is_some()
 }
 
-// The place with itself as weight, where the rest goes on from there.
+/// The place with itself as weight, where the rest goes on from there.
 fn entry_at(stops: bool, next: &[Option<usize>], place: usize) -> Option<usize>
     ensures value { result ≡ entered (leads_on stops next.now) place }
 {
@@ -45,7 +45,7 @@ fn entry_at(stops: bool, next: &[Option<usize>], place: usize) -> Option<usize>
     }
 }
 
-// At each place of a piece the least place from which the part leads there, of those from which the rest goes on.
+/// At each place of a piece the least place from which the part leads there, of those from which the rest goes on.
 fn nearest(
     alloc: Global,
     back: &Node,

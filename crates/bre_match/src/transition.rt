@@ -36,7 +36,7 @@ pub(crate) fn symbol_at(text: &[u8], place: usize) -> usize
     }
 }
 
-// How a step from a row begins: by what one enters the pattern's own part, and with which marks before those of the part.
+/// How a step from a row begins: by what one enters the pattern's own part, and with which marks before those of the part.
 fn entered(
     out: &mut Vec<Option<usize>>,
     starts: Starts,

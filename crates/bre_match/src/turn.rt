@@ -44,7 +44,7 @@ pub(crate) fn ended_if(bounds: Bounds, done: usize, way: Way) -> Option<Turn>
     }
 }
 
-// What one way of a turn that began at this place after so many leaves to do.
+/// What one way of a turn that began at this place after so many leaves to do.
 fn after_way(least: u8, done: usize, place: usize, way: Way) -> Option<Turn>
     requires room { done + 1 < 2 ^ 64 }
     ensures value { option_to_list result ≡ after_way least done place way }

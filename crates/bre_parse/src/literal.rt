@@ -7,7 +7,7 @@ ghost use Rattle.bre_parse.specs.Literal.{members_below, alone, only_byte, liter
 use crate::tree::{ByteSet, Node};
 use std::alloc::{AllocError, Global};
 
-// The byte of a set, if it has no other.
+/// The byte of a set, if it has no other.
 #[tactic(auto, using(crate::proofs::Literals::member_laws))]
 fn byte_of(set: &ByteSet) -> Option<u8>
     ensures value { result ≡ alone (members_below 256 set.now.negated set.now.ranges.items) }
@@ -25,7 +25,7 @@ fn byte_of(set: &ByteSet) -> Option<u8>
     found
 }
 
-// The byte of a part that is a set of one byte.
+/// The byte of a part that is a set of one byte.
 #[tactic(auto, using(crate::proofs::Literals::part_laws))]
 fn only_byte(part: &Node) -> Option<u8>
     ensures value { result ≡ only_byte (tree_of part.now) }

@@ -30,7 +30,7 @@ impl Kept {
         }
     }
 
-    // What a searcher answers that goes on from what was learned, and is left at once.
+    /// What a searcher answers that goes on from what was learned, and is left at once.
     fn matches(&mut self, text: &[u8]) -> Result<bool, AllocError> {
         let fresh = Learned::of(self.alloc, &self.pattern);
         let learned = mem::replace(&mut self.learned, fresh);
@@ -40,7 +40,7 @@ impl Kept {
         answer
     }
 
-    // The same for the match from a place on. A place past the text's end is taken for its end.
+    /// The same for the match from a place on. A place past the text's end is taken for its end.
     fn find(&mut self, text: &[u8], from: usize) -> Result<Option<Match>, AllocError> {
         let fresh = Learned::of(self.alloc, &self.pattern);
         let learned = mem::replace(&mut self.learned, fresh);
@@ -73,7 +73,7 @@ fn a_resumed_searcher_finds_what_lies_in_each_text(rt: HostRuntime) -> Result<()
     Ok(())
 }
 
-// What is learned of the numbers uses up all states, more than once.
+/// What is learned of the numbers uses up all states, more than once.
 #[test]
 fn a_searcher_is_left_and_resumed_with_all_states_used_up(rt: HostRuntime) -> Result<(), Fail> {
     let pattern = pattern(rt.alloc(), b"a.\\{8\\}b")?;
@@ -88,8 +88,8 @@ fn a_searcher_is_left_and_resumed_with_all_states_used_up(rt: HostRuntime) -> Re
     Ok(())
 }
 
-// To be run with each allocation refused in turn (`rt try --test --fail-alloc N`): what a searcher leaves that ran out of memory serves
-// the next one.
+/// To be run with each allocation refused in turn (`rt try --test --fail-alloc N`): what a searcher leaves that ran out of memory serves
+/// the next one.
 #[test]
 fn a_searcher_that_ran_out_of_memory_is_left_and_resumed(rt: HostRuntime) -> Result<(), Fail> {
     for row in REFUSED.as_slice() {

@@ -65,7 +65,7 @@ pub(crate) static ROWS: [Row; 7] = [
     ] },
 ];
 
-// Whether a searcher finds the match where it lies, and none where there is none.
+/// Whether a searcher finds the match where it lies, and none where there is none.
 fn finds(searcher: &mut Searcher<'_>, text: &Text) -> Result<bool, AllocError> {
     if text.from > text.bytes.len() {
         return Ok(false);
@@ -77,7 +77,7 @@ fn finds(searcher: &mut Searcher<'_>, text: &Text) -> Result<bool, AllocError> {
     Ok(spans == text.spans)
 }
 
-// So many bytes that no pattern of these tests takes: an automaton is made only once some hundred were searched.
+/// So many bytes that no pattern of these tests takes: an automaton is made only once some hundred were searched.
 pub(crate) fn filler(alloc: Global) -> Result<Vec<u8>, AllocError> {
     Vec::from_elem(alloc, b'-', 300)
 }
@@ -109,7 +109,7 @@ fn a_searcher_finds_what_lies_in_each_text(rt: HostRuntime) -> Result<(), Fail> 
     Ok(())
 }
 
-// The numbers below 256 by nine letters each, `a` for 1 and `c` for 0: an automaton for `a.\{8\}b` has a state for each of them.
+/// The numbers below 256 by nine letters each, `a` for 1 and `c` for 0: an automaton for `a.\{8\}b` has a state for each of them.
 pub(crate) fn numbers(alloc: Global) -> Result<Vec<u8>, AllocError> {
     let mut text = Vec::new(alloc);
     for number in 0..256u32 {
@@ -125,7 +125,7 @@ pub(crate) fn numbers(alloc: Global) -> Result<Vec<u8>, AllocError> {
     Ok(text)
 }
 
-// The first round forgets states, and in the later ones too many steps would have to be worked out.
+/// The first round forgets states, and in the later ones too many steps would have to be worked out.
 #[test]
 fn forgotten_states_are_met_again(rt: HostRuntime) -> Result<(), Fail> {
     let pattern = pattern(rt.alloc(), b"a.\\{8\\}b")?;
@@ -162,8 +162,8 @@ pub(crate) fn refused_text(alloc: Global, row: &Refused) -> Result<Vec<u8>, Allo
     Ok(text)
 }
 
-// To be run with each allocation refused in turn (`rt try --test --fail-alloc N`): a searcher that ran out of memory finds the match when
-// it is asked again.
+/// To be run with each allocation refused in turn (`rt try --test --fail-alloc N`): a searcher that ran out of memory finds the match when
+/// it is asked again.
 #[test]
 fn a_refused_allocation_leaves_a_searcher_as_it_was(rt: HostRuntime) -> Result<(), Fail> {
     for row in REFUSED.as_slice() {

@@ -140,7 +140,7 @@ impl Pieces {
     }
 }
 
-// Lets a last part grow over these bytes, if they follow it in its block.
+/// Lets a last part grow over these bytes, if they follow it in its block.
 fn grow_part(last: &mut Option<Part>, place: usize, bytes: &[u8]) -> bool
     ensures grown { IsTrue result → bytes_or_none last.new ≡ bytes_or_none last.old ++ bytes.now }
     ensures unchanged { result ≡ false → bytes_or_none last.new ≡ bytes_or_none last.old }
@@ -151,7 +151,7 @@ fn grow_part(last: &mut Option<Part>, place: usize, bytes: &[u8]) -> bool
     }
 }
 
-// Closes the last part: a short one becomes bytes of its own, a longer one a piece that stays as it is.
+/// Closes the last part: a short one becomes bytes of its own, a longer one a piece that stays as it is.
 fn close_part(
     alloc: Global,
     closed: &mut Vec<Part>,
@@ -178,7 +178,7 @@ fn close_part(
     Ok(())
 }
 
-// Closes the bytes of its own, if there are any: they become a piece that stays as it is.
+/// Closes the bytes of its own, if there are any: they become a piece that stays as it is.
 fn close_own(alloc: Global, closed: &mut Vec<Part>, own: &mut Bytes) -> Result<(), AllocError>
     ensures none { OnOk result (own.new ≡ []) }
     ensures same { concat closed.new.items ++ own.new ≡ concat closed.old.items ++ own.old }

@@ -107,7 +107,7 @@ impl Text {
     }
 }
 
-// The bytes, with a newline after a last line that lacks it.
+/// The bytes, with a newline after a last line that lacks it.
 fn completed(mut bytes: Bytes) -> Result<Bytes, AllocError>
     ensures value { IfOk result (λ completed. completed ≡ bytes_of (lines_of bytes)) }
 {

@@ -24,7 +24,7 @@ impl<'a> Model for Walk<'a> {
 }
 
 impl<'a> Walk<'a> {
-    // All of these bytes are left.
+    /// All of these bytes are left.
     pub(crate) fn new(closed: &'a [Part], own: &'a [u8], last: &'a [u8]) -> Self
         ensures value { result ≡ concat closed.now ++ (own.now ++ last.now) }
     {
@@ -69,7 +69,7 @@ impl<'a> Model for ByteWalk<'a> {
 }
 
 impl<'a> ByteWalk<'a> {
-    // All bytes of this way are left.
+    /// All bytes of this way are left.
     pub(crate) fn new(walk: Walk<'a>) -> Self
         ensures value { result ≡ walk.entry }
     {

@@ -137,7 +137,7 @@ impl<S: LineStore> Editor<S> {
         Ok(())
     }
 
-    // The lines of a file's bytes, which they share, come in place of the buffer. Patterns and replacements stay remembered.
+    /// The lines of a file's bytes, which they share, come in place of the buffer. Patterns and replacements stay remembered.
     fn hold_file(&mut self, bytes: Bytes, path: Bytes) -> Result<(), AllocError>
         ensures loaded { OnOk result (self.new.state ≡ loaded bytes path self.old.state) }
         ensures unchanged { OnErr result (self.new ≡ self.old) }
@@ -152,7 +152,7 @@ impl<S: LineStore> Editor<S> {
         Ok(())
     }
 
-    // It fails, unless it has failed before: the first fault stays.
+    /// It fails, unless it has failed before: the first fault stays.
     fn fail(&mut self, fault: Fault) -> Fault
         ensures first { result ≡ unwrap_or self.old.failed fault }
         ensures failed { self.new ≡ record self.old { failed = Some result } }
@@ -185,7 +185,7 @@ impl<S: LineStore> Editor<S> {
         }
     }
 
-    // The lines that a command is applied to, its effect there, and its suffix.
+    /// The lines that a command is applied to, its effect there, and its suffix.
     fn carry_out(&mut self, command: &Command, answer: Option<Answer>) -> Result<Pieces, Fault>
         requires answered { IsTrue (asks (command_value command.now).verb) → IsSome answer }
         ensures exact { let effect = applied.command self.old.state (command_value command.now) answer in

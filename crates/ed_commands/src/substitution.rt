@@ -53,7 +53,7 @@ pub(crate) fn rewritten(
     }
 }
 
-// The line with the match after so many replaced, if there is one.
+/// The line with the match after so many replaced, if there is one.
 fn replace_one(
     alloc: Global,
     searcher: &mut Searcher<'_>,
@@ -75,7 +75,7 @@ fn replace_one(
     Ok(Some(text))
 }
 
-// The line with each match replaced, if there is one.
+/// The line with each match replaced, if there is one.
 fn replace_all(
     alloc: Global,
     searcher: &mut Searcher<'_>,
@@ -102,7 +102,7 @@ fn replace_all(
     Ok(Some(text))
 }
 
-// The lines of a text that was split at its newlines.
+/// The lines of a text that was split at its newlines.
 fn split(alloc: Global, mut text: Bytes) -> Result<Text, AllocError>
     ensures value { IfOk result (λ lines. lines ≡ split_at_newlines text) }
 {
@@ -120,7 +120,7 @@ pub(crate) fn is_one_line(text: &[u8]) -> bool
     }
 }
 
-// Appends the bytes that are kept before a match, and what comes in its place.
+/// Appends the bytes that are kept before a match, and what comes in its place.
 fn replace(
     text: &mut Bytes,
     replacement: &Replacement,
@@ -140,7 +140,7 @@ fn replace(
     Ok(())
 }
 
-// Appends what a part of the replacement stands for.
+/// Appends what a part of the replacement stands for.
 fn append_part(text: &mut Bytes, part: Part, line: &[u8], found: &Match) -> Result<(), AllocError>
     ensures appended { OnOk result (text.new ≡ text.old ++ expanded line.now (spans found.now) part) }
 {
@@ -152,7 +152,7 @@ fn append_part(text: &mut Bytes, part: Part, line: &[u8], found: &Match) -> Resu
     }
 }
 
-// The bytes of a group, none where it isn't set.
+/// The bytes of a group, none where it isn't set.
 fn group_bytes<'a>(group: u8, line: &'a [u8], found: &Match) -> &'a [u8]
     ensures value { result.now ≡ expanded line.now (spans found.now) (part.Group group) }
 {
@@ -162,7 +162,7 @@ fn group_bytes<'a>(group: u8, line: &'a [u8], found: &Match) -> &'a [u8]
     }
 }
 
-// How many bytes the line has with this match replaced, or the greatest `usize` where that is more. No clause speaks of room.
+/// How many bytes the line has with this match replaced, or the greatest `usize` where that is more. No clause speaks of room.
 fn size_with(replacement: &Replacement, line: &[u8], found: &Match) -> usize {
     let mut size = found
         .start
@@ -173,7 +173,7 @@ fn size_with(replacement: &Replacement, line: &[u8], found: &Match) -> usize {
     size
 }
 
-// How many bytes a part of the replacement stands for.
+/// How many bytes a part of the replacement stands for.
 fn part_size(part: Part, line: &[u8], found: &Match) -> usize
     ensures value { result ≡ length (expanded line.now (spans found.now) part) }
 {
@@ -184,7 +184,7 @@ fn part_size(part: Part, line: &[u8], found: &Match) -> usize
     }
 }
 
-// The bytes from one place up to another, as far as the line has them.
+/// The bytes from one place up to another, as far as the line has them.
 fn within(line: &[u8], start: usize, end: usize) -> &[u8]
     ensures value { result.now ≡ bytes_of line.now (start, end) }
 {
@@ -200,7 +200,7 @@ struct Scan {
     after_full: bool,
 }
 
-// Before the first match.
+/// Before the first match.
 fn beginning() -> Scan
     ensures place { result.place ≡ 0 }
     ensures all { (tree : Tree) (text : List ℕ) → left tree text result ≡ taken tree text }
@@ -211,7 +211,7 @@ fn beginning() -> Scan
     }
 }
 
-// The first match at the scan's place or after it.
+/// The first match at the scan's place or after it.
 fn found_from(
     searcher: &mut Searcher<'_>,
     line: &[u8],
@@ -229,7 +229,7 @@ fn found_from(
     searcher.find(line, scan.place)
 }
 
-// Where the search goes on after a match that was taken: after an empty one a byte is kept.
+/// Where the search goes on after a match that was taken: after an empty one a byte is kept.
 fn after(found: &Match) -> Scan
     requires room { found.now.end < 2 ^ 64 - 1 }
     ensures value { result ≡ scan_after (spans found.now) }
@@ -247,14 +247,14 @@ fn after(found: &Match) -> Scan
     }
 }
 
-// An empty match right at the end of the full one before it.
+/// An empty match right at the end of the full one before it.
 fn is_passed_over(found: &Match, scan: Scan) -> bool
     ensures value { result ≡ passed_over scan (spans found.now) }
 {
     scan.after_full && found.start == scan.place && found.start == found.end
 }
 
-// The match that is taken after so many.
+/// The match that is taken after so many.
 fn nth_taken(
     searcher: &mut Searcher<'_>,
     line: &[u8],
@@ -275,7 +275,7 @@ fn nth_taken(
     next_taken(searcher, line, &mut scan)
 }
 
-// The next match that is taken, and the scan after it.
+/// The next match that is taken, and the scan after it.
 fn next_taken(
     searcher: &mut Searcher<'_>,
     line: &[u8],

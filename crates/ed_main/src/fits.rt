@@ -46,7 +46,7 @@ pub fn fit<O: Outside, W: Sink>(
     }
 }
 
-// The answer to the read of a start that the certificate allows.
+/// The answer to the read of a start that the certificate allows.
 fn allowed_start<O: Outside>(
     alloc: Global,
     certificate: &Certificate,
@@ -72,7 +72,7 @@ fn allowed_start<O: Outside>(
     Ok(Some(start))
 }
 
-// The status of a start that isn't known to lie outside: it may have been refused.
+/// The status of a start that isn't known to lie outside: it may have been refused.
 fn status_of_start(start: &Answer) -> u8
     ensures value { result ≡ status_of_lines (lines_told start.now) }
     ensures status { result ≤ 4 }

@@ -26,7 +26,7 @@ fn held_text(alloc: Global, write: &HeldWrite) -> Result<String, AllocError> {
     shown_lines(alloc, line.as_str())
 }
 
-// What a noun ends in after this number.
+/// What a noun ends in after this number.
 fn plural(number: usize) -> &'static str {
     if number == 1 { "" } else { "s" }
 }

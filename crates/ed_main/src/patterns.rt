@@ -31,7 +31,7 @@ pub(crate) fn stated_of(
     Ok(Some(set))
 }
 
-// The set of these texts.
+/// The set of these texts.
 fn set_of(alloc: Global, texts: &[&str]) -> Result<Texts, WordsFault>
     ensures patterns { IfOk result (λ _. meaning.are_patterns (map (λ text. text.now) texts.now) ≡ true) }
     ensures value { IfOk result (λ set. set ≡ with_texts (map (λ text. text.now) texts.now) []) }

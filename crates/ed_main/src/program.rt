@@ -62,7 +62,7 @@ where
     }
 }
 
-// Shows what is wrong with the words.
+/// Shows what is wrong with the words.
 fn refuse(rt: &impl Eprint, fault: &WordsFault) -> u8
     ensures status { result ≤ 4 }
     ensures value { result ≡ status_of_words fault.now }
@@ -76,7 +76,7 @@ fn refuse(rt: &impl Eprint, fault: &WordsFault) -> u8
     }
 }
 
-// The job that the program's words give.
+/// The job that the program's words give.
 fn job_of_run<R: Env + AllocGlobal>(rt: &R) -> Result<Job, WordsFault>
     ensures given { IfOk result IsGiven }
 {
@@ -91,7 +91,7 @@ fn job_of_run<R: Env + AllocGlobal>(rt: &R) -> Result<Job, WordsFault>
     job_of_words(rt.alloc(), words.as_slice())
 }
 
-// All bytes of standard input, or none for a job without a script.
+/// All bytes of standard input, or none for a job without a script.
 fn script_from<S: Source>(alloc: Global, input: &mut S, job: &Job) -> Result<Bytes, ReadFault>
     requires count { S.failures input.old < 2 ^ 64 - 1 }
     ensures script { IsTrue (wants_script job.now) →
@@ -111,7 +111,7 @@ fn script_from<S: Source>(alloc: Global, input: &mut S, job: &Job) -> Result<Byt
     }
 }
 
-// Shows that standard input wasn't read, and why.
+/// Shows that standard input wasn't read, and why.
 fn refuse_script<R>(rt: &R, fault: ReadFault, reason: Option<io::Error>) -> u8
 where
     R: Eprint + AllocGlobal,
@@ -124,7 +124,7 @@ where
     status_of_read(fault)
 }
 
-// The status of input that wasn't read.
+/// The status of input that wasn't read.
 fn status_of_read(fault: ReadFault) -> u8
     ensures status { result ≤ 4 }
     ensures value { result ≡ status_of_unread fault }
@@ -135,7 +135,7 @@ fn status_of_read(fault: ReadFault) -> u8
     }
 }
 
-// Does a job with the script's bytes.
+/// Does a job with the script's bytes.
 fn do_job<R>(rt: &R, script: &[u8], job: Job) -> u8
 where
     R: Files<File = File> + Print + Eprint + AllocGlobal,
@@ -175,7 +175,7 @@ where
     }
 }
 
-// The bytes of the certificate at this path. What is wrong with its file is shown.
+/// The bytes of the certificate at this path. What is wrong with its file is shown.
 fn certificate_at<R>(rt: &R, path: &Bytes) -> Result<Bytes, ReadFault>
 where
     R: Files<File = File> + Eprint + AllocGlobal,
@@ -196,7 +196,7 @@ where
     Err(ReadFault::Refused)
 }
 
-// The file at this path, or why there is none.
+/// The file at this path, or why there is none.
 fn file_at<R: Files<File = File>>(rt: &R, path: &[u8]) -> Result<File, io::Error> {
     match str::from_utf8(path) {
         Ok(path) => File::open(rt, path),
@@ -204,7 +204,7 @@ fn file_at<R: Files<File = File>>(rt: &R, path: &[u8]) -> Result<File, io::Error
     }
 }
 
-// Runs the script's bytes over the system's files and the standard output, or rehearses that.
+/// Runs the script's bytes over the system's files and the standard output, or rehearses that.
 fn edit_file<R>(rt: &R, script: &[u8], options: Options, rehearsed: bool) -> u8
 where
     R: Files<File = File> + Print + Eprint + AllocGlobal,
@@ -218,7 +218,7 @@ where
     edit_over(rt, script, options, &mut files)
 }
 
-// Runs the script's bytes over the system's files, of which none is written, and shows what would have been.
+/// Runs the script's bytes over the system's files, of which none is written, and shows what would have been.
 fn rehearse_edit<R>(rt: &R, script: &[u8], options: Options) -> u8
 where
     R: Files<File = File> + Print + Eprint + AllocGlobal,
@@ -236,7 +236,7 @@ where
     status
 }
 
-// Runs the script's bytes over these files and the standard output.
+/// Runs the script's bytes over these files and the standard output.
 fn edit_over<R, O>(rt: &R, script: &[u8], options: Options, files: &mut Watched<O>) -> u8
 where
     R: Print + Eprint + AllocGlobal,
@@ -253,7 +253,7 @@ where
     status
 }
 
-// The system's files, watched for a run that starts with the file at this path, if there is one.
+/// The system's files, watched for a run that starts with the file at this path, if there is one.
 fn files_of<'a, R>(rt: &'a R, path: &Option<Bytes>) -> Watched<DiskFiles<&'a R>>
 where
     R: Files<File = File> + AllocGlobal,
@@ -262,7 +262,7 @@ where
     Watched::new(rt.alloc(), files, path.is_some())
 }
 
-// Tells the standard output the certificate of the script's bytes, or why there is none. All that is to be mended is shown if `all` is true.
+/// Tells the standard output the certificate of the script's bytes, or why there is none. All that is to be mended is shown if `all` is true.
 fn vouch_file<R>(rt: &R, script: &[u8], start: Start, all: bool) -> u8
 where
     R: Print + Eprint + AllocGlobal,
@@ -276,7 +276,7 @@ where
     status
 }
 
-// Tells the standard output the verdict on a certificate for the script's bytes. The path is that of the certificate's file.
+/// Tells the standard output the verdict on a certificate for the script's bytes. The path is that of the certificate's file.
 fn check_file<R>(rt: &R, script: &[u8], path: &Bytes, certificate: &[u8]) -> u8
 where
     R: Print + Eprint + AllocGlobal,
@@ -291,7 +291,7 @@ where
     status
 }
 
-// Runs the script's bytes as `edit_file`, where the certificate allows it, or rehearses that. The path is that of the certificate's file.
+/// Runs the script's bytes as `edit_file`, where the certificate allows it, or rehearses that. The path is that of the certificate's file.
 fn run_file<R>(
     rt: &R,
     script: &[u8],
@@ -312,7 +312,7 @@ where
     run_over(rt, script, path, certificate, options, &mut files)
 }
 
-// Runs the script's bytes as `rehearse_edit`, where the certificate allows it.
+/// Runs the script's bytes as `rehearse_edit`, where the certificate allows it.
 fn rehearse_run<R>(rt: &R, script: &[u8], path: &Bytes, certificate: &[u8], options: Options) -> u8
 where
     R: Files<File = File> + Print + Eprint + AllocGlobal,
@@ -330,7 +330,7 @@ where
     status
 }
 
-// Runs the script's bytes as `edit_over`, where the certificate allows it.
+/// Runs the script's bytes as `edit_over`, where the certificate allows it.
 fn run_over<R, O>(
     rt: &R,
     script: &[u8],
@@ -362,8 +362,8 @@ where
     status
 }
 
-// Tells the standard output where the file at a path isn't one that the certificate allows. The other path is that of the certificate's
-// file.
+/// Tells the standard output where the file at a path isn't one that the certificate allows. The other path is that of the certificate's
+/// file.
 fn fit_file<R>(rt: &R, path: &Bytes, certificate: &[u8], start: &Option<Bytes>) -> u8
 where
     R: Files<File = File> + Print + Eprint + AllocGlobal,

@@ -187,7 +187,7 @@ pub(crate) fn lies_outside(
     }
 }
 
-// Whether a start has too few or too many lines.
+/// Whether a start has too few or too many lines.
 fn has_other_size(certificate: &Certificate, start: &Answer) -> bool
     ensures other { IsTrue result → IsSomeAnd (lines_told start.now) (λ lines.
         IsWithin certificate.now.min certificate.now.max (length lines) → ⊥) }
@@ -205,7 +205,7 @@ fn has_other_size(certificate: &Certificate, start: &Answer) -> bool
     }
 }
 
-// Runs a script over its start, with the answer that was given to the start's read.
+/// Runs a script over its start, with the answer that was given to the start's read.
 fn run_over<S: LineStore, O: Outside, W: Sink>(
     alloc: Global,
     script: Script,

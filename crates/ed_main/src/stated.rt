@@ -28,7 +28,7 @@ pub(crate) fn unmatched<'c>(
     }
 }
 
-// The first of these patterns that no line of a start matches.
+/// The first of these patterns that no line of a start matches.
 fn unmatched_at<'p>(
     alloc: Global,
     patterns: &'p [Bytes],
@@ -44,7 +44,7 @@ fn unmatched_at<'p>(
     }
 }
 
-// The first of these patterns that no line of a file matches.
+/// The first of these patterns that no line of a file matches.
 fn unmatched_over<'p>(
     alloc: Global,
     patterns: &'p [Bytes],

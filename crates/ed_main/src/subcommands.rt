@@ -105,7 +105,7 @@ fn fits<'a>(alloc: Global) -> Result<Command<'a>, AllocError>
     )
 }
 
-// A subcommand that takes these options and words, with what its help begins and ends with.
+/// A subcommand that takes these options and words, with what its help begins and ends with.
 fn subcommand<'a>(
     alloc: Global,
     name: &'a str,

@@ -225,14 +225,14 @@ fn fits_job(alloc: Global, given: &ArgMatches<'_>) -> Result<Job, WordsFault>
     })
 }
 
-// The first value of an argument.
+/// The first value of an argument.
 fn text_of<'a>(given: &ArgMatches<'a>, id: &str) -> Option<&'a str>
     ensures value { option_map (λ text. text.now) result ≡ first_of id.now (rows_of (found_of given.now)) }
 {
     given.get_str(id)
 }
 
-// The patterns that a start states, where they are asked for or given.
+/// The patterns that a start states, where they are asked for or given.
 fn patterns_in(
     alloc: Global,
     given: &ArgMatches<'_>,

@@ -17,14 +17,14 @@ use ed_syntax::{Address, Addresses, Base, DefaultAddresses, Pattern};
 use std::alloc::{AllocError, Global};
 use zones::{Name, Zone};
 
-// Whether a pattern has a match in every line.
+/// Whether a pattern has a match in every line.
 fn matches_always(pattern: &Pattern) -> bool
     ensures value { result ≡ is_always (Some pattern.now) }
 {
     pattern.bre().always()
 }
 
-// Whether a remembered pattern has a match in every line.
+/// Whether a remembered pattern has a match in every line.
 fn choice_matches_always(alloc: Global, choice: &Option<Bytes>) -> Result<bool, AllocError>
     ensures value { IfOk result (λ always. always ≡ is_always choice.now) }
 {
@@ -38,7 +38,7 @@ fn choice_matches_always(alloc: Global, choice: &Option<Bytes>) -> Result<bool, 
     }
 }
 
-// Whether each choice is a pattern that has a match in every line.
+/// Whether each choice is a pattern that has a match in every line.
 pub(crate) fn all_match_always(choices: &Choices) -> Result<bool, AllocError>
     ensures value { IfOk result (λ always. always ≡ list_all is_always choices.now) }
 {
@@ -86,7 +86,7 @@ fn set_number(zone: &mut Zone, x: Name, number: u32, offset: i128)
     zone.set(x, Name::ZERO, clamped_sum(number, offset));
 }
 
-// What stands for a command's own addresses: the second of `.,.` is set from the first.
+/// What stands for a command's own addresses: the second of `.,.` is set from the first.
 pub(crate) fn standing(default: DefaultAddresses) -> Addresses
     ensures value { addresses_value result ≡ standing (default_value default) }
 {

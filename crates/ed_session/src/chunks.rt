@@ -35,7 +35,7 @@ impl<'a> Model for Chunks<'a> {
 }
 
 impl<'a> Chunks<'a> {
-    // All bytes are left. The chunks are gathered in the capacity of this vector.
+    /// All bytes are left. The chunks are gathered in the capacity of this vector.
     pub(crate) fn new(bytes: &'a Pieces, room: Vec<u8>) -> Self
         ensures value { result ≡ bytes.now }
     {
@@ -44,7 +44,7 @@ impl<'a> Chunks<'a> {
         Chunks { piece, walk, room }
     }
 
-    // The next chunk, which isn't empty; none after the last one.
+    /// The next chunk, which isn't empty; none after the last one.
     pub(crate) fn next_chunk(&mut self) -> Option<&[u8]>
         ensures ended { IfNone result (self.old ≡ []) }
         ensures some { IfSome result (λ chunk. 0 < length chunk.now) }
@@ -65,7 +65,7 @@ impl<'a> Chunks<'a> {
     }
 }
 
-// The next piece of a walk; an empty one after the last.
+/// The next piece of a walk; an empty one after the last.
 fn take_piece<'a>(walk: &mut Walk<'a>) -> &'a [u8]
     ensures first { walk.old ≡ left result.now walk.new }
 {
@@ -75,8 +75,8 @@ fn take_piece<'a>(walk: &mut Walk<'a>) -> &'a [u8]
     }
 }
 
-// Gathers this piece and those after it in an empty room, as far as they fit, or none where not even two of them do. It hands
-// back the first that it took from the walk and didn't gather.
+/// Gathers this piece and those after it in an empty room, as far as they fit, or none where not even two of them do. It hands
+/// back the first that it took from the walk and didn't gather.
 fn gather<'a>(first: &[u8], walk: &mut Walk<'a>, room: &mut Vec<u8>) -> &'a [u8]
     requires some { 0 < length first.now }
     requires empty { vec_len room.old ≡ 0 }
@@ -99,7 +99,7 @@ fn gather<'a>(first: &[u8], walk: &mut Walk<'a>, room: &mut Vec<u8>) -> &'a [u8]
     next
 }
 
-// Whether two pieces fit in a room of this size.
+/// Whether two pieces fit in a room of this size.
 fn fits(first: &[u8], second: &[u8], room: usize) -> bool
     ensures exact { IsTrue result ↔ length first.now + length second.now ≤ room }
 {

@@ -100,12 +100,12 @@ impl<R: Files<File = File> + Drop> Outside for DiskFiles<R> {
     }
 }
 
-// Why a path can't be one of the system's.
+/// Why a path can't be one of the system's.
 fn not_text() -> io::Error {
     io::Error::new(ErrorKind::InvalidInput, "a name that isn't UTF-8")
 }
 
-// What a read of a path is answered, and why it is refused, if it is.
+/// What a read of a path is answered, and why it is refused, if it is.
 fn read_answer<R: Files>(
     alloc: Global,
     files: &R,
@@ -142,8 +142,8 @@ fn read_file<R: Files>(alloc: Global, files: &R, path: &str) -> io::Result<Vec<u
     Ok(bytes)
 }
 
-// What a write to a path is answered, and why it is refused, if it is. Memory is asked for no later than by the opening, which changes
-// no byte.
+/// What a write to a path is answered, and why it is refused, if it is. Memory is asked for no later than by the opening, which changes
+/// no byte.
 fn write_answer<R: Files<File = File>>(
     alloc: Global,
     files: &R,
@@ -180,8 +180,8 @@ fn write_answer<R: Files<File = File>>(
     }
 }
 
-// Gives an open file just these bytes. They are synced, since a disk that can't take them may say so only then, and closing a file
-// tells nothing. What isn't a file on a disk, as a pipe or a terminal, has nothing to be cut off or synced.
+/// Gives an open file just these bytes. They are synced, since a disk that can't take them may say so only then, and closing a file
+/// tells nothing. What isn't a file on a disk, as a pipe or a terminal, has nothing to be cut off or synced.
 fn overwrite(mut file: File, bytes: &Pieces, room: Vec<u8>) -> io::Result<()> {
     write_pieces(&mut file, bytes, room)?;
     if file.metadata()?.is_file() {
@@ -191,7 +191,7 @@ fn overwrite(mut file: File, bytes: &Pieces, room: Vec<u8>) -> io::Result<()> {
     Ok(())
 }
 
-// Writes all bytes, short pieces gathered in the capacity of a vector.
+/// Writes all bytes, short pieces gathered in the capacity of a vector.
 fn write_pieces<W: Write>(writer: &mut W, bytes: &Pieces, room: Vec<u8>) -> io::Result<()>
     ensures written { OnOk result (Appends (W.contents writer.old) (W.contents writer.new) bytes.now) }
 {

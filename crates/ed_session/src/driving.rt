@@ -15,7 +15,7 @@ use ed_syntax::{Answer, Ending};
 use line_store::LineStore;
 use std::alloc::AllocError;
 
-// Gives a session that waits what its outside has answered; without memory for an answer its run is over.
+/// Gives a session that waits what its outside has answered; without memory for an answer its run is over.
 fn hear<S: LineStore>(session: &mut Session<S>, heard: Result<Answer, AllocError>)
     requires waiting { session.old.phase ≡ phases.Waiting }
     requires handed_out { session.old.pending ≡ [] }
@@ -31,7 +31,7 @@ fn hear<S: LineStore>(session: &mut Session<S>, heard: Result<Answer, AllocError
     }
 }
 
-// Brings a session to where it can be stepped: one that is fresh gets its start file, one that waits asks again.
+/// Brings a session to where it can be stepped: one that is fresh gets its start file, one that waits asks again.
 fn begin<S: LineStore, O: Outside>(session: &mut Session<S>, outside: &mut O)
     ensures begun { Performs session.old session.new
         (O.log outside.old) (O.log outside.new) (O.failures outside.old) (O.failures outside.new) }

@@ -73,14 +73,14 @@ impl MemFiles {
         None
     }
 
-    // The next call is the one that is refused.
+    /// The next call is the one that is refused.
     fn refuses(&self) -> bool
         ensures value { result ≡ refuses_now self.now }
     {
         self.refused > 0 && self.refused - 1 == self.log.len() as u64
     }
 
-    // What the log keeps of the file at a path.
+    /// What the log keeps of the file at a path.
     fn find(&self, path: &[u8]) -> KeptAnswer
         ensures within { place_of result ≤ length (files_of self.now) }
         ensures value { answer_of (files_of self.now) result ≡ found (file_at path.now (files_of self.now)) }
@@ -95,7 +95,7 @@ impl MemFiles {
         KeptAnswer::Missing
     }
 
-    // The answer that is kept so.
+    /// The answer that is kept so.
     fn tell(&self, kept: KeptAnswer) -> Result<Answer, AllocError>
         requires within { place_of kept ≤ length (files_of self.now) }
         ensures value { IfOk result (λ a. a ≡ answer_of (files_of self.now) kept) }

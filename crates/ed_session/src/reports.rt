@@ -19,7 +19,7 @@ pub(crate) struct Reports {
     full: Bytes,
 }
 
-// What is written of a fault, in help mode also its text.
+/// What is written of a fault, in help mode also its text.
 fn report_of(alloc: Global, help: bool, fault: Fault) -> Result<Bytes, AllocError>
     ensures value { IfOk result (λ written. written ≡ report help fault) }
 {
@@ -42,7 +42,7 @@ impl Reports {
         })
     }
 
-    // The report that memory ran out. It takes none.
+    /// The report that memory ran out. It takes none.
     fn of_memory(&mut self, help: bool) -> Pieces
         requires ready { AreReady self.old.brief self.old.full }
         ensures value { result ≡ report help Memory }
@@ -56,7 +56,7 @@ impl Reports {
         Pieces::from_bytes(self.alloc, written)
     }
 
-    // A fault and its report; where there is no memory for it, those of `Fault::Memory`.
+    /// A fault and its report; where there is no memory for it, those of `Fault::Memory`.
     fn reported(&mut self, help: bool, fault: Fault) -> (Fault, Pieces)
         requires ready { AreReady self.old.brief self.old.full }
         ensures value { Reported help fault result.0 result.1 }

@@ -78,7 +78,7 @@ impl<S: LineStore> Model for Session<S> {
         s.pending s.reports.brief s.reports.full s.told };
 }
 
-// Loads what was answered of the start file into an editor that was just made, and gives the count of its bytes.
+/// Loads what was answered of the start file into an editor that was just made, and gives the count of its bytes.
 fn load<S: LineStore>(
     alloc: Global,
     editor: &mut Editor<S>,
@@ -202,7 +202,7 @@ impl<S: LineStore> Session<S> {
         }
     }
 
-    // The next step gives the request again that the session waits for.
+    /// The next step gives the request again that the session waits for.
     pub(crate) fn ask_again(&mut self)
         requires waiting { self.old.phase ≡ phases.Waiting }
         ensures same { GoesOn self.old [] [] [] self.new }
@@ -241,7 +241,7 @@ impl<S: LineStore> Session<S> {
         self.pending = self.reports.end(&mut self.phase, self.modes.help, fault);
     }
 
-    // Ends the run because there was no memory outside.
+    /// Ends the run because there was no memory outside.
     pub(crate) fn fail_memory(&mut self)
         requires running { is_over self.old.phase ≡ false }
         requires handed_out { self.old.pending ≡ [] }

@@ -23,7 +23,7 @@ pub fn addresses(alloc: Global, bytes: &[u8]) -> Parsed<'_, Addresses>
     }
 }
 
-// A `,` or a `;` with the second address and the blanks after it, or nothing.
+/// A `,` or a `;` with the second address and the blanks after it, or nothing.
 fn pair(alloc: Global, first: Option<Address>, bytes: &[u8]) -> Parsed<'_, Addresses>
     ensures value { IfOk result (λ read. MatchOption read (pair (optional_address first) bytes.now ≡ None)
         (λ (a, rest). pair (optional_address first) bytes.now ≡ Some (addresses_value a, rest.now))) }
@@ -39,7 +39,7 @@ fn pair(alloc: Global, first: Option<Address>, bytes: &[u8]) -> Parsed<'_, Addre
     }
 }
 
-// The addresses around a `,` or else a `;`.
+/// The addresses around a `,` or else a `;`.
 fn around(
     separator: u8,
     first: Option<Address>,
@@ -54,7 +54,7 @@ fn around(
     }
 }
 
-// The addresses around a `,`, each of which may be left out.
+/// The addresses around a `,`, each of which may be left out.
 fn comma(first: Option<Address>, second: Option<Address>) -> Result<Addresses, AllocError>
     ensures value { IfOk result (λ a. addresses_value a ≡ comma (optional_address first) (optional_address second)) }
 {
@@ -69,7 +69,7 @@ fn comma(first: Option<Address>, second: Option<Address>) -> Result<Addresses, A
     }
 }
 
-// The addresses around a `;`, each of which may be left out.
+/// The addresses around a `;`, each of which may be left out.
 fn semicolon(first: Option<Address>, second: Option<Address>) -> Addresses
     ensures value { addresses_value result ≡ semicolon (optional_address first) (optional_address second) }
 {
@@ -100,7 +100,7 @@ pub fn address(alloc: Global, bytes: &[u8]) -> Parsed<'_, Option<Address>>
     }
 }
 
-// The offsets after a base.
+/// The offsets after a base.
 fn with_offsets(base: Option<Base>, bytes: &[u8]) -> Option<(Option<Address>, &[u8])>
     ensures value { MatchOption result (with_offsets (optional_base base) bytes.now ≡ None)
         (λ (a, rest). with_offsets (optional_base base) bytes.now ≡ Some (optional_address a, rest.now)) }
@@ -114,7 +114,7 @@ fn with_offsets(base: Option<Base>, bytes: &[u8]) -> Option<(Option<Address>, &[
     }
 }
 
-// The base of an address, or none. One that begins with an offset has the current line for its base.
+/// The base of an address, or none. One that begins with an offset has the current line for its base.
 fn base(alloc: Global, bytes: &[u8]) -> Parsed<'_, Option<Base>>
     ensures value { IfOk result (λ read. MatchOption read (base bytes.now ≡ None)
         (λ (b, rest). base bytes.now ≡ Some (optional_base b, rest.now))) }
@@ -144,7 +144,7 @@ fn base(alloc: Global, bytes: &[u8]) -> Parsed<'_, Option<Base>>
     Ok(Some((Some(base), rest)))
 }
 
-// An address without offsets.
+/// An address without offsets.
 fn at_base(base: Base) -> Address
     ensures value { address_value result ≡ ed.at_base (base_value base) }
 {

@@ -127,7 +127,7 @@ pub(crate) fn same_addresses(one: &Addresses, other: &Addresses) -> bool
     }
 }
 
-// Whether two commands have one letter and the same parameters, apart from the lists of global commands.
+/// Whether two commands have one letter and the same parameters, apart from the lists of global commands.
 pub(crate) fn same_verb(one: &Verb, other: &Verb) -> bool
     ensures exact { IsTrue result ↔ (verb_value one.now ≡ verb_value other.now) }
 {
@@ -186,7 +186,7 @@ pub(crate) fn same_verb(one: &Verb, other: &Verb) -> bool
     }
 }
 
-// Whether two commands are the same, apart from the lists of global commands.
+/// Whether two commands are the same, apart from the lists of global commands.
 fn same_command(one: &Command, other: &Command) -> bool
     ensures exact { IsTrue result ↔ (command_value one.now ≡ command_value other.now) }
 {

@@ -17,7 +17,7 @@ pub fn end_at(bytes: &[u8]) -> Option<((Which, Option<Form>), &[u8])>
     }
 }
 
-// A count or `g`, and the letter of a form, each of which may be left out, in any order.
+/// A count or `g`, and the letter of a form, each of which may be left out, in any order.
 fn flags(bytes: &[u8]) -> Option<((Which, Option<Form>), &[u8])>
     ensures value { MatchOption result (flags bytes.now ≡ None)
         (λ ((w, form), rest). flags bytes.now ≡ Some ((w, suffix_value form), rest.now)) }
@@ -32,7 +32,7 @@ fn flags(bytes: &[u8]) -> Option<((Which, Option<Form>), &[u8])>
     }
 }
 
-// A count or `g` after the letter of a form, where none stood before it.
+/// A count or `g` after the letter of a form, where none stood before it.
 fn later_which(first: Option<Which>, bytes: &[u8]) -> Option<(Which, &[u8])>
     ensures value { MatchOption result (later_which first bytes.now ≡ None)
         (λ (w, rest). later_which first bytes.now ≡ Some (w, rest.now)) }
@@ -46,7 +46,7 @@ fn later_which(first: Option<Which>, bytes: &[u8]) -> Option<(Which, &[u8])>
     }
 }
 
-// A count or `g`, or none.
+/// A count or `g`, or none.
 fn which_at(bytes: &[u8]) -> Option<(Option<Which>, &[u8])>
     ensures value { MatchOption result (which_at bytes.now ≡ None)
         (λ (w, rest). which_at bytes.now ≡ Some (w, rest.now)) }
@@ -58,7 +58,7 @@ fn which_at(bytes: &[u8]) -> Option<(Option<Which>, &[u8])>
     }
 }
 
-// A count, which isn't 0.
+/// A count, which isn't 0.
 fn count_at(bytes: &[u8]) -> Option<(Option<Which>, &[u8])>
     ensures value { MatchOption result (count_at bytes.now ≡ None)
         (λ (w, rest). count_at bytes.now ≡ Some (w, rest.now)) }
@@ -68,7 +68,7 @@ fn count_at(bytes: &[u8]) -> Option<(Option<Which>, &[u8])>
     Some((Some(which), rest))
 }
 
-// The letter of a form, or none.
+/// The letter of a form, or none.
 fn form_at(bytes: &[u8]) -> (Option<Form>, &[u8])
     ensures value { (suffix_value result.0, result.1.now) ≡ form_at bytes.now }
 {

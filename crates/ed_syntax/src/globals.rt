@@ -45,7 +45,7 @@ pub fn global_after_addresses<'a>(
     verb_after_sense(alloc, sense, bytes, later).map(|read| after(addresses, read))
 }
 
-// The command of these addresses and a global command's letter with its parameters.
+/// The command of these addresses and a global command's letter with its parameters.
 fn after(addresses: Addresses, read: Option<Verb>) -> Option<Command>
     ensures value { (left : _) → step_before result left ≡ global_before (addresses_value addresses) read left }
 {
@@ -57,7 +57,7 @@ fn after(addresses: Addresses, read: Option<Verb>) -> Option<Command>
     })
 }
 
-// What stands after the letter of a global command, whatever its addresses.
+/// What stands after the letter of a global command, whatever its addresses.
 fn verb_after_sense<'a>(
     alloc: Global,
     sense: Sense,
@@ -77,7 +77,7 @@ fn verb_after_sense<'a>(
     }
 }
 
-// The pattern of a global command, and what stands after it.
+/// The pattern of a global command, and what stands after it.
 fn global_by<'a>(
     alloc: Global,
     sense: Sense,
@@ -96,7 +96,7 @@ fn global_by<'a>(
     }
 }
 
-// A global command with the list that begins with what is left of its line.
+/// A global command with the list that begins with what is left of its line.
 fn with_list<'a>(
     alloc: Global,
     sense: Sense,
@@ -112,7 +112,7 @@ fn with_list<'a>(
     list_after_pattern(alloc, bytes, later).map(|list| listing(sense, pattern, list))
 }
 
-// A global command with this list, where it can be read.
+/// A global command with this list, where it can be read.
 fn listing(sense: Sense, pattern: Option<Pattern>, list: Option<Vec<Command>>) -> Option<Verb>
     ensures value { (given : _) (left : _) → global_before given result left ≡
         listed_before given sense pattern (option_map (λ cs. cs.items) list) left }
@@ -127,7 +127,7 @@ fn listing(sense: Sense, pattern: Option<Pattern>, list: Option<Vec<Command>>) -
     }
 }
 
-// The commands of the list that begins with what is left of a line.
+/// The commands of the list that begins with what is left of a line.
 fn list_after_pattern<'a>(
     alloc: Global,
     bytes: &'a [u8],
@@ -143,7 +143,7 @@ fn list_after_pattern<'a>(
     list_of(alloc, joined.as_slice())
 }
 
-// The list that begins with what is left of a line, as whole lines: a backslash at a line's end joins the next one to it.
+/// The list that begins with what is left of a line, as whole lines: a backslash at a line's end joins the next one to it.
 fn joined<'a>(
     alloc: Global,
     bytes: &'a [u8],
@@ -168,7 +168,7 @@ fn joined<'a>(
     Ok(list)
 }
 
-// Whether the line ends in an odd number of backslashes.
+/// Whether the line ends in an odd number of backslashes.
 fn goes_on(line: &[u8]) -> bool
     ensures value { result ≡ goes_on line.now }
 {
@@ -179,7 +179,7 @@ fn goes_on(line: &[u8]) -> bool
     odd
 }
 
-// The commands of a list. One line of nothing but blanks is `p`.
+/// The commands of a list. One line of nothing but blanks is `p`.
 fn list_of(alloc: Global, list: &[u8]) -> Result<Option<Vec<Command>>, AllocError>
     ensures value { IfOk result (λ read. optional_commands (option_map (λ cs. cs.items) read) ≡ list_of list.now) }
 {
@@ -191,14 +191,14 @@ fn list_of(alloc: Global, list: &[u8]) -> Result<Option<Vec<Command>>, AllocErro
     all_commands(alloc, list)
 }
 
-// An empty line and no more.
+/// An empty line and no more.
 fn is_newline(bytes: &[u8]) -> bool
     ensures value { result ≡ is_newline bytes.now }
 {
     bytes == b"\n".as_slice()
 }
 
-// `p` in a list.
+/// `p` in a list.
 fn print() -> Command
     ensures value { command_value result ≡ print }
 {
@@ -210,7 +210,7 @@ fn print() -> Command
     }
 }
 
-// The commands of a list, each with the lines that belong to it.
+/// The commands of a list, each with the lines that belong to it.
 fn all_commands(alloc: Global, list: &[u8]) -> Result<Option<Vec<Command>>, AllocError>
     ensures value { IfOk result (λ read. optional_commands (option_map (λ cs. cs.items) read) ≡ all_commands list.now) }
 {

@@ -44,7 +44,7 @@ pub fn heading_after_addresses<'a>(
     }
 }
 
-// The command may stand here, the addresses before it, and its line is over.
+/// The command may stand here, the addresses before it, and its line is over.
 fn heading_with(listed: bool, given: &Addresses, verb: Verb, bytes: &[u8]) -> Option<Order>
     ensures value { heading_before (addresses_value given.now) result ≡
         heading_with listed (addresses_value given.now) bytes.now (verb_value verb) }
@@ -52,7 +52,7 @@ fn heading_with(listed: bool, given: &Addresses, verb: Verb, bytes: &[u8]) -> Op
     suffix_with(listed, given, &verb, bytes).map(|suffix| Order { verb, suffix })
 }
 
-// The suffix of a command that may stand here, and these addresses before it.
+/// The suffix of a command that may stand here, and these addresses before it.
 fn suffix_with(listed: bool, given: &Addresses, verb: &Verb, bytes: &[u8]) -> Option<Option<Form>>
     ensures value { option_map suffix_value result ≡
         suffix_with listed (addresses_value given.now) (verb_value verb.now) bytes.now }
@@ -64,7 +64,7 @@ fn suffix_with(listed: bool, given: &Addresses, verb: &Verb, bytes: &[u8]) -> Op
     }
 }
 
-// A command's letter with its parameters; its text is still empty.
+/// A command's letter with its parameters; its text is still empty.
 fn verb_from<'a>(alloc: Global, bytes: &'a [u8], later: &mut ScriptLines<'a>) -> Parsed<'a, Verb>
     ensures value { IfOk result (λ read. MatchOption read (verb_from bytes.now later.old.lines ≡ None)
         (λ (verb, rest). verb_from bytes.now later.old.lines ≡ Some (verb_value verb, place rest.now later.new.lines))) }
@@ -78,7 +78,7 @@ fn verb_from<'a>(alloc: Global, bytes: &'a [u8], later: &mut ScriptLines<'a>) ->
     }
 }
 
-// A command's letter with parameters that stand on its own line; its text is still empty. Nothing is the null command.
+/// A command's letter with parameters that stand on its own line; its text is still empty. Nothing is the null command.
 fn verb_at(alloc: Global, bytes: &[u8]) -> Parsed<'_, Verb>
     ensures value { IfOk result (λ read. MatchOption read (verb_at bytes.now ≡ None)
         (λ (verb, rest). verb_at bytes.now ≡ Some (verb_value verb, rest.now))) }
@@ -106,7 +106,7 @@ fn verb_at(alloc: Global, bytes: &[u8]) -> Parsed<'_, Verb>
     }
 }
 
-// A command whose letter has no parameters on its line.
+/// A command whose letter has no parameters on its line.
 fn plain_verb(letter: u8) -> Option<Verb>
     ensures value { optional_verb result ≡ beside_letter letter plain_verbs }
 {
@@ -130,7 +130,7 @@ fn plain_verb(letter: u8) -> Option<Verb>
     }
 }
 
-// The command on files of a letter, with its path.
+/// The command on files of a letter, with its path.
 fn file_verb(alloc: Global, letter: u8, bytes: &[u8]) -> Parsed<'_, Verb>
     ensures value { IfOk result (λ read. MatchOption read (file_verb letter bytes.now ≡ None)
         (λ (verb, rest). file_verb letter bytes.now ≡ Some (verb_value verb, rest.now))) }
@@ -144,7 +144,7 @@ fn file_verb(alloc: Global, letter: u8, bytes: &[u8]) -> Parsed<'_, Verb>
     }
 }
 
-// The command on files of a letter, with this path.
+/// The command on files of a letter, with this path.
 fn on_file(letter: u8, path: Option<Bytes>) -> Option<Verb>
     ensures value { optional_verb result ≡ beside_letter letter (file_verbs path) }
 {
@@ -158,7 +158,7 @@ fn on_file(letter: u8, path: Option<Bytes>) -> Option<Verb>
     }
 }
 
-// The target of a command, with blanks before it.
+/// The target of a command, with blanks before it.
 fn target(alloc: Global, bytes: &[u8]) -> Parsed<'_, Address>
     ensures value { IfOk result (λ read. MatchOption read (target bytes.now ≡ None)
         (λ (a, rest). target bytes.now ≡ Some (address_value a, rest.now))) }
@@ -172,7 +172,7 @@ fn target(alloc: Global, bytes: &[u8]) -> Parsed<'_, Address>
     }
 }
 
-// The end of a command's own line: a suffix, if the command takes one, and blanks.
+/// The end of a command's own line: a suffix, if the command takes one, and blanks.
 fn suffix_at(verb: &Verb, bytes: &[u8]) -> Option<Option<Form>>
     ensures value { option_map suffix_value result ≡ suffix_at (verb_value verb.now) bytes.now }
 {
@@ -185,21 +185,21 @@ fn suffix_at(verb: &Verb, bytes: &[u8]) -> Option<Option<Form>>
     }
 }
 
-// Whether addresses may stand before a command.
+/// Whether addresses may stand before a command.
 fn may_have(given: &Addresses, verb: &Verb) -> bool
     ensures value { result ≡ may_have (addresses_value given.now) (verb_value verb.now) }
 {
     matches!(given, Addresses::Without) || verb.takes().taking != Taking::NoAddress
 }
 
-// Whether a command may stand in a list, or as one of the script itself.
+/// Whether a command may stand in a list, or as one of the script itself.
 fn may_stand(listed: bool, verb: &Verb) -> bool
     ensures value { result ≡ may_stand listed (verb_value verb.now) }
 {
     !listed || verb.takes().listed
 }
 
-// Nothing but blanks is left of the line.
+/// Nothing but blanks is left of the line.
 fn is_over(bytes: &[u8]) -> bool
     ensures value { result ≡ is_over bytes.now }
 {

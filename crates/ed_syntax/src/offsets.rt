@@ -24,7 +24,7 @@ pub fn offsets(bytes: &[u8]) -> Option<(i128, &[u8])>
     Some((sum, left))
 }
 
-// How many lines an offset goes: the number directly after its sign, or 1.
+/// How many lines an offset goes: the number directly after its sign, or 1.
 fn distance(bytes: &[u8]) -> Option<(u32, &[u8])>
     ensures value { MatchOption result (distance bytes.now ≡ None)
         (λ (n, rest). distance bytes.now ≡ Some (n, rest.now)) }

@@ -17,7 +17,7 @@ pub fn path(alloc: Global, bytes: &[u8]) -> Result<Option<Option<Bytes>>, AllocE
     }
 }
 
-// A name, which doesn't begin with `!`. Nothing is no name.
+/// A name, which doesn't begin with `!`. Nothing is no name.
 fn name_of(alloc: Global, bytes: &[u8]) -> Result<Option<Option<Bytes>>, AllocError>
     ensures value { IfOk result (λ read. read ≡ name_of bytes.now) }
 {

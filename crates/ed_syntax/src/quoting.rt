@@ -36,7 +36,7 @@ pub fn after_closing(bytes: &[u8]) -> &[u8]
     }
 }
 
-// The pattern of a text; an empty one is the remembered pattern.
+/// The pattern of a text; an empty one is the remembered pattern.
 fn pattern_of(alloc: Global, text: Bytes) -> Result<Option<Option<Pattern>>, AllocError>
     ensures value { IfOk result (λ read. read ≡ pattern_of text) }
 {
@@ -50,7 +50,7 @@ fn pattern_of(alloc: Global, text: Bytes) -> Result<Option<Option<Pattern>>, All
     }
 }
 
-// The bytes up to the delimiter or the line's end, as the pattern has them.
+/// The bytes up to the delimiter or the line's end, as the pattern has them.
 fn quoted(alloc: Global, delimiter: u8, bytes: &[u8]) -> Parsed<'_, Bytes>
     ensures value { IfOk result (λ read. MatchOption read (quoted (length bytes.now) delimiter bytes.now ≡ None)
         (λ (text, rest). quoted (length bytes.now) delimiter bytes.now ≡ Some (text, rest.now))) }
@@ -85,7 +85,7 @@ fn quoted(alloc: Global, delimiter: u8, bytes: &[u8]) -> Parsed<'_, Bytes>
     Ok(Some((text, left)))
 }
 
-// What a backslash and a byte are in a pattern: a delimiter that is nothing special there loses its backslash.
+/// What a backslash and a byte are in a pattern: a delimiter that is nothing special there loses its backslash.
 fn push_unescaped(text: &mut Bytes, delimiter: u8, byte: u8) -> Result<(), AllocError>
     ensures appended { OnOk result (text.new ≡ text.old ++ unescaped delimiter byte) }
 {

@@ -53,7 +53,7 @@ pub fn first_lines(alloc: Global, bytes: &[u8]) -> Result<Vec<usize>, AllocError
     Ok(numbers)
 }
 
-// The command that begins on this line, with its list. A replacement, a text and a list go on in the lines after it.
+/// The command that begins on this line, with its list. A replacement, a text and a list go on in the lines after it.
 fn read_step<'a>(
     alloc: Global,
     line: &'a [u8],
@@ -69,7 +69,7 @@ fn read_step<'a>(
     }
 }
 
-// What stands after the addresses of a command.
+/// What stands after the addresses of a command.
 fn step_after_addresses<'a>(
     alloc: Global,
     addresses: Addresses,

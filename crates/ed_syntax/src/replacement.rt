@@ -19,7 +19,7 @@ pub enum Part {
 }
 
 impl Part {
-    // A number of its own for each part.
+    /// A number of its own for each part.
     fn number(&self) -> u16
         ensures value { result ≡ part_number self.now }
     {

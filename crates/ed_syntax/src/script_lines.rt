@@ -72,7 +72,7 @@ impl<'a> ScriptLines<'a> {
     }
 }
 
-// The bytes of the text that begins here, those after the line `.` that ends it, and how many lines were passed, that one too.
+/// The bytes of the text that begins here, those after the line `.` that ends it, and how many lines were passed, that one too.
 fn cut_text(bytes: &[u8]) -> (&[u8], &[u8], usize)
     ensures value { text (lines_of bytes.now) ≡ (lines_of result.0.now, lines_of result.1.now) }
     ensures number { result.2 + length (lines_of result.1.now) ≡ length (lines_of bytes.now) }

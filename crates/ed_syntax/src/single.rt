@@ -49,7 +49,7 @@ pub fn command_after_addresses<'a>(
     })
 }
 
-// The command of these addresses and of what stands after them.
+/// The command of these addresses and of what stands after them.
 fn command_of(listed: bool, addresses: Addresses, order: Option<Order>) -> Option<Command>
     ensures value { (left : _) → command_before result left ≡ order_before listed (addresses_value addresses) order left }
 {
@@ -61,7 +61,7 @@ fn command_of(listed: bool, addresses: Addresses, order: Option<Order>) -> Optio
     })
 }
 
-// What stands after the addresses of a command, with its text.
+/// What stands after the addresses of a command, with its text.
 fn order_after_addresses<'a>(
     alloc: Global,
     listed: bool,
@@ -83,7 +83,7 @@ fn order_after_addresses<'a>(
     }
 }
 
-// A verb with its text, if it takes one.
+/// A verb with its text, if it takes one.
 fn with_text(alloc: Global, verb: Verb, later: &mut ScriptLines<'_>) -> Result<Verb, AllocError>
     ensures value { IfOk result (λ v. (verb_value v, later.new.lines) ≡ with_text (verb_value verb) later.old.lines) }
     ensures number { later.new.number + length later.new.lines ≡ later.old.number + length later.old.lines }
@@ -96,7 +96,7 @@ fn with_text(alloc: Global, verb: Verb, later: &mut ScriptLines<'_>) -> Result<V
     }
 }
 
-// A verb with the text that is read here.
+/// A verb with the text that is read here.
 fn with_lines(alloc: Global, verb: Verb, later: &mut ScriptLines<'_>) -> Result<Verb, AllocError>
     ensures value { IfOk result (λ v. verb_value v ≡ entering (text later.old.lines).0 (verb_value verb)) }
     ensures left { IfOk result (λ v. later.new.lines ≡ (text later.old.lines).1) }
@@ -106,7 +106,7 @@ fn with_lines(alloc: Global, verb: Verb, later: &mut ScriptLines<'_>) -> Result<
     later.read_text(alloc).map(|text| entering(text, verb))
 }
 
-// A verb with this text in place of its own.
+/// A verb with this text in place of its own.
 fn entering(text: Text, verb: Verb) -> Verb
     ensures value { verb_value result ≡ entering text (verb_value verb) }
 {

@@ -30,7 +30,7 @@ pub fn substitution<'a>(
     }
 }
 
-// A pattern between delimiters, and what stands after it.
+/// A pattern between delimiters, and what stands after it.
 fn substitution_by<'a>(
     alloc: Global,
     delimiter: u8,
@@ -48,7 +48,7 @@ fn substitution_by<'a>(
     }
 }
 
-// What stands after the pattern, whose closing delimiter has to be there.
+/// What stands after the pattern, whose closing delimiter has to be there.
 fn substitution_with<'a>(
     alloc: Global,
     delimiter: u8,
@@ -81,7 +81,7 @@ fn substitution_with<'a>(
     }
 }
 
-// A replacement, up to its delimiter or the end of its line; `%` alone is the remembered one.
+/// A replacement, up to its delimiter or the end of its line; `%` alone is the remembered one.
 fn replacement<'a>(
     alloc: Global,
     delimiter: u8,
@@ -102,7 +102,7 @@ fn replacement<'a>(
     }
 }
 
-// `%` alone.
+/// `%` alone.
 fn is_percent(delimiter: u8, bytes: &[u8]) -> bool
     ensures value { result ≡ is_percent delimiter bytes.now }
 {
@@ -112,7 +112,7 @@ fn is_percent(delimiter: u8, bytes: &[u8]) -> bool
     }
 }
 
-// The line is over, or goes on with the delimiter.
+/// The line is over, or goes on with the delimiter.
 fn is_closed(delimiter: u8, bytes: &[u8]) -> bool
     ensures value { result ≡ is_closed delimiter bytes.now }
 {
@@ -122,7 +122,7 @@ fn is_closed(delimiter: u8, bytes: &[u8]) -> bool
     }
 }
 
-// The parts up to the delimiter, with which the rest begins, or to the line's end.
+/// The parts up to the delimiter, with which the rest begins, or to the line's end.
 fn parts<'a>(
     alloc: Global,
     delimiter: u8,
@@ -151,7 +151,7 @@ fn parts<'a>(
     Ok(Some((replacement, left)))
 }
 
-// The part that begins with a byte, which isn't the delimiter.
+/// The part that begins with a byte, which isn't the delimiter.
 fn part_at<'a>(
     delimiter: u8,
     byte: u8,
@@ -172,7 +172,7 @@ fn part_at<'a>(
     }
 }
 
-// What stands after a backslash; at the end of a line it is a split, and the next line goes on.
+/// What stands after a backslash; at the end of a line it is a split, and the next line goes on.
 fn escaped_at<'a>(
     delimiter: u8,
     bytes: &'a [u8],
@@ -191,7 +191,7 @@ fn escaped_at<'a>(
     }
 }
 
-// What a backslash and a byte mean. After it a delimiter is itself, whatever it means elsewhere.
+/// What a backslash and a byte mean. After it a delimiter is itself, whatever it means elsewhere.
 fn unescaped_part(delimiter: u8, byte: u8) -> Option<Part>
     ensures value { result ≡ unescaped_part delimiter byte }
 {

@@ -59,7 +59,7 @@ pub fn form_of(letter: u8) -> Option<Form>
     }
 }
 
-// How many digits stand in front.
+/// How many digits stand in front.
 fn digits_len(bytes: &[u8]) -> usize
     ensures value { result ≡ prefix_len is_digit bytes.now }
 {
@@ -69,7 +69,7 @@ fn digits_len(bytes: &[u8]) -> usize
         .count()
 }
 
-// The number that at most nine digits spell.
+/// The number that at most nine digits spell.
 fn value_of(digits: &[u8]) -> u32
     requires digits { All (λ b. IsTrue (is_digit b)) digits.now }
     requires few { length digits.now ≤ 9 }

@@ -73,7 +73,7 @@ pub struct Takes<'a> {
     pub global: bool,
 }
 
-// The current line.
+/// The current line.
 fn here() -> Address
     ensures value { address_value result ≡ here }
 {
@@ -83,7 +83,7 @@ fn here() -> Address
     }
 }
 
-// The line after the current one.
+/// The line after the current one.
 fn next() -> Address
     ensures value { address_value result ≡ next }
 {
@@ -93,7 +93,7 @@ fn next() -> Address
     }
 }
 
-// The last line.
+/// The last line.
 fn last() -> Address
     ensures value { address_value result ≡ at_base Last }
 {
@@ -119,7 +119,7 @@ impl DefaultAddresses {
     }
 }
 
-// What a command takes that changes nothing: no text and no target; a suffix may follow, and it may stand in a list.
+/// What a command takes that changes nothing: no text and no target; a suffix may follow, and it may stand in a list.
 fn row<'a>(default: DefaultAddresses, taking: Taking) -> Takes<'a>
     ensures value { takes_value result ≡ row (default_value default) taking false None true true false false None false }
 {

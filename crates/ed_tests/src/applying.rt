@@ -17,7 +17,7 @@ pub(crate) fn loaded<S: LineStore>(rt: &impl Abort, alloc: Global, file: &[u8]) 
     editor
 }
 
-// Carries out a command that needs no file.
+/// Carries out a command that needs no file.
 fn carry_out<S: LineStore>(rt: &impl Abort, editor: &mut Editor<S>, command: &Command) {
     let reply = editor.apply(command, None).expect(rt, "carried out");
     drop(reply);
@@ -48,7 +48,7 @@ pub(crate) fn apply_listed<S: LineStore>(
     }
 }
 
-// The lines of a store, each with its newline.
+/// The lines of a store, each with its newline.
 fn texts<S: LineStore>(rt: &impl Abort, alloc: Global, store: &S) -> Bytes {
     let mut texts = Bytes::new(alloc);
     for place in 0..store.len() {

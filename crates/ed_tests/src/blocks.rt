@@ -15,7 +15,7 @@ const FROM: usize = 1000;
 
 const TO: usize = 4000;
 
-// The lines, of which `x` marks one before the block, `y` one in it and `z` one after it.
+/// The lines, of which `x` marks one before the block, `y` one in it and `z` one after it.
 fn marked<S: LineStore>(rt: &impl Abort, alloc: Global) -> Editor<S> {
     let mut editor = loaded::<S>(rt, alloc, b"a\nb\nc\nd\ne\nf\ng\n");
     for _ in 0..10 {
@@ -25,7 +25,7 @@ fn marked<S: LineStore>(rt: &impl Abort, alloc: Global) -> Editor<S> {
     editor
 }
 
-// The lines are the earlier ones, but so many others in place of the block.
+/// The lines are the earlier ones, but so many others in place of the block.
 fn check_others<S: LineStore>(rt: &impl Abort, lines: &S, earlier: &S, entered: usize) {
     assert!(rt; entered < COUNT);
     same(rt, earlier.len(), COUNT, "the earlier lines");
@@ -51,7 +51,7 @@ fn check_others<S: LineStore>(rt: &impl Abort, lines: &S, earlier: &S, entered: 
     }
 }
 
-// All lines are the earlier ones.
+/// All lines are the earlier ones.
 fn check_all<S: LineStore>(rt: &impl Abort, lines: &S, earlier: &S) {
     same(rt, lines.len(), earlier.len(), "the lines");
     for i in 0..lines.len() {

@@ -46,7 +46,7 @@ fn a_last_line_without_its_newline_is_a_line_and_gets_one_when_written(rt: HostR
     }
 }
 
-// Bytes that were pushed and appended.
+/// Bytes that were pushed and appended.
 fn built(rt: &impl Abort, alloc: Global) -> Bytes {
     let mut built = bytes(rt, alloc, b"a");
     built.reserve(2).expect(rt, "memory");

@@ -59,14 +59,14 @@ fn check_reply(
     same(rt, editor.apply(command, answer), Ok(reply), command);
 }
 
-// A write asks first, and leaves nothing to be saved once it is done.
+/// A write asks first, and leaves nothing to be saved once it is done.
 fn check_write(rt: &impl Abort, alloc: Global, editor: &mut Editor<PlainStore>, write: &Command) {
     check_reply(rt, editor, write, None, writes(rt, alloc, b"G", b"b\nc\n"));
     check_reply(rt, editor, write, Some(Answer::Done), gives(rt, alloc, b""));
     assert!(rt; !editor.changed());
 }
 
-// A read asks first, and puts the lines of the answer after its line.
+/// A read asks first, and puts the lines of the answer after its line.
 fn check_read(rt: &impl Abort, alloc: Global, editor: &mut Editor<PlainStore>, enter: &Command) {
     check_reply(rt, editor, enter, None, reads(rt, alloc, b"F"));
     let answer = Answer::Bytes(bytes(rt, alloc, b"d\ne"));
@@ -90,7 +90,7 @@ fn check_commands(
     check_reply(rt, editor, name, None, gives(rt, alloc, b"F\n"));
 }
 
-// XCU ed, "Write Command", "Read Command", "Filename Command".
+/// XCU ed, "Write Command", "Read Command", "Filename Command".
 #[test]
 fn a_command_asks_for_its_file_and_goes_on_with_the_answer(rt: HostRuntime) {
     let alloc = rt.alloc();

@@ -34,7 +34,7 @@ static FAILING: [FailingRow; 6] = [
 // Each of these would go well on the lines of each row.
 const LATER: &[u8] = b"1d\n1p\n$a\nx\n.\n1,2j\n1ka\nf H\nw G\nr G\n";
 
-// The editor has failed by the row's fault, and holds what it held then.
+/// The editor has failed by the row's fault, and holds what it held then.
 fn check_held<S: LineStore>(rt: &impl Abort, alloc: Global, editor: &Editor<S>, row: &FailingRow) {
     same(rt, editor.failed(), Some(row.fault), row.failing);
     let held = (editor.current(), editor.changed());
@@ -55,7 +55,7 @@ fn check_refused<S: LineStore>(
     check_held(rt, alloc, editor, row);
 }
 
-// The commands of a script, each before its file is asked for, and with answers, also where it needs none.
+/// The commands of a script, each before its file is asked for, and with answers, also where it needs none.
 fn check_later<S: LineStore>(
     rt: &impl Abort,
     alloc: Global,
@@ -99,7 +99,7 @@ fn check_loads<S: LineStore>(
     check_held(rt, alloc, editor, row);
 }
 
-// An editor for which all commands of a row went well but the last, which failed.
+/// An editor for which all commands of a row went well but the last, which failed.
 fn failed<S: LineStore>(rt: &impl Abort, alloc: Global, row: &FailingRow) -> Editor<S> {
     let mut editor = loaded::<S>(rt, alloc, ABCD);
     apply(rt, alloc, &mut editor, row.before);

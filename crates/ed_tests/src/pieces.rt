@@ -114,7 +114,7 @@ fn built(rt: &impl Abort, alloc: Global, blocks: &Blocks, steps: &[Step]) -> Pie
     pieces
 }
 
-// The pieces are those of the row, whose bytes are handed on as one.
+/// The pieces are those of the row, whose bytes are handed on as one.
 fn check_walk(rt: &impl Abort, alloc: Global, pieces: &Pieces, row: &Row) -> Bytes {
     let mut whole = Bytes::new(alloc);
     let mut walk = pieces.walk();
@@ -156,7 +156,7 @@ fn pieces_with_other_bytes_differ(rt: HostRuntime) {
     }
 }
 
-// The last line of the file lacks its newline, one line is new, and one stands twice.
+/// The last line of the file lacks its newline, one line is new, and one stands twice.
 fn check_write<S: LineStore>(rt: &impl Abort, alloc: Global) {
     let mut editor = loaded::<S>(rt, alloc, b"one\ntwo\nthree\nfour");
     apply(rt, alloc, &mut editor, b"2s/w/W/\n1t3\n");

@@ -7,7 +7,7 @@ use ed_syntax::{Address, Answer, Base, Pattern, Verb};
 use std::alloc::Global;
 use std::process::Abort;
 
-// The command `a` with each byte in turn.
+/// The command `a` with each byte in turn.
 fn every_byte(rt: &impl Abort, alloc: Global) -> Vec<u8> {
     let mut bytes = Vec::from_slice(alloc, b"a\n".as_slice()).expect(rt, "memory");
     for byte in 0..=255 {

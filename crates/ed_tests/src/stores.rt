@@ -15,7 +15,7 @@ fn next(rt: &impl Abort, file: &mut FileLines) -> Line {
     next.expect(rt, "one more line")
 }
 
-// No line comes, however often one is asked for.
+/// No line comes, however often one is asked for.
 fn check_end(rt: &impl Abort, file: &mut FileLines) {
     for _ in 0..2 {
         let next = file.next_line().expect(rt, "memory");
@@ -59,7 +59,7 @@ fn a_line_takes_bytes_as_its_own(rt: HostRuntime) {
     check_line(&rt, &copied, b"");
 }
 
-// A copy of the store whose second line is marked, after which the first line goes.
+/// A copy of the store whose second line is marked, after which the first line goes.
 fn copied<S: LineStore>(rt: &impl Abort, alloc: Global, editor: &mut Editor<S>) -> S {
     apply(rt, alloc, editor, b"2kx\n");
     let copy = editor.lines().try_copy().expect(rt, "memory");
@@ -67,7 +67,7 @@ fn copied<S: LineStore>(rt: &impl Abort, alloc: Global, editor: &mut Editor<S>) 
     copy
 }
 
-// A copy has the lines and the letters of the store, and goes its own way from then on.
+/// A copy has the lines and the letters of the store, and goes its own way from then on.
 fn check_copy<S: LineStore>(rt: &impl Abort, alloc: Global) {
     let mut editor = loaded::<S>(rt, alloc, b"a\nb\nc\n");
     let copy = copied(rt, alloc, &mut editor);
@@ -85,7 +85,7 @@ fn a_copy_of_a_store_keeps_its_lines_and_letters(rt: HostRuntime) {
     check_copy::<ChunkStore>(&rt, rt.alloc());
 }
 
-// Puts a new line of these bytes before a place.
+/// Puts a new line of these bytes before a place.
 fn put<S: LineStore>(rt: &impl Abort, alloc: Global, store: &mut S, place: usize, bytes: &[u8])
     requires line { IsLine bytes.now }
 {
@@ -94,7 +94,7 @@ fn put<S: LineStore>(rt: &impl Abort, alloc: Global, store: &mut S, place: usize
     assert!(rt; store.put(place, line).is_ok(), "the line was handed back");
 }
 
-// Lines come in before the first line, after the last and between, and the first one goes.
+/// Lines come in before the first line, after the last and between, and the first one goes.
 fn check_places<S: LineStore>(rt: &impl Abort, alloc: Global) {
     let mut store = S::empty(alloc).expect(rt, "memory");
     put(rt, alloc, &mut store, 0, b"a");

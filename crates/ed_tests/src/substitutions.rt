@@ -53,7 +53,7 @@ fn replacement(alloc: Global, parts: &[Part]) -> Result<Replacement, AllocError>
     Ok(replacement)
 }
 
-// No match has the number 0.
+/// No match has the number 0.
 fn which(count: Count) -> Option<Which> {
     match count {
         Count::First => Some(Which::First),
@@ -62,7 +62,7 @@ fn which(count: Count) -> Option<Which> {
     }
 }
 
-// What becomes of the row's line.
+/// What becomes of the row's line.
 fn replaced(alloc: Global, row: &Row) -> Result<Option<Text>, AllocError> {
     let replacement = replacement(alloc, row.parts)?;
     match (Bre::read(alloc, row.pattern), which(row.count)) {
@@ -95,7 +95,7 @@ fn a_line_becomes_what_the_standard_says(rt: HostRuntime) {
     }
 }
 
-// The lines that crates/ed_commands/README.md shows a caller.
+/// The lines that crates/ed_commands/README.md shows a caller.
 #[test]
 fn the_caller_that_the_readme_shows_swaps_two_words(rt: HostRuntime) -> Result<(), Fail> {
     let alloc = rt.alloc();
@@ -109,7 +109,7 @@ fn the_caller_that_the_readme_shows_swaps_two_words(rt: HostRuntime) -> Result<(
     Ok(())
 }
 
-// To be run with each allocation refused in turn (`rt try --test --fail-alloc N`): there is no answer or the right one.
+/// To be run with each allocation refused in turn (`rt try --test --fail-alloc N`): there is no answer or the right one.
 #[test]
 fn being_out_of_memory_is_no_other_answer(rt: HostRuntime) {
     for row in [&ROWS[1], &ROWS[6], &ROWS[9]] {

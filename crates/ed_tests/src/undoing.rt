@@ -16,7 +16,7 @@ use std::process::Abort;
 /// The lines that each editor begins with, of which the last is current.
 pub(crate) const ABCD: &[u8] = b"a\nb\nc\nd\n";
 
-// The lines are these, each with its newline, and this one is current.
+/// The lines are these, each with its newline, and this one is current.
 fn check_lines<S: LineStore>(
     rt: &impl Abort,
     alloc: Global,
@@ -28,7 +28,7 @@ fn check_lines<S: LineStore>(
     same(rt, editor.current(), current, lines);
 }
 
-// The lines are these now, `u` brings back those that the editor began with, and the next `u` these.
+/// The lines are these now, `u` brings back those that the editor began with, and the next `u` these.
 fn check_exchange<S: LineStore>(
     rt: &impl Abort,
     alloc: Global,
@@ -165,7 +165,7 @@ pub(crate) fn global(alloc: Global, sense: Sense, pattern: Pattern) -> Command
     }
 }
 
-// How many lines a global command takes. The command is handed over to be dropped, since that in place is dear to prove.
+/// How many lines a global command takes. The command is handed over to be dropped, since that in place is dear to prove.
 fn begin_global<S: LineStore>(
     rt: &impl Abort,
     alloc: Global,
@@ -178,7 +178,7 @@ fn begin_global<S: LineStore>(
     begun.lines
 }
 
-// Runs a list for each line that a global command takes.
+/// Runs a list for each line that a global command takes.
 fn run_global<S: LineStore>(
     rt: &impl Abort,
     alloc: Global,

@@ -50,7 +50,7 @@ after-back next place last most inner n le some is low (inr (same, inside)) =
     elim (eq-or-lt_of_le le) [
       | inr lt ↦ inl (omega (arith, lt, same))
       | inl eq ↦
-        inr (omega (arith, eq, same), inside-back next.inner place.inner most inner n is low (subst (λ (o : Option ℕ). IsLaterInside next.inner o) some inside))
+          inr (omega (arith, eq, same), inside-back next.inner place.inner most inner n is low (subst (λ (o : Option ℕ). IsLaterInside next.inner o) some inside))
     ]
 
 -- a script that gets past the last place of a command gets past all of it

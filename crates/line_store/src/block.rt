@@ -147,7 +147,7 @@ impl Block {
     }
 }
 
-// The same chunks once more.
+/// The same chunks once more.
 fn copy_chunks(alloc: Global, chunks: &Vec<Chunk>) -> Result<Vec<Chunk>, AllocError>
     ensures value { IfOk result (λ copies. copies.items ≡ chunks.now.items) }
 {
@@ -158,7 +158,7 @@ fn copy_chunks(alloc: Global, chunks: &Vec<Chunk>) -> Result<Vec<Chunk>, AllocEr
     Ok(copies)
 }
 
-// The lines of all chunks.
+/// The lines of all chunks.
 fn lines_of_chunks(alloc: Global, chunks: Vec<Chunk>) -> Result<Vec<BareLine>, AllocError>
     ensures value { IfOk result (λ lines. lines.items ≡ joined chunks.items) }
 {

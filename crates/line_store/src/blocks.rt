@@ -27,7 +27,7 @@ pub fn take_block<S: LineStore>(
     }
 }
 
-// The same line by line, the last one first, so that at the end of a store nothing has to move.
+/// The same line by line, the last one first, so that at the end of a store nothing has to move.
 fn take_each<S: LineStore>(
     alloc: Global,
     from: usize,
@@ -84,7 +84,7 @@ pub fn put_file_block<S: LineStore>(
     put_block(alloc, at, Block::of_file(file)?, store)
 }
 
-// Puts lines before place `at`, the first one first. There is room for them.
+/// Puts lines before place `at`, the first one first. There is room for them.
 fn put_each<S: LineStore>(lines: Vec<BareLine>, at: usize, store: &mut S)
     requires place { at ≤ length (S.lines store.old) }
     requires room { length lines.items ≤ S.spare store.old }

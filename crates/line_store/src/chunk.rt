@@ -137,7 +137,7 @@ impl Chunk {
         self.ring.push_back_reserved(line);
     }
 
-    // Puts a line before all others.
+    /// Puts a line before all others.
     fn push_first(&mut self, line: BareLine)
         requires room { length self.old < full }
         ensures pushed { self.new ≡ line ∷ self.old }
@@ -146,7 +146,7 @@ impl Chunk {
         self.ring.push_front_reserved(line);
     }
 
-    // Takes out the last line.
+    /// Takes out the last line.
     fn pop(&mut self) -> BareLine
         requires some { 0 < length self.old }
         ensures popped { self.old ≡ self.new ++ result ∷ [] }
@@ -158,7 +158,7 @@ impl Chunk {
         last
     }
 
-    // Gives its lines from place `at` on to a chunk that has room for them, where they come before all others.
+    /// Gives its lines from place `at` on to a chunk that has room for them, where they come before all others.
     fn pass(&mut self, at: usize, other: &mut Chunk)
         requires place { at ≤ length self.old }
         requires room { length self.old + length other.old ≤ full }

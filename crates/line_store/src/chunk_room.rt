@@ -20,7 +20,7 @@ pub(crate) fn add_chunks(chunks: &mut Vec<Chunk>, count: usize) -> Result<(), Al
     Ok(())
 }
 
-// A chunk without lines: the last one, where that has none, or else a new one. It has room among the others.
+/// A chunk without lines: the last one, where that has none, or else a new one. It has room among the others.
 fn spare_chunk(chunks: &mut Vec<Chunk>, k: usize) -> Result<Chunk, AllocError>
     requires chunk { k < length chunks.old.items }
     ensures value { IfOk result (λ chunk. chunk ≡ []) }
@@ -69,7 +69,7 @@ pub(crate) fn join_chunks(chunks: &mut Vec<Chunk>, k: usize)
     chunks.push_reserved(first);
 }
 
-// Moves the last line of a chunk to the next one, where there is a line and room for it.
+/// Moves the last line of a chunk to the next one, where there is a line and room for it.
 fn pass_on(chunks: &mut Vec<Chunk>, k: usize)
     requires chunk { k + 1 < length chunks.old.items }
     ensures joined { joined chunks.new.items ≡ joined chunks.old.items }
@@ -85,7 +85,7 @@ fn pass_on(chunks: &mut Vec<Chunk>, k: usize)
     chunks[k + 1].insert(0, last);
 }
 
-// Moves the first line of the next chunk to a chunk that has room, where there is one.
+/// Moves the first line of the next chunk to a chunk that has room, where there is one.
 fn draw_back(chunks: &mut Vec<Chunk>, k: usize)
     requires chunk { k + 1 < length chunks.old.items }
     requires room { length (slice_index_or chunks.old.items k []) < full }

@@ -30,7 +30,7 @@ impl Model for ChunkStarts {
     ghost invariant = { λ s. Grouped s.groups.items s.within.items };
 }
 
-// Adds one to some of the numbers.
+/// Adds one to some of the numbers.
 fn raise(numbers: &mut Vec<usize>, from: usize, to: usize)
     requires order { from ≤ to }
     requires within { to ≤ length numbers.old.items }
@@ -46,7 +46,7 @@ fn raise(numbers: &mut Vec<usize>, from: usize, to: usize)
     }
 }
 
-// Takes one from some of the numbers.
+/// Takes one from some of the numbers.
 fn lower(numbers: &mut Vec<usize>, from: usize, to: usize)
     requires order { from ≤ to }
     requires within { to ≤ length numbers.old.items }
@@ -138,7 +138,7 @@ impl ChunkStarts {
         lower(&mut self.groups, k / GROUP + 1, last);
     }
 
-    // Forgets all chunks, and keeps the room.
+    /// Forgets all chunks, and keeps the room.
     fn clear(&mut self)
         ensures empty { self.new.starts ≡ [] }
         ensures room { self.new.room ≡ self.old.room }
@@ -147,7 +147,7 @@ impl ChunkStarts {
         self.within.clear();
     }
 
-    // Adds a chunk after all others.
+    /// Adds a chunk after all others.
     fn push(&mut self, start: usize)
         requires room { length self.old.starts < self.old.room }
         requires order { (k : ℕ) → k < length self.old.starts → slice_index_or self.old.starts k 0 ≤ start }

@@ -41,8 +41,8 @@ impl Model for ChunkLines {
     ghost invariant = { λ l. Known l.count l.starts l.chunks.items };
 }
 
-// How many lines a full chunk keeps when it is split for a line at one of its places. At an end of the chunk its lines stay
-// together, so that chunks that are filled in order stay full.
+/// How many lines a full chunk keeps when it is split for a line at one of its places. At an end of the chunk its lines stay
+/// together, so that chunks that are filled in order stay full.
 fn kept(place: usize) -> usize
     requires place { place ≤ full }
     ensures bound { result ≤ full }
@@ -57,14 +57,14 @@ fn kept(place: usize) -> usize
     FULL / 2
 }
 
-// In which chunk a line is looked for after another was used. The first one is found without it, so that where each line goes to the
-// front the chunk that they come from stays known.
+/// In which chunk a line is looked for after another was used. The first one is found without it, so that where each line goes to the
+/// front the chunk that they come from stays known.
 fn hint(near: usize, used: usize) -> usize {
     if used == 0 { near } else { used }
 }
 
 impl ChunkLines {
-    // How many lines stand before a chunk.
+    /// How many lines stand before a chunk.
     fn start(&self, k: usize) -> usize
         requires chunk { k < length self.now.chunks }
         ensures value { result ≡ lines_before k self.now.chunks }
@@ -72,7 +72,7 @@ impl ChunkLines {
         self.starts.start(k)
     }
 
-    // Whether a line stands in a chunk.
+    /// Whether a line stands in a chunk.
     fn is_in(&self, i: usize, k: usize) -> bool
         ensures value { IsTrue result ↔ StandsIn i k self.now.chunks }
     {
@@ -83,8 +83,8 @@ impl ChunkLines {
         start <= i && i - start < self.chunks[k].len()
     }
 
-    // The chunk of a line. It is searched only where it is neither the one that it would be if all chunks were full, as they
-    // are in a file that was just read, nor the one that was used lately.
+    /// The chunk of a line. It is searched only where it is neither the one that it would be if all chunks were full, as they
+    /// are in a file that was just read, nor the one that was used lately.
     fn chunk_of(&self, i: usize) -> usize
         requires place { i < length (joined self.now.chunks) }
         ensures chunk { StandsIn i result self.now.chunks }
@@ -99,7 +99,7 @@ impl ChunkLines {
         self.search_chunk(i)
     }
 
-    // The chunk of a line, which is searched by halves.
+    /// The chunk of a line, which is searched by halves.
     fn search_chunk(&self, i: usize) -> usize
         requires place { i < length (joined self.now.chunks) }
         ensures chunk { StandsIn i result self.now.chunks }
@@ -117,7 +117,7 @@ impl ChunkLines {
         low
     }
 
-    // A chunk that has a place in it, or at its end.
+    /// A chunk that has a place in it, or at its end.
     fn chunk_at(&self, at: usize) -> usize
         requires place { at ≤ length (joined self.now.chunks) }
         requires chunk { 0 < length self.now.chunks }
@@ -129,7 +129,7 @@ impl ChunkLines {
         self.chunk_of(at - 1)
     }
 
-    // Splits a full chunk so that a line may come in at one of its places, and says in which chunk.
+    /// Splits a full chunk so that a line may come in at one of its places, and says in which chunk.
     fn split(&mut self, k: usize, place: usize) -> Result<usize, AllocError>
         requires chunk { k < length self.old.chunks }
         requires full { length (slice_index_or self.old.chunks k []) ≡ full }
@@ -149,7 +149,7 @@ impl ChunkLines {
         Ok(k + 1)
     }
 
-    // Moves lines from chunk to chunk so that a line may come in at a place, and says in which chunk.
+    /// Moves lines from chunk to chunk so that a line may come in at a place, and says in which chunk.
     fn draw(&mut self, at: usize) -> Result<usize, AllocError>
         requires place { at ≤ length (joined self.old.chunks) }
         ensures fits { IfOk result (λ k. Fits at k self.new.chunks) }
@@ -166,7 +166,7 @@ impl ChunkLines {
         Ok(k)
     }
 
-    // Adds empty chunks until there are so many.
+    /// Adds empty chunks until there are so many.
     fn add(&mut self, count: usize) -> Result<(), AllocError>
         ensures enough { OnOk result (count ≤ length self.new.chunks) }
         ensures unchanged { joined self.new.chunks ≡ joined self.old.chunks }
@@ -182,7 +182,7 @@ impl ChunkLines {
         added
     }
 
-    // Sees that a line may come in at a place, and says in which chunk.
+    /// Sees that a line may come in at a place, and says in which chunk.
     fn make_room(&mut self, at: usize) -> Result<usize, AllocError>
         requires place { at ≤ length (joined self.old.chunks) }
         ensures fits { IfOk result (λ k. Fits at k self.new.chunks) }
@@ -205,7 +205,7 @@ impl ChunkLines {
         self.draw(at)
     }
 
-    // Puts a line in a chunk.
+    /// Puts a line in a chunk.
     fn put_in(&mut self, k: usize, place: usize, line: BareLine)
         requires chunk { k < length self.old.chunks }
         requires place { place ≤ length (slice_index_or self.old.chunks k []) }
@@ -219,7 +219,7 @@ impl ChunkLines {
         self.count += 1;
     }
 
-    // Takes a line out of a chunk.
+    /// Takes a line out of a chunk.
     fn take_in(&mut self, k: usize, place: usize) -> BareLine
         requires chunk { k < length self.old.chunks }
         requires place { place < length (slice_index_or self.old.chunks k []) }
@@ -233,7 +233,7 @@ impl ChunkLines {
         line
     }
 
-    // Puts a line in place of another of a chunk.
+    /// Puts a line in place of another of a chunk.
     fn exchange_in(&mut self, k: usize, place: usize, line: BareLine) -> BareLine
         requires chunk { k < length self.old.chunks }
         requires place { place < length (slice_index_or self.old.chunks k []) }
@@ -244,7 +244,7 @@ impl ChunkLines {
         self.chunks[k].exchange(place, line)
     }
 
-    // Flags a line of a chunk, or takes its flag.
+    /// Flags a line of a chunk, or takes its flag.
     fn flag_in(&mut self, k: usize, place: usize, flag: bool)
         requires chunk { k < length self.old.chunks }
         requires place { place < length (slice_index_or self.old.chunks k []) }
@@ -254,7 +254,7 @@ impl ChunkLines {
         self.chunks[k].set_flag(place, flag);
     }
 
-    // The first place of a chunk from `from` on where a line has the flag, or the number of its lines.
+    /// The first place of a chunk from `from` on where a line has the flag, or the number of its lines.
     fn flagged_in(&self, k: usize, from: usize) -> usize
         requires chunk { k < length self.now.chunks }
         requires place { from ≤ length (slice_index_or self.now.chunks k []) }
@@ -263,7 +263,7 @@ impl ChunkLines {
         self.chunks[k].first_flagged(from)
     }
 
-    // Appends the bytes of the lines of a chunk from place `from` up to `to`, each with a newline.
+    /// Appends the bytes of the lines of a chunk from place `from` up to `to`, each with a newline.
     fn push_in(
         &self,
         k: usize,
@@ -281,7 +281,7 @@ impl ChunkLines {
         self.chunks[k].push_lines(from, to, output)
     }
 
-    // How many lines a chunk has.
+    /// How many lines a chunk has.
     fn lines_in(&self, k: usize) -> usize
         requires chunk { k < length self.now.chunks }
         ensures value { result ≡ length (slice_index_or self.now.chunks k []) }
@@ -289,7 +289,7 @@ impl ChunkLines {
         self.chunks[k].len()
     }
 
-    // Puts a chunk that has no lines after all others.
+    /// Puts a chunk that has no lines after all others.
     fn set_aside(&mut self, k: usize)
         requires chunk { k < length self.old.chunks }
         requires empty { length (slice_index_or self.old.chunks k []) ≡ 0 }
@@ -301,7 +301,7 @@ impl ChunkLines {
         self.starts.count(&self.chunks);
     }
 
-    // Puts a chunk after all others if it has no lines.
+    /// Puts a chunk after all others if it has no lines.
     fn tidy(&mut self, k: usize)
         requires chunk { k < length self.old.chunks }
         ensures unchanged { joined self.new.chunks ≡ joined self.old.chunks }

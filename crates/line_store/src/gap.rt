@@ -32,7 +32,7 @@ impl Model for GapLines {
     ghost invariant = { λ l. l.after ≤ length l.ring.items };
 }
 
-// Where a line stands in a ring of so many, of which some stand after the gap.
+/// Where a line stands in a ring of so many, of which some stand after the gap.
 fn place_in_ring(after: usize, count: usize, i: usize) -> usize
     requires after { after ≤ count }
     requires place { i < count }
@@ -44,7 +44,7 @@ fn place_in_ring(after: usize, count: usize, i: usize) -> usize
 }
 
 impl GapLines {
-    // Moves the gap to place `at`.
+    /// Moves the gap to place `at`.
     fn move_gap(&mut self, at: usize)
         requires place { at ≤ length self.old.items }
         ensures value { self.new ≡ record self.old { gap = at } }

@@ -41,7 +41,7 @@ impl<L: BareLines> Model for Store<L> {
         × (s.flags ≡ flag_count (L.items s.lines)) };
 }
 
-// Before which place no line has the flag, once a line has come in at `at`.
+/// Before which place no line has the flag, once a line has come in at `at`.
 fn place_with(place: usize, at: usize, flag: bool) -> usize
     ensures { (lines : List Line) (new : Line) → new.flag ≡ flag → at ≤ length lines → Unflagged place lines →
         Unflagged result (insert lines at new) }
@@ -55,21 +55,21 @@ fn place_with(place: usize, at: usize, flag: bool) -> usize
     place.saturating_add(1)
 }
 
-// The same, once a line has gone out.
+/// The same, once a line has gone out.
 fn place_without(place: usize, i: usize) -> usize
     ensures { (lines : List Line) → i < length lines → Unflagged place lines → Unflagged result (remove lines i) }
 {
     if i < place { place - 1 } else { place }
 }
 
-// The same, once a line has come in place of another.
+/// The same, once a line has come in place of another.
 fn place_exchanged(place: usize, i: usize, flag: bool) -> usize
     ensures { (lines : List Line) (new : Line) → new.flag ≡ flag → Unflagged place lines → Unflagged result (slice_set lines i new) }
 {
     if flag { place.min(i) } else { place }
 }
 
-// The same, once the lines from place `low` up to `middle` and those from there up to `high` have changed places.
+/// The same, once the lines from place `low` up to `middle` and those from there up to `high` have changed places.
 fn place_swapped(place: usize, low: usize, middle: usize, high: usize) -> usize
     requires first { low ≤ middle }
     requires second { middle ≤ high }
@@ -88,7 +88,7 @@ fn place_swapped(place: usize, low: usize, middle: usize, high: usize) -> usize
 }
 
 impl<L: BareLines> Store<L> {
-    // The lines from place `low` up to `middle` and those from there up to `high` change places, with their letters and flags.
+    /// The lines from place `low` up to `middle` and those from there up to `high` change places, with their letters and flags.
     fn swap_blocks(&mut self, low: usize, middle: usize, high: usize) -> Result<(), AllocError>
         requires first { low ≤ middle }
         requires second { middle ≤ high }

@@ -44,7 +44,7 @@ impl Line {
         Ok(Line::of(BareLine::new(alloc, bytes)?))
     }
 
-    // The line that no letter marks.
+    /// The line that no letter marks.
     pub(crate) fn of(bare: BareLine) -> Line
         ensures value { result ≡ record bare { letters = no_letters } }
     {

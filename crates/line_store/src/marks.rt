@@ -30,21 +30,21 @@ impl Model for Marks {
     ghost invariant = { λ m. (length m.places ≡ 26) × (IsTrue m.unused → m.places ≡ replicate 26 None) };
 }
 
-// Whether none of these letters is set.
+/// Whether none of these letters is set.
 fn has_no_letters(letters: &[bool; LETTERS]) -> bool
     ensures exact { IsTrue result ↔ (letters.now ≡ no_letters) }
 {
     *letters == [false; LETTERS]
 }
 
-// Whether no letter has a place here.
+/// Whether no letter has a place here.
 fn has_no_places(places: &[Option<usize>; LETTERS]) -> bool
     ensures exact { IsTrue result ↔ (places.now ≡ replicate 26 None) }
 {
     *places == [None; LETTERS]
 }
 
-// Where a letter is after a line has come in with it or without it.
+/// Where a letter is after a line has come in with it or without it.
 fn place_opened(at: usize, comes: bool, place: Option<usize>) -> Option<usize>
     requires bound { IfSome place (λ other. other < 2 ^ 64 - 1) }
     ensures value { result ≡ opened at comes place }
@@ -58,7 +58,7 @@ fn place_opened(at: usize, comes: bool, place: Option<usize>) -> Option<usize>
     }
 }
 
-// Where a letter is after a line has gone out.
+/// Where a letter is after a line has gone out.
 fn place_closed(at: usize, place: Option<usize>) -> Option<usize>
     ensures value { result ≡ closed at place }
 {
@@ -69,7 +69,7 @@ fn place_closed(at: usize, place: Option<usize>) -> Option<usize>
     }
 }
 
-// Where a letter is after the line at a place has given way to one that comes with it or without it.
+/// Where a letter is after the line at a place has given way to one that comes with it or without it.
 fn place_passed_on(at: usize, comes: bool, place: Option<usize>) -> Option<usize>
     ensures value { result ≡ opened at comes (closed at place) }
 {
@@ -80,7 +80,7 @@ fn place_passed_on(at: usize, comes: bool, place: Option<usize>) -> Option<usize
     }
 }
 
-// Where a letter is after the lines from place `low` up to `middle` and those from there up to `high` have changed places.
+/// Where a letter is after the lines from place `low` up to `middle` and those from there up to `high` have changed places.
 fn place_swapped(low: usize, middle: usize, high: usize, place: Option<usize>) -> Option<usize>
     requires first { low ≤ middle }
     requires second { middle ≤ high }
@@ -94,7 +94,7 @@ fn place_swapped(low: usize, middle: usize, high: usize, place: Option<usize>) -
     }
 }
 
-// Where a letter is, if that is one of the first `count` lines.
+/// Where a letter is, if that is one of the first `count` lines.
 fn place_among(count: usize, place: Option<usize>) -> Option<usize>
     ensures value { result ≡ below count place }
 {
@@ -191,7 +191,7 @@ impl Marks {
         }
     }
 
-    // Whether no letter is known to mark a line, and none of these is set.
+    /// Whether no letter is known to mark a line, and none of these is set.
     fn none_with(&self, letters: &[bool; LETTERS]) -> bool
         ensures places { IsTrue result → self.now ≡ replicate 26 None }
         ensures letters { IsTrue result → letters.now ≡ no_letters }

@@ -28,7 +28,7 @@ pub(crate) fn swap_blocks<L: BareLines>(
     swap_each(lines, low, middle, high)
 }
 
-// The same line by line: each line of the shorter block is taken out and put where it belongs.
+/// The same line by line: each line of the shorter block is taken out and put where it belongs.
 fn swap_each<L: BareLines>(
     lines: &mut L,
     low: usize,
@@ -52,7 +52,7 @@ fn swap_each<L: BareLines>(
     Ok(())
 }
 
-// The lines of the second block go before the first block, the first line first. There is room for them.
+/// The lines of the second block go before the first block, the first line first. There is room for them.
 fn carry_up<L: BareLines>(lines: &mut L, low: usize, middle: usize, high: usize)
     requires first { low ≤ middle }
     requires second { middle ≤ high }
@@ -69,7 +69,7 @@ fn carry_up<L: BareLines>(lines: &mut L, low: usize, middle: usize, high: usize)
     }
 }
 
-// The lines of the first block go after the second block, the last line first. There is room for them.
+/// The lines of the first block go after the second block, the last line first. There is room for them.
 fn carry_down<L: BareLines>(lines: &mut L, low: usize, middle: usize, high: usize)
     requires first { low ≤ middle }
     requires second { middle ≤ high }

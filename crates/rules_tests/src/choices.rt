@@ -15,7 +15,7 @@ fn only(alloc: Global, text: Option<&[u8]>) -> Result<Choices, AllocError> {
     }
 }
 
-// Whether the members of a set are these, in this order.
+/// Whether the members of a set are these, in this order.
 fn are(set: &Choices, members: &[Option<&[u8]>]) -> bool {
     let own = set.members();
     if own.len() != members.len() {
@@ -34,7 +34,7 @@ fn are(set: &Choices, members: &[Option<&[u8]>]) -> bool {
     true
 }
 
-// Whether the set of one choice has just this.
+/// Whether the set of one choice has just this.
 fn is_only(alloc: Global, text: Option<&[u8]>) -> Result<bool, AllocError> {
     Ok(are(&only(alloc, text)?, &[text]))
 }
@@ -43,7 +43,7 @@ fn is_only_text(alloc: Global, text: &[u8]) -> Result<bool, AllocError> {
     Ok(are(&Choices::only_text(alloc, text)?, &[Some(text)]))
 }
 
-// Whether both sets of one choice have these choices together.
+/// Whether both sets of one choice have these choices together.
 fn unite(
     alloc: Global,
     one: Option<&[u8]>,

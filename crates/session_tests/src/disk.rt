@@ -56,7 +56,7 @@ fn a_file_that_was_written_is_read_again(rt: HostRuntime) {
 
 static SIZES: [usize; 6] = [100, 70_000, 65_000, 300, 65_536, 100];
 
-// Short pieces and long ones in turn, some of which fill the room where they are gathered and some of which are longer than it.
+/// Short pieces and long ones in turn, some of which fill the room where they are gathered and some of which are longer than it.
 fn mixed(rt: &impl Abort, alloc: Global) -> Pieces {
     let block = Rc::new(alloc, bytes(rt, alloc, &[b'x'; 70_000])).expect(rt, "memory");
     let mut mixed = Pieces::new(alloc);

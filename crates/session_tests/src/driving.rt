@@ -50,7 +50,7 @@ fn bytes_of(alloc: Global, bytes: Option<&[u8]>) -> Result<Option<Bytes>, AllocE
     }
 }
 
-// A file that isn't there isn't added.
+/// A file that isn't there isn't added.
 fn add(
     alloc: Global,
     files: &mut MemFiles,
@@ -88,7 +88,7 @@ pub(crate) fn session<S: LineStore>(
     Session::new(alloc, script, options)
 }
 
-// Both values. Where one is missing the other is dropped, which is proved here for all types, and not at each `?` for each type.
+/// Both values. Where one is missing the other is dropped, which is proved here for all types, and not at each `?` for each type.
 fn both<A: Drop, B: Drop>(
     first: Result<A, AllocError>,
     second: Result<B, AllocError>,
@@ -191,7 +191,7 @@ pub(crate) fn check_each(rt: &impl Abort, alloc: Global, rows: &[Row]) {
     }
 }
 
-// Whether the row's run ends as the row says or by being out of memory.
+/// Whether the row's run ends as the row says or by being out of memory.
 fn ends_as_it_may(alloc: Global, row: &Row) -> bool {
     match &run::<GapStore>(alloc, row.case()) {
         Ok(outcome) => {

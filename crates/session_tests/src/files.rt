@@ -181,7 +181,7 @@ fn a_refused_file_ends_the_run_and_stays(rt: HostRuntime) {
     check_each(&rt, rt.alloc(), &REFUSED);
 }
 
-// The run ends as it should or by being out of memory, and a file has its old bytes or those that were to be written.
+/// The run ends as it should or by being out of memory, and a file has its old bytes or those that were to be written.
 fn ends_as_it_may(alloc: Global, row: &Row) -> bool {
     let (path, bytes) = row.after;
     match &run::<GapStore>(alloc, row.case()) {
@@ -194,7 +194,7 @@ fn ends_as_it_may(alloc: Global, row: &Row) -> bool {
     }
 }
 
-// To be run with each allocation refused in turn, too (`rt try --test --fail-alloc N`).
+/// To be run with each allocation refused in turn, too (`rt try --test --fail-alloc N`).
 #[test]
 fn a_run_on_files_that_is_out_of_memory_ends_by_no_other_fault(rt: HostRuntime) {
     for row in &SHORT_OF_MEMORY {

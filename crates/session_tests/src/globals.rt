@@ -134,7 +134,7 @@ fn changes_are_undone_as_the_standard_says(rt: HostRuntime) {
     check_each(&rt, rt.alloc(), &UNDONE);
 }
 
-// The prompt comes before a global command, and not before the commands of its list.
+/// The prompt comes before a global command, and not before the commands of its list.
 #[test]
 fn a_list_has_no_prompts(rt: HostRuntime) {
     let case = Case {
@@ -146,7 +146,7 @@ fn a_list_has_no_prompts(rt: HostRuntime) {
     check(&rt, rt.alloc(), case, b"> a\n2\nb\n2\n> a\n> ", Ok(2));
 }
 
-// To be run with each allocation refused in turn (`rt try --test --fail-alloc N`): the run ends as it should or by being out of memory.
+/// To be run with each allocation refused in turn (`rt try --test --fail-alloc N`): the run ends as it should or by being out of memory.
 #[test]
 fn a_global_that_is_out_of_memory_ends_by_no_other_fault(rt: HostRuntime) {
     check_memory(&rt, rt.alloc(), &SHORT_OF_MEMORY);

@@ -70,7 +70,7 @@ fn a_source_is_read_up_to_the_limit_and_one_byte_beyond(rt: HostRuntime) {
     }
 }
 
-// Whether what is read of a row's source is what the row says, or there is no memory for it.
+/// Whether what is read of a row's source is what the row says, or there is no memory for it.
 fn is_read_as_it_may(alloc: Global, row: &Row) -> bool {
     let mut source = In::new(row.bytes);
     match (&read_all(alloc, &mut source, row.limit), row.read) {
@@ -81,7 +81,7 @@ fn is_read_as_it_may(alloc: Global, row: &Row) -> bool {
     }
 }
 
-// To be run with each allocation refused in turn (`rt try --test --fail-alloc N`): the answer is want of memory or the right one.
+/// To be run with each allocation refused in turn (`rt try --test --fail-alloc N`): the answer is want of memory or the right one.
 #[test]
 fn a_source_for_which_there_is_no_memory_is_refused_for_no_other_reason(rt: HostRuntime) {
     for row in &ROWS {

@@ -54,7 +54,7 @@ const HELPED: Case<'static> = Case {
     ..UNREFUSED
 };
 
-// The case ends by the refusal of its output, of which so many bytes were taken.
+/// The case ends by the refusal of its output, of which so many bytes were taken.
 fn check_output(rt: &impl Abort, alloc: Global, case: Case<'_>, whole: &[u8], taken: usize) {
     let outcome = run_plain(alloc, case).expect(rt, "memory");
     let at = (case.script, taken);
@@ -63,7 +63,7 @@ fn check_output(rt: &impl Abort, alloc: Global, case: Case<'_>, whole: &[u8], ta
     assert!(rt; whole.starts_with(outcome.sink.taken()), "{at:?}");
 }
 
-// Each byte of the output is refused in turn, once by its write and once for want of room.
+/// Each byte of the output is refused in turn, once by its write and once for want of room.
 fn check_outputs(rt: &impl Abort, alloc: Global, case: Case<'_>) {
     let outcome = run_plain(alloc, case).expect(rt, "memory");
     let whole = outcome.sink.taken();

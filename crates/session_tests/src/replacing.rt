@@ -82,7 +82,7 @@ fn the_lines_of_a_range_are_rewritten_one_by_one(rt: HostRuntime) {
     check_each(&rt, rt.alloc(), &LINES);
 }
 
-// To be run with each allocation refused in turn (`rt try --test --fail-alloc N`): the run ends as it should or by being out of memory.
+/// To be run with each allocation refused in turn (`rt try --test --fail-alloc N`): the run ends as it should or by being out of memory.
 #[test]
 fn a_run_that_is_out_of_memory_ends_by_no_other_fault(rt: HostRuntime) {
     check_memory(&rt, rt.alloc(), &SHORT_OF_MEMORY);

@@ -20,7 +20,7 @@ fn a_search_finds_what_it_would_find_as_the_first_one(rt: HostRuntime) {
     check_each(&rt, rt.alloc(), &AGAIN);
 }
 
-// To be run with each allocation refused in turn (`rt try --test --fail-alloc N`): the run ends as it should or by being out of memory.
+/// To be run with each allocation refused in turn (`rt try --test --fail-alloc N`): the run ends as it should or by being out of memory.
 #[test]
 fn searches_that_are_out_of_memory_end_by_no_other_fault(rt: HostRuntime) {
     check_memory(&rt, rt.alloc(), &AGAIN);

@@ -37,7 +37,7 @@ fn a_session_without_a_path_is_stepped_to_its_end(rt: HostRuntime) {
     drop(session);
 }
 
-// A step gives this output, and then so many commands are left of a list.
+/// A step gives this output, and then so many commands are left of a list.
 fn check_listed(
     rt: &impl Abort,
     alloc: Global,
@@ -82,7 +82,7 @@ fn the_commands_left_of_a_list_are_counted(rt: HostRuntime) {
     drop(session);
 }
 
-// The second of three commands is at fault: it is left, and so is the third.
+/// The second of three commands is at fault: it is left, and so is the third.
 #[test]
 fn a_command_at_fault_is_left_in_its_list(rt: HostRuntime) {
     let case = Case {

@@ -5,12 +5,12 @@ use ed_base::Letter;
 use std::alloc::{AllocError, Global};
 use zones::{KeptEntry, KeptZone, LIMIT, Name, Zone};
 
-// The line that the last letter marks.
+/// The line that the last letter marks.
 fn mark_z() -> Name {
     Name::of(Letter::at(25))
 }
 
-// Whether a zone is given back as it was, also by a copy of what is kept of it, and into another zone.
+/// Whether a zone is given back as it was, also by a copy of what is kept of it, and into another zone.
 fn is_given_back(alloc: Global, zone: &Zone) -> Result<bool, AllocError> {
     let kept = zone.try_keep(alloc)?;
     let copy = kept.try_copy()?;

@@ -6,7 +6,7 @@ ghost use Rattle.zones.specs.Zone.{bound};
 ghost use Rattle.zones.specs.Steps.{any_zone, after_guard, after_set, after_shift, after_forget, join_of, widening_of, after_put};
 ghost use Rattle.zones.specs.Name.{zero, current_line, last_line, mark};
 
-// A buffer of 1 to 3 lines, of which the last is current; then it loses a line.
+/// A buffer of 1 to 3 lines, of which the last is current; then it loses a line.
 fn rows_of_a_deletion()
     ensures set { let long = after_guard any_zone zero last_line (negsuc 0) in
         let guarded = after_guard long last_line zero (pos 3) in
@@ -26,7 +26,7 @@ fn rows_of_a_deletion()
         (bound zone last_line zero ≡ None) × (bound zone last_line last_line ≡ Some (pos 0)) }
 {}
 
-// Numbers at 10^15 and -10^15, and those at the ends of 64 bits.
+/// Numbers at 10^15 and -10^15, and those at the ends of 64 bits.
 fn rows_of_the_clip()
     ensures above { let zone = after_guard any_zone 2 0 (pos 1000000000000000) in
         (bound zone 2 0 ≡ Some (pos 1000000000000000))
@@ -47,7 +47,7 @@ fn rows_of_the_clip()
         × (bound (after_set any_zone 1 0 least) 0 1 ≡ None) }
 {}
 
-// The bound 3 beside 4 and beside 2, off the diagonal and on it.
+/// The bound 3 beside 4 and beside 2, off the diagonal and on it.
 fn rows_of_two_zones()
     ensures bounds { (greater_of (Some (pos 3)) (Some (pos 4)) ≡ Some (pos 4))
         × (widen_bound (Some (pos 3)) (Some (pos 4)) ≡ None)

@@ -3,7 +3,7 @@
 use ed_base::Letter;
 use zones::{LIMIT, Name, Zone};
 
-// From 1 to 3 lines, of which the last is current.
+/// From 1 to 3 lines, of which the last is current.
 fn short_buffer() -> Zone {
     let mut zone = Zone::any();
     zone.guard(Name::ZERO, Name::LAST_LINE, -1);
@@ -80,12 +80,12 @@ fn numbers_are_clipped_to_the_weaker_side(rt: HostRuntime) {
     }
 }
 
-// The line that the letter `a` marks.
+/// The line that the letter `a` marks.
 fn mark_a() -> Name {
     Name::of(Letter::at(0))
 }
 
-// The line that is marked `a` is at most `number`.
+/// The line that is marked `a` is at most `number`.
 fn mark_up_to(number: i64) -> Zone {
     let mut zone = Zone::any();
     zone.put(mark_a(), Name::ZERO, Some(number));

@@ -37,7 +37,7 @@ pub struct Addressed {
     pub target: usize,
 }
 
-// The lines that these values name to a command that takes so many, in a buffer of so many lines.
+/// The lines that these values name to a command that takes so many, in a buffer of so many lines.
 fn spanned(taking: Taking, lines: usize, values: Values) -> Result<Span, Fault>
     requires within { last_of_two (list_of_values values) ≤ lines }
     ensures exact { Tells span_value (spanned taking lines (list_of_values values)) result }
@@ -75,7 +75,7 @@ fn spanned(taking: Taking, lines: usize, values: Values) -> Result<Span, Fault>
 }
 
 impl<S: LineStore> Editor<S> {
-    // The line that a base stands for. It may lie after the last one.
+    /// The line that a base stands for. It may lie after the last one.
     fn base_line(&mut self, base: &Base) -> Result<usize, Fault>
         ensures exact { TellsLine (base_number (base_value base.now) self.old.state)
             (with_pattern (remembered (base_value base.now) self.old.state) self.old.state) result self.new.state }
@@ -95,7 +95,7 @@ impl<S: LineStore> Editor<S> {
         }
     }
 
-    // The line so far after another.
+    /// The line so far after another.
     fn offset_line(&self, base: usize, offset: i128) -> Result<usize, Fault>
         ensures exact { result ≡ within self.now.state (pos base +ℤ offset) }
     {
@@ -120,7 +120,7 @@ impl<S: LineStore> Editor<S> {
         self.offset_line(base, address.offset)
     }
 
-    // The values of the addresses before a command, first to last. After a `;` the first one's is the current line.
+    /// The values of the addresses before a command, first to last. After a `;` the first one's is the current line.
     fn values(&mut self, addresses: &Addresses) -> Result<Values, Fault>
         ensures exact { Steps list_of_values (values (addresses_value addresses.now) self.old.state) result self.new.state }
         ensures within { IfOk result (λ values. last_of_two (list_of_values values) ≤ last self.new.state) }
@@ -149,7 +149,7 @@ impl<S: LineStore> Editor<S> {
         }
     }
 
-    // The values of the addresses that are given before a command, or of those that stand for none.
+    /// The values of the addresses that are given before a command, or of those that stand for none.
     fn given_values(
         &mut self,
         given: &Addresses,
@@ -167,7 +167,7 @@ impl<S: LineStore> Editor<S> {
         }
     }
 
-    // The value of a command's target, or 0 where it has none.
+    /// The value of a command's target, or 0 where it has none.
     fn target(&mut self, verb: &Verb) -> Result<usize, Fault>
         ensures exact { Steps (λ line. line) (targeted (takes (verb_value verb.now)).target self.old.state) result self.new.state }
         ensures within { IfOk result (λ line. line ≤ last self.new.state) }

@@ -74,7 +74,7 @@ pub fn join_block<S: LineStore>(
     Line::from_bytes(alloc, bytes)
 }
 
-// How many bytes the lines of a block have, or the greatest `usize` where that is more.
+/// How many bytes the lines of a block have, or the greatest `usize` where that is more.
 fn text_size<S: LineStore>(from: usize, to: usize, store: &S) -> usize
     requires order { from ≤ to }
     requires last { to ≤ length (S.lines store.now) }
@@ -118,7 +118,7 @@ pub fn exchange<S: LineStore>(
     }
 }
 
-// Puts one new line in place of another, which is handed back. No other line moves.
+/// Puts one new line in place of another, which is handed back. No other line moves.
 fn exchange_one<S: LineStore>(at: usize, mut lines: Vec<Line>, store: &mut S) -> Block
     requires place { at < length (S.lines store.old) }
     requires one { length lines.items ≡ 1 }
@@ -132,7 +132,7 @@ fn exchange_one<S: LineStore>(at: usize, mut lines: Vec<Line>, store: &mut S) ->
     Block::of(store.exchange(at, line))
 }
 
-// Takes a block out and drops it, its last line first.
+/// Takes a block out and drops it, its last line first.
 fn drop_lines<S: LineStore>(from: usize, to: usize, store: &mut S)
     requires order { from ≤ to }
     requires last { to ≤ length (S.lines store.old) }
@@ -162,7 +162,7 @@ pub fn exchange_block<S: LineStore>(
     exchange_whole(alloc, from, to, new, store)
 }
 
-// The same for one line: no other line moves where another single one comes in its place.
+/// The same for one line: no other line moves where another single one comes in its place.
 fn exchange_line<S: LineStore>(
     alloc: Global,
     from: usize,
@@ -181,7 +181,7 @@ fn exchange_line<S: LineStore>(
     }
 }
 
-// The same for any lines.
+/// The same for any lines.
 fn exchange_whole<S: LineStore>(
     alloc: Global,
     from: usize,
@@ -198,7 +198,7 @@ fn exchange_whole<S: LineStore>(
     take_block(alloc, from, to, store)
 }
 
-// Puts new lines after line `at`, the first one first. There is room for them.
+/// Puts new lines after line `at`, the first one first. There is room for them.
 fn put_lines<S: LineStore>(lines: Vec<Line>, at: usize, store: &mut S)
     requires place { at ≤ length (S.lines store.old) }
     requires new { AreNew lines.items }

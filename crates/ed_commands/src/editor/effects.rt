@@ -66,7 +66,7 @@ impl<S: LineStore> Editor<S> {
         Ok(Pieces::new(self.alloc))
     }
 
-    // `a`: the text goes after the first line of the span.
+    /// `a`: the text goes after the first line of the span.
     fn append(&mut self, text: &Text, span: Span, before: Before) -> Result<(), AllocError>
         requires place { span.first ≤ last self.old.state }
         ensures exact { OnOk result
@@ -96,7 +96,7 @@ impl<S: LineStore> Editor<S> {
         Ok(())
     }
 
-    // `k`: the letter marks the last line of the span, and no other. The buffer isn't changed by it.
+    /// `k`: the letter marks the last line of the span, and no other. The buffer isn't changed by it.
     fn mark(&mut self, letter: Letter, span: Span)
         requires first { 1 ≤ span.last }
         requires last { span.last ≤ last self.old.state }
@@ -106,7 +106,7 @@ impl<S: LineStore> Editor<S> {
         self.store.mark(span.last - 1, letter);
     }
 
-    // `=`: the number of the last line of the span.
+    /// `=`: the number of the last line of the span.
     fn line_number(&self, span: Span) -> Result<Pieces, AllocError>
         ensures value { IfOk result (λ output. output ≡ (effect.line_number (span_value span) self.now.state).output) }
     {
@@ -116,7 +116,7 @@ impl<S: LineStore> Editor<S> {
         Ok(Pieces::from_bytes(self.alloc, output))
     }
 
-    // `p`, and the null command: the last line written is current.
+    /// `p`, and the null command: the last line written is current.
     fn write(&mut self, form: Form, span: Span) -> Result<Pieces, AllocError>
         requires first { 1 ≤ span.first }
         requires order { span.first ≤ span.last }

@@ -21,7 +21,7 @@ use line_store::LineStore;
 use std::alloc::AllocError;
 use std::rc::Rc;
 
-// The bytes of a file that was read; one that is missing is refused.
+/// The bytes of a file that was read; one that is missing is refused.
 fn bytes_read(answer: Answer) -> Result<Bytes, Fault>
     ensures exact { result ≡ file.bytes_read answer }
 {
@@ -48,7 +48,7 @@ impl<S: LineStore> Editor<S> {
         Ok(request)
     }
 
-    // A copy of the remembered pattern, of which nothing is learned.
+    /// A copy of the remembered pattern, of which nothing is learned.
     fn pattern_copy(&self) -> Result<Option<Remembered>, AllocError>
         ensures value { IfOk result (λ copy. copy ≡ self.now.state.pattern) }
     {
@@ -58,7 +58,7 @@ impl<S: LineStore> Editor<S> {
         }
     }
 
-    // What a command asks for at the lines of a span.
+    /// What a command asks for at the lines of a span.
     fn wanted(&self, verb: &Verb, span: Span) -> Result<Request, Fault>
         requires asks { IsTrue (asks (verb_value verb.now)) }
         requires fits { Fits (takes (verb_value verb.now)).taking span (last self.now.state) }
@@ -83,7 +83,7 @@ impl<S: LineStore> Editor<S> {
         }
     }
 
-    // The given path, or the remembered one.
+    /// The given path, or the remembered one.
     fn used_path(&self, path: &Option<Bytes>) -> Result<Bytes, Fault>
         ensures exact { Tells (λ used. used) (file.used_path path.now self.now.state) result }
     {
@@ -96,7 +96,7 @@ impl<S: LineStore> Editor<S> {
         }
     }
 
-    // The path that a command uses is remembered where none is.
+    /// The path that a command uses is remembered where none is.
     fn name_first(&mut self, path: &Option<Bytes>) -> Result<(), Fault>
         ensures exact { Tells (λ _. self.new.state) (naming path.now self.old.state) result }
         ensures failed { self.new.failed ≡ self.old.failed }
@@ -152,7 +152,7 @@ impl<S: LineStore> Editor<S> {
         Ok(())
     }
 
-    // Whether a span has all lines.
+    /// Whether a span has all lines.
     fn is_whole(&self, span: Span) -> bool
         ensures value { result ≡ file.is_whole (span_value span) self.now.state }
     {
@@ -178,7 +178,7 @@ impl<S: LineStore> Editor<S> {
         self.edit_file(path, answer)
     }
 
-    // The file that was read, in place of the buffer.
+    /// The file that was read, in place of the buffer.
     fn edit_file(&mut self, path: Bytes, answer: Answer) -> Result<(), Fault>
         ensures exact { Tells (λ _. Makes (only self.new.state [])) (file.edit_anyway (Some path) (Some answer) self.old.state) result }
         ensures failed { self.new.failed ≡ self.old.failed }

@@ -41,7 +41,7 @@ fn push_plain(output: &mut Bytes, text: &[u8]) -> Result<(), AllocError>
     output.push(b'\n')
 }
 
-// Appends each byte so that it can be told, in rows that a `\` goes on from, and a `$` at the end.
+/// Appends each byte so that it can be told, in rows that a `\` goes on from, and a `$` at the end.
 fn push_unambiguous(output: &mut Bytes, text: &[u8]) -> Result<(), AllocError>
     ensures appended { OnOk result (output.new ≡ output.old ++ folded 0 text.now) }
 {
@@ -58,8 +58,8 @@ fn push_unambiguous(output: &mut Bytes, text: &[u8]) -> Result<(), AllocError>
     output.extend_from_slice(b"$\n")
 }
 
-// Appends a byte so that it can be told (XBD table 5-1): by its name or by three octal digits, both after a backslash, or as
-// itself.
+/// Appends a byte so that it can be told (XBD table 5-1): by its name or by three octal digits, both after a backslash, or as
+/// itself.
 fn push_escaped(output: &mut Bytes, byte: u8) -> Result<(), AllocError>
     ensures appended { OnOk result (output.new ≡ output.old ++ escaped byte) }
 {
@@ -75,7 +75,7 @@ fn push_escaped(output: &mut Bytes, byte: u8) -> Result<(), AllocError>
     }
 }
 
-// How many bytes `push_escaped` appends.
+/// How many bytes `push_escaped` appends.
 fn escaped_len(byte: u8) -> usize
     ensures value { result ≡ length (escaped byte) }
 {
@@ -86,7 +86,7 @@ fn escaped_len(byte: u8) -> usize
     }
 }
 
-// What stands after the backslash for a byte that has a name of its own.
+/// What stands after the backslash for a byte that has a name of its own.
 fn name_of(byte: u8) -> Option<u8>
     ensures named { IfSome result (λ name. escaped byte ≡ backslash ∷ name ∷ []) }
     ensures unnamed { IsNone result → escaped byte ≡ plainly byte }

@@ -27,7 +27,7 @@ pub struct Begun {
     pub output: Pieces,
 }
 
-// Whether a line is taken, of which it is known whether it matches.
+/// Whether a line is taken, of which it is known whether it matches.
 fn is_wanted(sense: Sense, matched: bool) -> bool
     ensures value { result ≡ globals.wanted sense matched }
 {
@@ -37,7 +37,7 @@ fn is_wanted(sense: Sense, matched: bool) -> bool
     }
 }
 
-// Flags those lines of a block that are taken, and takes the flag of the others.
+/// Flags those lines of a block that are taken, and takes the flag of the others.
 fn flag_block<S: LineStore>(
     alloc: Global,
     sense: Sense,
@@ -89,7 +89,7 @@ impl<S: LineStore> Editor<S> {
         }
     }
 
-    // What comes before its list is carried out, and the buffer is held as it was before.
+    /// What comes before its list is carried out, and the buffer is held as it was before.
     fn open_global(&mut self, command: &Command) -> Result<Begun, Fault>
         requires global { IsTrue (is_global (command_value command.now).verb) }
         ensures exact { Begins (applied.command self.old.state (command_value command.now) None) result self.old.state self.new.state }

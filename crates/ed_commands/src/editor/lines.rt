@@ -34,7 +34,7 @@ pub fn write_lines<S: LineStore>(
     }
 }
 
-// Appends the lines of a span as they are.
+/// Appends the lines of a span as they are.
 fn write_plain<S: LineStore>(output: &mut Pieces, span: Span, store: &S) -> Result<(), AllocError>
     requires first { 1 ≤ span.first }
     requires order { span.first ≤ span.last }
@@ -45,7 +45,7 @@ fn write_plain<S: LineStore>(output: &mut Pieces, span: Span, store: &S) -> Resu
     store.push_lines(span.first - 1, span.last, output)
 }
 
-// Appends the lines of a span, each put into the form first and then copied.
+/// Appends the lines of a span, each put into the form first and then copied.
 fn write_formed<S: LineStore>(
     alloc: Global,
     output: &mut Pieces,

@@ -154,7 +154,7 @@ impl Past {
         }
     }
 
-    // The same, where the letters were at `marks`.
+    /// The same, where the letters were at `marks`.
     fn begin_with(&mut self, before: Before, marks: Marks)
         ensures kept { (now : List (List ℕ)) →
             earlier_of self.new now ≡ earlier_after before.listed (kept_of before.current marks now) (earlier_of self.old now) }
@@ -166,7 +166,7 @@ impl Past {
         self.note();
     }
 
-    // A global command that is open knows of a change.
+    /// A global command that is open knows of a change.
     #[tactic(auto, unfolding(crate::specs::Earlier::earlier_of))]
     fn note(&mut self)
         ensures noted { (now : List (List ℕ)) → earlier_of self.new now ≡ noting (earlier_of self.old now) }
@@ -177,7 +177,7 @@ impl Past {
         }
     }
 
-    // The buffer as it is will be brought back. Changes before it are still asked for only by a global command that is open.
+    /// The buffer as it is will be brought back. Changes before it are still asked for only by a global command that is open.
     #[tactic(auto, unfolding(crate::specs::Earlier::earlier_of))]
     fn hold(&mut self, current: usize, marks: Marks)
         ensures kept { (now : List (List ℕ)) →
@@ -276,7 +276,7 @@ impl Past {
         Ok(Some(line))
     }
 
-    // Where no global command is open, changes before the buffer that undo keeps are asked for no longer.
+    /// Where no global command is open, changes before the buffer that undo keeps are asked for no longer.
     #[tactic(auto, unfolding(crate::specs::Earlier::earlier_of))]
     fn forget(&mut self)
         ensures kept { (now : List (List ℕ)) → earlier_of self.new now ≡ earlier_of self.old now }
@@ -291,7 +291,7 @@ impl Past {
     }
 }
 
-// Drops the first so many changes. It takes no memory.
+/// Drops the first so many changes. It takes no memory.
 fn drop_front(changes: &mut Vec<Change>, count: usize)
     requires within { count ≤ length changes.old.items }
     ensures left { changes.new.items ≡ drop count changes.old.items }

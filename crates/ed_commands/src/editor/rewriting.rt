@@ -19,7 +19,7 @@ use ed_syntax::{Replacement, Which};
 use line_store::{Line, LineStore};
 use std::alloc::{AllocError, Global};
 
-// The new lines that a line becomes where the matches of a pattern are replaced; `None` where it stays as it is.
+/// The new lines that a line becomes where the matches of a pattern are replaced; `None` where it stays as it is.
 fn new_lines_of(
     alloc: Global,
     searcher: &mut Searcher<'_>,
@@ -88,7 +88,7 @@ pub fn rewrite_lines<S: LineStore>(
     Ok(made)
 }
 
-// Puts new lines in place of one, as one more change of a command.
+/// Puts new lines in place of one, as one more change of a command.
 fn rewrite_line<S: LineStore>(
     alloc: Global,
     place: usize,

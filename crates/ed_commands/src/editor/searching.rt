@@ -23,7 +23,7 @@ pub enum Direction {
 }
 
 impl Direction {
-    // The line that a search looks at after this one, in a buffer of so many lines.
+    /// The line that a search looks at after this one, in a buffer of so many lines.
     fn line_after(self, line: usize, last: usize) -> usize
         requires some { 1 ≤ last }
         requires within { line ≤ last }
@@ -40,7 +40,7 @@ impl Direction {
     }
 }
 
-// The first line that the pattern matches, where a search goes once round from line `from`, which it looks at last.
+/// The first line that the pattern matches, where a search goes once round from line `from`, which it looks at last.
 fn first_match<S: LineStore>(
     alloc: Global,
     pattern: &mut Remembered,
@@ -61,7 +61,7 @@ fn first_match<S: LineStore>(
     found
 }
 
-// The same for the pattern of a searcher.
+/// The same for the pattern of a searcher.
 fn first_match_of<S: LineStore>(
     searcher: &mut Searcher<'_>,
     direction: Direction,
@@ -86,7 +86,7 @@ fn first_match_of<S: LineStore>(
     Ok(None)
 }
 
-// Whether this pattern is the one that is remembered.
+/// Whether this pattern is the one that is remembered.
 fn is_remembered(remembered: &Option<Remembered>, own: &Pattern) -> bool
     ensures same { IsTrue result → remembered.now ≡ Some own.now }
 {

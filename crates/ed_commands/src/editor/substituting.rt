@@ -19,7 +19,7 @@ use ed_syntax::{Form, Part, Pattern, Replacement, Which};
 use line_store::LineStore;
 use std::alloc::{AllocError, Global};
 
-// Whether a line may be split by the replacement.
+/// Whether a line may be split by the replacement.
 fn splits(replacement: &Replacement) -> bool
     ensures value { result ≡ list_any is_split replacement.now }
 {
@@ -37,7 +37,7 @@ fn is_a_split(part: Part) -> bool
     matches!(part, Part::Split)
 }
 
-// Whether two parts are the same.
+/// Whether two parts are the same.
 fn is_same(part: Part, other: Part) -> bool
     ensures same { IsTrue result → part ≡ other }
 {
@@ -49,7 +49,7 @@ fn is_same(part: Part, other: Part) -> bool
     }
 }
 
-// Whether two replacements have the same parts.
+/// Whether two replacements have the same parts.
 fn have_same_parts(parts: &[Part], others: &[Part]) -> bool
     ensures same { IsTrue result → parts.now ≡ others.now }
 {
@@ -64,7 +64,7 @@ fn have_same_parts(parts: &[Part], others: &[Part]) -> bool
     true
 }
 
-// Whether this replacement is the one that is remembered.
+/// Whether this replacement is the one that is remembered.
 fn is_remembered(remembered: &Option<Replacement>, own: &Replacement) -> bool
     ensures same { IsTrue result → remembered.now ≡ Some own.now }
 {
@@ -74,7 +74,7 @@ fn is_remembered(remembered: &Option<Replacement>, own: &Replacement) -> bool
     }
 }
 
-// What the flag writes of the line of this number.
+/// What the flag writes of the line of this number.
 fn flag_written<S: LineStore>(
     alloc: Global,
     flag: Option<Form>,
@@ -144,7 +144,7 @@ impl<S: LineStore> Editor<S> {
         Ok(flag_written(self.alloc, flag, line, &self.store)?)
     }
 
-    // The command's own pattern and replacement are remembered, once it is known that there are both to use.
+    /// The command's own pattern and replacement are remembered, once it is known that there are both to use.
     fn remember_both(
         &mut self,
         pattern: &Option<Pattern>,

@@ -39,7 +39,7 @@ pub fn rewind<S: LineStore>(
     Ok(())
 }
 
-// Takes back what a command did to the lines, and tells the change that would do it again.
+/// Takes back what a command did to the lines, and tells the change that would do it again.
 fn take_back<S: LineStore>(
     alloc: Global,
     change: &Change,
@@ -58,7 +58,7 @@ fn take_back<S: LineStore>(
     }
 }
 
-// Puts lines that went out in place of those that came in for them. There are no lines after the last one.
+/// Puts lines that went out in place of those that came in for them. There are no lines after the last one.
 fn put_back<S: LineStore>(
     alloc: Global,
     from: usize,
@@ -84,7 +84,7 @@ fn put_back<S: LineStore>(
     })
 }
 
-// Carries lines that were carried from after line `from` up to line `to` back there from after line `place`.
+/// Carries lines that were carried from after line `from` up to line `to` back there from after line `place`.
 fn carry_back<S: LineStore>(
     from: usize,
     to: usize,

@@ -119,14 +119,14 @@ impl<'a> Aside<'a> {
     }
 }
 
-// The file of this name holds what `vouch` wrote instead of a certificate.
+/// The file of this name holds what `vouch` wrote instead of a certificate.
 fn answer_text(alloc: Global, path: &[u8]) -> Result<String, AllocError> {
     let name = quoted_name(alloc, path)?;
     let name = name.as_str();
     Ok(format!(in alloc; "hint: {name} holds the answer of a vouch that could not\n")?)
 }
 
-// The file of this name is a script, by its name or by how it begins.
+/// The file of this name is a script, by its name or by how it begins.
 fn script_text(alloc: Global, path: &[u8], bytes: &[u8]) -> Result<String, AllocError> {
     if !is_named_as_script(path) && !begins_as_script(alloc, bytes)? {
         return Ok(String::new(alloc));
@@ -139,7 +139,7 @@ fn script_text(alloc: Global, path: &[u8], bytes: &[u8]) -> Result<String, Alloc
     )?)
 }
 
-// Whether the first line of a file is a command, and not empty.
+/// Whether the first line of a file is a command, and not empty.
 fn begins_as_script(alloc: Global, bytes: &[u8]) -> Result<bool, AllocError> {
     let mut lines = bytes.split(|byte| *byte == b'\n');
     match lines.next() {
@@ -148,7 +148,7 @@ fn begins_as_script(alloc: Global, bytes: &[u8]) -> Result<bool, AllocError> {
     }
 }
 
-// A line may not stand where it stands.
+/// A line may not stand where it stands.
 fn wanted_text(alloc: Global, path: &[u8], bytes: &[u8]) -> Result<String, AllocError> {
     match wanted(alloc, bytes)? {
         Some(wanted) => {
@@ -162,7 +162,7 @@ fn wanted_text(alloc: Global, path: &[u8], bytes: &[u8]) -> Result<String, Alloc
     }
 }
 
-// The certificate doesn't show that the script can't fail.
+/// The certificate doesn't show that the script can't fail.
 fn refused_text(
     alloc: Global,
     certificate: &Certificate,
@@ -178,7 +178,7 @@ fn refused_text(
     Ok(lines)
 }
 
-// How a certificate for the same starts is made.
+/// How a certificate for the same starts is made.
 fn again_text(alloc: Global, certificate: &Certificate) -> Result<String, AllocError> {
     let min = certificate.min;
     let max = match certificate.max {
@@ -202,7 +202,7 @@ fn again_text(alloc: Global, certificate: &Certificate) -> Result<String, AllocE
     }
 }
 
-// The words by which a certificate is made that states the same patterns, each after a blank.
+/// The words by which a certificate is made that states the same patterns, each after a blank.
 fn pattern_words(alloc: Global, certificate: &Certificate) -> Result<String, AllocError> {
     let mut words = String::new(alloc);
     if certificate.version == Version::Two {
@@ -260,7 +260,7 @@ fn unmatched_text(
     Ok(format!(in alloc; "error: {name}: no line matches {pattern}\n")?)
 }
 
-// How many lines are allowed.
+/// How many lines are allowed.
 fn allowed_text(alloc: Global, min: u64, max: Option<u64>) -> Result<String, AllocError> {
     match max {
         Some(max) if max != min => Ok(format!(in alloc; "{min} to {max} are allowed")?),

@@ -57,7 +57,7 @@ pub fn line_in_list(
     }
 }
 
-// Where the command begins with which so many are left in this list, whose global command begins on this line.
+/// Where the command begins with which so many are left in this list, whose global command begins on this line.
 fn listed_at(
     alloc: Global,
     script: &[u8],
@@ -77,7 +77,7 @@ fn listed_at(
     }
 }
 
-// How many lines the first commands of a list take, so many as are asked for.
+/// How many lines the first commands of a list take, so many as are asked for.
 fn lines_of(list: &[Command], count: usize) -> usize {
     let mut lines: usize = 0;
     for (index, command) in list.iter().enumerate() {
@@ -89,7 +89,7 @@ fn lines_of(list: &[Command], count: usize) -> usize {
     lines
 }
 
-// How many lines a command of a list takes: one, and those of its text with the period after it.
+/// How many lines a command of a list takes: one, and those of its text with the period after it.
 fn lines_of_listed(command: &Command) -> usize {
     match &command.verb {
         Verb::Append(text) | Verb::Change(text) | Verb::Insert(text) => {
@@ -115,7 +115,7 @@ pub fn quoted(alloc: Global, line: &[u8]) -> Result<String, AllocError> {
     Ok(format!(in alloc; "`{front}`")?)
 }
 
-// Whether a character is none that a line shows.
+/// Whether a character is none that a line shows.
 fn is_strange(character: char) -> bool {
     character.is_control() && character != '\t'
 }

@@ -62,12 +62,12 @@ pub fn quoted_word(alloc: Global, path: &[u8]) -> Result<String, AllocError> {
     }
 }
 
-// Whether the shell leaves a byte as it is, wherever it stands in a word.
+/// Whether the shell leaves a byte as it is, wherever it stands in a word.
 fn is_plain(byte: &u8) -> bool {
     matches!(byte, b'a'..=b'z' | b'A'..=b'Z' | b'0'..=b'9' | b'_' | b'-' | b'.' | b'/' | b',' | b':' | b'+' | b'@')
 }
 
-// Whether a character may not stand between single quotes in one line.
+/// Whether a character may not stand between single quotes in one line.
 fn is_strange(character: char) -> bool {
     character == '\'' || character.is_control()
 }

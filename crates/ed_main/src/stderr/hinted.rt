@@ -36,7 +36,7 @@ pub fn show_hinted(
     }
 }
 
-// The lines of one refusal.
+/// The lines of one refusal.
 fn one_told(
     alloc: Global,
     script: &[u8],
@@ -53,7 +53,7 @@ fn one_told(
     with_reason(alloc, script, place, why, lines.as_str())
 }
 
-// The lines of a refusal, whose first one tells the fault, with the reason after it where the command can't be read.
+/// The lines of a refusal, whose first one tells the fault, with the reason after it where the command can't be read.
 fn with_reason(
     alloc: Global,
     script: &[u8],
@@ -74,7 +74,7 @@ fn with_reason(
     }
 }
 
-// The lines of all refusals, and what is to be said of the rest of the script.
+/// The lines of all refusals, and what is to be said of the rest of the script.
 fn all_told(alloc: Global, script: &[u8], start: &Start) -> Result<String, AllocError>
     requires ordered { IsAtMost start.now.min start.now.max }
     requires low { start.now.min ≤ most_lines }
@@ -92,7 +92,7 @@ fn all_told(alloc: Global, script: &[u8], start: &Start) -> Result<String, Alloc
     Ok(lines)
 }
 
-// What is to be said of the rest of a script after these refusals.
+/// What is to be said of the rest of a script after these refusals.
 fn rest_told(found: &[Refusal]) -> &'static str {
     match found.last() {
         Some(last) if last.hints.is_empty() => {

@@ -31,7 +31,7 @@ pub fn show_empty(alloc: Global, rt: &impl Eprint, script: &[u8], job: &Job) {
     }
 }
 
-// The name of the file that a job with a script starts with.
+/// The name of the file that a job with a script starts with.
 fn file_of(job: &Job) -> Option<&[u8]> {
     let path = match job {
         Job::Edit { options, .. } | Job::Run { options, .. } => &options.path,
@@ -49,7 +49,7 @@ pub fn is_named_as_script(path: &[u8]) -> bool {
     path.ends_with(SCRIPT)
 }
 
-// How the file of this name is given as the script of a job.
+/// How the file of this name is given as the script of a job.
 fn script_text(alloc: Global, job: &Job, file: &[u8]) -> Result<String, AllocError> {
     let words = match job {
         Job::Vouch { .. } => "judge a script: ed_main vouch FILE",

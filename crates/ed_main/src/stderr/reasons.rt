@@ -45,7 +45,7 @@ pub fn reason_at(
     }
 }
 
-// Why a line can't be read.
+/// Why a line can't be read.
 fn reason_of(alloc: Global, line: &[u8]) -> Result<Option<String>, AllocError> {
     let heading = heading_of(alloc, line)?;
     if let Some(wrong) = heading.wrong {
@@ -58,7 +58,7 @@ fn reason_of(alloc: Global, line: &[u8]) -> Result<Option<String>, AllocError> {
     flag_text(alloc, line)
 }
 
-// The first byte after a whole `s` that is none of its flags.
+/// The first byte after a whole `s` that is none of its flags.
 fn flag_text(alloc: Global, line: &[u8]) -> Result<Option<String>, AllocError> {
     for count in 1..=MOST_FLAGS {
         let Some(len) = line.len().checked_sub(count) else {
@@ -74,7 +74,7 @@ fn flag_text(alloc: Global, line: &[u8]) -> Result<Option<String>, AllocError> {
     Ok(None)
 }
 
-// Whether a line is an `s` with its last delimiter: then a letter that is no flag can't be read after it.
+/// Whether a line is an `s` with its last delimiter: then a letter that is no flag can't be read after it.
 fn is_whole(alloc: Global, line: &[u8]) -> Result<bool, AllocError> {
     let read = read_script(alloc, line)?;
     match (read.fault, read.commands.as_slice()) {
@@ -90,7 +90,7 @@ fn is_readable(alloc: Global, line: &[u8]) -> Result<bool, AllocError> {
     Ok(read_script(alloc, line)?.fault.is_none())
 }
 
-// What stands before a place, and what from there on.
+/// What stands before a place, and what from there on.
 fn parted(bytes: &[u8], place: usize) -> (&[u8], &[u8]) {
     bytes.split_at(place.min(bytes.len()))
 }
@@ -104,7 +104,7 @@ struct Heading {
     wrong: Option<&'static str>,
 }
 
-// The heading of a line, with the pattern after each letter that has one.
+/// The heading of a line, with the pattern after each letter that has one.
 fn heading_of(alloc: Global, line: &[u8]) -> Result<Heading, AllocError> {
     let mut letter = line.len();
     let mut next: usize = 0;
@@ -143,7 +143,7 @@ fn heading_of(alloc: Global, line: &[u8]) -> Result<Heading, AllocError> {
     })
 }
 
-// How many bytes a pattern takes with its delimiters, which these bytes begin with, and what is wrong with it.
+/// How many bytes a pattern takes with its delimiters, which these bytes begin with, and what is wrong with it.
 fn pattern_at(alloc: Global, bytes: &[u8]) -> Result<(usize, Option<&'static str>), AllocError> {
     let [delimiter, rest @ ..] = bytes else {
         return Ok((0, None));
@@ -160,8 +160,8 @@ fn pattern_at(alloc: Global, bytes: &[u8]) -> Result<(usize, Option<&'static str
     }
 }
 
-// How many bytes stand before a delimiter that isn't escaped and stands in no bracket expression. None where such an expression can't be
-// read.
+/// How many bytes stand before a delimiter that isn't escaped and stands in no bracket expression. None where such an expression can't be
+/// read.
 fn pattern_len(alloc: Global, delimiter: u8, bytes: &[u8]) -> Result<Option<usize>, AllocError> {
     let mut next: usize = 0;
     for (place, byte) in bytes.iter().enumerate() {
@@ -184,7 +184,7 @@ fn pattern_len(alloc: Global, delimiter: u8, bytes: &[u8]) -> Result<Option<usiz
     Ok(Some(bytes.len()))
 }
 
-// What is wrong with a pattern. One that an `s` can be read with is right, as its delimiters leave it.
+/// What is wrong with a pattern. One that an `s` can be read with is right, as its delimiters leave it.
 fn wrong_in(
     alloc: Global,
     delimiter: u8,
@@ -201,7 +201,7 @@ fn wrong_in(
     unread(alloc, pattern)
 }
 
-// Why a pattern can't be read.
+/// Why a pattern can't be read.
 fn unread(alloc: Global, pattern: &[u8]) -> Result<Option<&'static str>, AllocError> {
     match Bre::read(alloc, pattern) {
         Err(BreFault::Memory) => Err(AllocError),

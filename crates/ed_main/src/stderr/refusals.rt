@@ -105,7 +105,7 @@ impl<O: Outside + Explains + Drop> Watched<O> {
         &self.files
     }
 
-    // Remembers that the call that came last was refused, or found no file.
+    /// Remembers that the call that came last was refused, or found no file.
     fn refuse(&mut self, path: &[u8], wrong: Wrong)
         ensures unchanged { self.new.files ≡ self.old.files }
     {
@@ -113,7 +113,7 @@ impl<O: Outside + Explains + Drop> Watched<O> {
         self.refusal = Some(Refusal::new(self.alloc, path, wrong, reason));
     }
 
-    // Remembers that the file of the start isn't there.
+    /// Remembers that the file of the start isn't there.
     fn miss(&mut self, path: &[u8])
         ensures unchanged { self.new.files ≡ self.old.files }
     {
@@ -166,8 +166,8 @@ impl<O: Outside + Explains + Drop> Outside for Watched<O> {
     }
 }
 
-// Shows in one line what is wrong with the file at a path, with the system's reason where there is one. Bytes that would end the line,
-// or aren't text, are escaped. Where there is no memory for the line, it is left out.
+/// Shows in one line what is wrong with the file at a path, with the system's reason where there is one. Bytes that would end the line,
+/// or aren't text, are escaped. Where there is no memory for the line, it is left out.
 fn show_file(
     alloc: Global,
     rt: &impl Eprint,
@@ -193,7 +193,7 @@ fn file_text(
     shown_lines(alloc, line.as_str())
 }
 
-// Shows in one line that the file of the start isn't there.
+/// Shows in one line that the file of the start isn't there.
 fn show_missing(alloc: Global, rt: &impl Eprint, path: &[u8]) {
     if let Ok(line) = missing_text(alloc, path) {
         let _ = rt.eprint(line);
@@ -224,7 +224,7 @@ pub fn show_input(alloc: Global, rt: &impl Eprint, reason: Option<io::Error>) {
     let _ = eprintln!(rt; "error: standard input: can't be read{reason}");
 }
 
-// The system's words for an error after a colon, without its number.
+/// The system's words for an error after a colon, without its number.
 fn reason_text(alloc: Global, reason: Option<io::Error>) -> Result<String, AllocError> {
     match reason {
         Some(error) => {
@@ -236,7 +236,7 @@ fn reason_text(alloc: Global, reason: Option<io::Error>) -> Result<String, Alloc
     }
 }
 
-// A text of the system without the number of the error in brackets.
+/// A text of the system without the number of the error in brackets.
 fn without_number(text: &str) -> &str {
     match text.split_once(" (os error ") {
         Some((words, _)) => words,

@@ -37,7 +37,7 @@ pub fn shown_lines(alloc: Global, lines: &str) -> Result<String, AllocError> {
     Ok(fronts)
 }
 
-// Whole characters of a text, so many bytes of it at most, and `..` where more come.
+/// Whole characters of a text, so many bytes of it at most, and `..` where more come.
 fn front(alloc: Global, text: &str, most: usize) -> Result<String, AllocError> {
     let mut front = String::new(alloc);
     for character in text.chars() {

@@ -51,7 +51,7 @@ pub fn stopped_text(
     }
 }
 
-// The end is at fault, after the command of this number.
+/// The end is at fault, after the command of this number.
 fn end_text(alloc: Global, script: &[u8], last: usize, fault: Fault) -> Result<String, AllocError> {
     let lines = count_lines(script);
     let fault = fault.text();

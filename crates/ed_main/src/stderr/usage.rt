@@ -64,7 +64,7 @@ fn shown(alloc: Global, error: &clap::Error, words: &[&str]) -> Result<String, A
     Ok(format!(in alloc; "{wrong}{usage}")?)
 }
 
-// What is wrong where the first word that `clap` doesn't know is a number below 0 and stands where a bound does.
+/// What is wrong where the first word that `clap` doesn't know is a number below 0 and stands where a bound does.
 fn bound_below_zero(words: &[&str]) -> Option<&'static str> {
     let [_, "vouch", given @ ..] = words else {
         return None;
@@ -82,12 +82,12 @@ fn bound_below_zero(words: &[&str]) -> Option<&'static str> {
     None
 }
 
-// Whether a word names a bound and gives it.
+/// Whether a word names a bound and gives it.
 fn has_bound(word: &str) -> bool {
     word.starts_with("--min=") || word.starts_with("--max=")
 }
 
-// How the subcommand that the words begin with is used.
+/// How the subcommand that the words begin with is used.
 fn usage_of(words: &[&str]) -> &'static str {
     match words {
         [_, "edit", ..] => EDIT_USAGE,
@@ -99,7 +99,7 @@ fn usage_of(words: &[&str]) -> &'static str {
     }
 }
 
-// The first line of a text, and where it ends in a colon what the lines below it list.
+/// The first line of a text, and where it ends in a colon what the lines below it list.
 fn first_sentence(alloc: Global, text: &str) -> Result<String, AllocError> {
     let mut lines = text.lines();
     let mut sentence = String::from_str(alloc, lines.next().unwrap_or(""))?;

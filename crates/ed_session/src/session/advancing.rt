@@ -18,7 +18,7 @@ use ed_commands::Reply;
 use ed_syntax::{Ending, Ends, Request};
 use line_store::LineStore;
 
-// Some output, if there is any.
+/// Some output, if there is any.
 pub(crate) fn output(bytes: Pieces) -> Option<Ask>
     ensures value { result ≡ ask_of_output bytes }
 {
@@ -29,7 +29,7 @@ pub(crate) fn output(bytes: Pieces) -> Option<Ask>
     }
 }
 
-// How many bytes a request writes, if it writes.
+/// How many bytes a request writes, if it writes.
 fn bytes_of_write(request: &Request) -> Option<usize>
     ensures value { result ≡ bytes_of_write request.now }
 {
@@ -39,7 +39,7 @@ fn bytes_of_write(request: &Request) -> Option<usize>
     }
 }
 
-// A request as a step gives it.
+/// A request as a step gives it.
 fn asking(request: Request) -> Ask
     ensures value { result ≡ ask_of_request request }
 {
@@ -73,7 +73,7 @@ impl<S: LineStore> Session<S> {
         }
     }
 
-    // Where prompting is on, the prompt comes before the next command and before the end is found.
+    /// Where prompting is on, the prompt comes before the next command and before the end is found.
     fn write_prompt(&mut self) -> Option<Ask>
         requires outside { self.old.running_list ≡ None }
         requires between { self.old.phase ≡ phases.Between }
@@ -95,7 +95,7 @@ impl<S: LineStore> Session<S> {
         }
     }
 
-    // Ends the run by a fault, with its report.
+    /// Ends the run by a fault, with its report.
     pub(crate) fn report(&mut self, fault: Fault) -> Ask
         requires running { is_over self.old.phase ≡ false }
         requires handed_out { self.old.pending ≡ [] }
@@ -107,7 +107,7 @@ impl<S: LineStore> Session<S> {
         Ask::Output(self.reports.end(&mut self.phase, self.modes.help, fault))
     }
 
-    // The end of the script, or of what could be read of it.
+    /// The end of the script, or of what could be read of it.
     fn end(&mut self) -> Option<Ask>
         requires outside { self.old.running_list ≡ None }
         requires prompted { self.old.phase ≡ phases.Prompted }
@@ -123,7 +123,7 @@ impl<S: LineStore> Session<S> {
         self.quit()
     }
 
-    // Ends the run where no change is left to be written.
+    /// Ends the run where no change is left to be written.
     fn quit(&mut self) -> Option<Ask>
         requires prompted { self.old.phase ≡ phases.Prompted }
         requires handed_out { self.old.pending ≡ [] }
@@ -138,7 +138,7 @@ impl<S: LineStore> Session<S> {
         self.leave()
     }
 
-    // Ends the run.
+    /// Ends the run.
     fn leave(&mut self) -> Option<Ask>
         requires prompted { self.old.phase ≡ phases.Prompted }
         requires handed_out { self.old.pending ≡ [] }
@@ -153,7 +153,7 @@ impl<S: LineStore> Session<S> {
         None
     }
 
-    // Does the next step of the script, or finds what it asks for.
+    /// Does the next step of the script, or finds what it asks for.
     fn step_on(&mut self) -> Option<Ask>
         requires outside { self.old.running_list ≡ None }
         requires prompted { self.old.phase ≡ phases.Prompted }
@@ -172,7 +172,7 @@ impl<S: LineStore> Session<S> {
         }
     }
 
-    // Does the next command, of a list or of the script, or finds what it asks for.
+    /// Does the next command, of a list or of the script, or finds what it asks for.
     pub(crate) fn command(&mut self) -> Option<Ask>
         requires idle { is_waiting self.old.phase ≡ false }
         requires comes { goes_unprompted self.old.phase self.old.running_list ≡ true }

@@ -16,7 +16,7 @@ use crate::session::{Ask, Session};
 use line_store::LineStore;
 
 impl<S: LineStore> Session<S> {
-    // The next step is a global command: its lines have their flags from here on, and its list comes next.
+    /// The next step is a global command: its lines have their flags from here on, and its list comes next.
     pub(crate) fn begin_global(&mut self) -> Option<Ask>
         requires outside { self.old.running_list ≡ None }
         requires prompted { self.old.phase ≡ phases.Prompted }
@@ -40,7 +40,7 @@ impl<S: LineStore> Session<S> {
         }
     }
 
-    // In a global command the next command of its list comes next, or the next line that has the flag, or the end.
+    /// In a global command the next command of its list comes next, or the next line that has the flag, or the end.
     pub(crate) fn go_on_in_list(&mut self) -> Option<Ask>
         requires inside { IsSome self.old.running_list }
         requires running { is_over self.old.phase ≡ false }
@@ -62,7 +62,7 @@ impl<S: LineStore> Session<S> {
         None
     }
 
-    // The list is run for the next line that has the flag; where there is none, the global command is over.
+    /// The list is run for the next line that has the flag; where there is none, the global command is over.
     fn next_line(&mut self)
         requires more { 0 < lines_of self.old.running_list }
         requires none_left { next_command self.old.running_list self.old.steps ≡ None }
@@ -80,7 +80,7 @@ impl<S: LineStore> Session<S> {
         }
     }
 
-    // The global command is over.
+    /// The global command is over.
     fn end_global(&mut self)
         requires inside { IsSome self.old.running_list }
         requires running { is_over self.old.phase ≡ false }

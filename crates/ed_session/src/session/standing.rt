@@ -44,7 +44,7 @@ impl<S: LineStore> Session<S> {
         matches!(&self.phase, Phase::Waiting)
     }
 
-    // The path of the start file, till the session starts.
+    /// The path of the start file, till the session starts.
     pub(crate) fn start_path(&self) -> Option<&[u8]>
         ensures given { IfSome result (λ path. path_of self.now.phase ≡ Some path.now) }
         ensures without { IfNone result (path_of self.now.phase ≡ None) }

@@ -12,7 +12,7 @@ use crate::chunk::Chunk;
 use crate::chunks::ChunkLines;
 use std::alloc::AllocError;
 
-// Puts chunks after others, among which there is room for them.
+/// Puts chunks after others, among which there is room for them.
 fn append_chunks(chunks: &mut Vec<Chunk>, more: &mut Vec<Chunk>)
     requires room { length chunks.old.items + length more.old.items ≤ vec_capacity chunks.old }
     ensures appended { chunks.new.items ≡ chunks.old.items ++ more.old.items }
@@ -24,7 +24,7 @@ fn append_chunks(chunks: &mut Vec<Chunk>, more: &mut Vec<Chunk>)
     }
 }
 
-// Takes the chunks from chunk `low` up to `high` out.
+/// Takes the chunks from chunk `low` up to `high` out.
 fn cut_out(chunks: &mut Vec<Chunk>, low: usize, high: usize) -> Result<Vec<Chunk>, AllocError>
     requires order { low ≤ high }
     requires last { high ≤ length chunks.old.items }
@@ -45,7 +45,7 @@ fn cut_out(chunks: &mut Vec<Chunk>, low: usize, high: usize) -> Result<Vec<Chunk
     }
 }
 
-// Puts chunks before another, or after all. There is room for them.
+/// Puts chunks before another, or after all. There is room for them.
 fn put_in(chunks: &mut Vec<Chunk>, at: usize, new: &mut Vec<Chunk>) -> Result<(), AllocError>
     requires place { at ≤ length chunks.old.items }
     requires room { length chunks.old.items + length new.old.items ≤ vec_capacity chunks.old }
@@ -60,7 +60,7 @@ fn put_in(chunks: &mut Vec<Chunk>, at: usize, new: &mut Vec<Chunk>) -> Result<()
 }
 
 impl ChunkLines {
-    // Takes the chunks from chunk `low` up to `high` out, which have so many lines.
+    /// Takes the chunks from chunk `low` up to `high` out, which have so many lines.
     fn take_chunks(
         &mut self,
         low: usize,
@@ -80,7 +80,7 @@ impl ChunkLines {
         Ok(taken)
     }
 
-    // Puts chunks before chunk `at`, with which there are so many lines.
+    /// Puts chunks before chunk `at`, with which there are so many lines.
     fn put_chunks(
         &mut self,
         at: usize,
@@ -124,7 +124,7 @@ impl ChunkLines {
         Ok(Block::of_chunks(taken, to - from))
     }
 
-    // Puts the lines of chunks, which are so many, before place `at`.
+    /// Puts the lines of chunks, which are so many, before place `at`.
     fn put_range(&mut self, at: usize, new: &mut Vec<Chunk>, count: usize) -> Result<(), AllocError>
         requires place { at ≤ length (joined self.old.chunks) }
         requires count { count ≡ length (joined new.old.items) }

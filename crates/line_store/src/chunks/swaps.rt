@@ -45,7 +45,7 @@ impl ChunkLines {
         }
     }
 
-    // The chunks from chunk `low` up to `middle` and those from there up to `high` change places.
+    /// The chunks from chunk `low` up to `middle` and those from there up to `high` change places.
     fn swap_chunks(&mut self, low: usize, middle: usize, high: usize)
         requires first { low ≤ middle }
         requires second { middle ≤ high }
