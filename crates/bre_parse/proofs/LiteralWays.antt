@@ -3,6 +3,8 @@ use Rattle.std.proofs.Common.{◌≡◌, ℕ, zero, suc, ◌+◌, ◌<◌, Bool,
 use Rattle.std.specs.Prelude.{◌&&◌, nat_eq, cond, slice_get}
 use Rattle.std.specs.List.{All}
 use Rattle.std.proofs.lemmas.Bool.Decides.{nat_tests}
+use Rattle.std.proofs.lemmas.List.Elements.{All-tail}
+use Rattle.std.proofs.lemmas.Bool.{eq-eqb}
 use Rattle.bre_parse.specs.Tree.{Tree, Empty, Then, Set, TextStart, TextEnd, BackReference, Group, Repeat, in_set}
 use Rattle.bre_parse.specs.Groups.{Groups}
 use Rattle.bre_parse.specs.Ways.{Way, ways, from_way, by_end, only_if, has_byte_in, begins_with}
@@ -55,7 +57,7 @@ only_below (suc bound) negated ranges byte e other lt =
     let is : bound ≡ byte = let f = member.1 in cc in
     let rest : members_below bound negated ranges ≡ [] = let f = member.1 in cc in
     ⊎_elim
-    (λ (same : other ≡ bound). ap (in_set negated ranges) same ∙ member.0 ∙ sym (equal other byte (omega arith)))
+    (λ (same : other ≡ bound). ap (in_set negated ranges) same ∙ member.0 ∙ sym (eq-eqb other byte (omega arith)))
     (λ (less : other < bound). none_below bound negated ranges rest other less ∙ sym (unequal other byte (omega arith)))
     (last_or_less other bound lt))
     (λ (no : (in_set negated ranges bound ≡ false) × (members_below bound negated ranges ≡ byte ∷ [])).
@@ -66,9 +68,6 @@ only_below (suc bound) negated ranges byte e other lt =
     (last_or_less other bound lt))
     (member_or_other bound negated ranges (byte ∷ []) e)
   where
-    equal : (a b : ℕ) → a ≡ b → nat_eq a b ≡ true
-    equal a b e = grind (arith, nat_tests)
-
     unequal : (a b : ℕ) → a < b → nat_eq a b ≡ false
     unequal a b lt = grind (arith, nat_tests)
 
@@ -91,9 +90,6 @@ pub record Stands (text : List ℕ) (place byte : ℕ) (rest : List ℕ) : Type 
 abbrev Over : List ℕ → ℕ → Type 0
 Over text place = (drop place text ≡ []) × (slice_get text place ≡ None)
 
-all_later : (byte : ℕ) (text : List ℕ) → All (λ byte. byte < 256) (byte ∷ text) → All (λ byte. byte < 256) text
-all_later byte text all k d lt = all (suc k) d (omega arith)
-
 stands : (text : List ℕ) (place : ℕ) → All (λ byte. byte < 256) text → Over text place ⊎ ((byte : ℕ) × (rest : List ℕ) × Stands text place byte rest)
 stands [] zero all = inl (refl, refl)
 stands [] (suc place) all = inl (refl, refl)
@@ -103,7 +99,7 @@ stands (byte ∷ text) (suc place) all =
     (λ (over : Over text place). inl over)
     (λ (found : (byte : ℕ) × (rest : List ℕ) × Stands text place byte rest).
     inr (found.0, found.1, record { there = found.2.there; got = found.2.got; after = ap (λ n. drop n (byte ∷ text)) (next place) ∙ ap (λ n. drop n text) (sym (add-one place)) ∙ found.2.after; is_byte = found.2.is_byte }))
-    (stands text place (all_later byte text all))
+    (stands text place (All-tail (λ byte. byte < 256) byte text all))
   where
     next : (n : ℕ) → suc n + 1 ≡ suc (suc n)
     next n = omega arith
