@@ -1,17 +1,12 @@
 -- Isolated names stay isolated.
-use Rattle.std.proofs.Common.{◌≡◌, ◌≢◌, ◌<◌, inl, inr, ℕ, ℤ, pos, Option, None, Some, refl, ◌∙◌, sym}
+use Rattle.std.proofs.Common.{◌≡◌, ◌≢◌, ◌<◌, inl, inr, ℕ, ℤ, Option, None, Some, refl, ◌∙◌, sym}
 use Rattle.std.proofs.lemmas.Bool.Decides.{eqb_tells}
 use Rattle.zones.specs.Bound.{sum_of, tighten, widen_bound}
 use Rattle.zones.specs.Zone.{Bounds, bound}
-use Rattle.zones.specs.Steps.{any_zone, any_bound, after_guard, guard_bound, after_set, after_shift, after_forget, forget_bound, join_of, join_bound, widening_of, widening_bound}
+use Rattle.zones.specs.Steps.{any_zone, after_guard, guard_bound, after_set, after_shift, after_forget, forget_bound, join_of, join_bound, widening_of, widening_bound}
 use Rattle.zones.specs.Isolated.{IsIsolated}
 use Rattle.zones.proofs.Formulas.{bound-any_zone, bound-after_guard, bound-after_set, bound-after_shift, bound-after_forget, bound-join_of, bound-widening_of, set_bound-row, set_bound-column, set_bound-other, shift_bound-row, shift_bound-column, shift_bound-other, forget_bound-corner, forget_bound-other, widening_bound-diagonal}
-
-any_bound-itself : (x : ℕ) → any_bound x x ≡ Some (pos 0)
-any_bound-itself x = elim (eqb_tells x x) [ inl e ↦ rw e.0 refl | inr e ↦ absurd (e.1 refl) ]
-
-any_bound-other : (p q : ℕ) → p ≢ q → any_bound p q ≡ None
-any_bound-other p q n = elim (eqb_tells p q) [ inl e ↦ absurd (n e.1) | inr e ↦ rw e.0 refl ]
+use Rattle.zones.proofs.ReachLemmas.{any_bound-beside, any_bound-itself}
 
 forget_bound-row : (zone : Bounds) (x q : ℕ) → q ≢ x → forget_bound zone x x q ≡ None
 unfolding forget_bound
@@ -47,8 +42,8 @@ tighten-column to c = rw (way-from to c) refl
 pub IsIsolated-any_zone : (x : ℕ) → x < 32 → IsIsolated any_zone x
 IsIsolated-any_zone x hx = record {
   itself = bound-any_zone x x hx hx ∙ any_bound-itself x;
-  row = λ q hq n. bound-any_zone x q hx hq ∙ any_bound-other x q (swapped q x n);
-  column = λ p hp n. bound-any_zone p x hp hx ∙ any_bound-other p x n;
+  row = λ q hq n. bound-any_zone x q hx hq ∙ any_bound-beside x q (swapped q x n);
+  column = λ p hp n. bound-any_zone p x hp hx ∙ any_bound-beside p x n;
 }
 
 pub IsIsolated-after_guard : (zone : Bounds) (x y z : ℕ) (c : ℤ) → x < 32 → y < 32 → z < 32 → y ≢ x → z ≢ x → IsIsolated zone x → IsIsolated (after_guard zone y z c) x

@@ -1,8 +1,8 @@
 -- How far the known names of a zone reach.
-use Rattle.std.proofs.Common.{◌≡◌, ◌≢◌, ◌<◌, ◌≤◌, ◌+◌, ◌-◌, ◌*◌, ◌/◌, ◌%◌, ℕ, zero, suc, ℤ, Bool, true, false, ◌||◌, not, get_or, pos, Option, Some, None, arith, ◌∙◌, ap, refl, sym, add-one, inl, inr}
-use Rattle.std.proofs.lemmas.Bool.{cases_lt}
+use Rattle.std.proofs.Common.{◌≡◌, ◌≢◌, ◌<◌, ◌≤◌, ◌+◌, ◌-◌, ◌*◌, ◌/◌, ◌%◌, ℕ, zero, suc, ℤ, true, false, ◌||◌, get_or, pos, Option, Some, None, arith, ◌∙◌, ap, refl, sym, add-one, inl, inr}
+use Rattle.std.proofs.lemmas.Bool.{cases_lt, not-false, or_from, or_parts}
 use Rattle.std.proofs.lemmas.Bool.Decides.{eqb_tells}
-use Rattle.zones.specs.Bound.{raise, lower, greater_of, widen_bound, widen_diagonal, covers_bound}
+use Rattle.zones.specs.Bound.{raise, lower, greater_of, covers_bound}
 use Rattle.zones.specs.Zone.{Bounds, bound}
 use Rattle.zones.specs.Steps.{any_bound, any_zone, join_bound, widening_bound}
 use Rattle.zones.specs.Reach.{AreUnknown, is_known_pair, is_known_with, reach_below, reach_of}
@@ -21,24 +21,8 @@ any_bound-itself p = elim (eqb_tells p p) [ inl t ↦ rw t.0 refl | inr t ↦ ab
 pair-unknown : (zone : Bounds) (p q : ℕ) → bound zone p q ≡ any_bound p q → is_known_pair zone p q ≡ false
 pair-unknown zone p q e = rw (e, option_eq-itself (any_bound p q)) refl
 
-not-false : (b : Bool) → not b ≡ false → b ≡ true
-not-false true h = refl
-not-false false h = cc
-
 unknown-pair : (zone : Bounds) (p q : ℕ) → is_known_pair zone p q ≡ false → bound zone p q ≡ any_bound p q
 unknown-pair zone p q h = option_eq-true (bound zone p q) (any_bound p q) (not-false _ h)
-
-or-left : (a b : Bool) → a || b ≡ false → a ≡ false
-or-left true b h = cc
-or-left false b h = refl
-
-or-right : (a b : Bool) → a || b ≡ false → b ≡ false
-or-right true b h = cc
-or-right false b h = h
-
-or-false : (a b : Bool) → a ≡ false → b ≡ false → a || b ≡ false
-or-false true b h k = cc
-or-false false b h k = k
 
 -- A NAME WITH THE FIRST ONES
 
@@ -50,8 +34,8 @@ pub known_with-unknown : (zone : Bounds) (p q : ℕ) → is_known_with zone p q 
     is_known_with zone p (q + 1) ≡ false
 unfolding is_known_with
 known_with-unknown zone p q so_far e f =
-    rw (add-one q) (or-false (is_known_with zone p q) (is_known_pair zone p q || is_known_pair zone q p) so_far
-    (or-false (is_known_pair zone p q) (is_known_pair zone q p) (pair-unknown zone p q e) (pair-unknown zone q p f)))
+    rw (add-one q) (or_from (is_known_with zone p q) (is_known_pair zone p q || is_known_pair zone q p) so_far
+    (or_from (is_known_pair zone p q) (is_known_pair zone q p) (pair-unknown zone p q e) (pair-unknown zone q p f)))
 
 -- nothing is known of a name and the first ones where no bound says something
 unknown-known_with : (zone : Bounds) (p n : ℕ) → ((q : ℕ) → q < n → bound zone p q ≡ any_bound p q) → ((q : ℕ) → q < n → bound zone q p ≡ any_bound q p) →
@@ -59,17 +43,21 @@ unknown-known_with : (zone : Bounds) (p n : ℕ) → ((q : ℕ) → q < n → bo
 unfolding is_known_with
 unknown-known_with zone p zero row column = refl
 unknown-known_with zone p (suc n) row column =
-    or-false (is_known_with zone p n) (is_known_pair zone p n || is_known_pair zone n p)
+    or_from (is_known_with zone p n) (is_known_pair zone p n || is_known_pair zone n p)
     (unknown-known_with zone p n (λ q h. row q (omega arith)) (λ q h. column q (omega arith)))
-    (or-false (is_known_pair zone p n) (is_known_pair zone n p) (pair-unknown zone p n (row n (omega arith))) (pair-unknown zone n p (column n (omega arith))))
+    (or_from (is_known_pair zone p n) (is_known_pair zone n p) (pair-unknown zone p n (row n (omega arith)))
+    (pair-unknown zone n p (column n (omega arith))))
 
 known_with-row : (zone : Bounds) (p n : ℕ) → is_known_with zone p n ≡ false → (q : ℕ) → q < n → bound zone p q ≡ any_bound p q
 unfolding is_known_with
 known_with-row zone p zero none q h = absurd (omega arith)
 known_with-row zone p (suc n) none q h =
     elim (eqb_tells q n) [
-      | inl t ↦ rw t.1 (unknown-pair zone p n (or-left (is_known_pair zone p n) (is_known_pair zone n p) (or-right (is_known_with zone p n) (is_known_pair zone p n || is_known_pair zone n p) none)))
-      | inr t ↦ known_with-row zone p n (or-left (is_known_with zone p n) (is_known_pair zone p n || is_known_pair zone n p) none) q (omega (arith, t.1))
+      | inl t ↦ rw t.1 (unknown-pair zone p n
+          (or_parts (is_known_pair zone p n) (is_known_pair zone n p)
+          (or_parts (is_known_with zone p n) (is_known_pair zone p n || is_known_pair zone n p) none).1).0)
+      | inr t ↦ known_with-row zone p n (or_parts (is_known_with zone p n) (is_known_pair zone p n || is_known_pair zone n p) none).0 q
+          (omega (arith, t.1))
     ]
 
 known_with-column : (zone : Bounds) (p n : ℕ) → is_known_with zone p n ≡ false → (q : ℕ) → q < n → bound zone q p ≡ any_bound q p
@@ -77,8 +65,11 @@ unfolding is_known_with
 known_with-column zone p zero none q h = absurd (omega arith)
 known_with-column zone p (suc n) none q h =
     elim (eqb_tells q n) [
-      | inl t ↦ rw t.1 (unknown-pair zone n p (or-right (is_known_pair zone p n) (is_known_pair zone n p) (or-right (is_known_with zone p n) (is_known_pair zone p n || is_known_pair zone n p) none)))
-      | inr t ↦ known_with-column zone p n (or-left (is_known_with zone p n) (is_known_pair zone p n || is_known_pair zone n p) none) q (omega (arith, t.1))
+      | inl t ↦ rw t.1 (unknown-pair zone n p
+          (or_parts (is_known_pair zone p n) (is_known_pair zone n p)
+          (or_parts (is_known_with zone p n) (is_known_pair zone p n || is_known_pair zone n p) none).1).1)
+      | inr t ↦ known_with-column zone p n
+          (or_parts (is_known_with zone p n) (is_known_pair zone p n || is_known_pair zone n p) none).0 q (omega (arith, t.1))
     ]
 
 -- a bound that says something is enough
@@ -212,14 +203,6 @@ join-unknown one other p q e f = rw (e, f) (greater_of-any_bound p q)
 pub widening-unknown : (old new : Bounds) (p q : ℕ) → bound old p q ≡ any_bound p q → bound new p q ≡ any_bound p q → widening_bound old new p q ≡ any_bound p q
 unfolding widening_bound
 widening-unknown old new p q e f = rw (e, f) (elim (eqb_tells p q) [ inl t ↦ rw t.0 refl | inr t ↦ rw t.0 refl ])
-
-pub widening-itself : (old new : Bounds) (p : ℕ) → widening_bound old new p p ≡ widen_diagonal (bound old p p) (bound new p p)
-unfolding widening_bound
-widening-itself old new p = elim (eqb_tells p p) [ inl t ↦ rw t.0 refl | inr t ↦ absurd (t.1 refl) ]
-
-pub widening-beside : (old new : Bounds) (p q : ℕ) → q ≢ p → widening_bound old new p q ≡ widen_bound (bound old p q) (bound new p q)
-unfolding widening_bound
-widening-beside old new p q n = elim (eqb_tells p q) [ inl t ↦ absurd (n (sym t.1)) | inr t ↦ rw t.0 refl ]
 
 covers_bound-any_bound : (p q : ℕ) → covers_bound (any_bound p q) (any_bound p q) ≡ true
 covers_bound-any_bound p q = elim (eqb_tells p q) [ inl t ↦ rw t.0 refl | inr t ↦ rw t.0 refl ]
