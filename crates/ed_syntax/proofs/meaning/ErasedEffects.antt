@@ -3,6 +3,7 @@ use Rattle.std.proofs.Common.{◌≡◌, ◌≢◌, ℕ, zero, suc, ◌+◌, ◌
 use Rattle.std.specs.Prelude.{nat_lt, nat_le, nat_eq, ok_or, unwrap_or}
 use Rattle.std.specs.List.{concat}
 use Rattle.std.proofs.lemmas.List.{map-append}
+use Rattle.std.proofs.lemmas.Bool.{eqb-false}
 use Rattle.ed_base.specs.Buffer.{Line, plain_line, texts, with_flag}
 use Rattle.ed_base.specs.Lines.{lines_of, bytes_of}
 use Rattle.ed_base.specs.Parts.{between, replaced, inserted}
@@ -30,7 +31,7 @@ use Rattle.ed_syntax.specs.meaning.Applied.{Placed, placed, making, effect_of, s
 use Rattle.ed_syntax.specs.meaning.Erasure.{marks_with, command_names, lines_without, kept_without, past_without, open_without, outcome_without, effect_without}
 use Rattle.ed_syntax.specs.meaning.ErasureLaws.{CommandsLeaveLetters}
 use Rattle.ed_syntax.proofs.meaning.ErasureLemmas.{mapped, then-mapped, mapped-mapped, chosen-mapped, map-comm, bare, plain-without, length-without, texts-without, block-without, exchanged-without, plain-exchanged-without, marked_at-without}
-use Rattle.ed_syntax.proofs.meaning.ErasedPlaces.{another, cut, sought-same, cut_placed, named-parts, placed-same}
+use Rattle.ed_syntax.proofs.meaning.ErasedPlaces.{cut, sought-same, cut_placed, named-parts, placed-same}
 
 -- one line is written as it is without a letter
 written-same : (x : ℕ) (form : Form) (n : ℕ) (line : Line) → written form n (bare x line) ≡ written form n line
@@ -275,7 +276,7 @@ module _ (x : ℕ) where
   effect_of-same ed.Delete listed p target s given free = made-of _ _ (delete-same p s)
   effect_of-same (ed.Insert text) listed p target s given free = made-of _ _ (insert-same text p s)
   effect_of-same ed.Join listed p target s given free = made-of _ _ (join-same p s)
-  effect_of-same (ed.Mark own) listed p target s given free = made-of _ _ (mark-same own p s (another own x free))
+  effect_of-same (ed.Mark own) listed p target s given free = made-of _ _ (mark-same own p s (eqb-false own x free))
   effect_of-same (ed.Move to) listed p target s given free = making-same _ _ (move-same p target s)
   effect_of-same (ed.Copy to) listed p target s given free = made-of _ _ (copy-same p target s)
   effect_of-same (ed.Substitute pattern replacement which form) listed p target s given free =

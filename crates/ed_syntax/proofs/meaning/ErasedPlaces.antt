@@ -1,7 +1,7 @@
 -- Where a command is placed without a letter that it doesn't name.
-use Rattle.std.proofs.Common.{◌≡◌, ◌≢◌, ℕ, ◌+◌, ◌-◌, ℤ, pos, negsuc, Bool, true, false, ◌||◌, List, [], ◌∷◌, ◌++◌, reverse, max, Option, Some, None, Result, Ok, Err, refl, sym, ap, ◌∙◌}
-use Rattle.std.specs.Prelude.{ok_or, nat_eq, nat_le, ◌+ℤ◌}
-use Rattle.std.proofs.lemmas.Bool.{false≢true, eq-eqb}
+use Rattle.std.proofs.Common.{◌≡◌, ℕ, ◌+◌, ◌-◌, ℤ, pos, negsuc, true, false, ◌||◌, List, [], ◌∷◌, ◌++◌, reverse, max, Option, Some, None, Result, Ok, Err, refl, ap, ◌∙◌}
+use Rattle.std.specs.Prelude.{ok_or, nat_le, ◌+ℤ◌}
+use Rattle.std.proofs.lemmas.Bool.{eqb-false, or_parts}
 use Rattle.ed_base.specs.Buffer.{Line}
 use Rattle.ed_base.specs.declared.fault.Fault.{Fault}
 use Rattle.ed_base.specs.declared.fault.Fault.TheVariants as fault
@@ -15,15 +15,6 @@ use Rattle.ed_syntax.specs.meaning.Ranges.{Span, spanned}
 use Rattle.ed_syntax.specs.meaning.Applied.{Placed, targeted, placed}
 use Rattle.ed_syntax.specs.meaning.Erasure.{base_names, address_names, addresses_name, target_names, marks_with, command_names, lines_without, state_without}
 use Rattle.ed_syntax.proofs.meaning.ErasureLemmas.{mapped, then-mapped, mapped-mapped, then-same, find-same, get_or-without, length-without, marked_place-without}
-
--- none of two is none of each
-pub neither : (a b : Bool) → (a || b) ≡ false → (a ≡ false) × (b ≡ false)
-neither false b free = (refl, free)
-neither true b free = absurd (false≢true (sym free))
-
--- a letter that isn't this one is another
-pub another : (own x : ℕ) → nat_eq own x ≡ false → own ≢ x
-another own x free same = false≢true (sym free ∙ eq-eqb own x same)
 
 module _ (x : ℕ) where
   -- an editor without the letter
@@ -52,7 +43,7 @@ module _ (x : ℕ) where
   base-same (ed.Number n) s free = refl
   base-same ed.Current s free = refl
   base-same ed.Last s free = ap (λ (n : ℕ). Ok n) (length-without x s.lines)
-  base-same (ed.Marked own) s free = ap line_at (marked_place-without x own (another own x free) s.lines)
+  base-same (ed.Marked own) s free = ap line_at (marked_place-without x own (eqb-false own x free) s.lines)
   base-same (ed.Forward own) s free =
       ap (λ (p : Option (List ℕ)). searched p (lines_forward (cut s)) (cut s)) (sought-same own s)
       ∙ ap (λ order. searched (sought own s) order (cut s)) (forward-same s)
@@ -93,14 +84,14 @@ module _ (x : ℕ) where
   values-same ed.Without s free = refl
   values-same (ed.One a) s free = after-value cut_values a s _ _ free (λ n. ap (λ (u : State). Ok (u, n ∷ [])) (evaluated-same a s))
   values-same (ed.Comma a b) s free =
-      let each = neither (address_names x a) (address_names x b) free in
+      let each = or_parts (address_names x a) (address_names x b) free in
       after-value cut_values a s _ _ each.0 (λ n.
       ap (λ (u : State). value b u >> λ m. Ok (evaluated b u, n ∷ m ∷ [])) (evaluated-same a s)
       ∙ after-value cut_values b (evaluated a s) _ _ each.1 (λ m. ap (λ (u : State). Ok (u, n ∷ m ∷ [])) (evaluated-same b (evaluated a s))))
   values-same (ed.Semicolon a None) s free =
       after-value cut_values a s _ _ free (λ n. ap (λ (u : State). Ok (moved n u, n ∷ n ∷ [])) (evaluated-same a s))
   values-same (ed.Semicolon a (Some b)) s free =
-      let each = neither (address_names x a) (address_names x b) free in
+      let each = or_parts (address_names x a) (address_names x b) free in
       after-value cut_values a s _ _ each.0 (λ n.
       ap (λ (u : State). value b (moved n u) >> λ m. Ok (evaluated b (moved n u), n ∷ m ∷ [])) (evaluated-same a s)
       ∙ after-value cut_values b (moved n (evaluated a s)) _ _ each.1 (λ m.
@@ -134,8 +125,8 @@ module _ (x : ℕ) where
   pub named-parts : (c : Command) → command_names x c ≡ false →
       (addresses_name x c.addresses ≡ false) × (target_names x (takes c.verb).target ≡ false) × (marks_with x c.verb ≡ false)
   named-parts c free =
-      let first = neither (addresses_name x c.addresses) (target_names x (takes c.verb).target || marks_with x c.verb) free in
-      let others = neither (target_names x (takes c.verb).target) (marks_with x c.verb) first.1 in
+      let first = or_parts (addresses_name x c.addresses) (target_names x (takes c.verb).target || marks_with x c.verb) free in
+      let others = or_parts (target_names x (takes c.verb).target) (marks_with x c.verb) first.1 in
       (first.0, others.0, others.1)
 
   pub placed-same : (c : Command) (s : State) → command_names x c ≡ false → placed c (cut s) ≡ mapped cut_placed (placed c s)

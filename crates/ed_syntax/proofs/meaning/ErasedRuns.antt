@@ -1,6 +1,7 @@
 -- Runs without letters that they don't name.
 use Rattle.std.proofs.Common.{◌≡◌, ℕ, zero, suc, ◌+◌, true, false, List, [], ◌∷◌, ◌++◌, Option, Some, None, option_map, Result, Ok, Err, refl, ap, ◌∙◌}
 use Rattle.std.specs.List.{list_any}
+use Rattle.std.proofs.lemmas.Bool.{or_parts}
 use Rattle.ed_base.specs.Buffer.{Line, flagged_place}
 use Rattle.ed_base.specs.declared.fault.Fault.{Fault}
 use Rattle.ed_base.specs.declared.fault.Fault.TheVariants as fault
@@ -17,7 +18,7 @@ use Rattle.ed_syntax.specs.meaning.Erasure.{command_names, step_names, steps_nam
 use Rattle.ed_syntax.specs.meaning.ErasureLaws.{RunsIgnoreLetters}
 use Rattle.ed_syntax.proofs.meaning.CountLemmas.{counted-mapped}
 use Rattle.ed_syntax.proofs.meaning.ErasureLemmas.{mapped, bare, chosen-mapped, length-without, flagged_at-without, flagged_place-without}
-use Rattle.ed_syntax.proofs.meaning.ErasedPlaces.{neither, cut}
+use Rattle.ed_syntax.proofs.meaning.ErasedPlaces.{cut}
 use Rattle.ed_syntax.proofs.meaning.ErasedEffects.{kept-same, command-same}
 
 module _ (x : ℕ) where
@@ -70,7 +71,7 @@ module _ (x : ℕ) where
       (answers : List Answer) → listed cs (bare_run m) bare_go answers ≡ listed cs m go answers
   listed-alike [] m bare_go go free alike answers = alike m answers
   listed-alike (c ∷ cs) m bare_go go free alike answers =
-      let each = neither (command_names x c) (list_any (command_names x) cs) free in
+      let each = or_parts (command_names x c) (list_any (command_names x) cs) free in
       one-alike c m (λ t. listed cs t bare_go) (λ t. listed cs t go) each.0 (λ t more. listed-alike cs t bare_go go each.1 alike more) answers
 
   flags-alike : (s : State) → flags (cut x s) ≡ flags s
@@ -142,12 +143,12 @@ module _ (x : ℕ) where
   step_by-alike ed.QuitAnyway y m bare_go go free alike answers =
       ap (λ n. Stops m.help (Ends (Ok (record { lines = n })))) (length-without x m.state.lines)
   step_by-alike (ed.Global sense own) y m bare_go go free alike answers =
-      let each = neither (command_names x y.command) (list_any (command_names x) y.list) free in
+      let each = or_parts (command_names x y.command) (list_any (command_names x) y.list) free in
       ap (λ (k : Kept). one y.command (bare_run m) (λ t. global k y.list t bare_go) answers) (kept-same x m.state)
       ∙ one-alike y.command m (λ t. global (kept_without x (kept m.state)) y.list t bare_go) (λ t. global (kept m.state) y.list t go) each.0
       (λ t more. global-alike (kept m.state) y.list t bare_go go each.1 alike more) answers
   step_by-alike _ y m bare_go go free alike answers =
-      one-alike y.command m bare_go go (neither (command_names x y.command) (list_any (command_names x) y.list) free).0 alike answers
+      one-alike y.command m bare_go go (or_parts (command_names x y.command) (list_any (command_names x) y.list) free).0 alike answers
 
   at_end-alike : (bad : Option ℕ) (m : Present) → at_end bad (bare_run m) ≡ at_end bad m
   at_end-alike None m = quitting-alike m
@@ -157,7 +158,7 @@ module _ (x : ℕ) where
       (answers : List Answer) → steps ys bad (bare_run m) answers ≡ steps ys bad m answers
   steps-alike [] bad m free answers = ap (λ (p : Progress). prompted m p) (at_end-alike bad m)
   steps-alike (y ∷ ys) bad m free answers =
-      let each = neither (step_names x y) (list_any (step_names x) ys) free in
+      let each = or_parts (step_names x y) (list_any (step_names x) ys) free in
       ap (λ (p : Progress). prompted m p)
       (step_by-alike y.command.verb y m (λ t more. steps ys bad t more) (λ t more. steps ys bad t more) each.0
       (λ t more. steps-alike ys bad t each.1 more) answers)
@@ -165,6 +166,6 @@ module _ (x : ℕ) where
 pub runs_ignore_letters : RunsIgnoreLetters
 runs_ignore_letters [] xs bad m answers free = refl
 runs_ignore_letters (letter ∷ letters) xs bad m answers free =
-    let each = neither (list_any (step_names letter) xs) (steps_name letters xs) free in
+    let each = or_parts (list_any (step_names letter) xs) (steps_name letters xs) free in
     steps-alike letter xs bad (present_without_all letters m) each.0 answers
     ∙ runs_ignore_letters letters xs bad m answers each.1

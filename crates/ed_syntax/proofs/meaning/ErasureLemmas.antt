@@ -3,6 +3,7 @@ use Rattle.std.proofs.Common.{◌≡◌, ◌≢◌, ℕ, zero, suc, ◌+◌, Boo
 use Rattle.std.specs.Prelude.{position, find, nat_lt}
 use Rattle.std.specs.List.{position_or_len}
 use Rattle.std.proofs.lemmas.List.{length-map, map-append, map-set, take-map, drop-map, set_comm, get_or-set_other}
+use Rattle.std.proofs.Math.ListN.{get_or-map}
 use Rattle.ed_base.specs.Buffer.{Line, plain_line, has_letter, with_letter, with_flag, marked_place, marked_at, flagged_at, flagged_place, texts}
 use Rattle.ed_base.specs.Parts.{block, exchanged}
 use Rattle.ed_base.specs.declared.fault.Fault.{Fault}
@@ -57,11 +58,6 @@ exchanged-map f a b new xs =
     ∙ ap (λ l. map f (take a xs) ++ (map f new ++ l)) (drop-map f b xs)
     ∙ ap (λ l. map f (take a xs) ++ l) (sym (map-append f new (drop b xs)))
     ∙ sym (map-append f (take a xs) (new ++ drop b xs))
-
-pub get_or-mapped : {A B : Type 0} (f : A → B) (xs : List A) (i : ℕ) (d : A) → get_or (map f xs) i (f d) ≡ f (get_or xs i d)
-get_or-mapped f [] i d = refl
-get_or-mapped f (x ∷ xs) zero d = refl
-get_or-mapped f (x ∷ xs) (suc i) d = get_or-mapped f xs i d
 
 pub find-same : {A : Type 0} (p q : A → Bool) → ((a : A) → p a ≡ q a) → (xs : List A) → find p xs ≡ find q xs
 find-same p q same [] = refl
@@ -118,7 +114,7 @@ module _ (x : ℕ) where
       ap (λ new. exchanged a b new (lines_without x lines)) (sym (plain-without text)) ∙ exchanged-without a b (map plain_line text) lines
 
   pub get_or-without : (lines : List Line) (i : ℕ) → get_or (lines_without x lines) i (plain_line []) ≡ bare (get_or lines i (plain_line []))
-  get_or-without lines i = ap (get_or (lines_without x lines) i) (sym (bare-plain [])) ∙ get_or-mapped bare lines i (plain_line [])
+  get_or-without lines i = ap (get_or (lines_without x lines) i) (sym (bare-plain [])) ∙ get_or-map bare lines i (plain_line [])
 
   pub flagged_at-without : (place : ℕ) (flag : Bool) (lines : List Line) → flagged_at place flag (lines_without x lines) ≡ lines_without x (flagged_at place flag lines)
   flagged_at-without place flag lines =

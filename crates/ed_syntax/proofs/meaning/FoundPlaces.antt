@@ -39,9 +39,6 @@ unbind (Err e) f fine = absurd (false≢true fine)
 pub is_fine : {A : Type 0} (r : Result A Fault) (x : A) → r ≡ Ok x → IsOk r
 is_fine r x is = ap is_ok is
 
-le-true : (a b : ℕ) → a ≤ b → nat_le a b ≡ true
-le-true a b h = le-leb a b h
-
 -- ADDRESSES
 
 unmoved : (n : ℕ) → pos n +ℤ pos 0 ≡ pos n
@@ -50,7 +47,7 @@ unmoved n = omega (arith, ints)
 pub within-at : (s : State) (n : ℕ) → n ≤ last s → within s (pos n +ℤ pos 0) ≡ Ok n
 within-at s n upto =
     ap (within s) (unmoved n)
-    ∙ ap (λ b. elim b as (λ _. Result ℕ Fault) [ true ↦ Ok n | false ↦ Err fault.Address ]) (le-true n (last s) upto)
+    ∙ ap (λ b. elim b as (λ _. Result ℕ Fault) [ true ↦ Ok n | false ↦ Err fault.Address ]) (le-leb n (last s) upto)
 
 -- the line that a search finds: it is there and matches
 pub record Found (search : Address) (text : List ℕ) (s : State) : Type 0 where
@@ -135,14 +132,17 @@ target-of _ s at_work fine = record { line = 0; is = λ a g. refl }
 
 ordered-here : (n : ℕ) → 1 ≤ n → ordered n n ≡ Ok (span n n)
 ordered-here n from =
-    ap (λ b. elim b as (λ _. Result Span Fault) [ true ↦ elim (nat_le n n) as (λ _. Result Span Fault) [ true ↦ Ok (span n n) | false ↦ Err fault.Address ] | false ↦ Err fault.Address ]) (le-true 1 n from)
-    ∙ ap (λ b. elim b as (λ _. Result Span Fault) [ true ↦ Ok (span n n) | false ↦ Err fault.Address ]) (le-true n n (omega arith))
+    ap (λ b. elim b as (λ _. Result Span Fault) [
+      | true ↦ elim (nat_le n n) as (λ _. Result Span Fault) [ true ↦ Ok (span n n) | false ↦ Err fault.Address ]
+      | false ↦ Err fault.Address
+    ]) (le-leb 1 n from)
+    ∙ ap (λ b. elim b as (λ _. Result Span Fault) [ true ↦ Ok (span n n) | false ↦ Err fault.Address ]) (le-leb n n (omega arith))
 
 from_first-here : (n last : ℕ) → 1 ≤ n → n ≤ last → from_first n n last ≡ Ok (span n n)
 from_first-here n last from upto =
     let same : not_before n ≡ n = omega (arith, from) in
     ap (λ b. elim b as (λ _. Result Span Fault) [ true ↦ Ok (span (not_before n) (not_before n)) | false ↦ Err fault.Address ])
-    (ap (λ b. b && nat_le (not_before n) last) (le-true n n (omega arith)) ∙ le-true (not_before n) last (omega (arith, same, upto)))
+    (ap (λ b. b && nat_le (not_before n) last) (le-leb n n (omega arith)) ∙ le-leb (not_before n) last (omega (arith, same, upto)))
     ∙ ap (λ k. Ok (span k k)) same
 
 single-here : (n : ℕ) → 1 ≤ n → single n ≡ Ok (span n n)

@@ -7,6 +7,7 @@ use Rattle.std.proofs.lemmas.List.{map-set, set-get_or, set_comm, get_or_past}
 use Rattle.std.proofs.lemmas.List.Elements.{All-nil, All-cons, All-head, All-tail}
 use Rattle.std.proofs.lemmas.List.Folds.{position_or_len-set}
 use Rattle.std.proofs.lemmas.List.Sums.{position_or_len_is}
+use Rattle.std.proofs.Math.ListN.{get_or-map}
 use Rattle.ed_base.specs.Buffer.{Line, plain_line, texts, has_letter, with_letter, with_flag, marked_place, marked_at, KnowLetters}
 use Rattle.ed_base.specs.Lines.{newline}
 use Rattle.ed_base.proofs.Letters.{marked_at-known}
@@ -18,7 +19,7 @@ use Rattle.ed_syntax.specs.meaning.ErasureLaws.{StartsMayBeMarked, MarkedLinesAr
 use Rattle.ed_syntax.proofs.meaning.MarkLemmas.{well-plain, well-marked_at}
 use Rattle.ed_syntax.proofs.meaning.WholeLemmas.{IsWhole}
 use Rattle.ed_syntax.proofs.meaning.EachLine.{all-marked_at}
-use Rattle.ed_syntax.proofs.meaning.ErasureLemmas.{bare, map-comm, get_or-mapped, plain-without, texts-without, get_or-without, length-without, marked_place-without}
+use Rattle.ed_syntax.proofs.meaning.ErasureLemmas.{bare, map-comm, plain-without, texts-without, get_or-without, length-without, marked_place-without}
 use Rattle.ed_syntax.proofs.meaning.ErasedRuns.{runs_ignore_letters}
 
 -- ONE MARK
@@ -134,7 +135,7 @@ unflagged-marked_at place x lines none =
     map-set (with_flag false) others place (with_letter x true (get_or others place bare_line))
     ∙ ap (λ ls. set ls place (with_flag false (with_letter x true (get_or others place bare_line)))) same
     ∙ ap (λ line. set others place (with_letter x true line))
-    (sym (get_or-mapped (with_flag false) others place bare_line) ∙ ap (λ ls. get_or ls place bare_line) same)
+    (sym (get_or-map (with_flag false) others place bare_line) ∙ ap (λ ls. get_or ls place bare_line) same)
 
 unflagged-marked : (marks : Marks) (lines : List Line) → unflagged lines ≡ lines → unflagged (marked marks lines) ≡ marked marks lines
 unflagged-marked [] lines none = none

@@ -3,6 +3,7 @@ use Rattle.std.proofs.Common.{◌≡◌, ◌≤◌, ℕ, zero, ◌+◌, ◌-◌,
 use Rattle.std.specs.Prelude.{IsOk, option_map, ok_or}
 use Rattle.std.proofs.lemmas.Bool.{false≢true}
 use Rattle.std.proofs.lemmas.List.{take_all, append-nil}
+use Rattle.std.proofs.Math.Bool.{or-true}
 use Rattle.ed_base.specs.Buffer.{Line}
 use Rattle.ed_base.specs.Parts.{between, replaced}
 use Rattle.ed_base.specs.declared.fault.Fault.{Fault}
@@ -210,10 +211,6 @@ either-step pattern search given verb suffix m go after answers searches at_line
 
 pub works-changing : (verb : Verb) → changes verb ≡ true → works verb ≡ true
 works-changing verb is = ap (λ b. b || writes verb) is
-
-or-true : (b : Bool) → (b || true) ≡ true
-or-true true = refl
-or-true false = refl
 
 works-writing : (verb : Verb) → writes verb ≡ true → works verb ≡ true
 works-writing verb is = ap (λ b. changes verb || b) is ∙ or-true (changes verb)

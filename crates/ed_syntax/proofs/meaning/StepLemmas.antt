@@ -1,10 +1,7 @@
 -- Steps that give something, and choices by a test.
 use Rattle.std.proofs.Common.{◌≡◌, Bool, true, false, Option, Some, None, refl}
 use Rattle.ed_syntax.specs.reading.Tokens.{◌>>=◌}
-
--- two values under one constructor
-pub Some-same : {A : Type 0} (x y : A) → Some x ≡ Some y → x ≡ y
-Some-same x y same = cc
+pub use Rattle.std.proofs.lemmas.Option.{same_Some as Some-same}
 
 -- nothing is not something
 pub none_some : {A : Type 0} {x : A} → None ≡ Some x → ⊥

@@ -2,7 +2,7 @@
 use Rattle.std.proofs.Common.{◌≡◌, ℕ, ◌+◌, Bool, true, List, [], ◌∷◌, ◌++◌, length, Option, Some, None, refl, sym, ap, ◌∙◌, subst, arith, append_assoc, append-nil}
 use Rattle.std.proofs.lemmas.List.{length-append}
 use Rattle.ed_base.specs.Lines.{newline, IsLine, AreLines, lines_of, bytes_of}
-use Rattle.ed_base.proofs.LineLemmas.{lines_of-whole}
+use Rattle.ed_base.proofs.LineLemmas.{lines_of-whole, bytes_of-append}
 use Rattle.std.proofs.lemmas.List.Elements.{All-cons, All-head, All-tail}
 use Rattle.ed_syntax.specs.Commands as ed
 use Rattle.ed_syntax.specs.spelling.Characters.{equals_sign}
@@ -16,7 +16,7 @@ use Rattle.ed_syntax.specs.reading.Tokens.{Parsed, ◌>>=◌, addresses}
 use Rattle.ed_syntax.specs.reading.ReadCommands.{Heading, Headed, text, with_text, heading_after_addresses, finished, Taken, command_after_addresses, command_at}
 use Rattle.ed_syntax.specs.reading.ReadGlobals.{sense_at}
 use Rattle.ed_syntax.proofs.meaning.StepLemmas.{Some-same, bind-some}
-use Rattle.ed_syntax.proofs.reader.LineParts.{bytes_of-append, same_lines, taken-length}
+use Rattle.ed_syntax.proofs.reader.LineParts.{same_lines, taken-length}
 use Rattle.ed_syntax.proofs.reader.AddressesLemmas.{addresses-sound, addresses-complete}
 use Rattle.ed_syntax.proofs.reader.LetterLemmas.{text-keeps}
 use Rattle.ed_syntax.proofs.reader.VerbLemmas.{PlainVerb, FileVerb, SpellsLetter}

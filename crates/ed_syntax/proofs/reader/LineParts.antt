@@ -1,7 +1,7 @@
 -- Lines that are taken from others, and their bytes.
-use Rattle.std.proofs.Common.{◌≡◌, ℕ, ◌+◌, List, [], ◌∷◌, ◌++◌, length, refl, sym, ap, ◌∙◌, append_assoc}
+use Rattle.std.proofs.Common.{◌≡◌, ℕ, ◌+◌, List, ◌++◌, length, sym, ap, ◌∙◌}
 use Rattle.std.proofs.lemmas.List.{length-append}
-use Rattle.ed_base.specs.Lines.{newline, AreLines, lines_of, bytes_of}
+use Rattle.ed_base.specs.Lines.{AreLines, lines_of, bytes_of}
 use Rattle.ed_base.proofs.LineLemmas.{lines_of-written, lines_of-bytes_of}
 use Rattle.ed_syntax.specs.reading.ReadParameters.{Place}
 
@@ -12,11 +12,6 @@ pub record ReadsOver {A : Type 0} (Spells : (own more text : List ℕ) → A →
   pub taken_are : AreLines taken
   pub are : AreLines r.1.later
   pub spells : Spells own r.1.line (bytes_of taken) r.0
-
-pub bytes_of-append : (xs ys : List (List ℕ)) → bytes_of (xs ++ ys) ≡ bytes_of xs ++ bytes_of ys
-bytes_of-append [] ys = refl
-bytes_of-append (line ∷ xs) ys =
-    ap (λ bytes. line ++ newline ∷ bytes) (bytes_of-append xs ys) ∙ sym (append_assoc line (newline ∷ bytes_of xs) (bytes_of ys))
 
 -- lines with the same bytes are the same
 pub same_lines : (xs ys : List (List ℕ)) → AreLines xs → AreLines ys → bytes_of xs ≡ bytes_of ys → xs ≡ ys

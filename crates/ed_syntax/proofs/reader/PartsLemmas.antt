@@ -1,7 +1,7 @@
 -- The parts of a replacement: what is read is spelled so, and what is spelled so is read.
-use Rattle.std.proofs.Common.{◌≡◌, ◌≢◌, ℕ, zero, suc, ◌+◌, ◌-◌, ◌<◌, ◌≤◌, nat_eq, nat_le, Bool, true, false, List, [], ◌∷◌, ◌++◌, length, Option, Some, refl, sym, ap, ◌∙◌, subst, arith, append_assoc}
+use Rattle.std.proofs.Common.{◌≡◌, ◌≢◌, ℕ, zero, suc, ◌+◌, ◌-◌, ◌<◌, ◌≤◌, nat_eq, nat_le, true, false, List, [], ◌∷◌, ◌++◌, length, Option, Some, refl, sym, ap, ◌∙◌, subst, arith, append_assoc}
 use Rattle.std.specs.Prelude.{◌||◌}
-use Rattle.std.proofs.lemmas.Bool.{eq-eqb, eqb-true, eqb-false, ne_eqb, and_parts, leb-true}
+use Rattle.std.proofs.lemmas.Bool.{eq-eqb, eqb-true, eqb-false, ne_eqb, and_parts, leb-true, or_parts}
 use Rattle.std.proofs.lemmas.List.{length-append}
 use Rattle.std.proofs.lemmas.List.Elements.{All-nil, All-cons, All-head, All-tail, All-append}
 use Rattle.ed_base.specs.Lines.{newline, IsLine, AreLines, bytes_of}
@@ -14,11 +14,6 @@ use Rattle.ed_syntax.specs.reading.ReadParameters.{Place, ParsedAt, place, part_
 use Rattle.ed_syntax.proofs.meaning.StepLemmas.{Some-same, none_some, bind-some, either}
 use Rattle.ed_syntax.proofs.reader.TextLemmas.{first_line, LeftLines}
 use Rattle.ed_syntax.proofs.reader.LineParts.{ReadsOver}
-
--- neither of two
-or_parts : (a b : Bool) → (a || b) ≡ false → (a ≡ false) × (b ≡ false)
-or_parts true b is = cc
-or_parts false b is = (refl, is)
 
 -- one part, what stands after it on its line or on the next, and the line that was taken for it
 data SpellsPart (delimiter : ℕ) : (own more : List ℕ) → List (List ℕ) → Part → Type 0 where

@@ -3,6 +3,7 @@ use Rattle.std.proofs.Common.{◌≡◌, ◌≢◌, ℕ, nat_eq, Bool, true, fal
 use Rattle.std.specs.List.{fold, list_any}
 use Rattle.std.proofs.lemmas.Bool.{ne_eqb, false≢true}
 use Rattle.std.proofs.lemmas.List.Sums.{fold-append}
+use Rattle.std.proofs.Math.Bool.{and-false}
 use Rattle.ed_syntax.specs.declared.replacement.Part.{Part}
 use Rattle.ed_syntax.specs.spelling.Characters.{backslash, goes_on}
 use Rattle.ed_syntax.specs.spelling.Letters.{letter_s}
@@ -25,10 +26,6 @@ begins-anew odd b rest other = ap (λ t. odd_after (t && not odd) rest) (ne_eqb 
 
 pub goes_on-after : (front : List ℕ) (b : ℕ) (rest : List ℕ) → b ≢ backslash → goes_on (front ++ b ∷ rest) ≡ goes_on rest
 goes_on-after front b rest other = fold-append (λ odd b. nat_eq b backslash && not odd) false front (b ∷ rest) ∙ begins-anew (goes_on front) b rest other
-
-and-false : (t : _) → t && false ≡ false
-and-false true = refl
-and-false false = refl
 
 -- what a backslash and a byte are, whatever the byte
 escaped : (b : ℕ) (rest : List ℕ) → goes_on (backslash ∷ b ∷ rest) ≡ goes_on rest

@@ -6,6 +6,7 @@ use Rattle.std.proofs.lemmas.List.{length-append, take_at}
 use Rattle.ed_base.specs.Lines.{newline, IsLine, CutsFirst, lines_of, bytes_of}
 use Rattle.ed_base.proofs.LineLemmas.{AreLines-lines_of, lines_of-whole, lines_of-written, bytes_of-append}
 use Rattle.ed_syntax.specs.reading.ReadCommands.{is_dot, text}
+use Rattle.ed_syntax.proofs.reader.TextLemmas.{text-dot, text-line}
 
 -- The front is the text so far, of whole lines while any bytes are left.
 pub record Cut (bytes front left : List ℕ) (passed : ℕ) : Type 0 where
@@ -20,12 +21,6 @@ pub dot-same : (line : List ℕ) → pointwise nat_eq line (46 ∷ []) ≡ is_do
 dot-same [] = refl
 dot-same (b ∷ []) = and-true (nat_eq b 46)
 dot-same (b ∷ c ∷ bs) = and-false (nat_eq b 46)
-
-text-dot : (line : List ℕ) (lines : List (List ℕ)) → is_dot line ≡ true → text (line ∷ lines) ≡ ([], lines)
-text-dot line lines is = rw (is, text) refl
-
-text-other : (line : List ℕ) (lines : List (List ℕ)) → is_dot line ≡ false → text (line ∷ lines) ≡ (line ∷ (text lines).0, (text lines).1)
-text-other line lines is = rw (is, text) refl
 
 -- what stands before the bytes that are left
 front-is : (bytes front left : List ℕ) → bytes ≡ front ++ left → take (length bytes - length left) bytes ≡ front
@@ -49,7 +44,7 @@ cut-more : (bytes front left piece rest line : List ℕ) (passed : ℕ) → Cut 
 cut-more bytes front left piece rest line passed cut e lines other some more whole =
     let later : List (List ℕ) × List (List ℕ) = text (lines_of rest) in
     let parted : bytes ≡ (front ++ piece) ++ rest = cut.parted ∙ ap (λ bs. front ++ bs) e ∙ sym (append_assoc front piece rest) in
-    let goes_on : text (lines_of left) ≡ (line ∷ later.0, later.1) = ap text lines ∙ text-other line (lines_of rest) other in
+    let goes_on : text (lines_of left) ≡ (line ∷ later.0, later.1) = ap text lines ∙ text-line line (lines_of rest) other in
     let next : Cut bytes (front ++ piece) rest (passed + 1) = record {
       parted = parted;
       entered = cut.entered

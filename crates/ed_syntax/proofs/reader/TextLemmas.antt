@@ -47,13 +47,14 @@ is_dot-sound (b ∷ c ∷ line) is = absurd (false≢true is)
 pub is_dot-other : (line : List ℕ) → line ≢ 46 ∷ [] → is_dot line ≡ false
 is_dot-other line other = ⊎_elim (λ yes. absurd (other (is_dot-sound line yes))) (λ no. no) (cases_Bool (is_dot line))
 
-text-dot : (line : List ℕ) (lines : List (List ℕ)) → is_dot line ≡ true → text (line ∷ lines) ≡ ([], lines)
+pub text-dot : (line : List ℕ) (lines : List (List ℕ)) → is_dot line ≡ true → text (line ∷ lines) ≡ ([], lines)
 text-dot line lines is = rw (is, text) refl
 
 text-at_dot : (lines later : List (List ℕ)) → lines ≡ (46 ∷ []) ∷ later → text lines ≡ ([], later)
 text-at_dot lines later split = ap text split
 
-text-line : (line : List ℕ) (lines : List (List ℕ)) → is_dot line ≡ false → text (line ∷ lines) ≡ (line ∷ (text lines).0, (text lines).1)
+pub text-line : (line : List ℕ) (lines : List (List ℕ)) → is_dot line ≡ false →
+    text (line ∷ lines) ≡ (line ∷ (text lines).0, (text lines).1)
 text-line line lines is = rw (is, text) refl
 
 -- a text that was read from lines: its bytes, and as many lines as they are
