@@ -33,7 +33,8 @@ use Rattle.ed_main.specs.Run as run
 use Rattle.ed_main.specs.Run.{CheckedRun, Runs, ran_told}
 use Rattle.ed_main.specs.Told as telling
 use Rattle.ed_main.specs.Told.{IsUnread, Says, Tells, verdict_told, cannot_told}
-use Rattle.ed_main.specs.Vouch.{IsAnswerFor, IsToldOf, Vouches}
+use Rattle.ed_main.specs.Names.{first_unusable}
+use Rattle.ed_main.specs.Vouch.{IsAnswerFor, IsToldOf, Vouches, answered, unusable}
 
 -- what is said of some telling is said of each that it implies
 pub says_more : (P Q : Told → Type 0) (sink : SinkChange) (status : ℕ) → ((t : Told) → P t → Q t) → Says P sink status → Says Q sink status
@@ -87,12 +88,16 @@ answer_few : (answer : Analysis) (told : Told) → IsToldOf answer told → told
 answer_few (Vouched c) told is = rw is.1 (omega arith)
 answer_few (Cannot place why notes) told is = told_few told _ is (omega arith)
 
+vouched_few : (script : List ℕ) (start : Start) (told : Told) → Vouches script start told → told.status ≤ 4
+vouched_few script start told (answered answer usable is told_so) = answer_few answer told told_so
+vouched_few script start told (unusable number named is) = told_few told _ is (omega arith)
+
 -- the statuses of what is told
 pub check_status : (script certificate : List ℕ) (sink : SinkChange) (status : ℕ) → Says (Checks script certificate) sink status → status ≤ 4
 check_status script certificate sink status says = says_few (Checks script certificate) sink status (checks_few script certificate) says
 
 pub vouch_status : (script : List ℕ) (start : Start) (sink : SinkChange) (status : ℕ) → Says (Vouches script start) sink status → status ≤ 4
-vouch_status script start sink status says = says_few (Vouches script start) sink status (λ told v. answer_few v.answer told v.told_so) says
+vouch_status script start sink status says = says_few (Vouches script start) sink status (vouched_few script start) says
 
 pub unread_status : (bytes : List ℕ) (sink : SinkChange) (status : ℕ) → Says (IsUnread bytes) sink status → status ≤ 4
 unread_status bytes sink status says = says_few (IsUnread bytes) sink status (unread_few bytes) says
@@ -166,7 +171,15 @@ pub says_cannot : (answer : Analysis) (place : Place) (why : Fault) (notes : _) 
 says_cannot answer place why notes made sink status is told says = rw is (says_of (λ t. t ≡ cannot_told place why) made sink status told says)
 
 -- the analyser's answer was told
-pub vouches_of : (script : List ℕ) (start : Start) (answer : Analysis) (sink : SinkChange) (status : ℕ) → IsAnswerFor script start answer
-    → Says (IsToldOf answer) sink status → Says (Vouches script start) sink status
-vouches_of script start answer sink status is says =
-    says_more (IsToldOf answer) (Vouches script start) sink status (λ t told_so. record { answer = answer; is_answer = is; told_so = told_so }) says
+pub vouches_of : (script : List ℕ) (start : Start) (answer : Analysis) (sink : SinkChange) (status : ℕ) →
+    first_unusable (script_of script) ≡ None → IsAnswerFor script start answer → Says (IsToldOf answer) sink status → Says (Vouches script start) sink status
+vouches_of script start answer sink status usable is says =
+    says_more (IsToldOf answer) (Vouches script start) sink status (λ t told_so. answered answer usable is told_so) says
+
+-- or the command that names a file by what isn't UTF-8
+pub names_told : (script : List ℕ) (start : Start) (number : ℕ) (made : Result Told AllocError) (sink : SinkChange) (status : ℕ) →
+    first_unusable (script_of script) ≡ Some number → IfOk made (λ told. told ≡ cannot_told (record { command = number; inner = None }) fault.File) →
+    Says (λ one. made ≡ Ok one) sink status → Says (Vouches script start) sink status
+names_told script start number made sink status named told says =
+    says_more (λ t. t ≡ cannot_told (record { command = number; inner = None }) fault.File) (Vouches script start) sink status (λ t is. unusable number named is)
+    (says_of (λ t. t ≡ cannot_told (record { command = number; inner = None }) fault.File) made sink status told says)

@@ -3,6 +3,7 @@ pub mod Edit
 pub mod Headline
 pub mod Told
 pub mod Check
+pub mod Names
 pub mod Vouch
 pub mod Run
 pub mod Fits

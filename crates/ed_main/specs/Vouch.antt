@@ -1,6 +1,8 @@
 -- What `vouch` tells of a script.
-use Rattle.std.specs.Prelude.{◌≡◌, ℕ, List}
+use Rattle.std.specs.Prelude.{◌≡◌, ℕ, List, Some, None}
+use Rattle.ed_base.specs.declared.fault.Fault.TheVariants as fault
 use Rattle.ed_syntax.specs.Commands.{Script}
+use Rattle.ed_syntax.specs.reading.Reading.{script_of}
 use Rattle.ed_syntax.specs.spelling.Spellings.{SpellsScript}
 use Rattle.cert_check.specs.Certificates.{certificate_value}
 use Rattle.cert_check.specs.text.HasText.{IsText}
@@ -12,6 +14,7 @@ use Rattle.analyser.specs.declared.analysis.Analysis.{Analysis}
 use Rattle.analyser.specs.declared.analysis.Analysis.TheVariants.{Vouched, Cannot}
 use Rattle.ed_main.specs.declared.told.Told.{Told}
 use Rattle.ed_main.specs.Told.{cannot_told}
+use Rattle.ed_main.specs.Names.{first_unusable}
 
 -- the text of the certificate that vouches, or the need that fails
 abbrev pub IsToldOf : Analysis → Told → Type 0
@@ -28,8 +31,10 @@ pub record IsAnswerFor (script : List ℕ) (start : Start) (answer : Analysis) :
   pub checked : IsChecked read start answer
   pub foretold : IsExactAnswer read start answer
 
--- this is what that answer is told by
-pub record Vouches (script : List ℕ) (start : Start) (told : Told) : Type 0 where
-  pub answer : Analysis
-  pub is_answer : IsAnswerFor script start answer
-  pub told_so : IsToldOf answer told
+-- A script that names no file by what isn't UTF-8 is told by the analyser's answer. Another one is refused at its first command with such a
+-- name, since a run would be refused that file.
+pub data Vouches (script : List ℕ) (start : Start) (told : Told) : Type 0 where
+  answered : (answer : Analysis) → first_unusable (script_of script) ≡ None → IsAnswerFor script start answer → IsToldOf answer told →
+      Vouches script start told
+  unusable : (number : ℕ) → first_unusable (script_of script) ≡ Some number →
+      told ≡ cannot_told (record { command = number; inner = None }) fault.File → Vouches script start told

@@ -8,6 +8,7 @@ mod gathered;
 mod held_writes;
 mod job;
 mod laws;
+mod names;
 mod patterns;
 mod program;
 mod run;

@@ -1,7 +1,8 @@
-//! The needs that fail, what is known there and what to write, as a person reads it.
+//! The needs that fail, what is known there and what to write, as a person reads it; and names that no file can have.
 ghost use Rattle.std.specs.Prelude.{◌≤◌, IfSome};
 ghost use Rattle.ed_rules.specs.LineBounds.{IsAtMost, most_lines};
 
+use crate::stderr::command_line::line_of_command;
 use crate::stderr::reasons::reason_at;
 use crate::stderr::shown::shown_lines;
 use analyser::{Analysis, Start};
@@ -34,6 +35,29 @@ pub fn show_hinted(
             let _ = rt.eprint(text);
         }
     }
+}
+
+/// Shows the command of this number, which counts from 1, as one that names a file by what isn't UTF-8. Without memory nothing is shown.
+pub fn show_unusable(alloc: Global, rt: &impl Eprint, script: &[u8], number: usize) {
+    if let Ok(Some(text)) = unusable_text(alloc, script, number) {
+        let _ = rt.eprint(text);
+    }
+}
+
+/// The line that tells of such a command.
+fn unusable_text(
+    alloc: Global,
+    script: &[u8],
+    number: usize,
+) -> Result<Option<String>, AllocError> {
+    let Some(line) = line_of_command(alloc, script, number)? else {
+        return Ok(None);
+    };
+    let (at, shown, why) = (line.number, line.text.as_str(), Fault::File.text());
+    let lines = format!(in alloc;
+        "error: line {at}, command {number}: {shown}: {why}: the name of its file isn't UTF-8"
+    )?;
+    Ok(Some(shown_lines(alloc, lines.as_str())?))
 }
 
 /// The lines of one refusal.

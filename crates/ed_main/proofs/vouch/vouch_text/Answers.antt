@@ -1,7 +1,5 @@
--- The analyser's answer was told.
-use Rattle.ed_main.proofs.Sayings.{vouches_of}
+-- A command with a name that no file can have was told, whatever the start.
 use Rattle.ed_main.proofs.vouch.vouch_text.Goals as goal
 
-pub returns-in-Ok-answer-clause-says : goal.returns-in-Ok-answer-clause-says
-returns-in-Ok-answer-clause-says g c =
-    vouches_of c.args.script.now c.args.start c.in-Ok-answer.analysis _ _ c.in-Ok-answer.ensures.answers c.tell_answer-status.ensures.says
+pub returns-in-Some-clause-says : goal.returns-in-Some-clause-says
+returns-in-Some-clause-says g c = c.refuse_name.ensures.says c.args.start
