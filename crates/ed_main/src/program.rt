@@ -18,7 +18,7 @@ use crate::held_writes::show_held;
 use crate::job::Job;
 use crate::run::run;
 use crate::stderr::aside::Aside;
-use crate::stderr::notes::show_empty;
+use crate::stderr::notes::{show_empty, show_terminal};
 use crate::stderr::refusals::{Explains, Watched, show_input, show_output, show_unread};
 use crate::stderr::usage::USAGE;
 use crate::vouch::vouch_text;
@@ -31,6 +31,7 @@ use rehearsal::Rehearsal;
 use sources::{In, ReadFault, Source, read_all};
 use std::alloc::Global;
 use std::fs::File;
+use std::io::IsTerminal;
 use std::rt::{Env, Files};
 use std::{env, io};
 
@@ -44,12 +45,15 @@ const USAGE_STATUS: u8 = 4;
 pub fn status_of_run<R>(rt: &R) -> u8
 where
     R: Env + Files<File = File> + Input + Print + Eprint + AllocGlobal,
+    R::Reader: IsTerminal,
     ensures status { result ≤ 4 }
     ensures ending { IsEnding result }
 {
     match job_of_run(rt) {
         Ok(job) => {
-            let mut input = In::new(rt.reader());
+            let reader = rt.reader();
+            show_terminal(rt, &job, reader.is_terminal());
+            let mut input = In::new(reader);
             match script_from(rt.alloc(), &mut input, &job) {
                 Ok(script) => {
                     show_empty(rt.alloc(), rt, script.as_slice(), &job);

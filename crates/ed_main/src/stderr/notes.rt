@@ -1,4 +1,4 @@
-//! What a person is told beside faults: an empty script, and want of memory. No clause speaks of these lines.
+//! What a person is told beside faults: a script that is typed, an empty one, and want of memory. No clause speaks of these lines.
 
 use crate::job::Job;
 use crate::stderr::file_name::quoted_word;
@@ -13,6 +13,13 @@ const SCRIPT: &[u8] = b".ed";
 pub fn show_memory(rt: &impl Eprint, status: u8) {
     if status == Fault::Memory.status() {
         let _ = rt.eprint("error: out of memory\n");
+    }
+}
+
+/// Shows that the script of a job comes from a terminal, where it wants one: else nobody would know what the program waits for.
+pub fn show_terminal(rt: &impl Eprint, job: &Job, is_terminal: bool) {
+    if is_terminal && !matches!(job, Job::Fits { .. }) {
+        let _ = rt.eprint("note: reading the script from the terminal, to its end\n");
     }
 }
 
