@@ -4,7 +4,7 @@ use Rattle.ed_main.specs.Program.{wants_script}
 use Rattle.ed_main.proofs.program.status_of_run.Goals as goal
 
 pub returns-in-Ok-script_from-clause-ending : goal.returns-in-Ok-script_from-clause-ending
-returns-in-Ok-script_from-clause-ending g c = meaning.did c.as_slice.result.now c.in-Ok.job c.in-Ok.ensures.given c.do_job.ensures.did
+returns-in-Ok-script_from-clause-ending g c = meaning.did c.as_slice-in-Ok-script_from.result.now c.in-Ok.job c.in-Ok.ensures.given c.do_job.ensures.did
 
 pub returns-in-Err-script_from-clause-ending : goal.returns-in-Err-script_from-clause-ending
 returns-in-Err-script_from-clause-ending g c =
