@@ -228,18 +228,12 @@ impl<L: BareLines> LineStore for Store<L> {
         self.marks = marks.among(self.lines.len());
     }
 
-    fn flag(&mut self, i: usize) {
+    fn set_flag(&mut self, i: usize, flag: bool) {
         // The proof reads off the count of lines that the count of flags fits.
         let _ = self.lines.len();
-        self.flags = flags_exchanged(self.flags, self.lines.line(i).flag(), true);
-        self.lines.set_flag(i, true);
-        self.unflagged = self.unflagged.min(i);
-    }
-
-    fn unflag(&mut self, i: usize) {
-        let _ = self.lines.len();
-        self.flags = flags_exchanged(self.flags, self.lines.line(i).flag(), false);
-        self.lines.set_flag(i, false);
+        self.flags = flags_exchanged(self.flags, self.lines.line(i).flag(), flag);
+        self.unflagged = place_exchanged(self.unflagged, i, flag);
+        self.lines.set_flag(i, flag);
     }
 
     fn flagged(&self, i: usize) -> bool {

@@ -125,16 +125,10 @@ pub trait LineStore: Drop {
         ensures marked { lines self.new ≡ lettered marks.now 0 (lines self.old) }
         ensures keeps_room { spare self.old ≤ spare self.new };
 
-    /// Flags a line, as a global command does with those that it will take.
-    fn flag(&mut self, i: usize)
+    /// Flags a line, as a global command does with those that it will take, or takes its flag.
+    fn set_flag(&mut self, i: usize, flag: bool)
         requires place { i < length (lines self.old) }
-        ensures flagged { lines self.new ≡ flagged_at i true (lines self.old) }
-        ensures keeps_room { spare self.old ≤ spare self.new };
-
-    /// Takes a line's flag.
-    fn unflag(&mut self, i: usize)
-        requires place { i < length (lines self.old) }
-        ensures unflagged { lines self.new ≡ flagged_at i false (lines self.old) }
+        ensures flagged { lines self.new ≡ flagged_at i flag (lines self.old) }
         ensures keeps_room { spare self.old ≤ spare self.new };
 
     /// Whether a line has the flag.

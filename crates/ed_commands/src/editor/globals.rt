@@ -57,11 +57,7 @@ fn flag_block<S: LineStore>(
     let mut searcher = pattern.searcher(learned);
     for i in from..to {
         let matched = searcher.matches(store.text(i))?;
-        if is_wanted(sense, matched) {
-            store.flag(i);
-        } else {
-            store.unflag(i);
-        }
+        store.set_flag(i, is_wanted(sense, matched));
     }
     let learned = searcher.leave();
     pattern.put_back(learned);
@@ -117,7 +113,7 @@ impl<S: LineStore> Editor<S> {
         let Some(place) = self.store.next_flagged() else {
             return false;
         };
-        self.store.unflag(place);
+        self.store.set_flag(place, false);
         self.current = place + 1;
         true
     }

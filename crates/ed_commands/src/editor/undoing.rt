@@ -112,7 +112,7 @@ pub fn take_flags<S: LineStore>(store: &mut S)
     ensures taken { S.lines store.new ≡ unflagged (S.lines store.old) }
 {
     while let Some(place) = store.next_flagged() {
-        store.unflag(place);
+        store.set_flag(place, false);
     }
 }
 

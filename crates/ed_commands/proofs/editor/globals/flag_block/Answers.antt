@@ -8,7 +8,6 @@ use Rattle.ed_syntax.specs.meaning.Globals.{wanted}
 use Rattle.ed_commands.proofs.Globals.{flagged-more}
 use Rattle.ed_commands.proofs.Searching.{told}
 use Rattle.ed_commands.proofs.editor.globals.flag_block.Goals as goal
-use Rattle.ed_commands.proofs.editor.globals.flag_block.Goals.{then-is_wanted, else-is_wanted}
 
 pub loop-i-preserved : goal.loop-i-preserved
 loop-i-preserved g c =
@@ -19,11 +18,7 @@ loop-i-preserved g c =
     let pattern = c.args.pattern.now in
     let flag = c.is_wanted.result in
     let below : i < length old = omega (arith, c.requires.last) in
-    let after : lines c.if-is_wanted.store ≡ flagged_at i flag now =
-    elim c.if-is_wanted.branch [
-      | then-is_wanted w ↦ ap lines w.store-is ∙ w.flag.ensures.flagged ∙ ap (λ b. flagged_at i b now) (sym w.if-is_wanted.true)
-      | else-is_wanted w ↦ ap lines w.store-is ∙ w.unflag.ensures.unflagged ∙ ap (λ b. flagged_at i b now) (sym w.if-is_wanted.false)
-    ] in
+    let after = c.set_flag.ensures.flagged in
     let matches =
     told pattern (searched c.loop-i.searcher) now i c.text.result.now c.in_ok-matched.matched c.loop-i.invariant.searches
     c.text.ensures.value c.in_ok-matched.ensures.value in
