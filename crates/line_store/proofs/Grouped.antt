@@ -3,7 +3,7 @@ use Rattle.std.proofs.Common.{◌≡◌, ◌≢◌, ℕ, ◌+◌, ◌-◌, ◌*�
 use Rattle.std.proofs.lemmas.Bool.{cases_lt, cases_eq}
 use Rattle.std.proofs.lemmas.List.{get_or_past, get_or_append_left, get_or-append_right}
 use Rattle.std.proofs.lemmas.List.FromFn.{length-map-range_with_len, get_or-map-range_with_len}
-use Rattle.line_store.specs.Starts.{group, in_groups, Grouped}
+use Rattle.line_store.specs.Starts.{group, in_groups, Grouped, OneMore}
 
 pub length-groups : (groups within : List ℕ) → length (in_groups groups within) ≡ length within
 length-groups groups within = length-map-range_with_len (λ k. get_or groups (k / group) 0 + get_or within k 0) 0 (length within)
@@ -20,79 +20,89 @@ get_or-first groups within g grouped h =
     omega (arith, get_or-groups groups within (group * g) within-it, grouped.first g, ap (λ n. get_or groups n 0) e)
 
 -- the numbers of the later chunks of a group, up to `end`, and of the later groups are one more
-pub record Raised (k end : ℕ) (groups within more_groups more_within : List ℕ) : Type 0 where
+pub record Raised (k end last : ℕ) (groups within more_groups more_within : List ℕ) : Type 0 where
   pub chunk : k < length within
   pub ends : end ≡ k + min (group - k % group) (length within - k)
-  pub all : length within ≤ group * length groups
-  pub long : length more_within ≡ length within
-  pub groups_long : length more_groups ≡ length groups
-  pub later : (m : ℕ) → k + 1 ≤ m → m < end → get_or more_within m 0 ≡ get_or within m 0 + 1
-  pub earlier : (m : ℕ) → m < k + 1 → get_or more_within m 0 ≡ get_or within m 0
-  pub beyond : (m : ℕ) → end ≤ m → get_or more_within m 0 ≡ get_or within m 0
-  pub later_groups : (g : ℕ) → k / group + 1 ≤ g → g < length groups → get_or more_groups g 0 ≡ get_or groups g 0 + 1
-  pub earlier_groups : (g : ℕ) → g < k / group + 1 → get_or more_groups g 0 ≡ get_or groups g 0
+  pub last_is : last ≡ length groups
+  pub all : length within ≤ group * last
+  pub of_chunks : OneMore (k + 1) end within more_within
+  pub of_groups : OneMore (k / group + 1) last groups more_groups
 
--- so each later chunk begins one line further
-pub raised-later : {k end : ℕ} {groups within more_groups more_within : List ℕ} (m : ℕ) → Raised k end groups within more_groups more_within → k < m → m < length within →
-    get_or (in_groups more_groups more_within) m 0 ≡ get_or (in_groups groups within) m 0 + 1
-raised-later {k} {end} {groups} {within} {more_groups} {more_within} m r h l =
-    let now = get_or-groups more_groups more_within m (omega (arith, r.long)) in
-    let before = get_or-groups groups within m l in
-    ⊎_elim
-    (λ in_it.
-    let same : m / group < k / group + 1 = omega (arith, r.ends) in
-    omega (arith, r.later m (omega arith) in_it, r.earlier_groups (m / group) same))
-    (λ out.
-    let next : k / group + 1 ≤ m / group = omega (arith, r.ends) in
-    omega (arith, r.beyond m out, r.later_groups (m / group) next (omega (arith, r.all))))
-    (cases_lt m end)
-
--- and no other
-pub raised-earlier : {k end : ℕ} {groups within more_groups more_within : List ℕ} (m : ℕ) → Raised k end groups within more_groups more_within → m ≤ k →
-    get_or (in_groups more_groups more_within) m 0 ≡ get_or (in_groups groups within) m 0
-raised-earlier {k} {end} {groups} {within} {more_groups} {more_within} m r h =
-    let now = get_or-groups more_groups more_within m (omega (arith, r.long, r.chunk)) in
-    let before = get_or-groups groups within m (omega (arith, r.chunk)) in
-    let same : m / group < k / group + 1 = omega arith in
-    omega (arith, r.earlier m (omega arith), r.earlier_groups (m / group) same)
-
--- the first chunk of a group stays there
-raised-first : {k end : ℕ} {groups within more_groups more_within : List ℕ} (g : ℕ) → Raised k end groups within more_groups more_within →
-    get_or more_within (group * g) 0 ≡ get_or within (group * g) 0
-raised-first {k} {end} {groups} {within} {more_groups} {more_within} g r = ⊎_elim
-    (λ l. r.earlier (group * g) l)
-    (λ l. r.beyond (group * g) (omega (arith, r.ends)))
-    (cases_lt (group * g) (k + 1))
-
-pub grouped-raised : {k end : ℕ} {groups within more_groups more_within : List ℕ} → Raised k end groups within more_groups more_within → Grouped groups within →
-    ((m : ℕ) → k < m → m < length within → get_or (in_groups groups within) m 0 < 2 ^ 64 - 1) → Grouped more_groups more_within
-grouped-raised {k} {end} {groups} {within} {more_groups} {more_within} r grouped fits = record {
-  all = omega (arith, r.long, r.groups_long, grouped.all);
-  used = omega (arith, r.long, r.groups_long, grouped.used);
-  first = λ g. raised-first g r ∙ grouped.first g;
-  fits = λ m h.
-      let inside : m < length within = omega (arith, r.long) in
-      let now = get_or-groups more_groups more_within m h in
+module _ {k end last : ℕ} {groups within more_groups more_within : List ℕ}
+    (r : Raised k end last groups within more_groups more_within) where
+  -- so each later chunk begins one line further
+  raised-later : (m : ℕ) → k + 1 ≤ m → m < length within →
+      get_or (in_groups more_groups more_within) m 0 ≡ get_or (in_groups groups within) m 0 + 1
+  raised-later m h l =
+      let now = get_or-groups more_groups more_within m (omega (arith, r.of_chunks.long)) in
+      let before = get_or-groups groups within m l in
       ⊎_elim
-      (λ l. omega (arith, raised-later m r l inside, fits m l inside))
-      (λ l. omega (arith, raised-earlier m r l, get_or-groups groups within m inside, grouped.fits m inside))
-      (cases_lt k m);
-}
+      (λ in_it.
+      let same : m / group < k / group + 1 = omega (arith, r.ends) in
+      omega (arith, r.of_chunks.between m h in_it, r.of_groups.below (m / group) same))
+      (λ out.
+      let next : k / group + 1 ≤ m / group = omega (arith, r.ends) in
+      omega (arith, r.of_chunks.above m out, r.of_groups.between (m / group) next (omega (arith, r.all))))
+      (cases_lt m end)
 
-pub grouped-lowered : {k end : ℕ} {groups within more_groups more_within : List ℕ} → Raised k end groups within more_groups more_within → Grouped more_groups more_within →
-    Grouped groups within
-grouped-lowered {k} {end} {groups} {within} {more_groups} {more_within} r grouped = record {
-  all = r.all;
-  used = omega (arith, r.long, r.groups_long, grouped.used);
-  first = λ g. sym (raised-first g r) ∙ grouped.first g;
-  fits = λ m h.
-      let inside : m < length more_within = omega (arith, r.long) in
-      let now = get_or-groups groups within m h in
-      ⊎_elim
-      (λ l. omega (arith, raised-later m r l h, get_or-groups more_groups more_within m inside, grouped.fits m inside))
-      (λ l. omega (arith, raised-earlier m r l, get_or-groups more_groups more_within m inside, grouped.fits m inside))
-      (cases_lt k m);
-}
+  -- and no other
+  raised-earlier : (m : ℕ) → m < k + 1 → get_or (in_groups more_groups more_within) m 0 ≡ get_or (in_groups groups within) m 0
+  raised-earlier m h =
+      let now = get_or-groups more_groups more_within m (omega (arith, r.of_chunks.long, r.chunk)) in
+      let before = get_or-groups groups within m (omega (arith, r.chunk)) in
+      let same : m / group < k / group + 1 = omega arith in
+      omega (arith, r.of_chunks.below m h, r.of_groups.below (m / group) same)
+
+  pub raised-starts : (all : ℕ) → all ≡ length within →
+      OneMore (k + 1) all (in_groups groups within) (in_groups more_groups more_within)
+  raised-starts all e =
+      let few = length-groups groups within in
+      let many = length-groups more_groups more_within in
+      record {
+        long = omega (arith, r.of_chunks.long);
+        between = λ m h l. raised-later m h (omega arith);
+        below = raised-earlier;
+        above = λ m h. get_or_past (in_groups more_groups more_within) m 0 (omega (arith, r.of_chunks.long))
+            ∙ sym (get_or_past (in_groups groups within) m 0 (omega arith));
+      }
+
+  -- the first chunk of a group stays there
+  raised-first : (g : ℕ) → get_or more_within (group * g) 0 ≡ get_or within (group * g) 0
+  raised-first g = ⊎_elim
+      (λ l. r.of_chunks.below (group * g) l)
+      (λ l. r.of_chunks.above (group * g) (omega (arith, r.ends)))
+      (cases_lt (group * g) (k + 1))
+
+  pub grouped-raised : Grouped groups within →
+      ((m : ℕ) → k < m → m < length within → get_or (in_groups groups within) m 0 < 2 ^ 64 - 1) → Grouped more_groups more_within
+  grouped-raised grouped fits = record {
+    all = omega (arith, r.of_chunks.long, r.of_groups.long, grouped.all);
+    used = omega (arith, r.of_chunks.long, r.of_groups.long, grouped.used);
+    first = λ g. raised-first g ∙ grouped.first g;
+    fits = λ m h.
+        let inside : m < length within = omega (arith, r.of_chunks.long) in
+        let now = get_or-groups more_groups more_within m h in
+        ⊎_elim
+        (λ l. omega (arith, raised-later m (omega arith) inside, fits m l inside))
+        (λ l. omega (arith, raised-earlier m (omega arith), get_or-groups groups within m inside, grouped.fits m inside))
+        (cases_lt k m);
+  }
+
+  -- the same the other way round: the numbers are one less
+  pub grouped-lowered : Grouped more_groups more_within → Grouped groups within
+  grouped-lowered grouped = record {
+    all = omega (arith, r.all, r.last_is);
+    used = omega (arith, r.of_chunks.long, r.of_groups.long, grouped.used);
+    first = λ g. sym (raised-first g) ∙ grouped.first g;
+    fits = λ m h.
+        let inside : m < length more_within = omega (arith, r.of_chunks.long) in
+        let now = get_or-groups groups within m h in
+        let before = get_or-groups more_groups more_within m inside in
+        ⊎_elim
+        (λ l. omega (arith, raised-later m (omega arith) h, grouped.fits m inside))
+        (λ l. omega (arith, raised-earlier m (omega arith), grouped.fits m inside))
+        (cases_lt k m);
+  }
 
 -- where one chunk begins before another of its group, there are lines between
 pub some-within : (k end m : ℕ) (groups within : List ℕ) → end ≡ k + min (group - k % group) (length within - k) → k + 1 ≤ m → m < end →

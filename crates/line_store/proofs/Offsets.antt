@@ -1,9 +1,9 @@
 -- What is known of where chunks begin, as lines come in and go out.
-use Rattle.std.proofs.Common.{◌≡◌, ℕ, ◌+◌, ◌-◌, ◌^◌, ◌<◌, ◌≤◌, List, [], length, get_or, set, ◌∙◌, sym, arith, length-set, ⊎_elim}
+use Rattle.std.proofs.Common.{◌≡◌, ℕ, ◌+◌, ◌-◌, ◌^◌, ◌<◌, ◌≤◌, List, [], length, get_or, set, refl, ◌∙◌, sym, arith, length-set, ⊎_elim}
 use Rattle.std.proofs.lemmas.Bool.{cases_lt}
 use Rattle.ed_base.specs.Buffer.{Line}
 use Rattle.line_store.specs.Starts.{StartsValue}
-use Rattle.line_store.specs.Chunks.{joined, lines_before, room_among, Known, Starts}
+use Rattle.line_store.specs.Chunks.{joined, room_among, Known, Starts}
 use Rattle.line_store.proofs.Joined.{before-most, before-next, before-later, before-set_low, before-set_high, length-joined-set}
 
 -- each chunk's start was counted
@@ -23,63 +23,36 @@ start-more k m count starts chunks known h l some =
     let within : k < length chunks = omega (arith, known.long) in
     omega (arith, known.before k within, known.before m (omega (arith, known.long)), before-next k chunks within, before-later (k + 1) m chunks (omega arith))
 
--- a line more in a chunk
-pub known-raised : (k count : ℕ) (old new : StartsValue) (chunks : List (List Line)) (chunk : List Line) → Known count old chunks → k < length chunks →
-    length chunk ≡ length (get_or chunks k []) + 1 → length new.starts ≡ length old.starts → new.room ≡ old.room →
-    ((m : ℕ) → k < m → m < length old.starts → get_or new.starts m 0 ≡ get_or old.starts m 0 + 1) →
-    ((m : ℕ) → m ≤ k → get_or new.starts m 0 ≡ get_or old.starts m 0) → Known (count + 1) new (set chunks k chunk)
-known-raised k count old new chunks chunk known inside more long room later earlier =
+-- a chunk in place of another, where each later chunk begins as many lines further as it has more
+pub known-moved : (k count after : ℕ) (old new : StartsValue) (chunks : List (List Line)) (chunk : List Line) →
+    Known count old chunks → k < length chunks → after + length (get_or chunks k []) ≡ count + length chunk →
+    length new.starts ≡ length old.starts → new.room ≡ old.room →
+    ((m : ℕ) → k < m → m < length old.starts →
+    get_or new.starts m 0 + length (get_or chunks k []) ≡ get_or old.starts m 0 + length chunk) → ((m : ℕ) → m ≤ k →
+    get_or new.starts m 0 ≡ get_or old.starts m 0) → Known after new (set chunks k chunk)
+known-moved k count after old new chunks chunk known inside size long room later earlier =
     let same = length-set chunks k chunk in
     record {
       all = omega (arith, known.all, length-joined-set k chunks chunk inside);
       room = omega (arith, known.room);
       long = long ∙ known.long ∙ sym same;
       before = λ m h. ⊎_elim
-          (λ l.
-          let e = later m l (omega (arith, known.long)) in
-          omega (arith, known.before m (omega arith), before-set_high m k chunks chunk l inside))
+          (λ l. omega (
+            arith,
+            later m l (omega (arith, known.long)),
+            known.before m (omega arith),
+            before-set_high m k chunks chunk l inside,
+          ))
           (λ l. earlier m l ∙ known.before m (omega arith) ∙ sym (before-set_low m k chunks chunk l))
           (cases_lt k m);
     }
 
--- a line less in a chunk
-pub known-lowered : (k count : ℕ) (old new : StartsValue) (chunks : List (List Line)) (chunk : List Line) → Known count old chunks → k < length chunks →
-    length chunk + 1 ≡ length (get_or chunks k []) → length new.starts ≡ length old.starts → new.room ≡ old.room →
-    ((m : ℕ) → k < m → m < length old.starts → get_or new.starts m 0 + 1 ≡ get_or old.starts m 0) →
-    ((m : ℕ) → m ≤ k → get_or new.starts m 0 ≡ get_or old.starts m 0) → Known (count - 1) new (set chunks k chunk)
-known-lowered k count old new chunks chunk known inside less long room later earlier =
-    let same = length-set chunks k chunk in
-    record {
-      all = omega (arith, known.all, length-joined-set k chunks chunk inside);
-      room = omega (arith, known.room);
-      long = long ∙ known.long ∙ sym same;
-      before = λ m h. ⊎_elim
-          (λ l.
-          let e = later m l (omega (arith, known.long)) in
-          omega (arith, known.before m (omega arith), before-set_high m k chunks chunk l inside))
-          (λ l. earlier m l ∙ known.before m (omega arith) ∙ sym (before-set_low m k chunks chunk l))
-          (cases_lt k m);
-    }
-
--- where a chunk has as many lines as the one in whose place it comes, each chunk begins where it did
-pub before-exchanged : (j k : ℕ) (chunks : List (List Line)) (chunk : List Line) → k < length chunks → length chunk ≡ length (get_or chunks k []) →
-    lines_before j (set chunks k chunk) ≡ lines_before j chunks
-before-exchanged j k chunks chunk inside same = ⊎_elim
-    (λ l. let e = before-set_high j k chunks chunk l inside in omega arith)
-    (λ l. before-set_low j k chunks chunk l)
-    (cases_lt k j)
-
--- and the same is known
-pub known-exchanged : (k count : ℕ) (starts : StartsValue) (chunks : List (List Line)) (chunk : List Line) → Known count starts chunks → k < length chunks →
-    length chunk ≡ length (get_or chunks k []) → Known count starts (set chunks k chunk)
+-- and where it has as many
+pub known-exchanged : (k count : ℕ) (starts : StartsValue) (chunks : List (List Line)) (chunk : List Line) →
+    Known count starts chunks → k < length chunks → length chunk ≡ length (get_or chunks k []) →
+    Known count starts (set chunks k chunk)
 known-exchanged k count starts chunks chunk known inside same =
-    let long = length-set chunks k chunk in
-    record {
-      all = omega (arith, known.all, length-joined-set k chunks chunk inside);
-      room = omega (arith, known.room);
-      long = known.long ∙ sym long;
-      before = λ j h. known.before j (omega arith) ∙ sym (before-exchanged j k chunks chunk inside same);
-    }
+    known-moved k count count starts starts chunks chunk known inside (omega arith) refl refl (λ m h l. omega arith) (λ m h. refl)
 
 -- where no chunk is lost and no line comes in, there is as much room
 pub room-least : (old new : List (List Line)) → length old ≤ length new → length (joined new) ≤ length (joined old) → room_among old ≤ room_among new

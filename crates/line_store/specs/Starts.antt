@@ -11,6 +11,13 @@ pub record StartsValue : Type 0 where
   pub starts : List ℕ
   pub room : ℕ
 
+-- of two rows of numbers the second has one more from place `from` up to `to`, and the same elsewhere
+pub record OneMore (from to : ℕ) (few many : List ℕ) : Type 0 where
+  pub long : length many ≡ length few
+  pub between : (k : ℕ) → from ≤ k → k < to → slice_index_or many k 0 ≡ slice_index_or few k 0 + 1
+  pub below : (k : ℕ) → k < from → slice_index_or many k 0 ≡ slice_index_or few k 0
+  pub above : (k : ℕ) → to ≤ k → slice_index_or many k 0 ≡ slice_index_or few k 0
+
 -- how many lines stand before each chunk: those before its group, and those before it in its group
 abbrev pub in_groups : (groups within : List ℕ) → List ℕ
 in_groups groups within = map (λ k. slice_index_or groups (k / group) 0 + slice_index_or within k 0) (range_with_len 0 (length within))

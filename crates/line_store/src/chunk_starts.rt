@@ -1,6 +1,7 @@
 //! Where chunks begin among all lines.
 ghost use Rattle.std.specs.Prelude.{ℕ, ◌≡◌, ◌+◌, ◌-◌, ◌^◌, ◌<◌, ◌≤◌, [], length, slice_index_or, vec_capacity, OnOk};
 ghost use Rattle.line_store.specs.Chunks.{Starts, joined};
+ghost use Rattle.line_store.specs.Starts.{OneMore};
 
 use crate::chunk::Chunk;
 use std::alloc::{AllocError, Global};
@@ -35,11 +36,8 @@ fn raise(numbers: &mut Vec<usize>, from: usize, to: usize)
     requires order { from ≤ to }
     requires within { to ≤ length numbers.old.items }
     requires fits { (k : ℕ) → from ≤ k → k < to → slice_index_or numbers.old.items k 0 < 2 ^ 64 - 1 }
-    ensures length { length numbers.new.items ≡ length numbers.old.items }
+    ensures raised { OneMore from to numbers.old.items numbers.new.items }
     ensures capacity { vec_capacity numbers.new ≡ vec_capacity numbers.old }
-    ensures raised { (k : ℕ) → from ≤ k → k < to → slice_index_or numbers.new.items k 0 ≡ slice_index_or numbers.old.items k 0 + 1 }
-    ensures below { (k : ℕ) → k < from → slice_index_or numbers.new.items k 0 ≡ slice_index_or numbers.old.items k 0 }
-    ensures above { (k : ℕ) → to ≤ k → slice_index_or numbers.new.items k 0 ≡ slice_index_or numbers.old.items k 0 }
 {
     for k in from..to {
         numbers[k] += 1;
@@ -51,11 +49,8 @@ fn lower(numbers: &mut Vec<usize>, from: usize, to: usize)
     requires order { from ≤ to }
     requires within { to ≤ length numbers.old.items }
     requires some { (k : ℕ) → from ≤ k → k < to → 0 < slice_index_or numbers.old.items k 0 }
-    ensures length { length numbers.new.items ≡ length numbers.old.items }
+    ensures lowered { OneMore from to numbers.new.items numbers.old.items }
     ensures capacity { vec_capacity numbers.new ≡ vec_capacity numbers.old }
-    ensures lowered { (k : ℕ) → from ≤ k → k < to → slice_index_or numbers.new.items k 0 + 1 ≡ slice_index_or numbers.old.items k 0 }
-    ensures below { (k : ℕ) → k < from → slice_index_or numbers.new.items k 0 ≡ slice_index_or numbers.old.items k 0 }
-    ensures above { (k : ℕ) → to ≤ k → slice_index_or numbers.new.items k 0 ≡ slice_index_or numbers.old.items k 0 }
 {
     for k in from..to {
         numbers[k] -= 1;
@@ -112,9 +107,7 @@ impl ChunkStarts {
     pub(crate) fn raise(&mut self, k: usize)
         requires chunk { k < length self.old.starts }
         requires fits { (m : ℕ) → k < m → m < length self.old.starts → slice_index_or self.old.starts m 0 < 2 ^ 64 - 1 }
-        ensures length { length self.new.starts ≡ length self.old.starts }
-        ensures later { (m : ℕ) → k < m → m < length self.old.starts → slice_index_or self.new.starts m 0 ≡ slice_index_or self.old.starts m 0 + 1 }
-        ensures earlier { (m : ℕ) → m ≤ k → slice_index_or self.new.starts m 0 ≡ slice_index_or self.old.starts m 0 }
+        ensures raised { OneMore (k + 1) (length self.old.starts) self.old.starts self.new.starts }
         ensures room { self.new.room ≡ self.old.room }
     {
         let end = k + (GROUP - k % GROUP).min(self.within.len() - k);
@@ -127,9 +120,7 @@ impl ChunkStarts {
     pub(crate) fn lower(&mut self, k: usize)
         requires chunk { k < length self.old.starts }
         requires more { (m : ℕ) → k < m → m < length self.old.starts → slice_index_or self.old.starts k 0 < slice_index_or self.old.starts m 0 }
-        ensures length { length self.new.starts ≡ length self.old.starts }
-        ensures later { (m : ℕ) → k < m → m < length self.old.starts → slice_index_or self.new.starts m 0 + 1 ≡ slice_index_or self.old.starts m 0 }
-        ensures earlier { (m : ℕ) → m ≤ k → slice_index_or self.new.starts m 0 ≡ slice_index_or self.old.starts m 0 }
+        ensures lowered { OneMore (k + 1) (length self.old.starts) self.new.starts self.old.starts }
         ensures room { self.new.room ≡ self.old.room }
     {
         let end = k + (GROUP - k % GROUP).min(self.within.len() - k);

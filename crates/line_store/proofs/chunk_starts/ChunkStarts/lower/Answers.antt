@@ -1,7 +1,7 @@
 -- The later chunks of the group begin one line earlier in it, and the later groups do.
-use Rattle.std.proofs.Common.{◌≡◌, ◌+◌, ◌*◌, ◌<◌, ◌∙◌, ap, sym, length, get_or, arith}
-use Rattle.line_store.specs.Starts.{group}
-use Rattle.line_store.proofs.Grouped.{Raised, length-groups, get_or-first, raised-later, raised-earlier, some-within, grouped-lowered}
+use Rattle.std.proofs.Common.{◌≡◌, ◌+◌, ◌*◌, ◌<◌, ◌∙◌, ap, sym, subst, length, get_or, arith}
+use Rattle.line_store.specs.Starts.{group, in_groups, OneMore}
+use Rattle.line_store.proofs.Grouped.{Raised, length-groups, get_or-first, raised-starts, some-within, grouped-lowered}
 use Rattle.line_store.proofs.chunk_starts.ChunkStarts.lower.Goals as goal
 
 pub overflow_sub-len : goal.overflow_sub-len
@@ -53,67 +53,43 @@ pub invariant_of-self : goal.invariant_of-self
 invariant_of-self c =
     let groups = c.self.inside.groups.items in
     let within = c.self.inside.within.items in
-    let more_groups = c.lower-2.new.numbers.items in
-    let more_within = c.lower.new.numbers.items in
-    let k = c.args.k in
-    let long : length within ≡ length c.args.self.now.starts = sym (length-groups groups within) ∙ ap (λ v. length v.starts) c.self.view_is in
-    let inner : k < length within = omega (arith, c.requires.chunk) in
-    let r : Raised k (k + c.min.result) more_groups more_within groups within = record {
-      chunk = omega (arith, inner, c.lower.ensures.length);
-      ends = omega (arith, c.min.ensures, c.lower.ensures.length);
-      all = omega (arith, c.self.invariant.all, c.lower.ensures.length, c.lower-2.ensures.length);
-      long = sym c.lower.ensures.length;
-      groups_long = sym c.lower-2.ensures.length;
-      later = λ m h l. sym (c.lower.ensures.lowered m h l);
-      earlier = λ m h. sym (c.lower.ensures.below m h);
-      beyond = λ m h. sym (c.lower.ensures.above m h);
-      later_groups = λ g h l. sym (c.lower-2.ensures.lowered g h (omega (arith, c.lower-2.ensures.length)));
-      earlier_groups = λ g h. sym (c.lower-2.ensures.below g h);
+    let fewer_groups = c.lower-2.new.numbers.items in
+    let fewer_within = c.lower.new.numbers.items in
+    let r : Raised c.args.k (c.args.k + c.min.result) c.len-last.result fewer_groups fewer_within groups within = record {
+      chunk = omega (
+        arith,
+        c.requires.chunk,
+        ap (λ v. length v.starts) c.self.view_is,
+        length-groups groups within,
+        c.lower.ensures.lowered.long,
+      );
+      ends = omega (arith, c.min.ensures, c.lower.ensures.lowered.long);
+      last_is = omega (arith, c.len-last.ensures, c.lower-2.ensures.lowered.long);
+      all = omega (arith, c.self.invariant.all, c.len-last.ensures, c.lower.ensures.lowered.long);
+      of_chunks = c.lower.ensures.lowered;
+      of_groups = c.lower-2.ensures.lowered;
     } in
     grouped-lowered r c.self.invariant
 
-pub returns-clause-later : goal.returns-clause-later
-returns-clause-later c = λ m h l.
+pub returns-clause-lowered : goal.returns-clause-lowered
+returns-clause-lowered c =
     let groups = c.self.inside.groups.items in
     let within = c.self.inside.within.items in
-    let more_groups = c.lower-2.new.numbers.items in
-    let more_within = c.lower.new.numbers.items in
-    let k = c.args.k in
-    let long : length within ≡ length c.args.self.now.starts = sym (length-groups groups within) ∙ ap (λ v. length v.starts) c.self.view_is in
-    let inner : k < length within = omega (arith, c.requires.chunk) in
-    let r : Raised k (k + c.min.result) more_groups more_within groups within = record {
-      chunk = omega (arith, inner, c.lower.ensures.length);
-      ends = omega (arith, c.min.ensures, c.lower.ensures.length);
-      all = omega (arith, c.self.invariant.all, c.lower.ensures.length, c.lower-2.ensures.length);
-      long = sym c.lower.ensures.length;
-      groups_long = sym c.lower-2.ensures.length;
-      later = λ m h l. sym (c.lower.ensures.lowered m h l);
-      earlier = λ m h. sym (c.lower.ensures.below m h);
-      beyond = λ m h. sym (c.lower.ensures.above m h);
-      later_groups = λ g h l. sym (c.lower-2.ensures.lowered g h (omega (arith, c.lower-2.ensures.length)));
-      earlier_groups = λ g h. sym (c.lower-2.ensures.below g h);
+    let fewer_groups = c.lower-2.new.numbers.items in
+    let fewer_within = c.lower.new.numbers.items in
+    let r : Raised c.args.k (c.args.k + c.min.result) c.len-last.result fewer_groups fewer_within groups within = record {
+      chunk = omega (
+        arith,
+        c.requires.chunk,
+        ap (λ v. length v.starts) c.self.view_is,
+        length-groups groups within,
+        c.lower.ensures.lowered.long,
+      );
+      ends = omega (arith, c.min.ensures, c.lower.ensures.lowered.long);
+      last_is = omega (arith, c.len-last.ensures, c.lower-2.ensures.lowered.long);
+      all = omega (arith, c.self.invariant.all, c.len-last.ensures, c.lower.ensures.lowered.long);
+      of_chunks = c.lower.ensures.lowered;
+      of_groups = c.lower-2.ensures.lowered;
     } in
-    sym (raised-later m r h (omega (arith, c.lower.ensures.length))) ∙ ap (λ v. get_or v.starts m 0) c.self.view_is
-
-pub returns-clause-earlier : goal.returns-clause-earlier
-returns-clause-earlier c = λ m h.
-    let groups = c.self.inside.groups.items in
-    let within = c.self.inside.within.items in
-    let more_groups = c.lower-2.new.numbers.items in
-    let more_within = c.lower.new.numbers.items in
-    let k = c.args.k in
-    let long : length within ≡ length c.args.self.now.starts = sym (length-groups groups within) ∙ ap (λ v. length v.starts) c.self.view_is in
-    let inner : k < length within = omega (arith, c.requires.chunk) in
-    let r : Raised k (k + c.min.result) more_groups more_within groups within = record {
-      chunk = omega (arith, inner, c.lower.ensures.length);
-      ends = omega (arith, c.min.ensures, c.lower.ensures.length);
-      all = omega (arith, c.self.invariant.all, c.lower.ensures.length, c.lower-2.ensures.length);
-      long = sym c.lower.ensures.length;
-      groups_long = sym c.lower-2.ensures.length;
-      later = λ m h l. sym (c.lower.ensures.lowered m h l);
-      earlier = λ m h. sym (c.lower.ensures.below m h);
-      beyond = λ m h. sym (c.lower.ensures.above m h);
-      later_groups = λ g h l. sym (c.lower-2.ensures.lowered g h (omega (arith, c.lower-2.ensures.length)));
-      earlier_groups = λ g h. sym (c.lower-2.ensures.below g h);
-    } in
-    sym (raised-earlier m r h) ∙ ap (λ v. get_or v.starts m 0) c.self.view_is
+    subst (λ s. OneMore (c.args.k + 1) (length s) (in_groups fewer_groups fewer_within) s) (ap (λ v. v.starts) c.self.view_is)
+    (raised-starts r (length (in_groups groups within)) (length-groups groups within ∙ c.lower.ensures.lowered.long))

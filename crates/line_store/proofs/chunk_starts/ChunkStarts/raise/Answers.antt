@@ -1,7 +1,7 @@
 -- The later chunks of the group begin one line further in it, and the later groups do.
-use Rattle.std.proofs.Common.{◌≡◌, ◌+◌, ◌*◌, ◌<◌, ◌∙◌, ap, sym, length, get_or, arith}
-use Rattle.line_store.specs.Starts.{group}
-use Rattle.line_store.proofs.Grouped.{Raised, length-groups, get_or-groups, get_or-first, raised-later, raised-earlier, grouped-raised}
+use Rattle.std.proofs.Common.{◌≡◌, ◌+◌, ◌*◌, ◌<◌, ◌∙◌, ap, sym, subst, length, get_or, arith}
+use Rattle.line_store.specs.Starts.{group, in_groups, OneMore}
+use Rattle.line_store.proofs.Grouped.{Raised, length-groups, get_or-groups, get_or-first, raised-starts, grouped-raised}
 use Rattle.line_store.proofs.chunk_starts.ChunkStarts.raise.Goals as goal
 
 pub overflow_sub-len : goal.overflow_sub-len
@@ -53,65 +53,46 @@ invariant_of-self c =
     let within = c.self.inside.within.items in
     let more_groups = c.raise-2.new.numbers.items in
     let more_within = c.raise.new.numbers.items in
-    let k = c.args.k in
-    let long : length within ≡ length c.args.self.now.starts = sym (length-groups groups within) ∙ ap (λ v. length v.starts) c.self.view_is in
-    let inner : k < length within = omega (arith, c.requires.chunk) in
-    let r : Raised k (k + c.min.result) groups within more_groups more_within = record {
-      chunk = omega (arith, inner, c.raise.ensures.length);
-      ends = omega (arith, c.min.ensures, c.raise.ensures.length);
-      all = omega (arith, c.self.invariant.all, c.raise.ensures.length, c.raise-2.ensures.length);
-      long = c.raise.ensures.length;
-      groups_long = c.raise-2.ensures.length;
-      later = c.raise.ensures.raised;
-      earlier = c.raise.ensures.below;
-      beyond = c.raise.ensures.above;
-      later_groups = λ g h l. c.raise-2.ensures.raised g h (omega arith);
-      earlier_groups = c.raise-2.ensures.below;
+    let r : Raised c.args.k (c.args.k + c.min.result) c.len-last.result groups within more_groups more_within = record {
+      chunk = omega (
+        arith,
+        c.requires.chunk,
+        ap (λ v. length v.starts) c.self.view_is,
+        length-groups groups within,
+        c.raise.ensures.raised.long,
+      );
+      ends = omega (arith, c.min.ensures, c.raise.ensures.raised.long);
+      last_is = omega (arith, c.len-last.ensures, c.raise-2.ensures.raised.long);
+      all = omega (arith, c.self.invariant.all, c.len-last.ensures, c.raise.ensures.raised.long);
+      of_chunks = c.raise.ensures.raised;
+      of_groups = c.raise-2.ensures.raised;
     } in
-    grouped-raised r c.self.invariant (λ m h l. omega (arith, c.requires.fits m h (omega arith), ap (λ v. get_or v.starts m 0) c.self.view_is))
+    grouped-raised r c.self.invariant
+    (λ m h l. omega (
+      arith,
+      c.requires.fits m h (omega (arith, length-groups groups within, ap (λ v. length v.starts) c.self.view_is)),
+      ap (λ v. get_or v.starts m 0) c.self.view_is,
+    ))
 
-pub returns-clause-later : goal.returns-clause-later
-returns-clause-later c = λ m h l.
+pub returns-clause-raised : goal.returns-clause-raised
+returns-clause-raised c =
     let groups = c.self.inside.groups.items in
     let within = c.self.inside.within.items in
     let more_groups = c.raise-2.new.numbers.items in
     let more_within = c.raise.new.numbers.items in
-    let k = c.args.k in
-    let long : length within ≡ length c.args.self.now.starts = sym (length-groups groups within) ∙ ap (λ v. length v.starts) c.self.view_is in
-    let inner : k < length within = omega (arith, c.requires.chunk) in
-    let r : Raised k (k + c.min.result) groups within more_groups more_within = record {
-      chunk = omega (arith, inner, c.raise.ensures.length);
-      ends = omega (arith, c.min.ensures, c.raise.ensures.length);
-      all = omega (arith, c.self.invariant.all, c.raise.ensures.length, c.raise-2.ensures.length);
-      long = c.raise.ensures.length;
-      groups_long = c.raise-2.ensures.length;
-      later = c.raise.ensures.raised;
-      earlier = c.raise.ensures.below;
-      beyond = c.raise.ensures.above;
-      later_groups = λ g h l. c.raise-2.ensures.raised g h (omega arith);
-      earlier_groups = c.raise-2.ensures.below;
+    let r : Raised c.args.k (c.args.k + c.min.result) c.len-last.result groups within more_groups more_within = record {
+      chunk = omega (
+        arith,
+        c.requires.chunk,
+        ap (λ v. length v.starts) c.self.view_is,
+        length-groups groups within,
+        c.raise.ensures.raised.long,
+      );
+      ends = omega (arith, c.min.ensures, c.raise.ensures.raised.long);
+      last_is = omega (arith, c.len-last.ensures, c.raise-2.ensures.raised.long);
+      all = omega (arith, c.self.invariant.all, c.len-last.ensures, c.raise.ensures.raised.long);
+      of_chunks = c.raise.ensures.raised;
+      of_groups = c.raise-2.ensures.raised;
     } in
-    raised-later m r h (omega arith) ∙ ap (λ v. get_or v.starts m 0 + 1) c.self.view_is
-
-pub returns-clause-earlier : goal.returns-clause-earlier
-returns-clause-earlier c = λ m h.
-    let groups = c.self.inside.groups.items in
-    let within = c.self.inside.within.items in
-    let more_groups = c.raise-2.new.numbers.items in
-    let more_within = c.raise.new.numbers.items in
-    let k = c.args.k in
-    let long : length within ≡ length c.args.self.now.starts = sym (length-groups groups within) ∙ ap (λ v. length v.starts) c.self.view_is in
-    let inner : k < length within = omega (arith, c.requires.chunk) in
-    let r : Raised k (k + c.min.result) groups within more_groups more_within = record {
-      chunk = omega (arith, inner, c.raise.ensures.length);
-      ends = omega (arith, c.min.ensures, c.raise.ensures.length);
-      all = omega (arith, c.self.invariant.all, c.raise.ensures.length, c.raise-2.ensures.length);
-      long = c.raise.ensures.length;
-      groups_long = c.raise-2.ensures.length;
-      later = c.raise.ensures.raised;
-      earlier = c.raise.ensures.below;
-      beyond = c.raise.ensures.above;
-      later_groups = λ g h l. c.raise-2.ensures.raised g h (omega arith);
-      earlier_groups = c.raise-2.ensures.below;
-    } in
-    raised-earlier m r h ∙ ap (λ v. get_or v.starts m 0) c.self.view_is
+    subst (λ s. OneMore (c.args.k + 1) (length s) s (in_groups more_groups more_within)) (ap (λ v. v.starts) c.self.view_is)
+    (raised-starts r (length (in_groups groups within)) (length-groups groups within))

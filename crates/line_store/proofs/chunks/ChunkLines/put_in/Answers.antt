@@ -1,9 +1,9 @@
 -- Each later chunk has a line more before it.
-use Rattle.std.proofs.Common.{◌≡◌, ◌<◌, ◌∙◌, [], ap, length, get_or, insert, arith}
+use Rattle.std.proofs.Common.{◌≡◌, ◌+◌, ◌<◌, ◌∙◌, [], ap, length, get_or, insert, arith}
 use Rattle.std.proofs.lemmas.List.{get_or_default}
 use Rattle.std.proofs.lemmas.List.Edits.{length-insert}
 use Rattle.line_store.specs.Chunks.{joined}
-use Rattle.line_store.proofs.Offsets.{start-fits, known-raised}
+use Rattle.line_store.proofs.Offsets.{start-fits, known-moved}
 use Rattle.line_store.proofs.chunks.ChunkLines.put_in.Goals as goal
 
 pub raise-requires-clause-fits : goal.raise-requires-clause-fits
@@ -20,6 +20,10 @@ invariant_of-self c =
     let within : k < length chunks = omega (arith, c.requires.chunk, ap (λ v. length v.chunks) c.self.view_is) in
     let chunk : c.index_mut.result.now ≡ get_or chunks k [] = c.index_mut.ensures.value ∙ get_or_default chunks k c.index_mut.result.now [] within in
     let is = c.insert.ensures.inserted ∙ ap (λ t. insert t place c.args.line) chunk in
-    known-raised k e.count e.starts c.raise.new.self chunks c.insert.new.self c.self.invariant within
-    (ap length is ∙ length-insert (get_or chunks k []) place c.args.line (omega (arith, c.requires.place, ap (λ v. length (get_or v.chunks k [])) c.self.view_is)))
-    c.raise.ensures.length c.raise.ensures.room c.raise.ensures.later c.raise.ensures.earlier
+    let raised = c.raise.ensures.raised in
+    let size : length c.insert.new.self ≡ length (get_or chunks k []) + 1 =
+    ap length is ∙ length-insert (get_or chunks k []) place c.args.line
+    (omega (arith, c.requires.place, ap (λ v. length (get_or v.chunks k [])) c.self.view_is)) in
+    known-moved k e.count (e.count + 1) e.starts c.raise.new.self chunks c.insert.new.self c.self.invariant within (omega arith) raised.long
+    c.raise.ensures.room
+    (λ m h l. omega (arith, raised.between m (omega arith) l)) (λ m h. raised.below m (omega arith))
