@@ -60,16 +60,8 @@ pub fn accepted_scripts_cannot_fail()
     ensures sound { (script : ed.Script) (c : plain.Certificate) → IsTrue (list_all is_step script.steps) →
         judged script c ≡ Accepted → CannotFail script c }
 {
-    commands_are_sound();
-    globals_are_sound();
-    needs_are_the_same_whatever_is_watched();
-    checked_globals_go_well();
-    commands_are_placed();
-    covering_is_decided();
     starts_are_sound();
-    weaker_states_stand_for_more();
-    known_bounds_are_true();
-    unnamed_letters_change_nothing();
+    marked_starts_suffice();
 }
 
 /// Where a state stands for each allowed start with marks that the script doesn't name on its lines, and the checks from that state on
@@ -83,7 +75,6 @@ pub fn marked_starts_suffice()
     checked_globals_go_well();
     commands_are_placed();
     covering_is_decided();
-    starts_are_sound();
     weaker_states_stand_for_more();
     known_bounds_are_true();
     unnamed_letters_change_nothing();

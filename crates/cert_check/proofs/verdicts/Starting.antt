@@ -85,15 +85,17 @@ marked-safe k erased lines w script c first marks stands shape h begun o answers
     (start-well c c.path (present o) (steps script.steps script.fault) answers refl allowed goes)
 
 -- a start without marks is such a start
-pub accepted-safe : RunLaws → StartsMayBeMarked → MarkedLinesAreWell → (script : Script) (c : Certificate) → IsTrue (list_all is_step script.steps) → judged script c ≡ Accepted → CannotFail script c
-accepted-safe k erased lines script c stands h =
+pub accepted-safe : StartIsSound → MarkedStartsSuffice → (script : Script) (c : Certificate) →
+    IsTrue (list_all is_step script.steps) → judged script c ≡ Accepted → CannotFail script c
+accepted-safe sound suffice script c stands h =
     let w : Sight = seen_by script c in
     let shape = first-holds (are_shaped (counted script.steps) c.notes) _ _ h in
-    marked-safe k erased lines w script c (told w (start c.path c.min c.max c.has)) (λ bytes. []) stands shape.0 shape.1
+    suffice w script c (told w (start c.path c.min c.max c.has)) (λ bytes. []) stands shape.0 shape.1
     (λ bytes within. (
       refl,
-      subst (λ (v : Version). StandsFor (told_by v (start c.path c.min c.max c.has)) (opened c.path bytes)) (sym (seen-version script c.version c.has))
-          (started k.started c.version c.path c.min c.max c.has bytes within.0 within.1),
+      subst (λ (v : Version). StandsFor (told_by v (start c.path c.min c.max c.has)) (opened c.path bytes))
+          (sym (seen-version script c.version c.has))
+          (started sound c.version c.path c.min c.max c.has bytes within.0 within.1),
     ))
 
 -- VERSION 1

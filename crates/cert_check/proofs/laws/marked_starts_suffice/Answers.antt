@@ -15,7 +15,6 @@ returns c =
       global = c.checked_globals_go_well.ensures.sound;
       placed = c.commands_are_placed.ensures.placed;
       no_flags = c.globals_are_sound.ensures.no_flags;
-      started = c.starts_are_sound.ensures.sound;
       known = c.known_bounds_are_true.ensures.known;
     } in
     record { sound = marked-safe laws c.unnamed_letters_change_nothing.ensures.start c.unnamed_letters_change_nothing.ensures.lines }
