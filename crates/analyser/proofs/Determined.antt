@@ -1,7 +1,7 @@
 -- A script has one answer over a start.
 use Rattle.std.proofs.Common.{◌≡◌, ◌<◌, ◌+◌, ℕ, Bool, true, false, List, [], ◌∷◌, length, Option, None, Some, inl, inr, refl, sym, ap, subst, ◌∙◌, arith}
 use Rattle.std.specs.List.{Contains}
-use Rattle.std.proofs.lemmas.Bool.{cases_lt}
+use Rattle.std.proofs.lemmas.Bool.{cases_lt, true≢false}
 use Rattle.ed_base.specs.declared.fault.Fault.{Fault}
 use Rattle.zones.specs.Known.{least, greatest}
 use Rattle.ed_syntax.specs.Commands.{Command, Step, Script}
@@ -12,6 +12,8 @@ use Rattle.cert_check.specs.declared.sight.Sight.{Sight}
 use Rattle.cert_check.specs.declared.checker.verdict.Place.{Place}
 use Rattle.cert_check.specs.Certificates.{Looped, Note, Certificate}
 use Rattle.cert_check.specs.checker.Valid.{counted, has_quit, are_met, left_by, left_after}
+use Rattle.cert_check.proofs.texts.Unambiguous.{looped-by, note-by}
+use Rattle.cert_check.proofs.texts.OneText.{certificate-by}
 use Rattle.analyser.specs.declared.analysis.Start.{Start}
 use Rattle.analyser.specs.Rounds.{round_invariant, ends, AreInner, InnerFail, entered, IsSettled}
 use Rattle.analyser.specs.Following.{IsKnownOfList, IsNote, ListFails, NeedFails, AreNotes, NotesFail, result_from, paths_from, sight_over, begun, end_fault}
@@ -21,14 +23,10 @@ use Rattle.analyser.proofs.Rounding.{unmet-some}
 
 -- A LIST
 
-not-both : (b : Bool) → b ≡ true → b ≡ false → ⊥
-not-both true e f = absurd cc
-not-both false e f = absurd cc
-
 -- a round that ends isn't before another one that is the first to end
 not-before : (w : Sight) (x : Step) (first one other : State) (a : IsSettled w x first one) (b : IsSettled w x first other) → a.before < b.before → ⊥
 not-before w x first one other a b l =
-    not-both (ends w x one) a.last (subst (λ (s : State). ends w x s ≡ false) (sym a.is) (b.none_before a.before l))
+    true≢false (sym a.last ∙ subst (λ (s : State). ends w x s ≡ false) (sym a.is) (b.none_before a.before l))
 
 settled-once : (w : Sight) (x : Step) (first one other : State) → IsSettled w x first one → IsSettled w x first other → one ≡ other
 settled-once w x first one other a b = elim (cases_lt a.before b.before) [
@@ -55,8 +53,9 @@ inner-holds_or_fails : (w : Sight) (why : Fault) (cs : List Command) (s : State)
 inner-holds_or_fails w why [] s ts us h k = k
 inner-holds_or_fails w why (c ∷ cs) s [] us h k = h
 inner-holds_or_fails w why (c ∷ cs) s (t ∷ ts) [] h k = k
-inner-holds_or_fails w why (c ∷ cs) s (t ∷ ts) (u ∷ []) h k = not-both (are_met c s) h.1 (unmet-some c s why k.1)
-inner-holds_or_fails w why (c ∷ cs) s (t ∷ ts) (u ∷ v ∷ us) h k = inner-holds_or_fails w why cs (left_by w c s) ts (v ∷ us) h.2 k.2
+inner-holds_or_fails w why (c ∷ cs) s (t ∷ ts) (u ∷ []) h k = true≢false (sym h.1 ∙ unmet-some c s why k.1)
+inner-holds_or_fails w why (c ∷ cs) s (t ∷ ts) (u ∷ v ∷ us) h k =
+    inner-holds_or_fails w why cs (left_by w c s) ts (v ∷ us) h.2 k.2
 
 -- the fault and the states of a list's first need that fails
 abbrev pub Same : {A : Type 0} → (why other : Fault) → (a b : A) → Type 0
@@ -71,8 +70,8 @@ inner-fails-once w why other (c ∷ cs) s (t ∷ []) (u ∷ []) h k =
     let here : t ≡ u = h.0 ∙ sym k.0 in
     let faults : Some why ≡ Some other = sym h.1 ∙ k.1 in
     (cc, cc)
-inner-fails-once w why other (c ∷ cs) s (t ∷ []) (u ∷ z ∷ us) h k = absurd (not-both (are_met c s) k.1 (unmet-some c s why h.1))
-inner-fails-once w why other (c ∷ cs) s (t ∷ v ∷ ts) (u ∷ []) h k = absurd (not-both (are_met c s) h.1 (unmet-some c s other k.1))
+inner-fails-once w why other (c ∷ cs) s (t ∷ []) (u ∷ z ∷ us) h k = absurd (true≢false (sym k.1 ∙ unmet-some c s why h.1))
+inner-fails-once w why other (c ∷ cs) s (t ∷ v ∷ ts) (u ∷ []) h k = absurd (true≢false (sym h.1 ∙ unmet-some c s other k.1))
 inner-fails-once w why other (c ∷ cs) s (t ∷ v ∷ ts) (u ∷ z ∷ us) h k =
     let here : t ≡ u = h.0 ∙ sym k.0 in
     let later = inner-fails-once w why other cs (left_by w c s) (v ∷ ts) (z ∷ us) h.2 k.2 in
@@ -81,13 +80,8 @@ inner-fails-once w why other (c ∷ cs) s (t ∷ v ∷ ts) (u ∷ z ∷ us) h k 
 
 -- ONE COMMAND
 
-same-looped : (one other : Looped) → one.invariant ≡ other.invariant → one.inner ≡ other.inner → one ≡ other
-same-looped one other e f = λ k. record { invariant = e k; inner = f k }
-
-same-note : (one other : Note) → one.state ≡ other.state → one.looped ≡ other.looped → one ≡ other
-same-note one other e f = λ k. record { state = e k; looped = f k }
-
-known-once : (w : Sight) (global : Bool) (x : Step) (s : State) (l m : Option Looped) → IsKnownOfList w global x s l → IsKnownOfList w global x s m → l ≡ m
+known-once : (w : Sight) (global : Bool) (x : Step) (s : State) (l m : Option Looped) → IsKnownOfList w global x s l →
+    IsKnownOfList w global x s m → l ≡ m
 known-once w false x s None None h k = refl
 known-once w false x s None (Some m) h k = absurd k
 known-once w false x s (Some l) m h k = absurd h
@@ -95,11 +89,14 @@ known-once w true x s None m h k = absurd h
 known-once w true x s (Some l) None h k = absurd k
 known-once w true x s (Some l) (Some m) h k =
     let invariant : l.invariant ≡ m.invariant = settled-once w x (left_by w x.command s) l.invariant m.invariant h.0 k.0 in
-    let inner : l.inner ≡ m.inner = inner-once w x.list (entered w x l.invariant) l.inner m.inner h.1 (subst (λ (u : State). AreInner w x.list (entered w x u) m.inner) (sym invariant) k.1) in
-    ap (λ (n : Looped). Some n) (same-looped l m invariant inner)
+    let inner : l.inner ≡ m.inner =
+    inner-once w x.list (entered w x l.invariant) l.inner m.inner h.1
+    (subst (λ (u : State). AreInner w x.list (entered w x u) m.inner) (sym invariant) k.1) in
+    ap (λ (n : Looped). Some n) (looped-by l m invariant inner)
 
 note-once : (w : Sight) (x : Step) (s : State) (n m : Note) → IsNote w x s n → IsNote w x s m → n ≡ m
-note-once w x s n m h k = same-note n m (h.state ∙ sym k.state) (known-once w (is_global x.command.verb) x s n.looped m.looped h.list k.list)
+note-once w x s n m h k =
+    note-by n m (h.state ∙ sym k.state) (known-once w (is_global x.command.verb) x s n.looped m.looped h.list k.list)
 
 list-holds_or_fails : (w : Sight) (inner : ℕ) (why : Fault) (x : Step) (s : State) (l m : Looped) → IsKnownOfList w true x s (Some l) → ListFails w inner why x s m → ⊥
 list-holds_or_fails w inner why x s l m h k =
@@ -108,10 +105,10 @@ list-holds_or_fails w inner why x s l m h k =
 
 holds_or_fails-if : (w : Sight) (global : Bool) (inner : Option ℕ) (why : Fault) (x : Step) (s : State) (l m : Option Looped) → global ≡ is_global x.command.verb → are_met x.command s ≡ true → IsKnownOfList w global x s l →
     NeedFails w inner why x s m → ⊥
-holds_or_fails-if w global None why x s l None e met h k = not-both (are_met x.command s) met (unmet-some x.command s why k)
+holds_or_fails-if w global None why x s l None e met h k = true≢false (sym met ∙ unmet-some x.command s why k)
 holds_or_fails-if w global None why x s l (Some m) e met h k = k
 holds_or_fails-if w global (Some inner) why x s l None e met h k = k
-holds_or_fails-if w false (Some inner) why x s l (Some m) e met h k = not-both (is_global x.command.verb) k.global (sym e)
+holds_or_fails-if w false (Some inner) why x s l (Some m) e met h k = true≢false (sym k.global ∙ sym e)
 holds_or_fails-if w true (Some inner) why x s None (Some m) e met h k = h
 holds_or_fails-if w true (Some inner) why x s (Some l) (Some m) e met h k = list-holds_or_fails w inner why x s l m h k
 
@@ -129,10 +126,10 @@ need-once w None None why other x s None None h k = let faults : Some why ≡ So
 need-once w None None why other x s None (Some m) h k = absurd k
 need-once w None None why other x s (Some l) m h k = absurd h
 need-once w None (Some place) why other x s None None h k = absurd k
-need-once w None (Some place) why other x s None (Some m) h k = absurd (not-both (are_met x.command s) k.met (unmet-some x.command s why h))
+need-once w None (Some place) why other x s None (Some m) h k = absurd (true≢false (sym k.met ∙ unmet-some x.command s why h))
 need-once w None (Some place) why other x s (Some l) m h k = absurd h
 need-once w (Some inner) None why other x s None m h k = absurd h
-need-once w (Some inner) None why other x s (Some l) None h k = absurd (not-both (are_met x.command s) h.met (unmet-some x.command s other k))
+need-once w (Some inner) None why other x s (Some l) None h k = absurd (true≢false (sym h.met ∙ unmet-some x.command s other k))
 need-once w (Some inner) None why other x s (Some l) (Some m) h k = absurd k
 need-once w (Some inner) (Some place) why other x s None m h k = absurd h
 need-once w (Some inner) (Some place) why other x s (Some l) None h k = absurd k
@@ -141,7 +138,7 @@ need-once w (Some inner) (Some place) why other x s (Some l) (Some m) h k =
     let same = inner-fails-once w why other x.list (entered w x l.invariant) l.inner m.inner h.states (subst (λ (u : State). InnerFail w other x.list (entered w x u) m.inner) (sym invariant) k.states) in
     let states : l.inner ≡ m.inner = same.1 in
     let number : inner ≡ place = h.number ∙ ap (λ (ts : List State). length ts) states ∙ sym k.number in
-    record { inner = ap (λ (n : ℕ). Some n) number; why = same.0; known = ap (λ (n : Looped). Some n) (same-looped l m invariant states) }
+    record { inner = ap (λ (n : ℕ). Some n) number; why = same.0; known = ap (λ (n : Looped). Some n) (looped-by l m invariant states) }
 
 -- COMMANDS ONE AFTER ANOTHER
 
@@ -172,7 +169,7 @@ notes-fail-once w inner place why other (x ∷ xs) s (n ∷ []) [] h k = absurd 
 notes-fail-once w inner place why other (x ∷ xs) s (n ∷ o ∷ ns) [] h k = absurd k
 notes-fail-once w inner place why other (x ∷ xs) s (n ∷ []) (m ∷ []) h k =
     let same = need-once w inner place why other x s n.looped m.looped h.1 k.1 in
-    let note : n ≡ m = same-note n m (h.0 ∙ sym k.0) same.known in
+    let note : n ≡ m = note-by n m (h.0 ∙ sym k.0) same.known in
     record { inner = same.inner; why = same.why; known = cc }
 notes-fail-once w inner place why other (x ∷ xs) s (n ∷ []) (m ∷ p ∷ ms) h k = absurd (note-holds_or_fails w inner why x s m n.looped k.0 h.1)
 notes-fail-once w inner place why other (x ∷ xs) s (n ∷ o ∷ ns) (m ∷ []) h k = absurd (note-holds_or_fails w place other x s n m.looped h.0 k.1)
@@ -198,22 +195,8 @@ either-comes script start c place why notes h (inr fails) =
     let faults : None ≡ Some why = sym none ∙ fails.fails in
     absurd cc
 
-same-certificate : (one other : Certificate) → one.version ≡ other.version → one.path ≡ other.path → one.min ≡ other.min → one.max ≡ other.max → one.has ≡ other.has → one.notes ≡ other.notes → one.last ≡ other.last →
-    one.low ≡ other.low → one.high ≡ other.high → one.writes ≡ other.writes → one ≡ other
-same-certificate one other version path min max has notes last low high writes = λ k. record {
-  version = version k;
-  path = path k;
-  min = min k;
-  max = max k;
-  has = has k;
-  notes = notes k;
-  last = last k;
-  low = low k;
-  high = high k;
-  writes = writes k;
-}
-
-pub certificate-once : (script : Script) (start : Start) (one other : Certificate) → IsCertificate script start one → IsCertificate script start other → one ≡ other
+pub certificate-once : (script : Script) (start : Start) (one other : Certificate) → IsCertificate script start one →
+    IsCertificate script start other → one ≡ other
 certificate-once script start one other h k =
     let w : Sight = sight_over script start in
     let xs : List Step = counted script.steps in
@@ -224,7 +207,8 @@ certificate-once script start one other h k =
     rising-once one.writes other.writes h.writes.rising k.writes.rising
     (λ p m. (k.writes.just p).1 (subst (λ (cs : List Choice). Contains cs (Some p)) paths ((h.writes.just p).0 m)))
     (λ p m. (h.writes.just p).1 (subst (λ (cs : List Choice). Contains cs (Some p)) (sym paths) ((k.writes.just p).0 m))) in
-    same-certificate one other (h.version ∙ sym k.version) (h.path ∙ sym k.path) (h.min ∙ sym k.min) (h.max ∙ sym k.max) (h.has ∙ sym k.has) notes last
+    certificate-by one other (h.version ∙ sym k.version) (h.path ∙ sym k.path) (h.min ∙ sym k.min) (h.max ∙ sym k.max)
+    (h.has ∙ sym k.has) notes last
     (h.low ∙ ap (λ (s : State). low_of (least s.zone 2 0)) last ∙ sym k.low)
     (h.high ∙ ap (λ (s : State). high_of (greatest s.zone 2 0)) last ∙ sym k.high) writes
 

@@ -10,7 +10,7 @@ use Rattle.ed_syntax.specs.declared.request.Answer.{Answer}
 use Rattle.ed_syntax.specs.declared.request.Answer.TheVariants as answer
 use Rattle.ed_syntax.specs.declared.request.Request.{Request}
 use Rattle.ed_syntax.specs.Commands as ed
-use Rattle.ed_syntax.specs.Commands.{Addresses, Without, One, Comma, Semicolon, Form, Verb, Command, Step, Script, alone}
+use Rattle.ed_syntax.specs.Commands.{Addresses, Without, One, Comma, Semicolon, Form, Verb, Command, Step}
 use Rattle.ed_syntax.specs.meaning.States as editor
 use Rattle.ed_syntax.specs.meaning.Effects.{Outcome, Effect, Makes, Asks}
 use Rattle.ed_syntax.specs.meaning.Applied.{command}
@@ -31,6 +31,7 @@ use Rattle.cert_check.specs.declared.certificate.Version.TheVariants as version
 use Rattle.cert_check.specs.declared.sight.Sight.{Sight}
 use Rattle.cert_check.specs.checker.Valid.{told_by, told}
 use Rattle.cert_check.proofs.verdicts.Checks.{NeedsAreTheSame}
+use Rattle.cert_check.proofs.verdicts.Running.{turned-state}
 use Rattle.analyser.specs.Exactness.{quit_anyway}
 use Rattle.analyser.proofs.ExactWalks.{ended, walked, goes_on, walked-fails, exact-verb, exact-both}
 
@@ -49,11 +50,6 @@ AreDone answers = All (λ (a : Answer). a ≡ answer.Done) answers
 pub prompted-stop : (m : Present) (p : Progress) → stop_of (prompted m p) ≡ stop_of p
 prompted-stop m p = elim m.prompting as (λ b. stop_of
     (elim b as (λ _. Progress) [ true ↦ Writes m.help m.prompt p | false ↦ p ]) ≡ stop_of p) [ true ↦ refl | false ↦ refl ]
-
-turned-state : (verb : Verb) (m : Present) → (turned verb m).state ≡ m.state
-turned-state ed.HelpMode m = refl
-turned-state ed.PromptMode m = refl
-turned-state _ m = refl
 
 -- ONE COMMAND
 

@@ -1,6 +1,6 @@
 -- The walk over commands, one command further.
-use Rattle.std.proofs.Common.{◌≡◌, ◌<◌, ◌+◌, ℕ, Bool, true, false, ◌||◌, List, [], ◌∷◌, ◌++◌, length, get_or, map, drop, Option, option_map, refl, sym, ap, ◌∙◌, subst, arith, add-one, drop-cons}
-use Rattle.std.proofs.lemmas.List.{length-map, map-append}
+use Rattle.std.proofs.Common.{◌≡◌, ◌<◌, ◌+◌, ℕ, Bool, true, false, ◌||◌, List, [], ◌∷◌, ◌++◌, length, get_or, map, drop, Option, option_map, refl, sym, ap, ◌∙◌, subst, arith}
+use Rattle.std.proofs.lemmas.List.{length-map, map-append, drop_all}
 use Rattle.ed_base.specs.declared.fault.Fault.{Fault}
 use Rattle.ed_syntax.specs.declared.command.Command.{Command}
 use Rattle.ed_syntax.specs.Commands.{Step}
@@ -15,6 +15,7 @@ use Rattle.cert_check.specs.Certificates.{Looped, Note, looped_value, note_value
 use Rattle.cert_check.specs.checker.Valid.{has_quit, counted, left_after}
 use Rattle.cert_check.specs.declared.sight.Sight.{Sight}
 use Rattle.cert_check.specs.declared.checker.verdict.Place.{Place}
+use Rattle.cert_check.proofs.verdicts.Counting.{at-place}
 use Rattle.analyser.specs.Following.{IsNote, NeedFails, AreNotes, NotesFail, result_from, list_paths, looped_paths, paths_from}
 use Rattle.analyser.specs.declared.walk.Walk.{Walk}
 use Rattle.analyser.specs.declared.walk.End.{End}
@@ -94,10 +95,6 @@ gone w all start number notes writes s g = record {
 abbrev more_counted : Bool → List Step → List Step
 more_counted ends later = elim ends as (λ _. List Step) [ true ↦ [] | false ↦ counted later ]
 
-pub at-place : (commands : List Command) (i : ℕ) (d : Command) → i < length commands → d ≡ get_or commands i d → drop i commands ≡ d ∷ drop (i + 1) commands
-at-place commands i d h is =
-    drop-cons commands i d h ∙ ap (λ n. get_or commands i d ∷ drop n commands) (sym (add-one i)) ∙ ap (λ (e : Command). e ∷ drop (i + 1) commands) (sym is)
-
 -- from a command on, whether or not it ends the run
 abbrev pub counted_from : List Command → (i : ℕ) → List Step
 counted_from commands i = counted (steps_value (drop i commands))
@@ -127,26 +124,21 @@ pub quit-off : (commands : List Command) (i : ℕ) (d : Command) → i < length 
     has_quit (steps_value commands) ≡ has_quit (steps_value (drop i commands)) → has_quit (steps_value commands) ≡ true
 quit-off commands i d h is e q = q ∙ quit-here commands i d h is ∙ ap (λ (b : Bool). b || has_quit (steps_value (drop (i + 1) commands))) e
 
-none-left : (commands : List Command) → drop (length commands) commands ≡ []
-none-left [] = refl
-none-left (c ∷ cs) = none-left cs
-
 pub counted-none : (commands : List Command) (i : ℕ) → i ≡ length commands → drop i commands ≡ []
-counted-none commands i e = ap (λ n. drop n commands) e ∙ none-left commands
+counted-none commands i e = drop_all i commands (omega arith)
 
 -- THE PATHS OF A LIST
 
-state-at : (states : List State) (i : ℕ) (s : State) → i < length states → s ≡ get_or states i s → drop i states ≡ s ∷ drop (i + 1) states
-state-at states i s h is =
-    drop-cons states i s h ∙ ap (λ n. get_or states i s ∷ drop n states) (sym (add-one i)) ∙ ap (λ (t : State). t ∷ drop (i + 1) states) (sym is)
-
-pub inner-paths : (list : List Command) (states : List State) (i : ℕ) (d : Command) (s : State) (writes listed : List (List ℕ)) → i < length list → i < length states → d ≡ get_or list i d → s ≡ get_or states i s →
+pub inner-paths : (list : List Command) (states : List State) (i : ℕ) (d : Command) (s : State) (writes listed : List (List ℕ)) →
+    i < length list → i < length states → d ≡ get_or list i d → s ≡ get_or states i s →
     listed ≡ with_paths (written_paths (command_value d).verb s) writes →
     with_paths (list_paths (map command_value (drop i list)) (drop i states)) writes ≡ with_paths (list_paths (map command_value (drop (i + 1) list)) (drop (i + 1) states)) listed
 inner-paths list states i d s writes listed in_list in_states is at put =
     ap (λ (cs : List Command). with_paths (list_paths (map command_value cs) (drop i states)) writes) (at-place list i d in_list is)
-    ∙ ap (λ (ts : List State). with_paths (list_paths (command_value d ∷ map command_value (drop (i + 1) list)) ts) writes) (state-at states i s in_states at)
-    ∙ with_paths-append (written_paths (command_value d).verb s) (list_paths (map command_value (drop (i + 1) list)) (drop (i + 1) states)) writes
+    ∙ ap (λ (ts : List State). with_paths (list_paths (command_value d ∷ map command_value (drop (i + 1) list)) ts) writes)
+    (at-place states i s in_states at)
+    ∙ with_paths-append (written_paths (command_value d).verb s)
+    (list_paths (map command_value (drop (i + 1) list)) (drop (i + 1) states)) writes
     ∙ ap (λ (ws : List (List ℕ)). with_paths (list_paths (map command_value (drop (i + 1) list)) (drop (i + 1) states)) ws) (sym put)
 
 -- THE WALK

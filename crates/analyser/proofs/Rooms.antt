@@ -7,14 +7,14 @@ use Rattle.std.specs.Cmp.Lexicographic.{pointwise, bytes_decides}
 use Rattle.std.proofs.lemmas.Int.{ints}
 use Rattle.std.proofs.lemmas.Bool.{cases_lt, and_parts, or_cases, or_left, or_right}
 use Rattle.std.proofs.lemmas.List.FromFn.{get_or-map-range_with_len}
-use Rattle.zones.specs.Bound.{IsKept, covers_bound}
+use Rattle.zones.specs.Bound.{IsKept}
 use Rattle.zones.specs.Zone.{Bounds}
 use Rattle.zones.specs.Zone as zones
 use Rattle.zones.specs.Limits.{IsZone}
 use Rattle.zones.specs.Room.{room, total_room}
 use Rattle.zones.specs.Steps.{join_of, widening_of}
 use Rattle.zones.proofs.Kept.{IsZone-join_of, IsZone-widening_of}
-use Rattle.zones.proofs.Order.{each-Covers, Covers-through}
+use Rattle.zones.proofs.Order.{Covers-through}
 use Rattle.zones.proofs.Rooms.{total_room-covers, total_room-not_covered}
 use Rattle.ed_rules.specs.declared.state.Old.{Old}
 use Rattle.ed_rules.specs.declared.state.State.{State}
@@ -25,7 +25,7 @@ use Rattle.ed_rules.specs.Order.{old_of_both, old_has_of_both, united, join, wid
 use Rattle.ed_rules.proofs.Choosing.{choice-itself, same-choices}
 use Rattle.ed_rules.proofs.Texting.{member-passes, members-both, members-both_other}
 use Rattle.cert_check.specs.checker.Covering.{zone_covers, allows, are_among, old_covers, old_has_covers, covers}
-use Rattle.cert_check.proofs.verdicts.Covering.{below-each}
+use Rattle.cert_check.proofs.verdicts.Covering.{below-each, says-zone}
 use Rattle.analyser.specs.Rounds.{next_invariant}
 use Rattle.analyser.specs.Walking.{OldIsZone, HasZones}
 use Rattle.analyser.proofs.Results.{either}
@@ -115,11 +115,8 @@ falls-marks one other =
 
 -- ZONES
 
-says-zone : (weak strong : Bounds) → zones.Covers weak strong → zone_covers weak strong ≡ true
-unfolding zone_covers
-says-zone weak strong h = below-each (λ (k : ℕ). covers_bound (get_or weak k None) (get_or strong k None)) 1024 (each-Covers weak strong h)
-
-falls-zone : (old other new : Bounds) → IsZone old → IsZone new → zones.Covers new old → zones.Covers new other → Falls (zone_covers old other) (total_room new) (total_room old)
+falls-zone : (old other new : Bounds) → IsZone old → IsZone new → zones.Covers new old → zones.Covers new other →
+    Falls (zone_covers old other) (total_room new) (total_room old)
 falls-zone old other new h n covers_old covers_other = record {
   no_more = total_room-covers new old n h covers_old;
   fewer = λ e. total_room-not_covered new old n h covers_old (λ k. let a : zone_covers old other ≡ true = says-zone old other (Covers-through old new other k covers_other) in absurd cc);

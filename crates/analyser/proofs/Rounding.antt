@@ -19,13 +19,14 @@ use Rattle.cert_check.specs.declared.certificate.Looped as looped
 use Rattle.cert_check.specs.Certificates.{Looped, Note, looped_value}
 use Rattle.cert_check.specs.checker.Valid.{told, are_met, left_by}
 use Rattle.cert_check.proofs.verdicts.Checks.{NeedsAreTheSame}
+use Rattle.cert_check.proofs.verdicts.Counting.{at-place}
 use Rattle.analyser.specs.declared.rounds.Round.{Round}
 use Rattle.analyser.specs.declared.walk.End.{End}
 use Rattle.analyser.specs.declared.walk.End.TheVariants.{Leaves}
 use Rattle.analyser.specs.Rounds.{all_met, left_by_list, AreInner, InnerFail, entered, turned, next_invariant, round_invariant, ends, IsSettled}
 use Rattle.analyser.specs.Following.{IsKnownOfList, IsNote, ListFails}
 use Rattle.analyser.specs.Walking.{AreKnown, IsRound, invariant_after, HasZones, IsLastRound, IsTaken}
-use Rattle.analyser.proofs.Going.{at-place, counted-none}
+use Rattle.analyser.proofs.Going.{counted-none}
 use Rattle.analyser.proofs.Results.{either}
 use Rattle.analyser.proofs.Sets.{append-all, are-front, are-back, members-append}
 use Rattle.ed_rules.proofs.Choosing.{choices-same}

@@ -1,15 +1,14 @@
 -- Blocks of lists: exchanged for other elements, carried to another place, and brought back.
-use Rattle.std.proofs.Common.{◌≡◌, ℕ, zero, suc, refl, ◌+◌, ◌-◌, ◌<◌, ◌≤◌, List, [], ◌∷◌, ◌++◌, take, drop, length, get_or, set, sym, ap, ◌∙◌, arith, append_assoc}
+use Rattle.std.proofs.Common.{◌≡◌, ℕ, refl, ◌+◌, ◌-◌, ◌<◌, ◌≤◌, List, [], ◌∷◌, ◌++◌, take, drop, length, get_or, set, sym, ap, ◌∙◌, arith, append_assoc}
 use Rattle.std.specs.Prelude.{Option, Some}
 use Rattle.std.specs.Option.{option_to_list}
 use Rattle.std.specs.List.{concat}
-use Rattle.std.proofs.lemmas.List.{get_or_append_left, get_or-append_right, get_or-take, get_or-drop, take_at, drop_at, take-take, take-append-drop, drop-append-le, length-take-le, length-drop, length-append, take_more, map-append, drop_all, length-take, append-nil, take-set, drop-set}
+use Rattle.std.proofs.lemmas.List.{get_or_append_left, get_or-append_right, get_or-take, get_or-drop, take_at, drop_at, take-take, take-append-drop, drop-append-le, length-take-le, length-drop, length-append, take_more, map-append, append-nil, take-set, drop-set}
 use Rattle.std.proofs.lemmas.List.Folds.{concat-append}
 use Rattle.ed_base.specs.Buffer.{Line, plain_line, texts}
 use Rattle.ed_base.specs.Parts.{block, exchanged, inserted, carried}
-
-pub length-block : {X : Type 0} (a b : ℕ) (xs : List X) → b ≤ length xs → length (block a b xs) ≡ b - a
-length-block a b xs h = length-drop a (take b xs) ∙ ap (λ n. n - a) (length-take-le b xs h)
+pub use Rattle.ed_base.proofs.PartLemmas.{whole}
+pub use Rattle.line_store.proofs.Ranges.{length-block, block-none}
 
 pub length-exchanged : {X : Type 0} (a b : ℕ) (new xs : List X) → a ≤ b → b ≤ length xs → length (exchanged a b new xs) + (b - a) ≡ length xs + length new
 length-exchanged a b new xs h k =
@@ -19,17 +18,6 @@ length-exchanged a b new xs h k =
 pub block-more : {X : Type 0} (a i : ℕ) (xs : List X) (d : X) → a ≤ i → i < length xs → block a (i + 1) xs ≡ block a i xs ++ get_or xs i d ∷ []
 block-more a i xs d h k =
     ap (drop a) (take_more xs i d k) ∙ drop-append-le a (take i xs) (get_or xs i d ∷ []) (omega (arith, length-take-le i xs (omega arith)))
-
--- the elements before a place are those before an earlier one, and those between
-pub front : {X : Type 0} (a b : ℕ) (xs : List X) → a ≤ b → take a xs ++ block a b xs ≡ take b xs
-front a b xs h = ap (λ t. t ++ block a b xs) (sym (take-take a b xs h)) ∙ take-append-drop a (take b xs)
-
--- a part stands between what is before it and what is after it
-pub whole : {X : Type 0} (a b : ℕ) (xs : List X) → a ≤ b → take a xs ++ (block a b xs ++ drop b xs) ≡ xs
-whole a b xs h =
-    sym (append_assoc (take a xs) (block a b xs) (drop b xs))
-    ∙ ap (λ t. t ++ drop b xs) (front a b xs h)
-    ∙ take-append-drop b xs
 
 -- the elements after a place are those up to a later one, and those after it
 pub rear : {X : Type 0} (a b : ℕ) (xs : List X) → a ≤ b → b ≤ length xs → drop a xs ≡ block a b xs ++ drop b xs
@@ -90,9 +78,6 @@ get_or-after a i j new xs d h k e =
     ∙ get_or-append_right new (drop a xs) (length new) (j - a) d refl (omega arith)
     ∙ get_or-drop a xs (j - a - length new) d
     ∙ ap (λ n. get_or xs n d) (let f : a + (j - a - length new) ≡ i = omega arith in f)
-
-pub block-none : {X : Type 0} (a : ℕ) (xs : List X) → block a a xs ≡ []
-block-none a xs = drop_all a (take a xs) (omega (arith, length-take a xs))
 
 -- elements that were put between others, taken out again
 pub taken-out : {X : Type 0} (a n : ℕ) (removed new after xs : List X) → removed ≡ [] → after ≡ inserted a new xs → a ≤ length xs → length new ≡ n →

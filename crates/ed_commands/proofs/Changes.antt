@@ -1,23 +1,24 @@
 -- What a change of the buffer leaves, and that undo would bring back the buffer before it.
-use Rattle.std.proofs.Common.{◌≡◌, ◌≢◌, ℕ, ◌+◌, ◌-◌, ◌<◌, ◌≤◌, Bool, true, false, ◌&&◌, nat_eq, nat_le, List, [], ◌∷◌, length, map, get_or, refl, sym, ap, ◌∙◌, arith}
+use Rattle.std.proofs.Common.{◌≡◌, ◌≢◌, ℕ, ◌+◌, ◌-◌, ◌<◌, ◌≤◌, Bool, true, false, ◌&&◌, nat_le, List, [], ◌∷◌, length, map, get_or, refl, sym, ap, ◌∙◌, arith}
 use Rattle.std.specs.Prelude.{Option, Some, Result, Ok, Err, option_map, unwrap_or}
 use Rattle.std.proofs.lemmas.List.{length-map, get_or-map}
-use Rattle.ed_base.specs.Lines.{newline, lines_of, onto_first}
+use Rattle.ed_base.specs.Lines.{lines_of}
 use Rattle.ed_base.specs.Buffer.{Line, plain_line, texts, flagged_at, flagged_place}
 use Rattle.ed_base.specs.declared.fault.Fault.{Fault}
 use Rattle.ed_base.specs.declared.fault.Fault.TheVariants.{Destination}
 use Rattle.ed_base.specs.Parts.{between, block, carried, exchanged, inserted}
+use Rattle.line_store.proofs.Filled.{lines-some}
 use Rattle.ed_syntax.specs.meaning.States.{State}
 use Rattle.ed_syntax.specs.meaning.Globals.{next_taken, taken_at}
 use Rattle.ed_syntax.specs.meaning.Ranges as ranges
 use Rattle.ed_syntax.specs.meaning.Effects as effect
-use Rattle.ed_syntax.specs.meaning.Effects.{Outcome, altered, entered}
+use Rattle.ed_syntax.specs.meaning.Effects.{altered, entered}
 use Rattle.ed_commands.specs.declared.editor.past.Before.{Before}
 use Rattle.ed_commands.specs.declared.editor.past.Change.{Change}
 use Rattle.ed_commands.specs.Earlier.{Earlier, PastValue, earlier_after, earlier_in, earlier_of, kept_of, texts_before, with_earlier}
 use Rattle.ed_commands.specs.Editors.{AreNew, kept_at, left_by, place_beside}
 use Rattle.ed_commands.proofs.Blocks.{block-none, length-block, put-back}
-use Rattle.ed_commands.proofs.Texts.{texts-carried, texts-exchanged, texts-flagged_at}
+use Rattle.ed_commands.proofs.Texts.{texts-carried, texts-exchanged, texts-flagged_at, texts-plain}
 
 -- the lines become these, with what is kept of those before
 pub changing : (s : State) (p q : PastValue) (b : Before) (c : Change) (n count : ℕ) (lines new : List Line) (marks : List (Option ℕ)) →
@@ -74,12 +75,7 @@ texts-entered place entered removed new after before h counted none put =
 pub moved-back : (a b place : ℕ) (after before : List Line) → carried a b place after ≡ before → carried a b place (texts after) ≡ texts before
 moved-back a b place after before back = sym (texts-carried a b place after) ∙ ap texts back
 
--- the texts of new lines are those that they were made of
-pub texts-plain : (text : List (List ℕ)) → texts (map plain_line text) ≡ text
-texts-plain [] = refl
-texts-plain (line ∷ more) = ap (λ t. line ∷ t) (texts-plain more)
-
--- and lines made of texts are new
+-- lines made of texts are new
 pub made-new : (lines : List Line) (text : List (List ℕ)) → lines ≡ map plain_line text → AreNew lines
 made-new lines text h = rw h (ap (map plain_line) (texts-plain text))
 
@@ -99,15 +95,9 @@ entered-text a [] s h = absurd (h refl)
 entered-text a (line ∷ more) s h = refl
 
 -- some bytes have some lines
-first_line : (ends : Bool) (byte : ℕ) (lines : List (List ℕ)) →
-    ◌≡◌ {A = List (List ℕ)} (elim ends [ true ↦ [] ∷ lines | false ↦ onto_first byte lines ]) [] → ⊥
-first_line true byte lines none = cc
-first_line false byte [] none = cc
-first_line false byte (line ∷ lines) none = cc
-
 pub some-lines : (bytes : List ℕ) → bytes ≢ [] → lines_of bytes ≢ []
 some-lines [] h none = h refl
-some-lines (byte ∷ bytes) h none = first_line (nat_eq byte newline) byte (lines_of bytes) none
+some-lines (byte ∷ bytes) h none = let some = lines-some (byte ∷ bytes) (omega arith) in absurd (omega (arith, ap length none))
 
 -- some lines copied
 pub copied-some : (a b target : ℕ) (s : State) → 1 ≤ a → a ≤ b → b ≤ length s.lines →

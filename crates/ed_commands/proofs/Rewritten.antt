@@ -1,13 +1,14 @@
 -- Lines that are rewritten one by one.
 use Rattle.std.proofs.Common.{◌≡◌, ℕ, suc, ◌+◌, ◌-◌, ◌<◌, ◌≤◌, Bool, true, false, List, [], ◌∷◌, ◌++◌, take, drop, length, get_or, map, option_map, Option, Some, None, refl, sym, ap, ◌∙◌, arith, append_assoc}
-use Rattle.std.specs.Prelude.{unwrap_or, nat_eq, is_some, Result, Ok, Err, IfNone}
+use Rattle.std.specs.Prelude.{unwrap_or, is_some, Result, Ok, Err, IfNone}
 use Rattle.std.proofs.lemmas.List.Elements.{All-nil, All-cons}
 use Rattle.std.proofs.lemmas.List.{drop_more, append-nil, length-append, length-map, length-take-le, get_or_at}
 use Rattle.bre_parse.specs.Tree.{Tree}
 use Rattle.bre_parse.specs.Grammar.{pattern}
 use Rattle.bre_parse.specs.declared.fault.BreFault.{BreFault}
-use Rattle.ed_base.specs.Lines.{newline, onto_first, lines_of, IsLine}
+use Rattle.ed_base.specs.Lines.{newline, IsLine}
 use Rattle.ed_base.proofs.LineLemmas.{lines_of-bytes_of}
+use Rattle.line_store.proofs.Filled.{lines-some}
 use Rattle.ed_base.specs.Buffer.{Line, plain_line, texts}
 use Rattle.ed_base.specs.Parts.{block, exchanged}
 use Rattle.ed_syntax.specs.declared.replacement.Part.{Part}
@@ -92,17 +93,8 @@ gone a i place made new lines now d h k e p =
     ∙ ap (λ t. take a lines ++ t) (sym (append_assoc made new (drop (i + 1) lines)))
 
 -- a text that is split is one line at least
-onto-some : (byte : ℕ) (lines : List (List ℕ)) → 0 < length (onto_first byte lines)
-onto-some byte [] = omega arith
-onto-some byte (line ∷ lines) = omega arith
-
-first-some : (newline_first : Bool) (byte : ℕ) (lines : List (List ℕ)) → 0 < length {A = List ℕ} (elim newline_first [ true ↦ [] ∷ lines | false ↦ onto_first byte lines ])
-first-some true byte lines = omega arith
-first-some false byte lines = onto-some byte lines
-
 pub some-lines : (text : List ℕ) → 0 < length (split_at_newlines text)
-some-lines [] = first-some (nat_eq newline newline) newline []
-some-lines (byte ∷ text) = first-some (nat_eq byte newline) byte (lines_of (text ++ newline ∷ []))
+some-lines text = lines-some (text ++ newline ∷ []) (omega (arith, length-append text (newline ∷ [])))
 
 -- a text without a newline is one line
 pub one-line : (text : List ℕ) → IsLine text → split_at_newlines text ≡ text ∷ []

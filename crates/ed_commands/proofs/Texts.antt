@@ -4,6 +4,7 @@ use Rattle.std.proofs.lemmas.List.{map-append, take-map, drop-map}
 use Rattle.std.proofs.Math.Seq.{map-set_same}
 use Rattle.ed_base.specs.Buffer.{Line, plain_line, texts, with_letter, marked_at, with_flag, flagged_at}
 use Rattle.ed_base.specs.Parts.{block, exchanged, carried}
+pub use Rattle.line_store.proofs.Taken.{texts-block, texts-plain}
 
 texts-with_letter : (letter : ℕ) (marks : Bool) (lines : List Line) → texts (map (with_letter letter marks) lines) ≡ texts lines
 texts-with_letter letter marks [] = refl
@@ -27,10 +28,6 @@ texts-exchanged a b new lines =
     ∙ ap (λ t. texts (take a lines) ++ t) (map-append (λ (l : Line). l.bytes) new (drop b lines))
     ∙ ap (λ t. t ++ (texts new ++ texts (drop b lines))) (sym (take-map (λ (l : Line). l.bytes) a lines))
     ∙ ap (λ t. take a (texts lines) ++ (texts new ++ t)) (sym (drop-map (λ (l : Line). l.bytes) b lines))
-
-pub texts-block : (a b : ℕ) (lines : List Line) → texts (block a b lines) ≡ block a b (texts lines)
-texts-block a b lines =
-    sym (drop-map (λ (l : Line). l.bytes) a (take b lines)) ∙ ap (drop a) (sym (take-map (λ (l : Line). l.bytes) b lines))
 
 pub texts-carried : (a b place : ℕ) (lines : List Line) → texts (carried a b place lines) ≡ carried a b place (texts lines)
 texts-carried a b place lines =

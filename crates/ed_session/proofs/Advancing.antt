@@ -123,11 +123,6 @@ count_is false (request.Read path) answer.Refused writes h = rw h refl
 count_is false (request.Read path) answer.Done writes h = rw h refl
 count_is false (request.Write path bytes) a writes h = rw h refl
 
--- what isn't true is false
-pub is_false : (b : Bool) → (b ≡ true → ⊥) → b ≡ false
-is_false true h = absurd (h refl)
-is_false false h = refl
-
 -- what is true of a session's view is true of the session
 pub as_goes : (old v : SessionValue) (output : List ℕ) (new : SessionValue) → v ≡ old → GoesOn v [] output [] new → GoesOn old [] output [] new
 as_goes old v output new same x = subst (λ u. GoesOn u [] output [] new) same x

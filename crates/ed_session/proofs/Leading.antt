@@ -73,7 +73,7 @@ goes_more a b c g1 g2 o1 o2 r1 r2 x y = record {
   stays = λ result over. y.stays result (x.stays result over);
 }
 
-over_is : (p : Phase) (result : Result Ending Fault) → p ≡ phases.Over result → is_over p ≡ true
+pub over_is : (p : Phase) (result : Result Ending Fault) → p ≡ phases.Over result → is_over p ≡ true
 over_is p result e = rw e refl
 
 not_over : (a b : SessionValue) (g : List Answer) (o : List ℕ) (r : List Request) → GoesOn a g o r b → is_over b.phase ≡ false → is_over a.phase ≡ false
@@ -105,7 +105,8 @@ no_steps help mode s [] p e = refl
 no_steps help mode s (Wrote h output ∷ events) p e = cc
 no_steps help mode s (Heard h r ∷ events) p e = cc
 
-rest_over : (v : SessionValue) (result : Result Ending Fault) (answers : List Answer) → v.phase ≡ phases.Over result → rest v answers ≡ Stops v.present.help (Ends result)
+pub rest_over : (v : SessionValue) (result : Result Ending Fault) (answers : List Answer) → v.phase ≡ phases.Over result →
+    rest v answers ≡ Stops v.present.help (Ends result)
 rest_over v result answers e = rw e refl
 
 breaks_and_goes : (a b c : SessionValue) (g1 g2 : List Answer) (o1 o2 : List ℕ) (r1 r2 : List Request) → BreaksOff a g1 o1 r1 b → GoesOn b g2 o2 r2 c

@@ -1,9 +1,10 @@
 -- Logs that grow, and the answers in them that don't fit.
-use Rattle.std.proofs.Common.{◌≡◌, ℕ, ◌<◌, ◌≤◌, List, [], ◌∷◌, ◌++◌, Bool, true, false, length, sym, refl, ap, ◌∙◌, ◌⊎◌, inl, inr, append_assoc, append-nil, arith}
+use Rattle.std.proofs.Common.{◌≡◌, ℕ, ◌<◌, ◌≤◌, List, [], ◌∷◌, ◌++◌, true, false, length, sym, refl, ap, ◌∙◌, ◌⊎◌, inl, inr, append_assoc, append-nil, arith}
 use Rattle.std.specs.Prelude.{◌≢◌}
 use Rattle.std.proofs.lemmas.List.{drop-append-le}
 use Rattle.std.proofs.lemmas.List.Elements.{All-append, All-nil}
 use Rattle.std.proofs.Math.Seq.{drop-length}
+use Rattle.std.proofs.lemmas.Bool.{cases_Bool}
 use Rattle.ed_syntax.specs.declared.request.Answer.{Answer}
 use Rattle.ed_syntax.specs.declared.request.Answer.TheVariants as answer
 use Rattle.ed_syntax.specs.declared.request.Request.{Request}
@@ -38,17 +39,14 @@ raises_rise log before now after (inr rise) h = inr (omega arith)
 one_fits : (r : Request) (a : Answer) → fits r a ≡ true → AllFit ((r, a) ∷ [])
 one_fits r a h k d below = let z : k ≡ 0 = omega arith in rw z h
 
-fit_cases : (b : Bool) → (b ≡ true) ⊎ (b ≡ false)
-fit_cases true = inl refl
-fit_cases false = inr refl
-
 -- one more answer
 pub raises_more : (log : Log) (r : Request) (a : Answer) (before now after : ℕ) → before ≤ now → Raises log before now → (fits r a ≡ false → now < after) → now ≤ after
     → Raises (log ++ (r, a) ∷ []) before after
 raises_more log r a before now after below (inr rise) raises h = inr (omega arith)
 raises_more log r a before now after below (inl fit) raises h =
-    elim (fit_cases (fits r a)) [
-      | inl one ↦ inl (All-append (λ (entry : Request × Answer). fits entry.0 entry.1 ≡ true) log ((r, a) ∷ []) fit (one_fits r a one))
+    elim (cases_Bool (fits r a)) [
+      | inl one ↦ inl (All-append (λ (entry : Request × Answer). fits entry.0 entry.1 ≡ true) log ((r, a) ∷ []) fit
+          (one_fits r a one))
       | inr bad ↦ let more = raises bad in inr (omega arith)
     ]
 

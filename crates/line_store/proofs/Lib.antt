@@ -14,5 +14,5 @@ pub mod Found
 pub mod Offsets
 pub mod Ranges
 pub mod Taken
-mod Filled
+pub mod Filled
 pub mod Written

@@ -1,9 +1,15 @@
 -- Lists into which elements are put, and out of which a range is taken, place by place.
 use Rattle.std.proofs.Common.{◌≡◌, ℕ, suc, ◌+◌, ◌-◌, ◌<◌, ◌≤◌, List, [], ◌∷◌, ◌++◌, take, drop, length, get_or, reverse, refl, sym, ap, ◌∙◌, arith, append_assoc}
 use Rattle.std.specs.Prelude.{remove, insert}
-use Rattle.std.proofs.lemmas.List.{drop_more, length-append, length-take-le, take-append-drop, take_at, reverse-append, take-append-le, drop_at, take-take, get_or_append_left, get_or-take}
+use Rattle.std.proofs.lemmas.List.{drop_all, drop_more, length-append, length-drop, length-take, length-take-le, take-append-drop, take_at, reverse-append, take-append-le, drop_at, take-take, get_or_append_left, get_or-take}
 use Rattle.std.proofs.lemmas.List.Edits.{insert-append_right}
-use Rattle.ed_base.specs.Parts.{inserted}
+use Rattle.ed_base.specs.Parts.{block, inserted}
+
+pub length-block : {X : Type 0} (a b : ℕ) (xs : List X) → b ≤ length xs → length (block a b xs) ≡ b - a
+length-block a b xs h = length-drop a (take b xs) ∙ ap (λ n. n - a) (length-take-le b xs h)
+
+pub block-none : {X : Type 0} (a : ℕ) (xs : List X) → block a a xs ≡ []
+block-none a xs = drop_all a (take a xs) (omega (arith, length-take a xs))
 
 -- an element put after the second of three parts
 pub insert-between : {X : Type 0} (xs ys zs : List X) (n : ℕ) (x : X) → n ≡ length xs + length ys → insert (xs ++ (ys ++ zs)) n x ≡ xs ++ ((ys ++ x ∷ []) ++ zs)

@@ -5,14 +5,9 @@ use Rattle.std.proofs.lemmas.Bool.{cases_lt}
 use Rattle.std.proofs.lemmas.List.{take_at, drop_at, take_all, drop_all, take-take, take-append-le, drop-append-le, take-append-drop, length-take-le, length-drop, length-append, take_more, drop_more, get_or_at, get_or_append_left, get_or-append_right, get_or-take, get_or-drop, drop-drop, drop-take}
 use borrow.Rule.Slice.PartMut.{put_mid, post_of}
 use Rattle.ed_base.specs.Parts.{block, carried}
+use Rattle.ed_base.proofs.PartLemmas.{front}
 use Rattle.line_store.specs.Swaps.{swapped}
-
-pub length-block : {X : Type 0} (a b : ℕ) (xs : List X) → b ≤ length xs → length (block a b xs) ≡ b - a
-length-block a b xs h = length-drop a (take b xs) ∙ ap (λ n. n - a) (length-take-le b xs h)
-
--- the elements before a place are those before an earlier one, and those between
-pub front : {X : Type 0} (a b : ℕ) (xs : List X) → a ≤ b → take a xs ++ block a b xs ≡ take b xs
-front a b xs h = ap (λ t. t ++ block a b xs) (sym (take-take a b xs h)) ∙ take-append-drop a (take b xs)
+use Rattle.line_store.proofs.Ranges.{length-block}
 
 -- a list is what stands before, between and after three of its places
 pub parts : {X : Type 0} (low middle high : ℕ) (xs : List X) → low ≤ middle → middle ≤ high →

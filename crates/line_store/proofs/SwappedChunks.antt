@@ -2,10 +2,11 @@
 use Rattle.std.proofs.Common.{◌≡◌, ℕ, ◌+◌, ◌≤◌, List, ◌++◌, take, drop, length, sym, ap, ◌∙◌, arith}
 use Rattle.std.proofs.lemmas.List.{length-append}
 use Rattle.ed_base.specs.Parts.{block}
+use Rattle.ed_base.proofs.PartLemmas.{front}
 use Rattle.line_store.specs.Chunks.{joined, lines_before}
 use Rattle.line_store.specs.Swaps.{swapped}
 use Rattle.line_store.proofs.Joined.{joined-append, before-take, before-later, before-most}
-use Rattle.line_store.proofs.Swapped.{front, parts, swapped-parts, length-swapped}
+use Rattle.line_store.proofs.Swapped.{parts, swapped-parts, length-swapped}
 
 joined-four : {X : Type 0} (a b c d : List (List X)) → joined (a ++ (b ++ (c ++ d))) ≡ joined a ++ (joined b ++ (joined c ++ joined d))
 joined-four a b c d =

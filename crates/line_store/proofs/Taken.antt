@@ -5,6 +5,7 @@ use Rattle.std.proofs.lemmas.List.{take_at, drop_at, take_all, take-take, take-a
 use Rattle.std.proofs.lemmas.List.Sums.{sum_by-append, sum_by-cons}
 use Rattle.ed_base.specs.Buffer.{Line, plain_line, no_letters, texts}
 use Rattle.ed_base.specs.Parts.{block, exchanged, inserted}
+use Rattle.ed_base.proofs.PartLemmas.{front}
 use Rattle.line_store.specs.Chunks.{joined, lines_before}
 use Rattle.line_store.specs.Kept.{Unflagged, flag_count}
 use Rattle.line_store.specs.Lettered.{none_marked}
@@ -14,7 +15,8 @@ use Rattle.line_store.specs.Swaps.{swapped}
 use Rattle.line_store.proofs.Joined.{joined-append, before-take, before-later, before-most}
 use Rattle.line_store.proofs.Lettered.{line_with, length-lettered, letters_at-are, lettered-below}
 use Rattle.line_store.proofs.Places.{not_at}
-use Rattle.line_store.proofs.Swapped.{front, length-block, swapped-parts}
+use Rattle.line_store.proofs.Ranges.{length-block}
+use Rattle.line_store.proofs.Swapped.{swapped-parts}
 use Rattle.line_store.proofs.SwappedMarks.{lettered-swapped}
 
 -- where a block has gone to the end, the others come first
@@ -237,7 +239,7 @@ texts-lettered : (marks : List (Option ℕ)) (place : ℕ) (lines : List Line) �
 texts-lettered marks place [] = refl
 texts-lettered marks place (line ∷ lines) = ap (λ t. line.bytes ∷ t) (texts-lettered marks (suc place) lines)
 
-texts-block : (from to : ℕ) (lines : List Line) → texts (block from to lines) ≡ block from to (texts lines)
+pub texts-block : (from to : ℕ) (lines : List Line) → texts (block from to lines) ≡ block from to (texts lines)
 texts-block from to lines =
     sym (drop-map (λ (l : Line). l.bytes) from (take to lines)) ∙ ap (drop from) (sym (take-map (λ (l : Line). l.bytes) to lines))
 

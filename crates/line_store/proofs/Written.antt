@@ -1,21 +1,19 @@
 -- Lines that are written one after another, each with a newline.
 use Rattle.std.proofs.Common.{◌≡◌, ℕ, zero, suc, ◌+◌, ◌<◌, ◌≤◌, List, [], ◌∷◌, ◌++◌, take, drop, length, get_or, sym, ap, ◌∙◌, arith, append_assoc, append-nil}
-use Rattle.std.proofs.lemmas.List.{take_more, drop_at, drop_all, drop-append-le, take-append-le, length-take, length-take-le, map-append}
+use Rattle.std.proofs.lemmas.List.{take_more, drop_at, drop-append-le, take-append-le, length-take-le, map-append}
 use Rattle.std.proofs.lemmas.List.Elements.{All-append, All-cons, All-nil, All-same}
 use Rattle.ed_base.specs.Buffer.{Line, texts}
 use Rattle.ed_base.specs.Lines.{newline, AreLines, IsLine, bytes_of}
 use Rattle.ed_base.specs.Parts.{block}
 use Rattle.ed_base.proofs.LineLemmas.{bytes_of-append}
+use Rattle.ed_base.proofs.PartLemmas.{front}
 use Rattle.line_store.specs.Chunks.{joined, lines_before}
-use Rattle.line_store.proofs.Swapped.{front}
+use Rattle.line_store.proofs.Ranges.{block-none}
 
 -- the lines from place a up to place b come after other bytes
 pub record Written (a b : ℕ) (lines : List Line) (old new : List ℕ) : Type 0 where
   pub bytes : new ≡ old ++ bytes_of (texts (block a b lines))
   pub are : AreLines (texts (block a b lines))
-
-block-none : {X : Type 0} (a : ℕ) (xs : List X) → block a a xs ≡ []
-block-none a xs = drop_all a (take a xs) (omega (arith, length-take a xs))
 
 block-one : {X : Type 0} (i : ℕ) (xs : List X) (x : X) → i < length xs → x ≡ get_or xs i x → block i (i + 1) xs ≡ x ∷ []
 block-one i xs x h is =

@@ -4,18 +4,15 @@ use Rattle.std.specs.Prelude.{Contains}
 use Rattle.std.specs.Cmp.Lexicographic.{pointwise, bytes_decides}
 use Rattle.std.proofs.lemmas.Grind.{merely}
 use Rattle.std.proofs.lemmas.List.Elements.{Contains-append_right}
+use Rattle.std.proofs.lemmas.Option.{same_Some}
 use Rattle.ed_syntax.specs.declared.request.Answer.{Answer}
 use Rattle.ed_syntax.specs.declared.request.Answer.TheVariants as answer
-use Rattle.ed_syntax.specs.declared.request.Request.{Request}
 use Rattle.ed_syntax.specs.declared.request.Request.TheVariants as request
 use Rattle.ed_session.specs.Drives.{Log}
 use Rattle.ed_session.specs.KeptAnswers.{Files, found}
 use Rattle.ed_session.specs.MemFiles.{file_at}
 use Rattle.rehearsal.specs.Rehearsals.{Shown}
 use Rattle.rehearsal.specs.Insides.{Holds}
-
-some-is : {A : Type 0} (a b : A) → Some a ≡ Some b → a ≡ b
-some-is a b e = cc
 
 some-none : {A : Type 0} (a : A) → Some a ≡ None → ⊥
 some-none a e = absurd cc
@@ -37,7 +34,8 @@ shown-real real made path given none = record {
 }
 
 -- a file that is held is shown
-pub shown-held : (real : Log) (files made : Files) (path : List ℕ) (o : Option (List ℕ)) → Holds real files made → file_at path files ≡ o → o ≢ None →
+pub shown-held : (real : Log) (files made : Files) (path : List ℕ) (o : Option (List ℕ)) → Holds real files made →
+    file_at path files ≡ o → o ≢ None →
     Shown real made path (found o)
 shown-held real files made path None h e some = absurd (some refl)
 shown-held real files made path (Some bytes) h e some = h.shown path bytes e
@@ -46,19 +44,21 @@ shown-held real files made path (Some bytes) h e some = h.shown path bytes e
 abbrev at_first : Bool → List ℕ → List ℕ → Files → Option (List ℕ)
 at_first same path bytes files = elim same [ true ↦ Some bytes | false ↦ file_at path files ]
 
-read-shown : (real : Log) (files made : Files) (path bytes at read : List ℕ) (same : Bool) → (same ≡ true → path ≡ at) → Holds real files made →
+read-shown : (real : Log) (files made : Files) (path bytes at read : List ℕ) (same : Bool) → (same ≡ true → path ≡ at) →
+    Holds real files made →
     file_at path files ≡ None → Contains real (request.Read path, answer.Bytes bytes) → at_first same at bytes files ≡ Some read →
     Shown real made at (answer.Bytes read)
 read-shown real files made path bytes at read true equal h none has e =
     let p : path ≡ at = equal refl in
-    let b : bytes ≡ read = some-is bytes read e in
+    let b : bytes ≡ read = same_Some bytes read e in
     rw (← p, ← b) (record {
       as_written = λ more w. absurd (some-none more (sym w ∙ h.kept path none));
       as_real = λ w. merely has;
     })
 read-shown real files made path bytes at read false equal h none has e = h.shown at read e
 
-read-kept : (real : Log) (files made : Files) (bytes at : List ℕ) (same : Bool) → Holds real files made → at_first same at bytes files ≡ None →
+read-kept : (real : Log) (files made : Files) (bytes at : List ℕ) (same : Bool) → Holds real files made →
+    at_first same at bytes files ≡ None →
     file_at at made ≡ None
 read-kept real files made bytes at true h e = absurd (some-none bytes e)
 read-kept real files made bytes at false h e = h.kept at e
@@ -71,17 +71,20 @@ holds-read real files made path bytes h none has = record {
   kept = λ at e. read-kept real files made bytes at (pointwise nat_eq path at) h e;
 }
 
-write-written : (real : Log) (files made : Files) (bytes at read more : List ℕ) (same : Bool) → Holds real files made → at_first same at bytes files ≡ Some read →
+write-written : (real : Log) (files made : Files) (bytes at read more : List ℕ) (same : Bool) → Holds real files made →
+    at_first same at bytes files ≡ Some read →
     at_first same at bytes made ≡ Some more → answer.Bytes read ≡ answer.Bytes more
-write-written real files made bytes at read more true h e w = ap answer.Bytes (some-is read more (sym e ∙ w))
+write-written real files made bytes at read more true h e w = ap answer.Bytes (same_Some read more (sym e ∙ w))
 write-written real files made bytes at read more false h e w = (h.shown at read e).as_written more w
 
-write-real : (real : Log) (files made : Files) (bytes at read : List ℕ) (same : Bool) → Holds real files made → at_first same at bytes files ≡ Some read →
+write-real : (real : Log) (files made : Files) (bytes at read : List ℕ) (same : Bool) → Holds real files made →
+    at_first same at bytes files ≡ Some read →
     at_first same at bytes made ≡ None → ∥ Contains real (request.Read at, answer.Bytes read) ∥₁
 write-real real files made bytes at read true h e w = absurd (some-none bytes w)
 write-real real files made bytes at read false h e w = (h.shown at read e).as_real w
 
-write-kept : (real : Log) (files made : Files) (bytes at : List ℕ) (same : Bool) → Holds real files made → at_first same at bytes files ≡ None →
+write-kept : (real : Log) (files made : Files) (bytes at : List ℕ) (same : Bool) → Holds real files made →
+    at_first same at bytes files ≡ None →
     at_first same at bytes made ≡ None
 write-kept real files made bytes at true h e = absurd (some-none bytes e)
 write-kept real files made bytes at false h e = h.kept at e

@@ -24,7 +24,8 @@ forget_bound-column zone x p n =
       | inr e ↦ rw e.0 (elim (eqb_tells x x) [ inl g ↦ rw g.0 refl | inr g ↦ absurd (g.1 refl) ])
     ]
 
-widening_bound-other : (old new : Bounds) (p q : ℕ) → p ≢ q → widening_bound old new p q ≡ widen_bound (bound old p q) (bound new p q)
+pub widening_bound-other : (old new : Bounds) (p q : ℕ) → p ≢ q →
+    widening_bound old new p q ≡ widen_bound (bound old p q) (bound new p q)
 unfolding widening_bound
 widening_bound-other old new p q n = elim (eqb_tells p q) [ inl e ↦ absurd (n e.1) | inr e ↦ rw e.0 refl ]
 

@@ -3,6 +3,8 @@ use Rattle.std.proofs.Common.{◌≡◌, ◌≢◌, ◌≤◌, ◌++◌, ◌∷�
 use Rattle.std.proofs.lemmas.List.Elements.{All-nil, All-cons, All-head, All-tail, All-append}
 use Rattle.ed_base.specs.Lines.{newline, IsLine, AreLines, bytes_of}
 use Rattle.std.specs.Result.{result_err}
+use Rattle.ed_base.proofs.LineLemmas.{bytes_of-append}
+use Rattle.ed_syntax.proofs.reader.TextLemmas.{same_line}
 use Rattle.cert_check.specs.declared.certificate.Certificate as public
 use Rattle.cert_check.specs.declared.text.fault.Unread.{Unread}
 use Rattle.cert_check.specs.Certificates.{Certificate, certificate_value}
@@ -10,10 +12,10 @@ use Rattle.cert_check.specs.text.Text.{text_of}
 use Rattle.cert_check.specs.text.HasText.{HasText, IsText}
 use Rattle.cert_check.specs.text.Faults.{Begins, IsWhole, IsVersionFault, IsLineFault, IsSizeFault, more, less}
 use Rattle.cert_check.specs.text.Pieces.{texts, IsReadAs, rest_lines}
-use Rattle.cert_check.proofs.texts.Pieces.{first-of, later-of, bytes_of-append}
 use Rattle.cert_check.proofs.texts.OneText.{version-same}
 use Rattle.cert_check.proofs.texts.Certified.{rest-ends}
-use Rattle.cert_check.proofs.texts.Told.{version_text, no-newline, first-cut, no-bytes, begins-goes, text-is, text-lines}
+use Rattle.cert_check.proofs.texts.Told.{version_text, no-newline, no-bytes, begins-goes, text-is, text-lines}
+use Rattle.cert_check.proofs.texts.Separated.{first-of, later-of}
 
 -- lines and lines at the front of the same bytes
 data Compared (a b : List (List ℕ)) (x y : List ℕ) : Type 0 where
@@ -25,7 +27,7 @@ compared [] b x y h k e = longer b refl e
 compared (l ∷ a) [] x y h k e = shorter (l ∷ a) refl e
 compared (l ∷ a) (m ∷ b) x y h k e =
     let cut =
-    first-cut l m (bytes_of a ++ x) (bytes_of b ++ y) (All-head IsLine l a h) (All-head IsLine m b k)
+    same_line l m (bytes_of a ++ x) (bytes_of b ++ y) (All-head IsLine l a h) (All-head IsLine m b k)
     (sym (append_assoc l (newline ∷ bytes_of a) x) ∙ e ∙ append_assoc m (newline ∷ bytes_of b) y) in
     let first : l ≡ m = cut.0 in
     elim (compared a b x y (All-tail IsLine l a h) (All-tail IsLine m b k) cut.1) [
@@ -167,7 +169,7 @@ line-more-after bytes number f w later [] h is after =
 line-more-after bytes number f w later (l ∷ r) h is after =
     let are = text-lines w h in
     let line : IsLine l = second-line f.above l r (subst (λ (ls : List (List ℕ)). AreLines ls) (sym is) are) in
-    let cut = first-cut f.line l f.after (bytes_of r ++ later) f.is_line line (after ∙ append_assoc l (newline ∷ bytes_of r) later) in
+    let cut = same_line f.line l f.after (bytes_of r ++ later) f.is_line line (after ∙ append_assoc l (newline ∷ bytes_of r) later) in
     f.refused
     (begins-of w (f.above ++ f.line ∷ []) r h
     (sym is ∙ ap (λ (x : List ℕ). f.above ++ x ∷ r) (sym cut.0) ∙ sym (append_assoc f.above (f.line ∷ []) r)))

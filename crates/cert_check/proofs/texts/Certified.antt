@@ -12,11 +12,12 @@ use Rattle.cert_check.specs.text.HasText.{IsSaidIn, StateHasText, NoteHasText, H
 use Rattle.cert_check.specs.text.Text.{Line, texts_line, matched_lines, state_lines, path_line}
 use Rattle.cert_check.specs.text.Pieces.{Left, Took, texts, IsOf, alone, limits_line, AreLimits, AreStartLimits, notes_lines, rest_lines, HasTextIn}
 use Rattle.cert_check.proofs.texts.OneText.{certificate_made, IsSaid, said-in}
-use Rattle.cert_check.proofs.texts.Pieces.{later-of, texts-append, took-more}
+use Rattle.cert_check.proofs.texts.Pieces.{texts-append, took-more}
 use Rattle.cert_check.proofs.texts.Sequence.{followed, AreFormed, Cuts, cuts-line, SoFar, begun, on}
 use Rattle.cert_check.proofs.texts.Plainest.{plain-said, plain_state, plain-state}
 use Rattle.cert_check.proofs.texts.Stated.{cuts-matched}
 use Rattle.cert_check.proofs.texts.Noted.{front-state, front-notes, took-is}
+use Rattle.cert_check.proofs.texts.Separated.{later-of}
 
 abbrev pub Limits : Type 0
 Limits = ℕ × Option ℕ

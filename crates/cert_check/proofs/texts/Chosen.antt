@@ -3,12 +3,12 @@ use Rattle.std.proofs.Common.{◌≡◌, ◌<◌, ◌≤◌, ◌+◌, ◌/◌, �
 use Rattle.std.specs.Prelude.{nat_eq, nat_lt}
 use Rattle.std.specs.List.{flat_map, list_any}
 use Rattle.std.specs.Cmp.Lexicographic.{pointwise}
-use Rattle.std.proofs.lemmas.Bool.{ltb-true, ltb-false, false≢true, and_parts}
+use Rattle.std.proofs.lemmas.Bool.{ltb-true, ltb-false, false≢true, and_parts, cases_Bool}
 use Rattle.std.proofs.lemmas.Cmp.{nat_list_eq_equiv}
 use Rattle.ed_rules.specs.Choices.{Choice}
 use Rattle.cert_check.specs.text.Text.{Word, sure_letters, letters_words, hexadecimal, is_itself, byte_text, choice_word, possible}
-use Rattle.cert_check.proofs.texts.Separated.{Above, all_above, Above-from_test, Above-append, AreWords, AreWords-append, head-same, tail-same}
-use Rattle.cert_check.proofs.texts.Worded.{test, cond-true, cond-false}
+use Rattle.cert_check.proofs.texts.Separated.{Above, all_above, Above-from_test, Above-append, AreWords, AreWords-append, first-of, later-of}
+use Rattle.cert_check.proofs.texts.Worded.{cond-true, cond-false}
 
 letters-above : (p : ℕ) (marks : List Bool) → 32 < p → Above 32 (sure_letters p marks)
 letters-above p [] h = tt
@@ -53,7 +53,7 @@ data Digit (d : ℕ) : Type 0 where
   high : 10 ≤ d → hexadecimal d ≡ 87 + d → Digit d
 
 digit-of : (d : ℕ) → Digit d
-digit-of d = elim (test (nat_lt d 10)) [
+digit-of d = elim (cases_Bool (nat_lt d 10)) [
   | inl h ↦ low (ltb-true d 10 h) (cond-true (nat_lt d 10) (48 + d) (87 + d) h)
   | inr h ↦ high (ltb-false d 10 h) (cond-false (nat_lt d 10) (48 + d) (87 + d) h)
 ]
@@ -77,7 +77,7 @@ not-percent : (b : ℕ) → not (b == 37) ≡ true → b ≡ 37 → ⊥
 not-percent b e is = let no : not (37 == 37) ≡ true = subst (λ (n : ℕ). not (n == 37) ≡ true) is e in absurd cc
 
 pub spelled-of : (b : ℕ) → Spelled b
-spelled-of b = elim (test (is_itself b)) [
+spelled-of b = elim (cases_Bool (is_itself b)) [
   | inl h ↦
       let outer = and_parts (nat_lt 32 b && nat_lt b 127) (not (b == 37)) h in
       let inner = and_parts (nat_lt 32 b) (nat_lt b 127) outer.0 in
@@ -130,13 +130,13 @@ pub two-bytes : (x y : ℕ) → x < y → x ≡ y → ⊥
 two-bytes x y l e = omega arith
 
 dash-differs : (bytes : List ℕ) → 45 ∷ [] ≡ 61 ∷ bytes → ⊥
-dash-differs bytes e = two-bytes 45 61 (omega arith) (head-same e)
+dash-differs bytes e = two-bytes 45 61 (omega arith) (first-of e)
 
 pub choice-same : (c d : Choice) → choice_word c ≡ choice_word d → c ≡ d
 choice-same None None e = refl
 choice-same None (Some b) e = absurd (dash-differs (flat_map byte_text b) e)
 choice-same (Some a) None e = absurd (dash-differs (flat_map byte_text a) (sym e))
-choice-same (Some a) (Some b) e = ap (λ (t : List ℕ). Some t) (bytes-same a b (tail-same e))
+choice-same (Some a) (Some b) e = ap (λ (t : List ℕ). Some t) (bytes-same a b (later-of e))
 
 -- words that are made of the elements of a list
 pub words-are-words : {A : Type 0} (f : A → Word) → ((x : A) → Above 32 (f x)) → (xs : List A) → AreWords (map f xs)

@@ -1,11 +1,10 @@
 -- Words at the front of a text, and what is left after them.
 use Rattle.std.proofs.Common.{◌≡◌, ◌≢◌, ◌+◌, ◌==◌, ◌++◌, ◌∷◌, [], ℕ, suc, Bool, true, false, not, cond, List, take, drop, inl, inr, arith, refl, ◌∙◌, sym, ap, subst}
 use Rattle.std.specs.List.{prefix_len}
-use Rattle.std.proofs.lemmas.Bool.{eqb-false, eqb-true}
+use Rattle.std.proofs.lemmas.Bool.{eqb-false, eqb-true, cases_Bool}
 use Rattle.cert_check.specs.text.Text.{Word, space, spaced}
 use Rattle.cert_check.specs.text.Reading.{is_in_word, IsUnspaced, EndsWord, IsFirstWord}
-use Rattle.cert_check.proofs.texts.Separated.{Above, AreWords, head-same, tail-same}
-use Rattle.cert_check.proofs.texts.Worded.{test}
+use Rattle.cert_check.proofs.texts.Separated.{Above, AreWords, first-of, later-of}
 
 pub unspaced : (w : Word) → Above 32 w → IsUnspaced w
 unspaced [] h = tt
@@ -19,12 +18,12 @@ ends (w ∷ ws) = refl
 pub word-same : (w v r s : List ℕ) → IsUnspaced w → IsUnspaced v → EndsWord r → EndsWord s → w ++ r ≡ v ++ s → (w ≡ v) × (r ≡ s)
 word-same [] [] r s hw hv hr hs e = (refl, e)
 word-same [] (y ∷ v) [] s hw hv hr hs e = absurd cc
-word-same [] (y ∷ v) (b ∷ r) s hw hv hr hs e = absurd (hv.0 (sym (head-same e) ∙ hr))
+word-same [] (y ∷ v) (b ∷ r) s hw hv hr hs e = absurd (hv.0 (sym (first-of e) ∙ hr))
 word-same (x ∷ w) [] r [] hw hv hr hs e = absurd cc
-word-same (x ∷ w) [] r (b ∷ s) hw hv hr hs e = absurd (hw.0 (head-same e ∙ hs))
+word-same (x ∷ w) [] r (b ∷ s) hw hv hr hs e = absurd (hw.0 (first-of e ∙ hs))
 word-same (x ∷ w) (y ∷ v) r s hw hv hr hs e =
-    let later = word-same w v r s hw.1 hv.1 hr hs (tail-same e) in
-    let first : x ≡ y = head-same e in
+    let later = word-same w v r s hw.1 hv.1 hr hs (later-of e) in
+    let first : x ≡ y = first-of e in
     let rest : w ≡ v = later.0 in
     (cc, later.1)
 
@@ -37,7 +36,7 @@ pub record Split (word left : List ℕ) (ws : List Word) : Type 0 where
 pub first-split : (text word left : List ℕ) (ws : List Word) → IsFirstWord text word left → AreWords ws → spaced ws ≡ text → Split word left ws
 first-split text word left [] h a e = let none : [] ≡ space ∷ (word ++ left) = e ∙ h.0 in absurd cc
 first-split text word left (w ∷ ws) h a e =
-    let both = word-same w word (spaced ws) left (unspaced w a.0) h.1.0 (ends ws) h.1.1 (tail-same (e ∙ h.0)) in
+    let both = word-same w word (spaced ws) left (unspaced w a.0) h.1.0 (ends ws) h.1.1 (later-of (e ∙ h.0)) in
     record { later = ws; is = ap (λ (v : Word). v ∷ ws) both.0; rest = both.1 }
 
 pub first-of-list : {w a : Word} {ws later : List Word} → w ∷ ws ≡ a ∷ later → (w ≡ a) × (ws ≡ later)
@@ -57,14 +56,14 @@ continues false n e = omega arith
 
 pub front-unspaced : (xs : List ℕ) → IsUnspaced (take (prefix_len is_in_word xs) xs)
 front-unspaced [] = tt
-front-unspaced (x ∷ xs) = elim (test (x == 32)) [
+front-unspaced (x ∷ xs) = elim (cases_Bool (x == 32)) [
   | inl h ↦ subst (λ (n : ℕ). IsUnspaced (take n (x ∷ xs))) (sym (stops (x == 32) (prefix_len is_in_word xs) h)) tt
   | inr h ↦ subst (λ (n : ℕ). IsUnspaced (take n (x ∷ xs))) (sym (continues (x == 32) (prefix_len is_in_word xs) h)) ((λ e. eqb-false x 32 h e), front-unspaced xs)
 ]
 
 pub left-ends : (xs : List ℕ) → EndsWord (drop (prefix_len is_in_word xs) xs)
 left-ends [] = tt
-left-ends (x ∷ xs) = elim (test (x == 32)) [
+left-ends (x ∷ xs) = elim (cases_Bool (x == 32)) [
   | inl h ↦ subst (λ (n : ℕ). EndsWord (drop n (x ∷ xs))) (sym (stops (x == 32) (prefix_len is_in_word xs) h)) (eqb-true x 32 h)
   | inr h ↦ subst (λ (n : ℕ). EndsWord (drop n (x ∷ xs))) (sym (continues (x == 32) (prefix_len is_in_word xs) h)) (left-ends xs)
 ]

@@ -1,36 +1,25 @@
 -- What a zone says, by its known bounds alone.
 use Rattle.std.proofs.Common.{◌≡◌, ◌<◌, ◌+◌, ◌/◌, ◌%◌, ◌==◌, ◌++◌, ◌∷◌, [], ℕ, zero, suc, ℤ, pos, Bool, true, false, not, ◌&&◌, ◌||◌, List, length, get_or, take, Option, None, Some, inl, inr, arith, refl, ◌∙◌, sym, ap, subst, append-nil}
-use Rattle.std.specs.Option.{option_eq}
-use Rattle.std.specs.Ordering.{int_eq}
 use Rattle.std.specs.List.{All, flat_map}
-use Rattle.std.proofs.lemmas.Bool.Decides.{Decides-int_eq}
 use Rattle.std.proofs.lemmas.Grind.{flat_map-append}
 use Rattle.std.proofs.lemmas.List.{take_more}
 use Rattle.std.proofs.lemmas.List.Elements.{All-nil, All-cons, All-head, All-tail}
+use Rattle.std.proofs.lemmas.Bool.{cases_Bool}
 use Rattle.zones.specs.Zone.{Bounds}
 use Rattle.zones.specs.Limits.{IsZone}
 use Rattle.zones.specs.Steps.{any_bound}
 use Rattle.zones.specs.KnownBounds.{PlacedBound, is_unknown, known_from, known_bounds}
+use Rattle.zones.proofs.Listing.{option_eq-true, option_eq-itself}
 use Rattle.ed_rules.specs.Formed.{has_name, may_say, ZoneIsFormed}
 use Rattle.cert_check.specs.text.Text.{Word, spaced, bound_words, bounds_words}
 use Rattle.cert_check.proofs.texts.Written.{then-words}
-use Rattle.cert_check.proofs.texts.Worded.{test, cond-true, cond-false}
-
-pub option-same : (a b : Option ℤ) → option_eq int_eq a b ≡ true → a ≡ b
-option-same None None h = refl
-option-same None (Some b) h = absurd cc
-option-same (Some a) None h = absurd cc
-option-same (Some a) (Some b) h = ap (λ (n : ℤ). Some n) ((Decides-int_eq a b).0 h)
-
-pub option-itself : (a : Option ℤ) → option_eq int_eq a a ≡ true
-option-itself None = refl
-option-itself (Some a) = (Decides-int_eq a a).1 refl
+use Rattle.cert_check.proofs.texts.Worded.{cond-true, cond-false}
 
 unknown-any : (place : ℕ) (b : Option ℤ) → is_unknown place b ≡ true → b ≡ any_bound (place / 32) (place % 32)
-unknown-any place b h = option-same b (any_bound (place / 32) (place % 32)) h
+unknown-any place b h = option_eq-true b (any_bound (place / 32) (place % 32)) h
 
 pub any-unknown : (place : ℕ) (b : Option ℤ) → b ≡ any_bound (place / 32) (place % 32) → is_unknown place b ≡ true
-any-unknown place b e = rw e (option-itself (any_bound (place / 32) (place % 32)))
+any-unknown place b e = rw e (option_eq-itself (any_bound (place / 32) (place % 32)))
 
 known-skip : (place : ℕ) (b : Option ℤ) (bounds : Bounds) → is_unknown place b ≡ true → known_from place (b ∷ bounds) ≡ known_from (suc place) bounds
 known-skip place b bounds h = cond-true (is_unknown place b) _ _ h
@@ -52,8 +41,9 @@ known-all P place (b ∷ bounds) h =
     let later : All P (known_from (suc place) bounds) =
     known-all P (suc place) bounds (λ k l e.
     let at : suc place + k ≡ place + suc k = omega arith in
-    subst (λ (i : ℕ). P (placed i (get_or bounds k None))) (sym at) (h (suc k) (omega arith) (subst (λ (i : ℕ). is_unknown i (get_or bounds k None) ≡ false) at e))) in
-    elim (test (is_unknown place b)) [
+    subst (λ (i : ℕ). P (placed i (get_or bounds k None))) (sym at)
+    (h (suc k) (omega arith) (subst (λ (i : ℕ). is_unknown i (get_or bounds k None) ≡ false) at e))) in
+    elim (cases_Bool (is_unknown place b)) [
       | inl e ↦ subst (λ (bs : List PlacedBound). All P bs) (sym (known-skip place b bounds e)) later
       | inr e ↦
           let at : place + 0 ≡ place = omega arith in
@@ -71,7 +61,7 @@ all-known P place (b ∷ bounds) h zero l e =
     subst (λ (i : ℕ). P (placed i b)) (sym at) (All-head P (placed place b) (known_from (suc place) bounds) all)
 all-known P place (b ∷ bounds) h (suc k) l e =
     let at : suc place + k ≡ place + suc k = omega arith in
-    let later : All P (known_from (suc place) bounds) = elim (test (is_unknown place b)) [
+    let later : All P (known_from (suc place) bounds) = elim (cases_Bool (is_unknown place b)) [
       | inl u ↦ subst (λ (bs : List PlacedBound). All P bs) (known-skip place b bounds u) h
       | inr u ↦ All-tail P (placed place b) (known_from (suc place) bounds) (subst (λ (bs : List PlacedBound). All P bs) (known-next place b bounds u) h)
     ] in
@@ -104,8 +94,8 @@ pub may-placed : (marks : List Bool) (x y : ℕ) (v : Option ℤ) (b : PlacedBou
 may-placed marks x y v b is_x is_y is_v =
     ap (λ (p : ℕ). may_say marks p y v) is_x ∙ ap (λ (q : ℕ). may_say marks (b.place / 32) q v) is_y ∙ ap (λ (u : Option ℤ). may_say marks (b.place / 32) (b.place % 32) u) is_v
 
-any-said : (marks : List Bool) (x y : ℕ) → may_say marks x y (any_bound x y) ≡ true
-any-said marks x y = elim (test (x == y)) [
+pub any-said : (marks : List Bool) (x y : ℕ) → may_say marks x y (any_bound x y) ≡ true
+any-said marks x y = elim (cases_Bool (x == y)) [
   | inl h ↦ ap (λ (b : Option ℤ). may_say marks x y b) (cond-true (x == y) (Some (pos 0)) None h)
       ∙ ap (λ (b : Bool). b || (has_name marks x && has_name marks y)) h
   | inr h ↦ ap (λ (b : Option ℤ). may_say marks x y b) (cond-false (x == y) (Some (pos 0)) None h) ∙ ap (λ (b : Bool). not b) h
@@ -118,8 +108,9 @@ says-formed marks zone size is_zone h = record {
   is_zone = is_zone;
   says = λ k l.
       let long = is_zone.size in
-      elim (test (is_unknown k (get_or zone k None))) [
-        | inl e ↦ ap (λ (b : Option ℤ). may_say marks (k / 32) (k % 32) b) (unknown-any k (get_or zone k None) e) ∙ any-said marks (k / 32) (k % 32)
+      elim (cases_Bool (is_unknown k (get_or zone k None))) [
+        | inl e ↦ ap (λ (b : Option ℤ). may_say marks (k / 32) (k % 32) b) (unknown-any k (get_or zone k None) e)
+            ∙ any-said marks (k / 32) (k % 32)
         | inr e ↦ all-zone (MaySay marks) zone h k (omega arith) e
       ];
 }
@@ -139,7 +130,7 @@ words-placed x y v b is_x is_y is_v =
     ap (λ (p : ℕ). bound_words p y v) is_x ∙ ap (λ (q : ℕ). bound_words (b.place / 32) q v) is_y ∙ ap (λ (u : Option ℤ). bound_words (b.place / 32) (b.place % 32) u) is_v
 
 any-words : (x y : ℕ) → bound_words x y (any_bound x y) ≡ []
-any-words x y = elim (test (x == y)) [
+any-words x y = elim (cases_Bool (x == y)) [
   | inl h ↦ ap (λ (b : Option ℤ). bound_words x y b) (cond-true (x == y) (Some (pos 0)) None h) ∙ cond-true (x == y) [] _ h
   | inr h ↦ ap (λ (b : Option ℤ). bound_words x y b) (cond-false (x == y) (Some (pos 0)) None h)
 ]
@@ -148,7 +139,7 @@ words-from : (place : ℕ) (bounds : Bounds) → bounds_words place bounds ≡ f
 words-from place [] = refl
 words-from place (b ∷ bounds) =
     let later = words-from (suc place) bounds in
-    elim (test (is_unknown place b)) [
+    elim (cases_Bool (is_unknown place b)) [
       | inl e ↦
           let none : bound_words (place / 32) (place % 32) b ≡ [] =
           ap (λ (v : Option ℤ). bound_words (place / 32) (place % 32) v) (unknown-any place b e) ∙ any-words (place / 32) (place % 32) in

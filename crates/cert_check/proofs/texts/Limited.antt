@@ -1,7 +1,7 @@
 -- Which certificates have a text, test by test.
-use Rattle.std.proofs.Common.{◌≡◌, ◌<◌, ◌≤◌, ◌+◌, ◌-◌, ◌*◌, ◌/◌, ◌%◌, ◌∷◌, [], ℕ, zero, suc, Bool, List, length, get_or, map, take, drop, None, arith, refl, sym, ap, subst}
+use Rattle.std.proofs.Common.{◌≡◌, ◌<◌, ◌≤◌, ◌+◌, ◌*◌, ◌/◌, ◌%◌, ◌∷◌, [], ℕ, Bool, List, length, get_or, map, take, None, arith, sym, ap, subst}
 use Rattle.std.specs.List.{All}
-use Rattle.std.proofs.lemmas.List.{take_more, length-map, get_or-map}
+use Rattle.std.proofs.lemmas.List.{take_more, length-map, get_or-map, take_all}
 use Rattle.std.proofs.lemmas.List.Elements.{All-nil, All-cons, All-append}
 use Rattle.zones.specs.Zone.{Bounds, bound}
 use Rattle.ed_rules.specs.Formed.{may_say}
@@ -14,29 +14,14 @@ at-place marks zone place =
     let at : 32 * (place / 32) + place % 32 ≡ place = omega arith in
     ap (λ k. may_say marks (place / 32) (place % 32) (get_or zone k None)) at
 
-none-left : {A : Type 0} (n : ℕ) → drop {A = A} n [] ≡ []
-none-left zero = refl
-none-left (suc n) = refl
-
-pub past-end : {A : Type 0} (xs : List A) (n : ℕ) → length xs ≤ n → drop n xs ≡ []
-past-end [] n l = none-left n
-past-end (x ∷ xs) zero l = absurd (omega arith)
-past-end (x ∷ xs) (suc n) l = past-end xs n (omega arith)
-
 -- what holds of each element, one element further
 pub all-more : {X : Type 0} (P : X → Type 0) (xs : List X) (i : ℕ) (x : X) → i < length xs → x ≡ get_or xs i x → All P (take i xs) → P x → All P (take (i + 1) xs)
 all-more {X} P xs i x h is before here =
     subst (λ (ys : List X). All P ys) (sym (take_more xs i x h))
     (All-append P (take i xs) (get_or xs i x ∷ []) before (All-cons P (get_or xs i x) [] (subst (λ (y : X). P y) is here) (All-nil P)))
 
-taken : {X : Type 0} (xs : List X) (i : ℕ) → length xs ≤ i → take i xs ≡ xs
-taken [] zero h = refl
-taken [] (suc i) h = refl
-taken (x ∷ xs) zero h = absurd (omega arith)
-taken (x ∷ xs) (suc i) h = let rest : take i xs ≡ xs = taken xs i (omega arith) in cc
-
 pub all-end : {X : Type 0} (P : X → Type 0) (xs : List X) (i : ℕ) → length xs ≤ i → All P (take i xs) → All P xs
-all-end {X} P xs i h before = subst (λ (ys : List X). All P ys) (taken xs i h) before
+all-end {X} P xs i h before = subst (λ (ys : List X). All P ys) (take_all i xs h) before
 
 pub all-fails : {X : Type 0} (P : X → Type 0) (xs : List X) (i : ℕ) (x : X) → i < length xs → x ≡ get_or xs i x → (P x → ⊥) → All P xs → ⊥
 all-fails {X} P xs i x h is not_here all = not_here (subst (λ (y : X). P y) (sym is) (all i x h))

@@ -1,7 +1,8 @@
 -- Names, letters and the bytes that stand for them.
-use Rattle.std.proofs.Common.{◌≡◌, ◌<◌, ◌+◌, ◌-◌, ◌==◌, ◌∷◌, [], ℕ, Bool, true, false, ◌&&◌, ◌||◌, List, arith, refl, ◌∙◌, ap}
+use Rattle.std.proofs.Common.{◌≡◌, ◌<◌, ◌+◌, ◌-◌, ◌==◌, ◌∷◌, [], ℕ, Bool, ◌&&◌, ◌||◌, List, arith, ◌∙◌, ap}
 use Rattle.std.specs.Prelude.{nat_lt, nat_le}
 use Rattle.std.proofs.lemmas.Bool.{le-ltb, le-leb, lt-leb, ne_eqb}
+use Rattle.std.proofs.Math.Bool.{or-false}
 use Rattle.ed_rules.specs.Marks.{is_sure}
 use Rattle.ed_rules.specs.Formed.{has_name}
 use Rattle.cert_check.specs.text.Text.{name_word}
@@ -13,10 +14,6 @@ has-letter marks letter name is =
     let at : name - 6 ≡ letter = omega arith in
     ap (λ (b : Bool). b || (nat_le 6 name && is_sure marks (name - 6))) (le-ltb name 3 (omega arith))
     ∙ ap (λ (b : Bool). b && is_sure marks (name - 6)) (le-leb 6 name (omega arith)) ∙ ap (λ (k : ℕ). is_sure marks k) at
-
-or-false : (b : Bool) → b || false ≡ b
-or-false true = refl
-or-false false = refl
 
 -- any other name
 pub has-fixed : (marks : List Bool) (name : ℕ) → name < 6 → has_name marks name ≡ nat_lt name 3

@@ -13,10 +13,10 @@ use Rattle.cert_check.specs.text.HasText.{StateHasText, LoopedHasText, NoteHasTe
 use Rattle.cert_check.specs.text.Text as text
 use Rattle.cert_check.specs.text.Text.{Word, state_lines, headed_lines, looped_lines, note_lines}
 use Rattle.cert_check.specs.text.Pieces.{Left, Took, texts, IsOf, alone, either_line, head_line, inner_lines, list_lines, ListIsFormed, noted_lines, NotedIsFormed, notes_lines}
-use Rattle.cert_check.proofs.texts.Separated.{head-same, Above-from_test, AreLinesOfWords, AreLinesOfWords-append}
+use Rattle.cert_check.proofs.texts.Separated.{Above-from_test, AreLinesOfWords, AreLinesOfWords-append, first-of, later-of}
 use Rattle.cert_check.proofs.texts.Unambiguous.{state-same, notes-same, after_notes, after_inner, inner-same, looped_made, looped-by, note_made}
 use Rattle.cert_check.proofs.texts.OneText.{state-words, inner-words, notes-words}
-use Rattle.cert_check.proofs.texts.Pieces.{first-of, later-of, texts-append, took-more, Continued, GoesOn, Expects, Determined, texts-determined}
+use Rattle.cert_check.proofs.texts.Pieces.{texts-append, took-more, Continued, GoesOn, Expects, Determined, texts-determined}
 use Rattle.cert_check.proofs.texts.Plainest.{plain_state, plain-state}
 use Rattle.cert_check.proofs.texts.Stated.{state-determined}
 
@@ -28,7 +28,7 @@ note_head b = either_line (codes "note") (codes "end") b
 
 -- lines that begin with different words
 text-differs : {x y : ℕ} {v w : List ℕ} {r s : List (List ℕ)} → x < y → (x ∷ v) ∷ r ≡ (y ∷ w) ∷ s → ⊥
-text-differs {x} {y} l e = let same : x ≡ y = head-same (first-of e) in omega arith
+text-differs {x} {y} l e = let same : x ≡ y = first-of (first-of e) in omega arith
 
 inner-done : {r s : List (List ℕ)} → codes "inner" ∷ r ≡ codes "done" ∷ s → ⊥
 inner-done e = text-differs (omega arith) (sym e)

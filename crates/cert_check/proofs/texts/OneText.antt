@@ -14,11 +14,11 @@ use Rattle.cert_check.specs.declared.certificate.Version.{Version}
 use Rattle.cert_check.specs.declared.certificate.Version.TheVariants.{One, Two}
 use Rattle.ed_rules.specs.LineBounds.{is_few, is_limit, is_within}
 use Rattle.cert_check.specs.text.HasText.{IsSaidIn, StateHasText, LoopedHasText, NoteHasText, HasText, IsText}
-use Rattle.cert_check.proofs.texts.Separated.{Above, Above-from_test, IsLineOfWords, AreLinesOfWords, AreLinesOfWords-append, lines-same}
+use Rattle.cert_check.proofs.texts.Separated.{Above, Above-from_test, IsLineOfWords, AreLinesOfWords, AreLinesOfWords-append, lines-same, first-of, later-of}
 use Rattle.cert_check.proofs.texts.Worded.{decimal-above}
 use Rattle.cert_check.proofs.texts.Zoned.{zone-said, bounds-are-words}
 use Rattle.cert_check.proofs.texts.Chosen.{marks-are-words, choice-above, choice-same, words-are-words, texts-same, two-bytes, two-words, three-words}
-use Rattle.cert_check.proofs.texts.Unambiguous.{first-line, later-lines, first-word, later-words, matched-same, after_matched, state-same, after_notes, notes-same}
+use Rattle.cert_check.proofs.texts.Unambiguous.{matched-same, after_matched, state-same, after_notes, notes-same}
 
 pub few : (n : ℕ) → is_few n ≡ true → n < 2 ^ 64
 few n e = let l = leb-true n 1000000000000 e in omega arith
@@ -186,7 +186,9 @@ certificate_made version path min max has notes last low high writes = record {
   writes = writes;
 }
 
-certificate-by : (a b : Certificate) → a.version ≡ b.version → a.path ≡ b.path → a.min ≡ b.min → a.max ≡ b.max → a.has ≡ b.has → a.notes ≡ b.notes → a.last ≡ b.last → a.low ≡ b.low → a.high ≡ b.high → a.writes ≡ b.writes → a ≡ b
+pub certificate-by : (a b : Certificate) → a.version ≡ b.version → a.path ≡ b.path → a.min ≡ b.min → a.max ≡ b.max →
+    a.has ≡ b.has → a.notes ≡ b.notes → a.last ≡ b.last → a.low ≡ b.low → a.high ≡ b.high → a.writes ≡ b.writes →
+    a ≡ b
 certificate-by a b v p m x t n l w h s = λ k. certificate_made (v k) (p k) (m k) (x k) (t k) (n k) (l k) (w k) (h k) (s k)
 
 -- the lines of a certificate below the first, in a version
@@ -214,27 +216,28 @@ lines-in-same version a b v h k i j path =
     let closing_b : List Line = bounds_line (codes "final") b.low b.high ∷ texts_line (codes "writes") b.writes ∷ [] in
     let after_a : List Line = state_lines version a.last ++ closing_a in
     let after_b : List Line = state_lines version b.last ++ closing_b in
-    let start = later-lines path in
-    let has = matched-same version (codes "has") a.has b.has (after_notes version a.notes after_a) (after_notes version b.notes after_b) i.0 j.0 (later-lines start) in
+    let start = later-of path in
+    let has = matched-same version (codes "has") a.has b.has (after_notes version a.notes after_a) (after_notes version b.notes after_b) i.0
+    j.0 (later-of start) in
     let noted = notes-same version a.notes b.notes after_a after_b i.1.0 j.1.0 has.1 in
     let ended = state-same version a.last b.last closing_a closing_b i.1.1 j.1.1 noted.1 in
-    let start_words = later-words (first-line start) in
-    let final_words = later-words (first-line ended.1) in
+    let start_words = later-of (first-of start) in
+    let final_words = later-of (first-of ended.1) in
     certificate-by a b v
-    (choice-same a.path b.path (first-word (later-words (first-line path))))
-    (decimal_injective a.min b.min (few a.min (start-parts a h).0) (few b.min (start-parts b k).0) (first-word start_words))
-    (limit-same a.max b.max (start-parts a h).1 (start-parts b k).1 (first-word (later-words start_words)))
+    (choice-same a.path b.path (first-of (later-of (first-of path))))
+    (decimal_injective a.min b.min (few a.min (start-parts a h).0) (few b.min (start-parts b k).0) (first-of start_words))
+    (limit-same a.max b.max (start-parts a h).1 (start-parts b k).1 (first-of (later-of start_words)))
     has.0 noted.0 ended.0
-    (decimal_injective a.low b.low (few a.low (final-parts a h).0) (few b.low (final-parts b k).0) (first-word final_words))
-    (limit-same a.high b.high (final-parts a h).1 (final-parts b k).1 (first-word (later-words final_words)))
-    (texts-same a.writes b.writes (later-words (first-line (later-lines ended.1))))
+    (decimal_injective a.low b.low (few a.low (final-parts a h).0) (few b.low (final-parts b k).0) (first-of final_words))
+    (limit-same a.high b.high (final-parts a h).1 (final-parts b k).1 (first-of (later-of final_words)))
+    (texts-same a.writes b.writes (later-of (first-of (later-of ended.1))))
 
 lines-of-same : (a b : Certificate) → HasText a → HasText b → version_line a.version ∷ lines_in a.version a ≡ version_line b.version ∷ lines_in b.version b → a ≡ b
 lines-of-same a b h k e =
-    let same = version-same a.version b.version (ap (λ (l : Line). line_text l) (first-line e)) in
+    let same = version-same a.version b.version (ap (λ (l : Line). line_text l) (first-of e)) in
     lines-in-same b.version a b same h k
     (said-in b.version a same h) (said-in b.version b refl k)
-    (subst (λ (v : Version). lines_in v a ≡ lines_in b.version b) same (later-lines e))
+    (subst (λ (v : Version). lines_in v a ≡ lines_in b.version b) same (later-of e))
 
 pub one-text : (bytes : List ℕ) (a b : Certificate) → IsText bytes a → IsText bytes b → a ≡ b
 unfolding text_of

@@ -3,6 +3,7 @@ use Rattle.std.proofs.Common.{◌≡◌, ◌++◌, ◌∷◌, [], ℕ, List, Opt
 use Rattle.std.specs.Prelude.{IsErrAnd, MatchOption, option_map, All}
 use Rattle.std.proofs.lemmas.List.Elements.{All-nil, All-cons, All-weaker}
 use Rattle.ed_base.specs.Lines.{newline, IsLine, bytes_of}
+use Rattle.ed_base.proofs.LineLemmas.{bytes_of-append}
 use Rattle.cert_check.specs.declared.text.fault.Unread.{Unread}
 use Rattle.cert_check.specs.declared.text.fault.Unread.TheVariants.{Version, Line, Size, Memory}
 use Rattle.cert_check.specs.declared.text.wanted.LineKind.{LineKind}
@@ -12,17 +13,7 @@ use Rattle.cert_check.specs.text.Text.{Word, line_text}
 use Rattle.cert_check.specs.text.Reading.{ReadsAs}
 use Rattle.cert_check.specs.text.Pieces.{Left, IsNext, Took, texts, IsOf, MayStand, IsStrange, IsShort, IsFault, Reads, same, alone}
 use Rattle.cert_check.specs.text.Wanted.{key, other_keys, keys, HasKey, HasSomeKey, IsOfKind, SomeLine}
-use Rattle.cert_check.proofs.texts.Separated.{AreLinesOfWords, line-same}
-
-pub first-of : {A : Type 0} {a b : A} {r s : List A} → a ∷ r ≡ b ∷ s → a ≡ b
-first-of e = cc
-
-pub later-of : {A : Type 0} {a b : A} {r s : List A} → a ∷ r ≡ b ∷ s → r ≡ s
-later-of e = cc
-
-pub bytes_of-append : (a b : List (List ℕ)) → bytes_of (a ++ b) ≡ bytes_of a ++ bytes_of b
-bytes_of-append [] b = refl
-bytes_of-append (l ∷ a) b = ap (λ (t : List ℕ). l ++ newline ∷ t) (bytes_of-append a b) ∙ sym (append_assoc l (newline ∷ bytes_of a) (bytes_of b))
+use Rattle.cert_check.proofs.texts.Separated.{AreLinesOfWords, line-same, first-of, later-of}
 
 pub texts-append : (a b : List text.Line) → texts (a ++ b) ≡ texts a ++ texts b
 texts-append [] b = refl

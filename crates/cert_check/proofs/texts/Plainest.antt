@@ -1,8 +1,7 @@
 -- The plainest state, certificate and so on: what has been read can be gone on with by these.
-use Rattle.std.proofs.Common.{◌≡◌, ◌<◌, ◌/◌, ◌%◌, ◌==◌, ◌∷◌, [], ℕ, Bool, true, false, not, ◌&&◌, ◌||◌, List, length, None, Some, pos, arith, refl, ◌∙◌, sym, ap}
-use Rattle.std.specs.Prelude.{cond}
+use Rattle.std.proofs.Common.{◌≡◌, ◌<◌, ◌/◌, ◌%◌, ◌∷◌, [], ℕ, Bool, true, false, List, length, None, arith, refl, ◌∙◌, sym, ap}
 use Rattle.std.proofs.lemmas.List.Elements.{All-nil, All-cons}
-use Rattle.zones.specs.Steps.{any_bound, any_zone}
+use Rattle.zones.specs.Steps.{any_zone}
 use Rattle.zones.proofs.Formulas.{bound-any_zone}
 use Rattle.zones.proofs.Kept.{IsZone-any_zone}
 use Rattle.ed_rules.specs.declared.state.Old.{Old}
@@ -11,7 +10,7 @@ use Rattle.ed_rules.specs.declared.state.Changed.{Changed}
 use Rattle.ed_rules.specs.declared.state.Undo.{Undo}
 use Rattle.ed_rules.specs.declared.state.State.{State}
 use Rattle.ed_rules.specs.Choices.{Choice}
-use Rattle.ed_rules.specs.Formed.{ChoiceIsBytes, SetIsFormed, ZoneIsFormed, has_name, may_say}
+use Rattle.ed_rules.specs.Formed.{ChoiceIsBytes, SetIsFormed, ZoneIsFormed, may_say}
 use Rattle.cert_check.specs.declared.certificate.Version.{Version}
 use Rattle.cert_check.specs.declared.certificate.Version.TheVariants.{One, Two}
 use Rattle.cert_check.specs.declared.text.lines.Found.{Found}
@@ -20,13 +19,7 @@ use Rattle.cert_check.specs.text.Pieces.{UndoIsFormed, MarkedIsFormed, IsSomeRep
 use Rattle.cert_check.specs.text.Reading.{all_marks}
 use Rattle.cert_check.proofs.texts.Limited.{at-place}
 use Rattle.cert_check.proofs.texts.Unambiguous.{state_made}
-
-may-say-any : (marks : List Bool) (x y : ℕ) → may_say marks x y (any_bound x y) ≡ true
-may-say-any marks x y =
-    (elim (x == y) as (λ r. x == y ≡ r → may_say marks x y (cond r (Some (pos 0)) None) ≡ true) [
-      | true ↦ λ e. ap (λ (r : Bool). r || (has_name marks x && has_name marks y)) e
-      | false ↦ λ e. ap not e
-    ]) refl
+use Rattle.cert_check.proofs.texts.Known.{any-said}
 
 -- a zone that says nothing
 pub any-formed : (marks : List Bool) → length marks ≡ 26 → ZoneIsFormed marks any_zone
@@ -37,7 +30,8 @@ any-formed marks h = record {
       let row : place / 32 < 32 = omega arith in
       let column : place % 32 < 32 = omega arith in
       sym (at-place marks any_zone place)
-      ∙ ap (λ b. may_say marks (place / 32) (place % 32) b) (bound-any_zone (place / 32) (place % 32) row column) ∙ may-say-any marks (place / 32) (place % 32);
+      ∙ ap (λ b. may_say marks (place / 32) (place % 32) b) (bound-any_zone (place / 32) (place % 32) row column)
+      ∙ any-said marks (place / 32) (place % 32);
 }
 
 abbrev pub plain_old : Old

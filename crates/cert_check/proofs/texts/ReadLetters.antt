@@ -1,13 +1,13 @@
 -- Letters, one by one, as they are read.
-use Rattle.std.proofs.Common.{◌≡◌, ◌≢◌, ◌<◌, ◌≤◌, ◌+◌, ◌-◌, ◌&&◌, Option, None, Some, ◌++◌, ◌∷◌, [], ℕ, zero, suc, Bool, true, false, List, length, get_or, set, drop, replicate, arith, refl, ◌∙◌, sym, ap, append-nil, drop-cons}
+use Rattle.std.proofs.Common.{◌≡◌, ◌≢◌, ◌<◌, ◌≤◌, ◌+◌, ◌-◌, ◌&&◌, Option, None, Some, ◌++◌, ◌∷◌, [], ℕ, zero, suc, Bool, true, false, List, length, get_or, set, drop, arith, refl, ◌∙◌, sym, ap, append-nil, drop-cons}
 use Rattle.std.specs.Prelude.{nat_le}
 use Rattle.std.proofs.lemmas.Bool.{leb-true, and_parts}
 use Rattle.std.proofs.lemmas.List.{get_or-replicate}
 use Rattle.ed_base.specs.Buffer.{letter_of}
 use Rattle.cert_check.specs.text.Text.{spaced, sure_letters, letters_words}
 use Rattle.cert_check.specs.text.Reading.{all_marks}
-use Rattle.cert_check.proofs.texts.Separated.{tail-same}
 use Rattle.cert_check.proofs.texts.Chosen.{later-letters}
+use Rattle.cert_check.proofs.texts.Separated.{later-of}
 
 -- the byte that spells a letter
 pub letter-byte : (byte letter : ℕ) → letter_of byte ≡ Some letter → byte ≡ 97 + letter
@@ -49,8 +49,9 @@ unsure-later (b ∷ marks) zero h (suc j) l = h (suc j) (omega arith)
 unsure-later (b ∷ marks) (suc k) h zero l = absurd (omega arith)
 unsure-later (b ∷ marks) (suc k) h (suc j) l = unsure-later marks k (λ i m. h (suc i) (omega arith)) j (omega arith)
 
-letters-here : (b : Bool) (p : ℕ) (marks : List Bool) (left later : List ℕ) → sure_letters p (b ∷ marks) ≡ left → left ≡ p ∷ later → sure_letters (suc p) marks ≡ later
-letters-here true p marks left later e is = tail-same (e ∙ is)
+letters-here : (b : Bool) (p : ℕ) (marks : List Bool) (left later : List ℕ) → sure_letters p (b ∷ marks) ≡ left →
+    left ≡ p ∷ later → sure_letters (suc p) marks ≡ later
+letters-here true p marks left later e is = later-of (e ∙ is)
 letters-here false p marks left later e is = absurd (later-letters (suc p) p marks later (omega arith) (e ∙ is))
 
 letters-not-here : (b : Bool) (p : ℕ) (marks : List Bool) (left : List ℕ) → sure_letters p (b ∷ marks) ≡ left → ((later : List ℕ) → left ≢ p ∷ later) → sure_letters (suc p) marks ≡ left
@@ -81,12 +82,7 @@ pub letters-word-same : (a b : List ℕ) → spaced (letters_words a) ≡ spaced
 letters-word-same [] [] e = refl
 letters-word-same [] (y ∷ b) e = absurd cc
 letters-word-same (x ∷ a) [] e = absurd cc
-letters-word-same (x ∷ a) (y ∷ b) e = sym (append-nil (x ∷ a)) ∙ tail-same e ∙ append-nil (y ∷ b)
+letters-word-same (x ∷ a) (y ∷ b) e = sym (append-nil (x ∷ a)) ∙ later-of e ∙ append-nil (y ∷ b)
 
 pub get_or-all : (k : ℕ) (d : Bool) → k < 26 → get_or all_marks k d ≡ true
 get_or-all k d l = get_or-replicate 26 k true d l
-
-pub none-sure : (n k : ℕ) → get_or (replicate n false) k false ≡ false
-none-sure zero k = refl
-none-sure (suc n) zero = refl
-none-sure (suc n) (suc k) = none-sure n k

@@ -7,7 +7,7 @@ use Rattle.std.proofs.lemmas.Bool.{and_parts}
 use Rattle.ed_rules.specs.LineBounds.{is_few, is_limit}
 use Rattle.cert_check.specs.text.Text.{Word, space, spaced, line_text, limit_word, bounds_line}
 use Rattle.cert_check.specs.text.Reading.{IsFirstWord}
-use Rattle.cert_check.proofs.texts.Separated.{Above, AreWords, tail-same}
+use Rattle.cert_check.proofs.texts.Separated.{Above, AreWords, later-of}
 use Rattle.cert_check.proofs.texts.Worded.{decimal-above}
 use Rattle.cert_check.proofs.texts.OneText.{few, limit-above, limit-same}
 use Rattle.cert_check.proofs.texts.Cutting.{unspaced, word-same, first-split, first-of-list, no-words}
@@ -65,7 +65,9 @@ bounds-line-same key a c b d h k e =
     let one = bounds-words a b h in
     let other = bounds-words c d k in
     let limits = and_parts (is_few c) (is_limit d) k in
-    let first = word-same (decimal a) (decimal c) (spaced (limit_word b ∷ [])) (spaced (limit_word d ∷ [])) (unspaced (decimal a) one.0) (unspaced (decimal c) other.0) refl refl
-    (tail-same (append_cancel_left key (spaced (decimal a ∷ limit_word b ∷ [])) (spaced (decimal c ∷ limit_word d ∷ [])) e)) in
-    let second = word-same (limit_word b) (limit_word d) [] [] (unspaced (limit_word b) one.1) (unspaced (limit_word d) other.1) tt tt (tail-same first.1) in
+    let first = word-same (decimal a) (decimal c) (spaced (limit_word b ∷ [])) (spaced (limit_word d ∷ [])) (unspaced (decimal a) one.0)
+    (unspaced (decimal c) other.0) refl refl
+    (later-of (append_cancel_left key (spaced (decimal a ∷ limit_word b ∷ [])) (spaced (decimal c ∷ limit_word d ∷ [])) e)) in
+    let second = word-same (limit_word b) (limit_word d) [] [] (unspaced (limit_word b) one.1) (unspaced (limit_word d) other.1) tt tt
+    (later-of first.1) in
     bounds-same a c b d (decimal c) (limit_word d) h (few c limits.0) limits.1 first.0 second.0 refl refl

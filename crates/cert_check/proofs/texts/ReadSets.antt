@@ -10,7 +10,7 @@ use Rattle.ed_rules.specs.Choices.{Choice, is_set}
 use Rattle.ed_rules.specs.Texts.{are_rising}
 use Rattle.cert_check.specs.text.Text.{Word, Line, space, spaced, line_text, choice_word, choices_line, texts_line}
 use Rattle.cert_check.specs.text.Reading.{ReadsAs, WordReadsAs, IsFirstWord, EndsWord}
-use Rattle.cert_check.proofs.texts.Separated.{Above, tail-same}
+use Rattle.cert_check.proofs.texts.Separated.{Above, later-of}
 use Rattle.cert_check.proofs.texts.Chosen.{choice-above, choice-same, some-same, somes-same}
 use Rattle.cert_check.proofs.texts.Cutting.{unspaced, ends, word-same}
 use Rattle.cert_check.proofs.texts.Codes.{IsCode, Left, left-of, spaced-map}
@@ -30,7 +30,7 @@ texts-are-names = record { same = λ a b e. some-same a b (choice-same (Some a) 
 code-of : {A : Type 0} (word : A → Word) → AreNames word → IsCode (λ x. space ∷ word x) EndsWord
 code-of word names = record {
   same = λ x y r s h k e.
-      let both = word-same (word x) (word y) r s (unspaced (word x) (names.above x)) (unspaced (word y) (names.above y)) h k (tail-same e) in
+      let both = word-same (word x) (word y) r s (unspaced (word x) (names.above x)) (unspaced (word y) (names.above y)) h k (later-of e) in
       (names.same x y both.0, both.1);
   some = λ x r e. absurd cc;
   nothing = tt;
@@ -42,8 +42,9 @@ spaced-same word names [] [] e = refl
 spaced-same word names [] (y ∷ b) e = absurd cc
 spaced-same word names (x ∷ a) [] e = absurd cc
 spaced-same word names (x ∷ a) (y ∷ b) e =
-    let both = word-same (word x) (word y) (spaced (map word a)) (spaced (map word b)) (unspaced (word x) (names.above x)) (unspaced (word y) (names.above y))
-    (ends (map word a)) (ends (map word b)) (tail-same e) in
+    let both = word-same (word x) (word y) (spaced (map word a)) (spaced (map word b)) (unspaced (word x) (names.above x))
+    (unspaced (word y) (names.above y))
+    (ends (map word a)) (ends (map word b)) (later-of e) in
     let first : x ≡ y = names.same x y both.0 in
     let rest : a ≡ b = spaced-same word names a b both.1 in
     cc
@@ -62,9 +63,12 @@ stopped {A} word Has names done all left text w later sofar end first absent has
     elim l.later as (λ t. l.later ≡ t → ⊥) [
       | [] ↦ λ is. let none : [] ≡ space ∷ (w ++ later) = ap (λ (t : List A). flat_map (λ x. space ∷ word x) t) (sym is) ∙ l.rest ∙ first.0 in absurd cc
       | x ∷ xs ↦ λ is.
-          let rest : (space ∷ word x) ++ flat_map (λ x. space ∷ word x) xs ≡ space ∷ (w ++ later) = ap (λ (t : List A). flat_map (λ x. space ∷ word x) t) (sym is) ∙ l.rest ∙ first.0 in
-          let here : word x ++ spaced (map word xs) ≡ w ++ later = ap (λ (t : List ℕ). word x ++ t) (spaced-map word xs) ∙ tail-same rest in
-          let both = word-same (word x) w (spaced (map word xs)) later (unspaced (word x) (names.above x)) first.1.0 (ends (map word xs)) first.1.1 here in
+          let rest : (space ∷ word x) ++ flat_map (λ x. space ∷ word x) xs ≡ space ∷ (w ++ later) =
+          ap (λ (t : List A). flat_map (λ x. space ∷ word x) t) (sym is) ∙ l.rest ∙ first.0 in
+          let here : word x ++ spaced (map word xs) ≡ w ++ later = ap (λ (t : List ℕ). word x ++ t) (spaced-map word xs)
+          ∙ later-of rest in
+          let both = word-same (word x) w (spaced (map word xs)) later (unspaced (word x) (names.above x)) first.1.0 (ends (map word xs))
+          first.1.1 here in
           absent x (middle Has done x xs (subst (λ (t : List A). All Has t) (l.is ∙ ap (λ (t : List A). done ++ t) is) has)) both.0
     ] refl
 
@@ -97,11 +101,12 @@ choices-told key a b e =
 pub texts-told : (key : Word) → AreTold (texts_line key)
 texts-told key a b e = somes-same a b (choices-told key (map Some a) (map Some b) e)
 
--- A line whose values were read, in whatever order: it is that of the set that was made of them, or of no set, where they don't pass the test
--- that each set passes.
-pub sorted-read : {A : Type 0} (spell : A → Line) (Has : A → Type 0) (test : A → Bool) → AreTold spell → ((a : A) → Has a → test a ≡ true) → (line : List ℕ) (read : A) (set : Option A) →
-    line_text (spell read) ≡ line → (test read ≡ true → Has read) → IfSome set (λ s. s ≡ read) → IfSome set (λ s. test s ≡ true) → IfNone set (test read ≡ false) →
-    ReadsAs spell Has line set
+-- A line whose values were read, in whatever order: it is that of the set that was made of them, or of no set, where they don't pass the
+-- test that each set passes.
+pub sorted-read : {A : Type 0} (spell : A → Line) (Has : A → Type 0) (test : A → Bool) → AreTold spell →
+    ((a : A) → Has a → test a ≡ true) → (line : List ℕ) (read : A) (set : Option A) → line_text (spell read) ≡ line →
+    (test read ≡ true → Has read) → IfSome set (λ s. s ≡ read) → IfSome set (λ s. test s ≡ true) →
+    IfNone set (test read ≡ false) → ReadsAs spell Has line set
 sorted-read {A} spell Has test told passes line read None is formed same passed refused =
     λ a h e. false≢true (sym refused ∙ subst (λ (s : A). test s ≡ true) (told a read (e ∙ sym is)) (passes a h))
 sorted-read {A} spell Has test told passes line read (Some set) is formed same passed refused = (

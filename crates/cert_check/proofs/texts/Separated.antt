@@ -1,5 +1,5 @@
 -- Words between spaces, and lines between newlines: what is put together is taken apart in one way.
-use Rattle.std.proofs.Common.{◌≡◌, ◌<◌, ◌≤◌, ◌++◌, ◌∷◌, [], ℕ, Bool, true, false, ◌&&◌, List, arith, refl, ◌∙◌, sym, append-nil}
+use Rattle.std.proofs.Common.{◌≡◌, ◌<◌, ◌≤◌, ◌++◌, ◌∷◌, [], ℕ, Bool, true, ◌&&◌, List, arith, refl, ◌∙◌, sym, append-nil}
 use Rattle.std.specs.Prelude.{nat_lt}
 use Rattle.std.proofs.lemmas.Bool.{ltb-true, and_parts}
 use Rattle.ed_base.specs.Lines.{newline}
@@ -29,20 +29,21 @@ pub Above-less : (m n : ℕ) (a : List ℕ) → m ≤ n → Above n a → Above 
 Above-less m n [] l h = tt
 Above-less m n (x ∷ a) l h = let above = h.0 in (omega arith, Above-less m n a l h.1)
 
-pub head-same : {x y : ℕ} {a b : List ℕ} → x ∷ a ≡ y ∷ b → x ≡ y
-head-same e = cc
+pub first-of : {A : Type 0} {a b : A} {r s : List A} → a ∷ r ≡ b ∷ s → a ≡ b
+first-of e = cc
 
-pub tail-same : {x y : ℕ} {a b : List ℕ} → x ∷ a ≡ y ∷ b → a ≡ b
-tail-same e = cc
+pub later-of : {A : Type 0} {a b : A} {r s : List A} → a ∷ r ≡ b ∷ s → r ≡ s
+later-of e = cc
 
 -- what stands before the first separator, and what stands after it
-pub cut-once : (n : ℕ) (sep : ℕ) (a b r s : List ℕ) → sep ≤ n → Above n a → Above n b → a ++ sep ∷ r ≡ b ++ sep ∷ s → (a ≡ b) × (r ≡ s)
-cut-once n sep [] [] r s l h k e = (refl, tail-same e)
-cut-once n sep [] (y ∷ b) r s l h k e = let same : sep ≡ y = head-same e in let above = k.0 in absurd (omega arith)
-cut-once n sep (x ∷ a) [] r s l h k e = let same : x ≡ sep = head-same e in let above = h.0 in absurd (omega arith)
+pub cut-once : (n : ℕ) (sep : ℕ) (a b r s : List ℕ) → sep ≤ n → Above n a → Above n b →
+    a ++ sep ∷ r ≡ b ++ sep ∷ s → (a ≡ b) × (r ≡ s)
+cut-once n sep [] [] r s l h k e = (refl, later-of e)
+cut-once n sep [] (y ∷ b) r s l h k e = let same : sep ≡ y = first-of e in let above = k.0 in absurd (omega arith)
+cut-once n sep (x ∷ a) [] r s l h k e = let same : x ≡ sep = first-of e in let above = h.0 in absurd (omega arith)
 cut-once n sep (x ∷ a) (y ∷ b) r s l h k e =
-    let same : x ≡ y = head-same e in
-    let later = cut-once n sep a b r s l h.1 k.1 (tail-same e) in
+    let same : x ≡ y = first-of e in
+    let later = cut-once n sep a b r s l h.1 k.1 (later-of e) in
     let rest : a ≡ b = later.0 in
     (cc, later.1)
 
@@ -50,8 +51,8 @@ cut-once n sep (x ∷ a) (y ∷ b) r s l h k e =
 pub no-separator : (n : ℕ) (sep : ℕ) (a b r : List ℕ) → sep ≤ n → Above n a → a ≡ b ++ sep ∷ r → ⊥
 no-separator n sep [] [] r l h e = absurd cc
 no-separator n sep [] (y ∷ b) r l h e = absurd cc
-no-separator n sep (x ∷ a) [] r l h e = let same : x ≡ sep = head-same e in let above = h.0 in omega arith
-no-separator n sep (x ∷ a) (y ∷ b) r l h e = no-separator n sep a b r l h.1 (tail-same e)
+no-separator n sep (x ∷ a) [] r l h e = let same : x ≡ sep = first-of e in let above = h.0 in omega arith
+no-separator n sep (x ∷ a) (y ∷ b) r l h e = no-separator n sep a b r l h.1 (later-of e)
 
 -- each is a word
 abbrev pub AreWords : List Word → Type 0

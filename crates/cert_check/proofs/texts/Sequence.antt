@@ -4,7 +4,8 @@ use Rattle.std.specs.Prelude.{IsErrAnd}
 use Rattle.cert_check.specs.declared.text.fault.Unread.{Unread}
 use Rattle.cert_check.specs.text.Text as text
 use Rattle.cert_check.specs.text.Pieces.{Left, Took, texts, IsOf, IsFault, Reads, alone}
-use Rattle.cert_check.proofs.texts.Pieces.{later-of, texts-append, took-more, took-none, Expects, exits}
+use Rattle.cert_check.proofs.texts.Pieces.{texts-append, took-more, took-none, Expects, exits}
+use Rattle.cert_check.proofs.texts.Separated.{later-of}
 
 -- a piece and those after it
 unfoldable pub followed : {A B : Type 0} → (A → List text.Line) → (B → List text.Line) → A × B → List text.Line

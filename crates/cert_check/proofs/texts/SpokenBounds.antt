@@ -1,8 +1,8 @@
 -- The bounds that a text says, one after another, and the zone that they give.
-use Rattle.std.proofs.Common.{◌≡◌, ◌≢◌, ◌<◌, ◌≤◌, suc, ◌+◌, ◌-◌, ◌*◌, ◌/◌, ◌%◌, ◌^◌, ◌++◌, ◌∷◌, [], ℕ, ℤ, Bool, true, false, ◌&&◌, ◌||◌, List, get_or, map, Option, None, Some, inl, inr, arith, refl, ◌∙◌, sym, ap, subst, append_assoc, append-nil}
+use Rattle.std.proofs.Common.{◌≡◌, ◌≢◌, ◌<◌, ◌≤◌, suc, ◌+◌, ◌-◌, ◌*◌, ◌/◌, ◌%◌, ◌^◌, ◌++◌, ◌∷◌, [], ℕ, ℤ, true, false, ◌&&◌, List, get_or, map, Option, None, Some, inl, inr, arith, refl, ◌∙◌, sym, ap, subst, append_assoc, append-nil}
 use Rattle.std.specs.Prelude.{nat_lt, nat_le}
 use Rattle.std.specs.List.{All, flat_map}
-use Rattle.std.proofs.lemmas.Bool.{lt-ltb, le-leb, and_from, or_left, or_right}
+use Rattle.std.proofs.lemmas.Bool.{lt-ltb, le-leb, and_from, or_left, or_right, cases_Bool}
 use Rattle.std.proofs.lemmas.List.{map-append}
 use Rattle.std.proofs.lemmas.List.Elements.{All-nil, All-cons, All-head, All-tail, All-append, All-weaker}
 use Rattle.std.proofs.lemmas.Grind.{flat_map-append}
@@ -16,8 +16,8 @@ use Rattle.ed_rules.specs.Marks.{is_sure}
 use Rattle.ed_rules.specs.Formed.{says_nothing, has_name, may_say, ZoneIsFormed}
 use Rattle.cert_check.specs.text.Text.{Word, space, spaced, bound_words, bounds_words}
 use Rattle.cert_check.specs.text.Reading.{all_marks, IsFirstWord, IsNamed, number_word, spoken_word, IsSpoken, said_word, IsSaid}
-use Rattle.cert_check.proofs.texts.Separated.{Above, tail-same}
-use Rattle.cert_check.proofs.texts.Worded.{test, cond-false, bound-above, bound-same}
+use Rattle.cert_check.proofs.texts.Separated.{Above, later-of}
+use Rattle.cert_check.proofs.texts.Worded.{cond-false, bound-above, bound-same}
 use Rattle.cert_check.proofs.texts.Cutting.{unspaced, ends, word-same}
 use Rattle.cert_check.proofs.texts.Zoned.{silent, spoken, said, nothing, small}
 use Rattle.cert_check.proofs.texts.ReadLetters.{get_or-all}
@@ -51,7 +51,8 @@ spoken-same a b s t e =
 pub first-same : (b d : PlacedBound) (words : List Word) (text left : List ℕ) → IsSpoken b → IsSpoken d → (space ∷ spoken_word b) ++ spaced words ≡ text → IsFirstWord text (spoken_word d) left →
     (b ≡ d) × (spaced words ≡ left)
 first-same b d words text left s t e first =
-    let both = word-same (spoken_word b) (spoken_word d) (spaced words) left (unspaced (spoken_word b) (spoken-above b s)) first.1.0 (ends words) first.1.1 (tail-same (e ∙ first.0)) in
+    let both = word-same (spoken_word b) (spoken_word d) (spaced words) left (unspaced (spoken_word b) (spoken-above b s)) first.1.0
+    (ends words) first.1.1 (later-of (e ∙ first.0)) in
     (spoken-same b d s t both.0, both.1)
 
 -- the number that a text says first is one that zones keep, where the text says a bound
@@ -59,8 +60,9 @@ pub first-kept : (text left : List ℕ) (x y : ℕ) (number : ℤ) → IsSaid x 
     (b : PlacedBound) (words : List Word) → IsSpoken b → (space ∷ spoken_word b) ++ spaced words ≡ text → IsKept (Some number)
 first-kept text left x y number said b words s e =
     let both = word-same (spoken_word b) (said_word x y number) (spaced words) left (unspaced (spoken_word b) (spoken-above b s))
-    (unspaced (said_word x y number) (bound-above x y number said.signed)) (ends words) said.ends (tail-same (e ∙ sym said.is)) in
-    let same = bound-same (b.place / 32) (b.place % 32) s.number x y number s.row s.column said.row said.column (spoken-small b s) said.signed (sym (spoken-is b s) ∙ both.0) in
+    (unspaced (said_word x y number) (bound-above x y number said.signed)) (ends words) said.ends (later-of (e ∙ sym said.is)) in
+    let same = bound-same (b.place / 32) (b.place % 32) s.number x y number s.row s.column said.row said.column (spoken-small b s)
+    said.signed (sym (spoken-is b s) ∙ both.0) in
     subst (λ (n : ℤ). IsKept (Some n)) same.number (subst IsKept s.is s.kept)
 
 -- a number that is said and kept is a spoken bound
@@ -135,8 +137,9 @@ bounds-same (c ∷ a) [] s t e = absurd cc
 bounds-same (c ∷ a) (d ∷ b) s t e =
     let first_c : IsSpoken c = All-head IsSpoken c a s in
     let first_d : IsSpoken d = All-head IsSpoken d b t in
-    let both = word-same (spoken_word c) (spoken_word d) (spaced (map spoken_word a)) (spaced (map spoken_word b)) (unspaced (spoken_word c) (spoken-above c first_c))
-    (unspaced (spoken_word d) (spoken-above d first_d)) (ends (map spoken_word a)) (ends (map spoken_word b)) (tail-same e) in
+    let both = word-same (spoken_word c) (spoken_word d) (spaced (map spoken_word a)) (spaced (map spoken_word b))
+    (unspaced (spoken_word c) (spoken-above c first_c))
+    (unspaced (spoken_word d) (spoken-above d first_d)) (ends (map spoken_word a)) (ends (map spoken_word b)) (later-of e) in
     let first : c ≡ d = spoken-same c d first_c first_d both.0 in
     let later : a ≡ b = bounds-same a b (All-tail IsSpoken c a s) (All-tail IsSpoken d b t) both.1 in
     cc
@@ -150,7 +153,7 @@ SaysSome b = (number : ℤ) → b.bound ≡ Some number → says_nothing (b.plac
 known-some : (zone : Bounds) → All SaysSome (known_bounds zone)
 known-some zone =
     zone-all SaysSome zone (λ k l e number is.
-    elim (test (says_nothing (k / 32) (k % 32) number)) as (λ _. says_nothing (k / 32) (k % 32) number ≡ false) [
+    elim (cases_Bool (says_nothing (k / 32) (k % 32) number)) as (λ _. says_nothing (k / 32) (k % 32) number ≡ false) [
       | inl t ↦ let unknown = any-unknown k (get_or zone k None) (is ∙ nothing (k / 32) (k % 32) number t) in absurd cc
       | inr f ↦ f
     ])

@@ -1,5 +1,5 @@
 -- What follows what in the lines of a state.
-use Rattle.std.proofs.Common.{◌≡◌, ◌<◌, ◌≤◌, ◌-◌, ◌/◌, ◌%◌, ◌++◌, ◌∷◌, [], ℕ, ℤ, Bool, true, false, not, ◌&&◌, ◌||◌, List, get_or, Option, None, Some, arith, refl, ◌∙◌, sym, ap, subst, append-nil}
+use Rattle.std.proofs.Common.{◌≡◌, ◌<◌, ◌≤◌, ◌-◌, ◌/◌, ◌%◌, ◌++◌, ◌∷◌, [], ℕ, ℤ, Bool, true, false, ◌&&◌, ◌||◌, List, get_or, Option, None, Some, arith, refl, ◌∙◌, sym, ap, subst, append-nil}
 use Rattle.std.specs.Prelude.{codes, is_some, nat_lt, nat_le}
 use Rattle.std.proofs.lemmas.Bool.{leb-true, and_from, and_parts}
 use Rattle.std.proofs.lemmas.List.{get_or-replicate}
@@ -19,33 +19,29 @@ use Rattle.cert_check.specs.text.Text.{Word, Line, spaced, bounds_words, line_te
 use Rattle.cert_check.specs.text.HasText.{IsSaidIn, OldIsSaidIn, StateHasText}
 use Rattle.cert_check.specs.text.Pieces.{Left, Took, found_line, texts, IsOf, alone, marked_lines, MarkedIsFormed, undo_lines, UndoIsFormed, IsSomeReplacement, IsSomeChange, IsFound}
 use Rattle.cert_check.specs.text.Reading.{all_marks}
-use Rattle.cert_check.proofs.texts.Separated.{Above-from_test, AreWords, IsLineOfWords, tail-same, words-same, line-same}
+use Rattle.cert_check.proofs.texts.Separated.{Above-from_test, AreWords, IsLineOfWords, words-same, line-same, first-of, later-of}
 use Rattle.cert_check.proofs.texts.Zoned.{zone-said, bounds-are-words}
 use Rattle.cert_check.proofs.texts.Chosen.{three-words, three-same}
-use Rattle.cert_check.proofs.texts.Unambiguous.{after_matched, state-same, zone-same, later-words}
+use Rattle.cert_check.proofs.texts.Unambiguous.{after_matched, state-same, zone-same}
 use Rattle.cert_check.proofs.texts.OneText.{state-words}
-use Rattle.cert_check.proofs.texts.Pieces.{texts-append, took-more, first-of, Continued, GoesOn, Expects, Determined}
+use Rattle.cert_check.proofs.texts.Pieces.{texts-append, took-more, Continued, GoesOn, Expects, Determined}
 use Rattle.cert_check.proofs.texts.Sequence.{followed, AreFormed, Cuts, cuts-line, SoFar, begun, on}
 use Rattle.cert_check.proofs.texts.Plainest.{plain_old, plain_set, plain-set, plain_replacements, plain_change, plain-said, plain_undo, plain-undo, plain-old, state_of, state-formed}
 
 abbrev old_of : State → Old
 old_of s = record { zone = s.zone; marks = s.marks }
 
--- the lines below the first
-below : {A : Type 0} {a b : A} {r s : List A} → a ∷ r ≡ b ∷ s → r ≡ s
-below e = cc
-
 -- lines of what some line matches before other lines
 pub cuts-matched : (version : Version) (key : Word) → Cuts (matched_lines version key) (IsSaidIn version)
 cuts-matched One key a b x y h k e = e
-cuts-matched Two key a b x y h k e = below e
+cuts-matched Two key a b x y h k e = later-of e
 
 -- what undo may find, and what some line of an earlier buffer matches
 abbrev pub Undone : Type 0
 Undone = Undo × List (List ℕ)
 
 pub cuts-marked : (zone_key marks_key : Word) → Cuts (marked_lines zone_key marks_key) MarkedIsFormed
-cuts-marked zone_key marks_key a b x y h k e = below (below e)
+cuts-marked zone_key marks_key a b x y h k e = later-of (later-of e)
 
 -- what a zone says beside some letters it may say beside all of them
 sure-all : (x : ℕ) → x < 26 → is_sure all_marks x ≡ true
@@ -105,7 +101,7 @@ marked-zone zone_key marks_key = record {
 -- the same bytes stand before the same
 pub after-same : (a b c : List ℕ) → a ++ b ≡ a ++ c → b ≡ c
 after-same [] b c e = e
-after-same (x ∷ a) b c e = after-same a b c (tail-same e)
+after-same (x ∷ a) b c e = after-same a b c (later-of e)
 
 key-words : (key : Word) (ws vs : List Word) → AreWords ws → AreWords vs → line_text (key ∷ ws) ≡ line_text (key ∷ vs) → ws ≡ vs
 key-words key ws vs h k e = (words-same [] [] ws vs tt tt h k (after-same key (spaced ws) (spaced vs) e)).1
@@ -131,13 +127,9 @@ marked-marks zone_key marks_key zone h = record {
         here = texts (marks_line marks_key k.value.marks ∷ []);
         rest = back;
         is = record { value = k.value.marks; has = subst (λ (z : Bounds). ZoneIsFormed k.value.marks z) is k.has; is = refl };
-        parted = sym (below lines);
+        parted = sym (later-of lines);
       };
 }
-
-pub was-true : (b : Bool) → not b ≡ false → b ≡ true
-was-true true e = refl
-was-true false e = absurd cc
 
 found-words : (f : Found) → IsLineOfWords (found_line f)
 found-words f = (
@@ -362,9 +354,11 @@ module _ (version : Version) where
     };
     goes_on = λ whole back after k same.
         let lines = ap (λ (l : List (List ℕ)). l ++ back) k.is ∙ same in
-        let words = line-same (found_line (found_of k.value.0)) (found_line f) (found-words (found_of k.value.0)) (found-words f) (first-of lines) in
-        let found = three-same (codes "nothing") (codes "same") (codes "was") refl refl refl k.value.0.nothing k.value.0.same (is_some k.value.0.was) f.nothing f.same f.was (later-words words) in
-        was-follows k.value.0.was k.value.1 back after (found.third ∙ was) k.has.1.0 k.has.1.1 (below lines);
+        let words = line-same (found_line (found_of k.value.0)) (found_line f) (found-words (found_of k.value.0)) (found-words f)
+        (first-of lines) in
+        let found = three-same (codes "nothing") (codes "same") (codes "was") refl refl refl k.value.0.nothing k.value.0.same
+        (is_some k.value.0.was) f.nothing f.same f.was (later-of words) in
+        was-follows k.value.0.was k.value.1 back after (found.third ∙ was) k.has.1.0 k.has.1.1 (later-of lines);
   }
 
   -- what may stand after that line, and after the earlier buffer

@@ -3,7 +3,9 @@ use Rattle.std.proofs.Common.{◌≡◌, ◌≢◌, ◌++◌, ◌∷◌, [], ℕ
 use Rattle.std.specs.Prelude.{codes, IsTrue, ◌↔◌, IsErrAnd}
 use Rattle.std.specs.List.{flat_map}
 use Rattle.std.proofs.lemmas.List.Elements.{All-nil, All-cons, All-head, All-tail, All-append, All-weaker}
-use Rattle.ed_base.specs.Lines.{newline, IsLine, AreLines, bytes_of}
+use Rattle.ed_base.specs.Lines.{newline, IsLine, AreLines, lines_of, bytes_of}
+use Rattle.ed_base.proofs.LineLemmas.{bytes_of-append, lines_of-bytes_of, lines_of-written}
+use Rattle.ed_syntax.proofs.reader.TextLemmas.{same_line}
 use Rattle.cert_check.specs.declared.certificate.Version as versions
 use Rattle.cert_check.specs.declared.certificate.Version.TheVariants.{One, Two}
 use Rattle.cert_check.specs.declared.certificate.Certificate as public
@@ -18,10 +20,9 @@ use Rattle.cert_check.specs.text.HasText.{HasText, IsText}
 use Rattle.cert_check.specs.text.Faults.{Begins, IsWhole, IsVersionFault, IsLineFault, IsSizeFault, more, less, IsReading}
 use Rattle.cert_check.specs.text.Pieces.{Left, Took, texts, IsOf, MayStand, IsStrange, IsShort, IsFault, fault_of, IsReadAs, rest_lines, HasTextIn}
 use Rattle.cert_check.specs.text.Wanted.{keys, SomeLine, IsWanted}
-use Rattle.cert_check.proofs.texts.Separated.{head-same, tail-same, Above, Above-line, AreLinesOfWords}
+use Rattle.cert_check.proofs.texts.Separated.{Above, Above-line, AreLinesOfWords, first-of, later-of}
 use Rattle.cert_check.proofs.texts.OneText as one_text
 use Rattle.cert_check.proofs.texts.OneText.{version-same, certificate-words}
-use Rattle.cert_check.proofs.texts.Pieces.{first-of, later-of, bytes_of-append}
 use Rattle.cert_check.proofs.texts.Noted.{notes-assoc}
 
 abbrev pub version_text : versions.Version → List ℕ
@@ -32,17 +33,6 @@ pub no-newline : (a rest : List ℕ) → IsLine (a ++ newline ∷ rest) → ⊥
 no-newline [] rest h = All-head (λ b. b ≢ newline) newline rest h refl
 no-newline (x ∷ a) rest h = no-newline a rest (All-tail (λ b. b ≢ newline) x (a ++ newline ∷ rest) h)
 
--- the first line and what stands after it
-pub first-cut : (a b r s : List ℕ) → IsLine a → IsLine b → a ++ newline ∷ r ≡ b ++ newline ∷ s → (a ≡ b) × (r ≡ s)
-first-cut [] [] r s h k e = (refl, tail-same e)
-first-cut [] (y ∷ b) r s h k e = absurd (All-head (λ b. b ≢ newline) y b k (sym (head-same e)))
-first-cut (x ∷ a) [] r s h k e = absurd (All-head (λ b. b ≢ newline) x a h (head-same e))
-first-cut (x ∷ a) (y ∷ b) r s h k e =
-    let same : x ≡ y = head-same e in
-    let later = first-cut a b r s (All-tail (λ b. b ≢ newline) x a h) (All-tail (λ b. b ≢ newline) y b k) (tail-same e) in
-    let rest : a ≡ b = later.0 in
-    (cc, later.1)
-
 pub no-bytes : (l rest : List ℕ) → l ++ newline ∷ rest ≡ [] → ⊥
 no-bytes [] rest e = absurd cc
 no-bytes (x ∷ l) rest e = absurd cc
@@ -52,26 +42,12 @@ pub record Goes (all front : List (List ℕ)) : Type 0 where
   pub later : List (List ℕ)
   pub is : all ≡ front ++ later
 
-pub lines-front : (all front : List (List ℕ)) (after : List ℕ) → AreLines all → AreLines front → bytes_of all ≡ bytes_of front ++ after → Goes all front
-lines-front all [] after h k e = record { later = all; is = refl }
-lines-front [] (l ∷ front) after h k e = absurd (no-bytes l (bytes_of front ++ after) (sym (e ∙ append_assoc l (newline ∷ bytes_of front) after)))
-lines-front (m ∷ all) (l ∷ front) after h k e =
-    let cut =
-    first-cut m l (bytes_of all) (bytes_of front ++ after) (All-head IsLine m all h) (All-head IsLine l front k) (e ∙ append_assoc l (newline ∷ bytes_of front) after) in
-    let goes = lines-front all front after (All-tail IsLine m all h) (All-tail IsLine l front k) cut.1 in
-    let first : m ≡ l = cut.0 in
-    let rest : all ≡ front ++ goes.later = goes.is in
-    record { later = goes.later; is = cc }
-
-pub lines-equal : (all lines : List (List ℕ)) → AreLines all → AreLines lines → bytes_of all ≡ bytes_of lines → all ≡ lines
-lines-equal [] [] h k e = refl
-lines-equal [] (l ∷ lines) h k e = absurd (no-bytes l (bytes_of lines) (sym e))
-lines-equal (m ∷ all) [] h k e = absurd (no-bytes m (bytes_of all) e)
-lines-equal (m ∷ all) (l ∷ lines) h k e =
-    let cut = first-cut m l (bytes_of all) (bytes_of lines) (All-head IsLine m all h) (All-head IsLine l lines k) e in
-    let first : m ≡ l = cut.0 in
-    let rest : all ≡ lines = lines-equal all lines (All-tail IsLine m all h) (All-tail IsLine l lines k) cut.1 in
-    cc
+pub lines-front : (all front : List (List ℕ)) (after : List ℕ) → AreLines all → AreLines front →
+    bytes_of all ≡ bytes_of front ++ after → Goes all front
+lines-front all front after h k e = record {
+  later = lines_of after;
+  is = sym (lines_of-bytes_of all h) ∙ ap lines_of e ∙ lines_of-written front after k;
+}
 
 front-lines : (a b : List (List ℕ)) → AreLines (a ++ b) → AreLines a
 front-lines [] b h = All-nil IsLine
@@ -130,7 +106,8 @@ begins-goes lines b h =
 
 pub whole-is : (lines : List (List ℕ)) (w : IsWhole lines) → AreLines lines → version_text w.certificate.version ∷ texts (rest_lines w.certificate) ≡ lines
 whole-is lines w h =
-    lines-equal (version_text w.certificate.version ∷ texts (rest_lines w.certificate)) lines (text-lines w.certificate w.is.0) h (sym (text-is w.certificate) ∙ w.is.1)
+    sym (lines_of-bytes_of (version_text w.certificate.version ∷ texts (rest_lines w.certificate)) (text-lines w.certificate w.is.0))
+    ∙ ap lines_of (sym (text-is w.certificate) ∙ w.is.1) ∙ lines_of-bytes_of lines h
 
 -- all bytes: the first line, lines below it and what is left
 parted-after : (version : versions.Version) (bytes rest after : List ℕ) (lines : List (List ℕ)) → bytes ≡ version_text version ++ newline ∷ rest → rest ≡ bytes_of lines ++ after → bytes ≡ bytes_of (version_text version ∷ lines) ++ after
@@ -232,7 +209,7 @@ version-lines Two = line-above (version_text Two) (omega arith)
 
 pub other-version : (bytes line after : List ℕ) → IsLine line → bytes ≡ line ++ newline ∷ after → ((version : versions.Version) → Unit {0} → version_text version ≢ line) → IsVersionFault bytes
 other-version bytes line after h is other version rest e =
-    let cut = first-cut line (version_text version) after rest h (version-lines version) (sym is ∙ e) in
+    let cut = same_line line (version_text version) after rest h (version-lines version) (sym is ∙ e) in
     other version tt (sym cut.0)
 
 -- the lines of a certificate, and all else

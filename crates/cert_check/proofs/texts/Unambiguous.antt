@@ -16,21 +16,9 @@ use Rattle.ed_rules.specs.Formed.{ZoneIsFormed, OldIsFormed}
 use Rattle.cert_check.specs.declared.certificate.Version.{Version}
 use Rattle.cert_check.specs.declared.certificate.Version.TheVariants.{One, Two}
 use Rattle.cert_check.specs.text.HasText.{IsSaidIn, OldIsSaidIn, StateHasText, LoopedHasText, NoteHasText}
-use Rattle.cert_check.proofs.texts.Separated.{head-same}
 use Rattle.cert_check.proofs.texts.Zoned.{zone-said, bounds-same}
 use Rattle.cert_check.proofs.texts.Chosen.{marks-same, choices-same, texts-same, Same, two-same, three-same}
-
-pub first-line : {a b : Line} {r s : List Line} → a ∷ r ≡ b ∷ s → a ≡ b
-first-line e = cc
-
-pub later-lines : {a b : Line} {r s : List Line} → a ∷ r ≡ b ∷ s → r ≡ s
-later-lines e = cc
-
-pub first-word : {v w : Word} {r s : List Word} → v ∷ r ≡ w ∷ s → v ≡ w
-first-word e = cc
-
-pub later-words : {v w : Word} {r s : List Word} → v ∷ r ≡ w ∷ s → r ≡ s
-later-words e = cc
+use Rattle.cert_check.proofs.texts.Separated.{first-of, later-of}
 
 -- a zone beside its marks
 pub zone-same : (m n : List Bool) (a b : Bounds) → ZoneIsFormed m a → ZoneIsFormed n b → bounds_words 0 a ≡ bounds_words 0 b → a ≡ b
@@ -83,8 +71,9 @@ state-by : (a b : State) → a.zone ≡ b.zone → a.marks ≡ b.marks → a.pat
 state-by a b z m p r n c u h o = λ k. state_made (z k) (m k) (p k) (r k) (n k) (c k) (u k) (h k) (o k)
 
 -- lines that begin with different letters
-pub letter-differs : {x y : ℕ} {v w : Word} {vs ws : Line} {r s : List Line} → x < y → ((x ∷ v) ∷ vs) ∷ r ≡ ((y ∷ w) ∷ ws) ∷ s → ⊥
-letter-differs {x} {y} l e = let same : x ≡ y = head-same (first-word (first-line e)) in omega arith
+pub letter-differs : {x y : ℕ} {v w : Word} {vs ws : Line} {r s : List Line} → x < y →
+    ((x ∷ v) ∷ vs) ∷ r ≡ ((y ∷ w) ∷ ws) ∷ s → ⊥
+letter-differs {x} {y} l e = let same : x ≡ y = first-of (first-of (first-of e)) in omega arith
 
 abbrev pub looped_made : State → List State → Looped
 looped_made invariant inner = record { invariant = invariant; inner = inner }
@@ -102,7 +91,7 @@ note-by a b i n = λ k. note_made (i k) (n k)
 pub matched-same : (version : Version) (key : Word) (m n : List (List ℕ)) (r s : List Line) → IsSaidIn version m → IsSaidIn version n →
     matched_lines version key m ++ r ≡ matched_lines version key n ++ s → (m ≡ n) × (r ≡ s)
 matched-same One key m n r s h k e = (h ∙ sym k, e)
-matched-same Two key m n r s h k e = (texts-same m n (later-words (first-line e)), later-lines e)
+matched-same Two key m n r s h k e = (texts-same m n (later-of (first-of e)), later-of e)
 
 -- an earlier buffer, and what some of its lines match, before other lines
 pub record SameOld (a b : Option Old) (m n : List (List ℕ)) (r s : List Line) : Type 0 where
@@ -119,10 +108,10 @@ module _ (version : Version) where
   old-same None (Some b) m n r s i h k p q e = absurd cc
   old-same (Some a) None m n r s i h k p q e = absurd cc
   old-same (Some a) (Some b) m n r s i h k p q e =
-      let zones = zone-same a.marks b.marks a.zone b.zone h k (later-words (first-line e)) in
-      let rest = later-lines e in
-      let marks = letters-same a.marks b.marks a.zone b.zone h k (later-words (first-line rest)) in
-      let matched = matched-same version (codes "old-has") m n r s p q (later-lines rest) in
+      let zones = zone-same a.marks b.marks a.zone b.zone h k (later-of (first-of e)) in
+      let rest = later-of e in
+      let marks = letters-same a.marks b.marks a.zone b.zone h k (later-of (first-of rest)) in
+      let matched = matched-same version (codes "old-has") m n r s p q (later-of rest) in
       record { was = ap (λ (o : Old). Some o) (old-by a b zones marks); has = matched.0; later = matched.1 }
 
   -- the lines of a state below what some line matches
@@ -135,26 +124,29 @@ module _ (version : Version) where
   state-same a b r s said other zone =
       let h = said.formed in
       let k = other.formed in
-      let marks = later-lines zone in
+      let marks = later-of zone in
       let matched = matched-same version (codes "has") a.has b.has (after_matched a ++ r) (after_matched b ++ s) said.has other.has (
-      sym (append_assoc (matched_lines version (codes "has") a.has) (after_matched a) r) ∙ later-lines marks
+      sym (append_assoc (matched_lines version (codes "has") a.has) (after_matched a) r) ∙ later-of marks
       ∙ append_assoc (matched_lines version (codes "has") b.has) (after_matched b) s) in
       let patterns = matched.1 in
-      let replacements = later-lines patterns in
-      let names = later-lines replacements in
-      let changed = later-lines names in
-      let undo = later-lines changed in
-      let old = later-lines undo in
-      let kinds = three-same (codes "none") (codes "plain") (codes "split") refl refl refl a.replacements.none a.replacements.plain a.replacements.split b.replacements.none b.replacements.plain b.replacements.split (later-words (first-line replacements)) in
-      let sides = two-same (codes "no") (codes "yes") refl a.changed.no a.changed.yes b.changed.no b.changed.yes (later-words (first-line changed)) in
-      let undone = three-same (codes "nothing") (codes "same") (codes "was") refl refl refl a.undo.nothing a.undo.same (is_some a.undo.was) b.undo.nothing b.undo.same (is_some b.undo.was) (later-words (first-line undo)) in
+      let replacements = later-of patterns in
+      let names = later-of replacements in
+      let changed = later-of names in
+      let undo = later-of changed in
+      let old = later-of undo in
+      let kinds = three-same (codes "none") (codes "plain") (codes "split") refl refl refl a.replacements.none a.replacements.plain
+      a.replacements.split b.replacements.none b.replacements.plain b.replacements.split (later-of (first-of replacements)) in
+      let sides = two-same (codes "no") (codes "yes") refl a.changed.no a.changed.yes b.changed.no b.changed.yes
+      (later-of (first-of changed)) in
+      let undone = three-same (codes "nothing") (codes "same") (codes "was") refl refl refl a.undo.nothing a.undo.same (is_some a.undo.was)
+      b.undo.nothing b.undo.same (is_some b.undo.was) (later-of (first-of undo)) in
       let was = old-same a.undo.was b.undo.was a.old_has b.old_has r s undone.third h.old k.old said.old_has other.old_has old in (
         state-by a b
-            (zone-same a.marks b.marks a.zone b.zone h.zone k.zone (later-words (first-line zone)))
-            (letters-same a.marks b.marks a.zone b.zone h.zone k.zone (later-words (first-line marks)))
-            (choices-same a.patterns b.patterns (later-words (first-line patterns)))
+            (zone-same a.marks b.marks a.zone b.zone h.zone k.zone (later-of (first-of zone)))
+            (letters-same a.marks b.marks a.zone b.zone h.zone k.zone (later-of (first-of marks)))
+            (choices-same a.patterns b.patterns (later-of (first-of patterns)))
             (replacements-by a.replacements b.replacements kinds)
-            (choices-same a.names b.names (later-words (first-line names)))
+            (choices-same a.names b.names (later-of (first-of names)))
             (changed-by a.changed b.changed sides.0 sides.1)
             (undo-by a.undo b.undo undone.first undone.second was.was)
             matched.0
@@ -169,12 +161,14 @@ module _ (version : Version) where
   abbrev pub after_inner : List State → List Line → List Line
   after_inner states r = flat_map (headed_lines version (codes "inner")) states ++ (codes "done" ∷ []) ∷ r
 
-  pub inner-same : (a b : List State) (r s : List Line) → All (StateHasText version) a → All (StateHasText version) b → after_inner a r ≡ after_inner b s → (a ≡ b) × (r ≡ s)
-  inner-same [] [] r s h k e = (refl, later-lines e)
+  pub inner-same : (a b : List State) (r s : List Line) → All (StateHasText version) a → All (StateHasText version) b →
+      after_inner a r ≡ after_inner b s → (a ≡ b) × (r ≡ s)
+  inner-same [] [] r s h k e = (refl, later-of e)
   inner-same [] (y ∷ b) r s h k e = absurd (letter-differs (omega arith) e)
   inner-same (x ∷ a) [] r s h k e = absurd (letter-differs (omega arith) (sym e))
   inner-same (x ∷ a) (y ∷ b) r s h k e =
-      let rests = sym (append_assoc (state_lines version x) (flat_map (headed_lines version (codes "inner")) a) ((codes "done" ∷ []) ∷ r)) ∙ later-lines e
+      let rests = sym (append_assoc (state_lines version x) (flat_map (headed_lines version (codes "inner")) a)
+      ((codes "done" ∷ []) ∷ r)) ∙ later-of e
       ∙ append_assoc (state_lines version y) (flat_map (headed_lines version (codes "inner")) b) ((codes "done" ∷ []) ∷ s) in
       let here = state-same x y (after_inner a r) (after_inner b s) (All-head (StateHasText version) x a h) (All-head (StateHasText version) y b k) rests in
       let rest = inner-same a b r s (All-tail (StateHasText version) x a h) (All-tail (StateHasText version) y b k) here.1 in
@@ -194,11 +188,16 @@ module _ (version : Version) where
       let inner_a : List Line = flat_map (headed_lines version (codes "inner")) a.inner in
       let inner_b : List Line = flat_map (headed_lines version (codes "inner")) b.inner in
       let done : List Line = (codes "done" ∷ []) ∷ [] in
-      let split_a : state_lines version a.invariant ++ inner_a ++ done ++ after_notes p r ≡ state_lines version a.invariant ++ after_inner a.inner (after_notes p r) =
-      append_assoc (state_lines version a.invariant ++ inner_a) done (after_notes p r) ∙ append_assoc (state_lines version a.invariant) inner_a (done ++ after_notes p r) in
-      let split_b : state_lines version b.invariant ++ inner_b ++ done ++ after_notes q s ≡ state_lines version b.invariant ++ after_inner b.inner (after_notes q s) =
-      append_assoc (state_lines version b.invariant ++ inner_b) done (after_notes q s) ∙ append_assoc (state_lines version b.invariant) inner_b (done ++ after_notes q s) in
-      let here = state-same a.invariant b.invariant (after_inner a.inner (after_notes p r)) (after_inner b.inner (after_notes q s)) h.0 k.0 (sym split_a ∙ later-lines e ∙ split_b) in
+      let split_a : state_lines version a.invariant ++ inner_a ++ done ++ after_notes p r ≡ state_lines version a.invariant ++ after_inner
+      a.inner (after_notes p r) =
+      append_assoc (state_lines version a.invariant ++ inner_a) done (after_notes p r)
+      ∙ append_assoc (state_lines version a.invariant) inner_a (done ++ after_notes p r) in
+      let split_b : state_lines version b.invariant ++ inner_b ++ done ++ after_notes q s ≡ state_lines version b.invariant ++ after_inner
+      b.inner (after_notes q s) =
+      append_assoc (state_lines version b.invariant ++ inner_b) done (after_notes q s)
+      ∙ append_assoc (state_lines version b.invariant) inner_b (done ++ after_notes q s) in
+      let here = state-same a.invariant b.invariant (after_inner a.inner (after_notes p r)) (after_inner b.inner (after_notes q s)) h.0 k.0
+      (sym split_a ∙ later-of e ∙ split_b) in
       let rest = inner-same a.inner b.inner (after_notes p r) (after_notes q s) h.1 k.1 here.1 in
       (ap (λ (l : Looped). Some l) (looped-by a b here.0 rest.0), rest.1)
 
@@ -208,15 +207,17 @@ module _ (version : Version) where
       append_assoc (note_lines version n) (flat_map (note_lines version) notes) ((codes "end" ∷ []) ∷ r)
       ∙ append_assoc (headed_lines version (codes "note") n.state) (looped_lines version n.looped) (after_notes notes r)
 
-  pub notes-same : (a b : List Note) (r s : List Line) → All (NoteHasText version) a → All (NoteHasText version) b → after_notes a r ≡ after_notes b s → (a ≡ b) × (r ≡ s)
-  notes-same [] [] r s h k e = (refl, later-lines e)
+  pub notes-same : (a b : List Note) (r s : List Line) → All (NoteHasText version) a → All (NoteHasText version) b →
+      after_notes a r ≡ after_notes b s → (a ≡ b) × (r ≡ s)
+  notes-same [] [] r s h k e = (refl, later-of e)
   notes-same [] (y ∷ b) r s h k e = absurd (letter-differs (omega arith) e)
   notes-same (x ∷ a) [] r s h k e = absurd (letter-differs (omega arith) (sym e))
   notes-same (x ∷ a) (y ∷ b) r s h k e =
       let hx = All-head (NoteHasText version) x a h in
       let ky = All-head (NoteHasText version) y b k in
-      let rests = later-lines (sym (note-split x a r) ∙ e ∙ note-split y b s) in
-      let here = state-same x.state y.state (looped_lines version x.looped ++ after_notes a r) (looped_lines version y.looped ++ after_notes b s) hx.0 ky.0 rests in
+      let rests = later-of (sym (note-split x a r) ∙ e ∙ note-split y b s) in
+      let here = state-same x.state y.state (looped_lines version x.looped ++ after_notes a r)
+      (looped_lines version y.looped ++ after_notes b s) hx.0 ky.0 rests in
       let list = looped-same x.looped y.looped a b r s hx.1 ky.1 here.1 in
       let rest = notes-same a b r s (All-tail (NoteHasText version) x a h) (All-tail (NoteHasText version) y b k) list.1 in
       (ap (λ (z : Note). z ∷ a) (note-by x y here.0 list.0) ∙ ap (λ (l : List Note). y ∷ l) rest.0, rest.1)

@@ -2,7 +2,7 @@
 use Rattle.std.proofs.Common.{◌≡◌, ◌<◌, ◌≤◌, ◌+◌, ◌-◌, ◌%◌, ◌^◌, ◌==◌, ◌++◌, ◌∷◌, [], ℕ, suc, ℤ, pos, negsuc, Bool, true, false, List, cond, inl, inr, arith, refl, ◌∙◌, sym, ap}
 use Rattle.std.specs.Prelude.{codes, decimal, ◌⊎◌}
 use Rattle.std.specs.Fmt.{signed_decimal}
-use Rattle.std.proofs.lemmas.Bool.{eqb-false, eqb-true}
+use Rattle.std.proofs.lemmas.Bool.{eqb-false, eqb-true, cases_Bool}
 use Rattle.std.proofs.lemmas.Fmt.{decimal_by_steps, signed_decimal_injective}
 use lib.Signed.{mag}
 use Rattle.cert_check.specs.text.Text.{Word, name_word}
@@ -44,10 +44,6 @@ pub data Kind (place : ℕ) : Type 0 where
   last : place ≡ 2 → name_byte place ≡ 36 → Kind place
   other : 3 ≤ place → name_byte place ≡ 97 + (place - 6) → Kind place
 
-pub test : (b : Bool) → (b ≡ true) ⊎ (b ≡ false)
-test true = inl refl
-test false = inr refl
-
 pub cond-true : {A : Type 0} (b : Bool) (x y : A) → b ≡ true → cond b x y ≡ x
 cond-true true x y e = refl
 cond-true false x y e = absurd cc
@@ -57,12 +53,13 @@ cond-false true x y e = absurd cc
 cond-false false x y e = refl
 
 kind-of : (place : ℕ) → Kind place
-kind-of place = elim (test (place == 0)) [
+kind-of place = elim (cases_Bool (place == 0)) [
   | inl h ↦ zero_number (eqb-true place 0 h) (cond-true (place == 0) _ _ h)
-  | inr h ↦ elim (test (place == 1)) [
+  | inr h ↦ elim (cases_Bool (place == 1)) [
     | inl k ↦ current (eqb-true place 1 k) (cond-false (place == 0) _ _ h ∙ cond-true (place == 1) _ _ k)
-    | inr k ↦ elim (test (place == 2)) [
-      | inl l ↦ last (eqb-true place 2 l) (cond-false (place == 0) _ _ h ∙ cond-false (place == 1) _ _ k ∙ cond-true (place == 2) _ _ l)
+    | inr k ↦ elim (cases_Bool (place == 2)) [
+      | inl l ↦ last (eqb-true place 2 l)
+          (cond-false (place == 0) _ _ h ∙ cond-false (place == 1) _ _ k ∙ cond-true (place == 2) _ _ l)
       | inr l ↦ let a = eqb-false place 0 h in let b = eqb-false place 1 k in let d = eqb-false place 2 l in
           other (omega arith) (cond-false (place == 0) _ _ h ∙ cond-false (place == 1) _ _ k ∙ cond-false (place == 2) _ _ l)
     ]

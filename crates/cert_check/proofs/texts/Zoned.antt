@@ -1,7 +1,7 @@
 -- What a zone says, says which zone it is.
-use Rattle.std.proofs.Common.{◌≡◌, ◌<◌, ◌+◌, ◌-◌, ◌/◌, ◌%◌, ◌^◌, ◌==◌, ◌++◌, ◌∷◌, [], ℕ, zero, suc, ℤ, pos, negsuc, Bool, true, false, not, ◌&&◌, ◌||◌, List, length, get_or, Option, None, Some, inl, inr, arith, refl, ◌∙◌, sym, ap, subst}
-use Rattle.std.specs.Prelude.{◌⊎◌, nat_lt, nat_le}
-use Rattle.std.proofs.lemmas.Bool.{ltb-true, leb-true, and_parts, or_cases, not-true}
+use Rattle.std.proofs.Common.{◌≡◌, ◌<◌, ◌+◌, ◌-◌, ◌/◌, ◌%◌, ◌^◌, ◌==◌, ◌++◌, ◌∷◌, [], ℕ, zero, suc, ℤ, pos, negsuc, Bool, true, ◌&&◌, List, length, get_or, Option, None, Some, inl, inr, arith, refl, ◌∙◌, sym, ap, subst}
+use Rattle.std.specs.Prelude.{nat_lt, nat_le}
+use Rattle.std.proofs.lemmas.Bool.{ltb-true, leb-true, and_parts, or_cases, not-true, cases_Bool}
 use Rattle.std.proofs.lemmas.Int.{ints}
 use lib.Signed.{mag}
 use Rattle.zones.specs.Bound.{IsKept}
@@ -12,7 +12,7 @@ use Rattle.ed_rules.specs.Formed.{says_nothing}
 use Rattle.cert_check.specs.text.Text.{Word, bound_words, bounds_words}
 use Rattle.ed_rules.specs.Formed.{has_name, may_say, ZoneIsFormed}
 use Rattle.cert_check.proofs.texts.Separated.{AreWords, AreWords-append}
-use Rattle.cert_check.proofs.texts.Worded.{Named, test, cond-true, cond-false, bound_word, bound-above, bound-same}
+use Rattle.cert_check.proofs.texts.Worded.{Named, cond-true, cond-false, bound_word, bound-above, bound-same}
 
 -- a bound is left out, or is a number that is written between two names
 pub data Said (x y : ℕ) (b : Option ℤ) : Type 0 where
@@ -36,7 +36,7 @@ small (negsuc n) k = let low = k.0 in omega (arith, ints)
 
 pub said : (marks : List Bool) (x y : ℕ) (b : Option ℤ) → may_say marks x y b ≡ true → IsKept b → Said x y b
 said marks x y None e k = silent (sym (cond-false (x == y) (Some (pos 0)) None (not-true (x == y) e))) refl
-said marks x y (Some c) e k = elim (test (says_nothing x y c)) [
+said marks x y (Some c) e k = elim (cases_Bool (says_nothing x y c)) [
   | inl h ↦ silent (nothing x y c h) (cond-true (says_nothing x y c) [] _ h)
   | inr h ↦
       let names = elim (or_cases (says_nothing x y c) (has_name marks x && has_name marks y) e) as (λ _. has_name marks x && has_name marks y ≡ true) [

@@ -1,5 +1,6 @@
 -- The counted commands, one command further.
-use Rattle.std.proofs.Common.{◌≡◌, ◌<◌, ◌≤◌, ℕ, zero, suc, ◌+◌, Bool, true, false, ◌||◌, List, [], ◌∷◌, length, get_or, drop, arith, refl, ◌∙◌, sym, ap, add-one, drop-cons}
+use Rattle.std.proofs.Common.{◌≡◌, ◌<◌, ◌≤◌, ℕ, zero, suc, ◌+◌, Bool, true, false, ◌||◌, List, [], ◌∷◌, length, get_or, drop, arith, refl, ◌∙◌, sym, ap}
+use Rattle.std.proofs.lemmas.List.{drop_all, drop_more}
 use Rattle.ed_syntax.specs.declared.command.Command.{Command}
 use Rattle.ed_syntax.specs.Commands.{Step}
 use Rattle.ed_syntax.specs.meaning.Verbs.{ends_run}
@@ -26,10 +27,6 @@ counted-next (c ∷ cs) (suc i) d h =
       | true ↦ λ l. absurd (omega arith)
       | false ↦ λ l. counted-next cs i d (omega arith)
     ]) h
-
--- from a command on
-next : (commands : List Command) (i : ℕ) (d : Command) → i < length commands → drop i commands ≡ get_or commands i d ∷ drop (i + 1) commands
-next commands i d h = drop-cons commands i d h ∙ ap (λ n. get_or commands i d ∷ drop n commands) (sym (add-one i))
 
 more-on : (ends : Bool) (x : Step) (xs : List Step) → ends ≡ false → length (x ∷ more_counted ends xs) ≡ 1 + length (counted xs)
 more-on true x xs e = absurd cc
@@ -64,8 +61,10 @@ pub record CountedTo (commands : List Command) (i : ℕ) : Type 0 where
   pub number : length (counted (steps_value commands)) ≡ i + length (counted (steps_value (drop i commands)))
   pub quit : has_quit (steps_value commands) ≡ has_quit (steps_value (drop i commands))
 
-at-place : (commands : List Command) (i : ℕ) (d : Command) → i < length commands → d ≡ get_or commands i d → drop i commands ≡ d ∷ drop (i + 1) commands
-at-place commands i d h is = next commands i d h ∙ ap (λ (e : Command). e ∷ drop (i + 1) commands) (sym is)
+-- from the element at a place on
+pub at-place : {A : Type 0} (xs : List A) (i : ℕ) (x : A) → i < length xs → x ≡ get_or xs i x →
+    drop i xs ≡ x ∷ drop (i + 1) xs
+at-place {A} xs i x h is = drop_more xs i x h ∙ ap (λ (y : A). y ∷ drop (i + 1) xs) (sym is)
 
 pub count-on : (commands : List Command) (i : ℕ) (d : Command) → i < length commands → d ≡ get_or commands i d → ends_run (verb_value d.verb) ≡ false →
     CountedTo commands i → CountedTo commands (i + 1)
@@ -85,16 +84,11 @@ count-off commands i d h is e before =
     let quit = before.quit ∙ ap (λ (l : List Command). has_quit (steps_value l)) at ∙ off-quit d (drop (i + 1) commands) e in
     (omega arith, sym quit)
 
--- none is left after all
-pub none-left : (commands : List Command) → drop (length commands) commands ≡ []
-none-left [] = refl
-none-left (c ∷ cs) = none-left cs
-
 -- no command ends the run
 pub count-end : (commands : List Command) (i : ℕ) → i ≡ length commands → CountedTo commands i →
     (length commands ≡ length (counted (steps_value commands))) × (false ≡ has_quit (steps_value commands))
 count-end commands i here before =
-    let left : drop i commands ≡ [] = ap (λ n. drop n commands) here ∙ none-left commands in
+    let left : drop i commands ≡ [] = drop_all i commands (omega arith) in
     let number = ap (λ (l : List Command). length (counted (steps_value l))) left in
     let was = before.number in
     (omega arith, sym (before.quit ∙ ap (λ (l : List Command). has_quit (steps_value l)) left))

@@ -1,5 +1,5 @@
 -- The test of covering and what it says, part by part.
-use Rattle.std.proofs.Common.{◌≡◌, ◌<◌, ◌+◌, ℕ, Bool, true, false, ◌&&◌, List, get_or, Option, None, Some, arith, ◌∙◌, refl, sym, subst}
+use Rattle.std.proofs.Common.{◌≡◌, ◌<◌, ◌+◌, ℕ, Bool, true, false, List, get_or, Option, None, Some, arith, ◌∙◌, refl, sym, subst}
 use Rattle.std.specs.List.{list_all, range_with_len}
 use Rattle.std.proofs.lemmas.List.Elements.{All-from_get_or}
 use Rattle.std.proofs.lemmas.List.FromFn.{length-range_with_len, get_or-range_with_len}
@@ -42,7 +42,7 @@ zone-says : (weak strong : Bounds) → zone_covers weak strong ≡ true → zone
 unfolding zone_covers
 zone-says weak strong h = Covers-each weak strong (each-below (λ (k : ℕ). covers_bound (get_or weak k None) (get_or strong k None)) 1024 h)
 
-says-zone : (weak strong : Bounds) → zones.Covers weak strong → zone_covers weak strong ≡ true
+pub says-zone : (weak strong : Bounds) → zones.Covers weak strong → zone_covers weak strong ≡ true
 unfolding zone_covers
 says-zone weak strong h = below-each (λ (k : ℕ). covers_bound (get_or weak k None) (get_or strong k None)) 1024 (each-Covers weak strong h)
 

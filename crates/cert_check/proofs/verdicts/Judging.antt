@@ -1,7 +1,7 @@
 -- The verdict, one command further.
-use Rattle.std.proofs.Common.{◌≡◌, ◌<◌, ℕ, suc, ◌+◌, Bool, true, false, not, ◌&&◌, ◌||◌, List, [], ◌∷◌, length, map, get_or, drop, Option, None, Some, is_none, Result, Ok, Err, IfOk, cond, arith, IsTrue, refl, ◌∙◌, sym, ap, subst, add-one, drop-cons}
+use Rattle.std.proofs.Common.{◌≡◌, ◌<◌, ℕ, suc, ◌+◌, Bool, true, false, not, ◌&&◌, ◌||◌, List, [], ◌∷◌, length, map, get_or, drop, Option, None, Some, is_none, Result, Ok, Err, IfOk, cond, arith, IsTrue, refl, ◌∙◌, sym, ap, subst, add-one}
 use Rattle.std.proofs.lemmas.Bool.{and_parts}
-use Rattle.std.proofs.lemmas.List.{drop-map, length-map}
+use Rattle.std.proofs.lemmas.List.{drop-map, length-map, drop_all}
 use Rattle.ed_syntax.specs.declared.command.Command as public_command
 use Rattle.ed_syntax.specs.Commands.{Command, Step, Script}
 use Rattle.ed_syntax.specs.PublicTypes.{command_value, step_value, steps_value}
@@ -21,7 +21,7 @@ use Rattle.cert_check.specs.checker.Passing.{verdict_at, passed, ends_well, List
 use Rattle.cert_check.specs.checker.Sound.{CannotFail}
 use Rattle.ed_syntax.specs.meaning.Verbs.{is_step}
 use Rattle.std.specs.List.{list_all}
-use Rattle.cert_check.proofs.verdicts.Counting.{counted-next}
+use Rattle.cert_check.proofs.verdicts.Counting.{counted-next, at-place}
 
 -- one check and those after it, which stand at one number
 one-check : (b : Bool) (number : ℕ) (later : Verdict) (rest : Bool) → later ≡ verdict_at number rest →
@@ -117,17 +117,8 @@ mapped-here : {A B : Type 0} (f : A → B) (xs : List A) (index : ℕ) (x : A) �
     drop index (map f xs) ≡ f x ∷ drop (index + 1) (map f xs)
 mapped-here {A = A} {B = B} f xs index x h is =
     drop-map f index xs
-    ∙ ap (λ (ys : List A). map f ys) (drop-cons xs index x h)
-    ∙ ap (λ (y : A). f y ∷ map f (drop (suc index) xs)) (sym is)
-    ∙ ap (λ (ys : List B). f x ∷ ys) (sym (drop-map f (suc index) xs) ∙ ap (λ k. drop k (map f xs)) (sym (add-one index)))
-
-here : {A : Type 0} (xs : List A) (index : ℕ) (x : A) → index < length xs → x ≡ get_or xs index x → drop index xs ≡ x ∷ drop (index + 1) xs
-here {A = A} xs index x h is =
-    drop-cons xs index x h ∙ ap (λ (y : A). y ∷ drop (suc index) xs) (sym is) ∙ ap (λ k. x ∷ drop k xs) (sym (add-one index))
-
-none-left : {A : Type 0} (xs : List A) → drop (length xs) xs ≡ []
-none-left [] = refl
-none-left (x ∷ xs) = none-left xs
+    ∙ ap (λ (ys : List A). map f ys) (at-place xs index x h is)
+    ∙ ap (λ (ys : List B). f x ∷ ys) (sym (drop-map f (index + 1) xs))
 
 -- the commands of a list and what is known before them, from a place on
 abbrev pub list_from : Sight → (number : ℕ) → (writes : List (List ℕ)) → List public_command.Command → List State → (turned : ℕ → State → List Check) → (index : ℕ) → State → Verdict
@@ -140,8 +131,9 @@ module _ (w : Sight) (number : ℕ) (writes : List (List ℕ)) (list : List publ
       ≡ verdict_of (command_checks (inner_at number (index + 1)) writes (command_value d) known coming
       (list_checks w number (index + 1 + 1) writes (left_by w (command_value d) known) (drop (index + 1) (map command_value list)) (drop (index + 1) states) turned))
   list-here index d known coming h size is_d is_known =
-      let commands : drop index (map command_value list) ≡ command_value d ∷ drop (index + 1) (map command_value list) = mapped-here command_value list index d (omega arith) is_d in
-      let knowns : drop index states ≡ known ∷ drop (index + 1) states = here states index known h is_known in
+      let commands : drop index (map command_value list) ≡ command_value d ∷ drop (index + 1) (map command_value list) =
+      mapped-here command_value list index d (omega arith) is_d in
+      let knowns : drop index states ≡ known ∷ drop (index + 1) states = at-place states index known h is_known in
       ap (λ (cs : List Command). verdict_of (list_checks w number (index + 1) writes coming cs (drop index states) turned)) commands
       ∙ ap (λ (ss : List State). verdict_of (list_checks w number (index + 1) writes coming (command_value d ∷ drop (index + 1) (map command_value list)) ss turned)) knowns
 
@@ -165,7 +157,7 @@ module _ (w : Sight) (number : ℕ) (writes : List (List ℕ)) (list : List publ
   list-over index coming at_end size =
       let counts : length (map command_value list) ≡ length list = length-map list command_value in
       let last : index ≡ length (map command_value list) = at_end ∙ size ∙ sym counts in
-      let none : drop index (map command_value list) ≡ [] = ap (λ n. drop n (map command_value list)) last ∙ none-left (map command_value list) in
+      let none : drop index (map command_value list) ≡ [] = drop_all index (map command_value list) (omega arith) in
       ap (λ (cs : List Command). verdict_of (list_checks w number (index + 1) writes coming cs (drop index states) turned)) none
       ∙ ap (λ n. verdict_of (turned (n + 1) coming)) last
 
@@ -218,7 +210,7 @@ module _ (w : Sight) (writes : List (List ℕ)) (end : ℕ → State → List Ch
   gone-through index s at_end size =
       let xs : List Step = counted (steps_value commands) in
       let counts : length (map note_value notes) ≡ length notes = length-map notes note_value in
-      let steps : drop index xs ≡ [] = ap (λ n. drop n xs) (at_end ∙ size) ∙ none-left xs in
+      let steps : drop index xs ≡ [] = drop_all index xs (omega arith) in
       ap (λ (ys : List Step). verdict_of (checks_from w writes end (index + 1) s ys (drop index (map note_value notes)))) steps
       ∙ ap (λ n. verdict_of (end (n + 1) s)) (at_end ∙ sym counts)
 
@@ -253,20 +245,20 @@ module _ (commands : List public_command.Command) (notes : List public.Note) whe
 
   pub shape-on : (index : ℕ) (d : public_command.Command) (n : public.Note) → index < length notes → length notes ≡ length (counted (steps_value commands)) → d ≡ get_or commands index d → n ≡ get_or notes index n →
       fits (step_value d) (note_value n) ≡ true → shape_from commands notes index ≡ shape_from commands notes (index + 1)
-  shape-on index d n h size is_d is_n fit = shape-here index d n h size is_d is_n ∙ ap (λ b. b && shape_from commands notes (index + 1)) fit
+  shape-on index d n h size is_d is_n fit =
+      shape-here index d n h size is_d is_n ∙ ap (λ b. b && shape_from commands notes (index + 1)) fit
 
   pub shape-off : (index : ℕ) (d : public_command.Command) (n : public.Note) → index < length notes → length notes ≡ length (counted (steps_value commands)) → d ≡ get_or commands index d → n ≡ get_or notes index n →
       fits (step_value d) (note_value n) ≡ false → shape_from commands notes index ≡ false
-  shape-off index d n h size is_d is_n unfit = shape-here index d n h size is_d is_n ∙ ap (λ b. b && shape_from commands notes (index + 1)) unfit
+  shape-off index d n h size is_d is_n unfit =
+      shape-here index d n h size is_d is_n ∙ ap (λ b. b && shape_from commands notes (index + 1)) unfit
 
   pub shape-over : (index : ℕ) → index ≡ length notes → length notes ≡ length (counted (steps_value commands)) → shape_from commands notes index ≡ true
   shape-over index at_end size =
       let xs : List Step = counted (steps_value commands) in
       let counts : length (map note_value notes) ≡ length notes = length-map notes note_value in
-      ap (λ n. are_shaped (drop n xs) (drop index (map note_value notes))) (at_end ∙ size)
-      ∙ ap (λ (ys : List Step). are_shaped ys (drop index (map note_value notes))) (none-left xs)
-      ∙ ap (λ n. are_shaped [] (drop n (map note_value notes))) (at_end ∙ sym counts)
-      ∙ ap (λ (ns : List Note). are_shaped [] ns) (none-left (map note_value notes))
+      ap (λ (ys : List Step). are_shaped ys (drop index (map note_value notes))) (drop_all index xs (omega arith))
+      ∙ ap (λ (ns : List Note). are_shaped [] ns) (drop_all index (map note_value notes) (omega arith))
 
   -- another number of notes
   pub shape-size : (number : ℕ) → number ≡ length (counted (steps_value commands)) → (length notes ≡ number → ⊥) → are_shaped (counted (steps_value commands)) (map note_value notes) ≡ false

@@ -1,11 +1,11 @@
 -- Accepted commands run to their end, from each state that what comes in stands for.
-use Rattle.std.proofs.Common.{◌≡◌, ◌<◌, ◌≤◌, inl, inr, ℕ, suc, ℤ, pos, neg_ℤ, ◌-ℤ◌, ◌≤ℤ◌, Bool, true, false, not, List, [], ◌∷◌, length, Option, None, Some, Result, Ok, Err, IfOk, IsTrue, ◌↔◌, arith, refl, sym, ap, subst}
+use Rattle.std.proofs.Common.{◌≡◌, ◌<◌, ◌≤◌, inl, inr, ℕ, suc, ℤ, pos, neg_ℤ, ◌-ℤ◌, ◌≤ℤ◌, Bool, true, false, not, List, [], ◌∷◌, length, Option, None, Some, Result, Ok, Err, IfOk, IsTrue, ◌↔◌, arith, refl, ◌∙◌, sym, ap, subst}
 use Rattle.std.specs.Prelude.{nat_eq}
-use Rattle.std.specs.List.{All, Contains, list_any}
+use Rattle.std.specs.List.{Contains, list_any}
 use Rattle.std.specs.Cmp.Lexicographic.{pointwise, bytes_decides}
 use Rattle.std.proofs.lemmas.Int.{ints}
 use Rattle.std.proofs.lemmas.List.Elements.{All-nil, All-cons}
-use Rattle.std.proofs.lemmas.Bool.{or_cases}
+use Rattle.std.proofs.lemmas.Bool.{or_cases, not-true, false≢true}
 use Rattle.ed_base.specs.declared.fault.Fault.{Fault}
 use Rattle.ed_base.specs.declared.fault.Fault.TheVariants as fault
 use Rattle.zones.specs.Zone.{Bounds, Numbers, Holds}
@@ -18,7 +18,7 @@ use Rattle.ed_syntax.specs.Commands.{Verb, Command, Step}
 use Rattle.ed_syntax.specs.meaning.States as editor
 use Rattle.ed_syntax.specs.meaning.Effects.{Outcome, Effect, Makes, Asks}
 use Rattle.ed_syntax.specs.meaning.Applied.{command}
-use Rattle.ed_syntax.specs.meaning.Progress.{Present, Progress, Writes, asked_of, stop_of, failing, ending, quitting, count}
+use Rattle.ed_syntax.specs.meaning.Progress.{Present, Progress, Writes, failing, ending, quitting, count}
 use Rattle.ed_syntax.specs.meaning.Runs.{Further, with_state, answered, asking, turned, one, step_by, prompted, at_end}
 use Rattle.ed_rules.specs.declared.state.State.{State}
 use Rattle.ed_rules.specs.Order.{Covers}
@@ -28,17 +28,16 @@ use Rattle.ed_rules.specs.Files.{written_paths}
 use Rattle.ed_syntax.specs.meaning.CommandLaws.{CommandsArePlaced}
 use Rattle.ed_syntax.specs.meaning.Verbs.{is_global, ends_run}
 use Rattle.ed_syntax.specs.meaning.States.{Past, Nothing, Same, Was}
-use Rattle.ed_rules.specs.GlobalSoundness.{NoFlagsAreKept, HasNoFlags}
+use Rattle.ed_rules.specs.GlobalSoundness.{NoFlagsAreKept}
 use Rattle.ed_rules.proofs.Choosing.{has_choice-all}
 use Rattle.ed_rules.specs.StandsFor.{KeepsMatched, StandsFor, allows_change}
 use Rattle.ed_rules.specs.LineBounds.{IsAtMost, IsWithin}
-use Rattle.cert_check.specs.checker.Opening.{StartIsSound}
 use Rattle.cert_check.specs.Certificates.{Certificate}
 use Rattle.cert_check.specs.declared.certificate.Version.{Version}
 use Rattle.cert_check.specs.declared.certificate.Version.TheVariants as version
 use Rattle.cert_check.specs.declared.sight.Sight.{Sight}
 use Rattle.cert_check.specs.checker.Valid.{told_by, told, counted, are_met, left_by, is_listed, are_listed, knows_least, knows_most}
-use Rattle.cert_check.specs.checker.Sound.{MayAsk, RunsWell, IsUnflagged, GlobalGoesWell}
+use Rattle.cert_check.specs.checker.Sound.{MayAsk, RunsWell, GlobalGoesWell}
 use Rattle.cert_check.proofs.verdicts.Checks.{EndsSo, NeedsAreTheSame, plainly_left, met-gives}
 use Rattle.cert_check.proofs.verdicts.Quitting.{SameMade, SavedMade, quit-leaves, saved-leaves}
 
@@ -55,8 +54,8 @@ pub record RunLaws : Type 0 where
   pub global : GlobalGoesWell
   pub placed : CommandsArePlaced
   pub no_flags : NoFlagsAreKept
-  pub started : StartIsSound
-  pub known : (zone : Bounds) (number : Numbers) (x y : ℕ) (c : ℤ) → known zone x y c ≡ true → x < 32 → y < 32 → Holds zone number → (number x -ℤ number y) ≤ℤ c
+  pub known : (zone : Bounds) (number : Numbers) (x y : ℕ) (c : ℤ) → known zone x y c ≡ true → x < 32 → y < 32 →
+      Holds zone number → (number x -ℤ number y) ≤ℤ c
 
 -- what is told of a state stands for all that it stands for
 kept-nothing : (past : Past) → KeepsMatched [] past
@@ -117,18 +116,15 @@ prompted-well c m p well =
 ending-well : (c : Certificate) (m : Present) → IsWithin c.low c.high (length m.state.lines) → RunsWell c (ending m)
 ending-well c m h = (All-nil (MayAsk c), h)
 
-not-changed : (b : Bool) → not b ≡ true → b ≡ true → ⊥
-not-changed true h e = absurd cc
-not-changed false h e = absurd cc
-
 -- the end of a script without a quit is a `q`
 quitting-well : RunLaws → (bad : Option ℕ) (c : Certificate) (s : State) (m : Present) → EndsSo false bad c s → StandsFor s m.state → RunsWell c (quitting m)
 quitting-well k bad c s m h st =
     (elim m.state.changed as (λ b. m.state.changed ≡ b → RunsWell c (elim b as (λ _. Progress) [ true ↦ failing m fault.Unsaved | false ↦ ending m ])) [
       | true ↦ λ e.
           let last : StandsFor c.last m.state = covers-stands k.single c.last s m.state h.covered st in
-          let may : allows_change c.last.changed true ≡ true = subst (λ (b : Bool). allows_change c.last.changed b ≡ true) e last.stands.changed in
-          absurd (not-changed c.last.changed.yes h.saved may)
+          let may : allows_change c.last.changed true ≡ true =
+          subst (λ (b : Bool). allows_change c.last.changed b ≡ true) e last.stands.changed in
+          absurd (false≢true (sym (not-true c.last.changed.yes h.saved) ∙ may))
       | false ↦ λ e. ending-well c m (within-end k false bad c s m.state h st)
     ]) refl
 
@@ -172,7 +168,7 @@ asking-well c x s t m (Ok (Asks r)) go (a ∷ answers) l is done later h =
     let well = answered-well c x s t m a (count m.silent r a) (command m.state x (Some a)) go answers refl (later a) h in
     (All-cons (MayAsk c) r _ (may-listed c x s r l done) well.0, well.1)
 
-turned-state : (v : Verb) (m : Present) → (turned v m).state ≡ m.state
+pub turned-state : (v : Verb) (m : Present) → (turned v m).state ≡ m.state
 turned-state ed.HelpMode m = refl
 turned-state ed.PromptMode m = refl
 turned-state _ m = refl

@@ -2,7 +2,7 @@
 use Rattle.std.proofs.Common.{◌≡◌, ◌≤◌, inl, inr, ℕ, zero, suc, ◌+◌, Bool, true, false, not, ◌&&◌, List, [], ◌∷◌, length, Option, None, Some, option_map, Ok, arith, refl, ◌∙◌, sym, ap, subst}
 use Rattle.std.specs.Prelude.{◌==◌}
 use Rattle.std.specs.List.{list_all}
-use Rattle.std.proofs.lemmas.Bool.{and_parts, eqb-true, or_left, or_right}
+use Rattle.std.proofs.lemmas.Bool.{and_parts, eqb-true, or_left, or_right, not-true, false≢true}
 use Rattle.std.proofs.lemmas.List.Elements.{All-nil, All-cons}
 use Rattle.ed_base.specs.Buffer.{Line}
 use Rattle.ed_syntax.specs.declared.request.Answer.{Answer}
@@ -227,10 +227,6 @@ global-step : (v : Verb) (x : Step) (m : Present) (go : Further) (answers : List
 global-step (ed.Global sense pattern) x m go answers g = refl
 global-step _ x m go answers g = absurd cc
 
-single-or-global : (global : Bool) → not global ≡ true → global ≡ true → ⊥
-single-or-global true single g = absurd cc
-single-or-global false single g = absurd cc
-
 -- of a list that fits something is known of each command
 pub inner-sized : (global : Bool) (list : List Command) (l : Looped) → fits_list global list (Some l) ≡ true → length l.inner ≡ length list
 inner-sized global list l fit = eqb-true _ _ (and_parts global (length l.inner == length list) fit).1
@@ -238,7 +234,8 @@ inner-sized global list l fit = eqb-true _ _ (and_parts global (length l.inner =
 looped-goes-well : ListLaws → (w : Sight) (c : Certificate) (number : ℕ) (x : Step) (s : State) (looped : Option Looped) (coming : State) (later : List Check) (go : Further) → verbs.is_step x ≡ true →
     is_global x.command.verb ≡ true → fits_list (is_global x.command.verb) x.list looped ≡ true → verdict_of (step_checks w number c.writes x (record { state = s; looped = looped }) coming later) ≡ Accepted →
     GoesWell c w (left_after w looped x s) go → GoesWell c w coming (λ m. step x m go)
-looped-goes-well k w c number x s None coming later go stands g fit h goes m st none answers = absurd (single-or-global (is_global x.command.verb) fit g)
+looped-goes-well k w c number x s None coming later go stands g fit h goes m st none answers =
+    absurd (false≢true (sym (not-true (is_global x.command.verb) fit) ∙ g))
 looped-goes-well k w c number x s (Some l) coming later go stands g fit h goes m st none answers =
     let holds = global-holds w c number x s l coming later h in
     let listed = (and_parts (not x.command.listed && verbs.marks_by_letter x.command.verb) (list_all verbs.is_listed x.list) stands).1 in

@@ -1,11 +1,12 @@
 use Rattle.std.proofs.Common.{◌≡◌, [], ◌∙◌, sym, ap, subst}
+use Rattle.std.proofs.lemmas.Bool.{not-false}
 use Rattle.ed_rules.specs.declared.state.Old.{Old}
 use Rattle.ed_rules.specs.declared.state.Undo.{Undo}
 use Rattle.cert_check.specs.text.Pieces.{same, Took, texts, marked_value, undo_lines, UndoIsFormed}
 use Rattle.cert_check.proofs.texts.Pieces.{took-none, exits}
 use Rattle.cert_check.proofs.texts.Plainest.{plain-said}
 use Rattle.cert_check.proofs.texts.Sequence.{stops, stops-last}
-use Rattle.cert_check.proofs.texts.Stated.{was-true, undo-found, found-read, old-read, undo_with, undo-read}
+use Rattle.cert_check.proofs.texts.Stated.{undo-found, found-read, old-read, undo_with, undo-read}
 use Rattle.cert_check.proofs.text.states.read_undo.Goals as goal
 
 pub returns-in_err-found : goal.returns-in_err-found
@@ -18,15 +19,19 @@ returns-in_err-found c = record {
 pub returns-in_err-old : goal.returns-in_err-old
 returns-in_err-old c = record {
   exact =
-      stops _ _ _ _ same c.read_marked.new.cursor c.from_residual-in_err-old.result c.in_err-old.field-0.0 c.from_residual-in_err-old.ensures.1
-      (found-read c.args.version c.in_ok-found.found (was-true c.in_ok-found.found.was c.if-not-found.false) c.in_ok-found.ensures.exact) [] (plain-said c.args.version) c.in_err-old.ensures.exact;
+      stops _ _ _ _ same c.read_marked.new.cursor c.from_residual-in_err-old.result c.in_err-old.field-0.0
+      c.from_residual-in_err-old.ensures.1
+      (found-read c.args.version c.in_ok-found.found (not-false c.in_ok-found.found.was c.if-not-found.false) c.in_ok-found.ensures.exact)
+      [] (plain-said c.args.version) c.in_err-old.ensures.exact;
 }
 
 pub returns-in_err-old_has : goal.returns-in_err-old_has
 returns-in_err-old_has c = record {
   exact =
-      stops-last same c.read_matched.new.cursor c.from_residual-in_err-old_has.result c.in_err-old_has.field-0.0 c.from_residual-in_err-old_has.ensures.1
-      (old-read c.args.version (found-read c.args.version c.in_ok-found.found (was-true c.in_ok-found.found.was c.if-not-found.false) c.in_ok-found.ensures.exact)
+      stops-last same c.read_matched.new.cursor c.from_residual-in_err-old_has.result c.in_err-old_has.field-0.0
+      c.from_residual-in_err-old_has.ensures.1
+      (old-read c.args.version
+      (found-read c.args.version c.in_ok-found.found (not-false c.in_ok-found.found.was c.if-not-found.false) c.in_ok-found.ensures.exact)
       (marked_value c.in_ok-old.old) c.in_ok-old.ensures.exact) c.in_err-old_has.ensures.exact;
 }
 
@@ -37,6 +42,8 @@ returns c =
     let has = c.in_ok-old_has.old_has in
     let is : c.new-undo-2.result ≡ undo_with found (marked_value old) = c.new-undo-2.ensures.value ∙ ap (λ (o : Old). undo_with found o) c.new-was.ensures.value in
     record {
-      exact = subst (λ (u : Undo). UndoIsFormed c.args.version (u, has) × Took (texts (undo_lines c.args.version (u, has))) c.args.cursor.now c.read_matched.new.cursor) (sym is)
-          (undo-read c.args.version found (marked_value old) has (was-true found.was c.if-not-found.false) c.in_ok-found.ensures.exact c.in_ok-old.ensures.exact c.in_ok-old_has.ensures.exact);
+      exact = subst (λ (u : Undo). UndoIsFormed c.args.version (u, has)
+          × Took (texts (undo_lines c.args.version (u, has))) c.args.cursor.now c.read_matched.new.cursor) (sym is)
+          (undo-read c.args.version found (marked_value old) has (not-false found.was c.if-not-found.false) c.in_ok-found.ensures.exact
+          c.in_ok-old.ensures.exact c.in_ok-old_has.ensures.exact);
     }

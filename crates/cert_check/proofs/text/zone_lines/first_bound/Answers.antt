@@ -6,8 +6,8 @@ use mir.Val.{to_z, of_z}
 use Rattle.zones.specs.Bound.{IsKept, clip_bound}
 use Rattle.zones.specs.KnownBounds.{PlacedBound}
 use Rattle.zones.proofs.Kept.{clip-is}
+use Rattle.zones.proofs.Listing.{option_eq-true, option_eq-itself}
 use Rattle.cert_check.specs.text.Text.{spaced}
-use Rattle.cert_check.proofs.texts.Known.{option-same, option-itself}
 use Rattle.cert_check.proofs.texts.SpokenBounds.{spoken-is, first-kept, first-spoken}
 use Rattle.cert_check.proofs.text.zone_lines.first_bound.Goals as goal
 
@@ -20,7 +20,9 @@ returns-then-eq c =
       exact =
           first-spoken c.args.text.now c.in-Some-bound_in.left.now x y c.in-Some-bound_in.number entry c.in-Some-bound_in.ensures.exact (omega arith) (omega arith)
           (ap (λ (b : PlacedBound). b.place) c.new-entry.ensures.value)
-          (sym c.bound.ensures.value ∙ option-same _ _ (sym c.if-eq.ensures) ∙ ap (λ (n : ℤ). Some n) (to_z-of_z w64 c.in-Some-bound_in.number (record { sfits = c.in-Some-bound_in.ensures.exact.signed })))
+          (sym c.bound.ensures.value ∙ option_eq-true _ _ (sym c.if-eq.ensures)
+          ∙ ap (λ (n : ℤ). Some n)
+          (to_z-of_z w64 c.in-Some-bound_in.number (record { sfits = c.in-Some-bound_in.ensures.exact.signed })))
           (subst IsKept c.bound.ensures.value c.bound.ensures.kept);
     }
 
@@ -41,8 +43,10 @@ returns c = record {
       let same = to_z-of_z w64 number (record { sfits = c.in-Some-bound_in.ensures.exact.signed }) in
       let kept = first-kept c.args.text.now c.in-Some-bound_in.left.now c.in-Some.names.0 c.in-Some.names.1 number c.in-Some-bound_in.ensures.exact b words s e in
       let bound : c.bound.result ≡ Some number =
-      c.bound.ensures.value ∙ ap (λ (d : PlacedBound). d.bound) c.new-entry.ensures.value ∙ ap (λ (n : ℤ). clip_bound (Some n)) same ∙ clip-is number number refl kept in
-      let equal : option_eq int_eq c.bound.result (Some (to_z w64 (of_z w64 number))) ≡ true = rw (bound, same) (option-itself (Some number)) in
+      c.bound.ensures.value ∙ ap (λ (d : PlacedBound). d.bound) c.new-entry.ensures.value ∙ ap (λ (n : ℤ). clip_bound (Some n)) same
+      ∙ clip-is number number refl kept in
+      let equal : option_eq int_eq c.bound.result (Some (to_z w64 (of_z w64 number))) ≡ true =
+      rw (bound, same) (option_eq-itself (Some number)) in
       let other = c.if-eq.ensures in
       absurd cc;
 }

@@ -1,7 +1,8 @@
 use Rattle.std.proofs.Common.{Some, set, ◌≡◌, ◌+◌, ◌++◌, ◌∷◌, [], ℕ, Bool, true, false, List, length, get_or, arith, ◌∙◌, sym, ap, append_assoc}
 use Rattle.std.proofs.lemmas.List.{length-set}
+use Rattle.ed_rules.proofs.sound.LettersInLines.{no_letter}
 use Rattle.cert_check.specs.text.Text.{sure_letters}
-use Rattle.cert_check.proofs.texts.ReadLetters.{letter-added, unsure-later, letter-taken, letter-kept, none-sure, letter-byte}
+use Rattle.cert_check.proofs.texts.ReadLetters.{letter-added, unsure-later, letter-taken, letter-kept, letter-byte}
 use Rattle.cert_check.proofs.text.zone_lines.letters_in.Goals as goal
 
 pub loop-place-init : goal.loop-place-init
@@ -10,7 +11,7 @@ loop-place-init c =
     record {
       size = ap (λ (m : List Bool). length m) is;
       read = ap (λ (m : List Bool). sure_letters 97 m ++ c.args.word.now) is;
-      unsure = λ k l. ap (λ (m : List Bool). get_or m k false) is ∙ none-sure 26 k;
+      unsure = λ k l. ap (λ (m : List Bool). get_or m k false) is ∙ no_letter 26 k;
       other = λ m s e. e;
     }
 

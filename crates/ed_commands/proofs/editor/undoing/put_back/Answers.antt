@@ -4,7 +4,8 @@ use Rattle.std.proofs.lemmas.List.{length-map}
 use Rattle.ed_base.specs.Buffer.{Line, plain_line, texts}
 use Rattle.ed_base.specs.Parts.{exchanged}
 use Rattle.ed_commands.proofs.Blocks.{length-exchanged}
-use Rattle.ed_commands.proofs.Changes.{texts-back, texts-plain}
+use Rattle.ed_commands.proofs.Changes.{texts-back}
+use Rattle.ed_commands.proofs.Texts.{texts-plain}
 use Rattle.ed_commands.proofs.Texts.{texts-exchanged}
 use Rattle.ed_commands.proofs.Undoing.{exchanged-cut}
 use Rattle.ed_commands.proofs.editor.undoing.put_back.Goals as goal

@@ -1,10 +1,11 @@
 use Rattle.std.proofs.Common.{◌≡◌, ◌≢◌, ◌≤◌, ◌+◌, ◌∙◌, ap, refl, subst, None, Err, false}
+use Rattle.std.proofs.lemmas.Bool.{false_from_ne_true}
 use Rattle.ed_base.specs.declared.fault.Fault.TheVariants.{Memory}
 use Rattle.ed_syntax.specs.meaning.Applied.{command}
 use Rattle.ed_syntax.specs.PublicTypes.{command_value}
 use Rattle.ed_session.specs.Insides.{holding}
 use Rattle.ed_session.specs.Sessions.{is_over}
-use Rattle.ed_session.proofs.Advancing.{advances_by, hands_out_report, is_false, as_goes, as_hands_out}
+use Rattle.ed_session.proofs.Advancing.{advances_by, hands_out_report, as_goes, as_hands_out}
 use Rattle.ed_session.proofs.RunningLists.{beginning, begun_is, begins_list, lists_failing}
 use Rattle.ed_session.proofs.Working.{both_work, opened_less, works_less}
 use Rattle.ed_session.proofs.session.Session.begin_global.Goals as goal
@@ -15,7 +16,7 @@ returns-in-Ok-clause-given g c =
     let x = command_value c.next.result.now in
     let b = beginning _ _ x c.self.view_is c.requires.prompted c.requires.outside c.requires.handed_out c.requires.global c.next.ensures.value in
     let live : is_over i.phase ≡ false = ap is_over b.at in
-    let untold = is_false i.told (λ h. let n = (c.self.invariant.ended h).0 in cc) in
+    let untold = false_from_ne_true i.told (λ h. let n = (c.self.invariant.ended h).0 in cc) in
     let begun = begun_is _ i.editor.state _ c.in-Ok.begun (c.in-Ok.ensures.exact (c.self.invariant.works live)) in
     let opens = c.open.ensures.value in
     rw c.output.ensures.value (advances_by c.args.self.now _ c.in-Ok.begun.output
@@ -30,8 +31,9 @@ returns-in-Err-clause-given g c =
     let x = command_value c.next.result.now in
     let b = beginning _ _ x c.self.view_is c.requires.prompted c.requires.outside c.requires.handed_out c.requires.global c.next.ensures.value in
     let live : is_over i.phase ≡ false = ap is_over b.at in
-    let untold = is_false i.told (λ h. let n = (c.self.invariant.ended h).0 in cc) in
-    let fails : c.in-Err.fault ≢ Memory → command i.editor.state x None ≡ Err c.in-Err.fault = c.in-Err.ensures.exact (c.self.invariant.works live) in
+    let untold = false_from_ne_true i.told (λ h. let n = (c.self.invariant.ended h).0 in cc) in
+    let fails : c.in-Err.fault ≢ Memory → command i.editor.state x None ≡ Err c.in-Err.fault =
+    c.in-Err.ensures.exact (c.self.invariant.works live) in
     as_hands_out c.args.self.now _ _ _ b.same
     (hands_out_report _ _ c.in-Err.fault _ live b.none c.end-report.ensures.ended
     (λ h. lists_failing _ x b.outside b.first b.is b.at b.none c.in-Err.fault (fails h)) refl b.none untold)

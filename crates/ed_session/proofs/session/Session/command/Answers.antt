@@ -1,9 +1,10 @@
 use Rattle.std.proofs.Common.{◌≡◌, ◌≢◌, ◌≤◌, ◌+◌, ◌∙◌, ap, refl, subst, None, Err}
+use Rattle.std.proofs.lemmas.Bool.{false_from_ne_true}
 use Rattle.ed_base.specs.declared.fault.Fault.TheVariants.{Memory}
 use Rattle.ed_syntax.specs.meaning.Applied.{command}
 use Rattle.ed_syntax.specs.PublicTypes.{command_value}
 use Rattle.ed_session.specs.Insides.{holding}
-use Rattle.ed_session.proofs.Advancing.{advances_by, hands_out_report, is_false, as_goes, as_awaits, as_hands_out}
+use Rattle.ed_session.proofs.Advancing.{advances_by, hands_out_report, as_goes, as_awaits, as_hands_out}
 use Rattle.ed_session.proofs.Commanding.{coming, goes_running, passes_done, passes_asking, passes_failing, gives_request, done_is, wants_is, turned_present}
 use Rattle.ed_session.proofs.Working.{both_work, passed_less, works_less}
 use Rattle.ed_session.proofs.session.Session.command.Goals as goal
@@ -30,7 +31,7 @@ returns-in-Ok-Done-clause-given g c =
     let x = command_value c.next-command.result.now in
     let k = coming _ _ x c.self.view_is c.requires.comes c.requires.handed_out c.requires.next c.next-command.ensures.value in
     let live = goes_running i.phase i.agenda.running_list k.goes in
-    let untold = is_false i.told (λ h. let n = (c.self.invariant.ended h).0 in cc) in
+    let untold = false_from_ne_true i.told (λ h. let n = (c.self.invariant.ended h).0 in cc) in
     let exact = rw c.in-Ok-Done.field-0-is at c.in-Ok-Done.ensures.exact in
     let done = done_is _ i.editor.state _ c.in-Ok-Done.written (exact (c.self.invariant.works live)) in
     let turned = c.after-self-inside.ensures in
@@ -59,8 +60,9 @@ returns-in-Err-clause-given g c =
     let x = command_value c.next-command.result.now in
     let k = coming _ _ x c.self.view_is c.requires.comes c.requires.handed_out c.requires.next c.next-command.ensures.value in
     let live = goes_running i.phase i.agenda.running_list k.goes in
-    let untold = is_false i.told (λ h. let n = (c.self.invariant.ended h).0 in cc) in
-    let is : c.in-Err.fault ≢ Memory → command i.editor.state x None ≡ Err c.in-Err.fault = c.in-Err.ensures.exact (c.self.invariant.works live) in
+    let untold = false_from_ne_true i.told (λ h. let n = (c.self.invariant.ended h).0 in cc) in
+    let is : c.in-Err.fault ≢ Memory → command i.editor.state x None ≡ Err c.in-Err.fault =
+    c.in-Err.ensures.exact (c.self.invariant.works live) in
     as_hands_out c.args.self.now _ _ _ k.same
     (hands_out_report _ _ c.in-Err.fault _ live k.none c.end-report.ensures.ended
     (λ h. passes_failing _ x k.goes k.next k.none c.in-Err.fault (is h)) refl k.none untold)

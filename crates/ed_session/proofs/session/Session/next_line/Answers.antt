@@ -1,8 +1,9 @@
 use Rattle.std.proofs.Common.{◌≡◌, ◌≤◌, ◌+◌, ◌∙◌, ap, sym, refl, subst, inr}
 use Rattle.std.specs.Prelude.{is_some}
+use Rattle.std.proofs.lemmas.Bool.{false_from_ne_true}
 use Rattle.ed_syntax.specs.meaning.Globals.{next_taken}
 use Rattle.ed_session.specs.Sessions.{is_waiting}
-use Rattle.ed_session.proofs.Advancing.{as_goes, is_false}
+use Rattle.ed_session.proofs.Advancing.{as_goes}
 use Rattle.ed_session.proofs.RunningLists.{listing, goes_silently, line_taken, lines_done, taken_is, none_is, taken_again}
 use Rattle.ed_session.proofs.Working.{both_work, repeated_less, works_same}
 use Rattle.ed_session.proofs.session.Session.next_line.Goals as goal
@@ -19,7 +20,7 @@ pub returns-then-next_global-clause-given : goal.returns-then-next_global-clause
 returns-then-next_global-clause-given g c =
     let i = c.self.inside in
     let l = listing _ _ c.self.view_is c.requires.more c.requires.none_left c.requires.running c.requires.started in
-    let untold = is_false i.told (λ h. let n = (c.self.invariant.ended h).0 in cc) in
+    let untold = false_from_ne_true i.told (λ h. let n = (c.self.invariant.ended h).0 in cc) in
     let value : c.next_global.result ≡ is_some (next_taken i.editor.state) = c.next_global.ensures.value in
     let taken = taken_is (next_taken i.editor.state) i.editor.state c.next_global.new.self.state (sym value ∙ c.if-next_global.true) c.if-next_global.ensures.taken in
     let again = c.repeat.ensures.value in
