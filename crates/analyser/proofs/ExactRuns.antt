@@ -78,8 +78,8 @@ module _ (k : Laws) (c : Command) (m : Present) where
   one-by y is go answers =
       ap (λ (z : Result Effect Fault). stop_of (asking m z (λ a. command m.state c (Some a)) (λ t. go (turned c.verb t)) answers)) is
 
-  after-asking : (r : Request) (a : Answer) (later : List Answer) → command m.state c None ≡ Ok (Asks r) → a ≡ answer.Done → AreDone later →
-      (z : Result Effect Fault) → command m.state c (Some answer.Done) ≡ z →
+  after-asking : (r : Request) (a : Answer) (later : List Answer) → command m.state c None ≡ Ok (Asks r) → a ≡ answer.Done →
+      AreDone later → (z : Result Effect Fault) → command m.state c (Some answer.Done) ≡ z →
       Fails c m (a ∷ later) ⊎ Goes c m (a ∷ later)
   after-asking r a later is done all (Err f) now =
       inl (record {
@@ -102,8 +102,8 @@ module _ (k : Laws) (c : Command) (m : Present) where
       })
   after-asking r a later is done all (Ok (Asks q)) now = absurd (k.once m.state c answer.Done q now)
 
-  by-effect : (answers : List Answer) → AreDone answers → 1 ≤ length answers → (y : Result Effect Fault) → command m.state c None ≡ y →
-      Fails c m answers ⊎ Goes c m answers
+  by-effect : (answers : List Answer) → AreDone answers → 1 ≤ length answers → (y : Result Effect Fault) →
+      command m.state c None ≡ y → Fails c m answers ⊎ Goes c m answers
   by-effect answers all some (Err f) is =
       inl (record { fault = f; comes = unasked (Err f) is (λ r e. cc); stops = λ go. one-by (Err f) is go answers })
   by-effect answers all some (Ok (Makes o)) is =
@@ -126,7 +126,8 @@ module _ (k : Laws) (c : Command) (m : Present) where
 -- WHAT IS TOLD of a state tells as much of the editor
 
 tells-told_by : (v : Version) (s : State) (e : editor.State) → Tells s e → Tells (told_by v s) e
-tells-told_by version.One s e h = record { zone = h.zone; marks = h.marks; names = h.names; changed = h.changed; inside = h.inside; few = h.few }
+tells-told_by version.One s e h =
+    record { zone = h.zone; marks = h.marks; names = h.names; changed = h.changed; inside = h.inside; few = h.few }
 tells-told_by version.Two s e h = h
 
 tells-told : (w : Sight) (s : State) (e : editor.State) → Tells s e → Tells (told w s) e
@@ -153,16 +154,16 @@ front_of k xs = take k xs ++ quit_anyway ∷ []
 abbrev pub StaysFew : List Step → Present → List Answer → Type 0
 StaysFew xs m answers = (k : ℕ) (e : Ending) → stop_of (steps (front_of k xs) None m answers) ≡ Ends (Ok e) → e.lines ≤ most_lines
 
-step-is : (x : Step) (m : Present) (go : Further) (answers : List Answer) (verb : Verb) → is_exact_verb verb ≡ true → ends_run verb ≡ false →
-    step_by verb x m go answers ≡ one x.command m go answers
+step-is : (x : Step) (m : Present) (go : Further) (answers : List Answer) (verb : Verb) → is_exact_verb verb ≡ true →
+    ends_run verb ≡ false → step_by verb x m go answers ≡ one x.command m go answers
 step-is x m go answers ed.Quit e q = absurd cc
 step-is x m go answers ed.QuitAnyway e q = absurd cc
 step-is x m go answers (ed.Global sense pattern) e q = absurd cc
 step-is x m go answers _ e q = refl
 
 -- a step that goes on
-steps-is : (x : Step) (xs : List Step) (bad : Option ℕ) (m : Present) (answers : List Answer) → is_exact_verb x.command.verb ≡ true →
-    ends_run x.command.verb ≡ false →
+steps-is : (x : Step) (xs : List Step) (bad : Option ℕ) (m : Present) (answers : List Answer) →
+    is_exact_verb x.command.verb ≡ true → ends_run x.command.verb ≡ false →
     stop_of (steps (x ∷ xs) bad m answers) ≡ stop_of (one x.command m (λ t more. steps xs bad t more) answers)
 steps-is x xs bad m answers e q =
     prompted-stop m (step_by x.command.verb x m (λ t more. steps xs bad t more) answers) ∙ ap (λ (p : Progress). stop_of p)
@@ -202,7 +203,8 @@ none-given verb (One b) q h = let bad : false ≡ true = sym q ∙ h in absurd c
 none-given verb (Comma b d) q h = let bad : false ≡ true = sym q ∙ h in absurd cc
 none-given verb (Semicolon b d) q h = let bad : false ≡ true = sym q ∙ h in absurd cc
 
-none-after : (suffix : Option Form) (takes_one : Bool) → takes_one ≡ false → (is_none suffix || takes_one) ≡ true → suffix ≡ None
+none-after : (suffix : Option Form) (takes_one : Bool) → takes_one ≡ false → (is_none suffix || takes_one) ≡ true →
+    suffix ≡ None
 none-after None takes_one q h = refl
 none-after (Some form) takes_one q h = let bad : false ≡ true = sym q ∙ h in absurd cc
 
@@ -233,8 +235,8 @@ quit-few : (is_changed : Bool) (e : editor.State) → length e.lines ≤ most_li
 quit-few true e few = tt
 quit-few false e few = few
 
-quit-decided-by : (w : Sight) (is_changed : Bool) (m : Present) (r : Result State Fault) → EndAlike LeavesTold r (quit_effect is_changed m.state) →
-    Decided (r >> λ t. Ok (told w t)) (stop_of (quits_by is_changed m))
+quit-decided-by : (w : Sight) (is_changed : Bool) (m : Present) (r : Result State Fault) →
+    EndAlike LeavesTold r (quit_effect is_changed m.state) → Decided (r >> λ t. Ok (told w t)) (stop_of (quits_by is_changed m))
 quit-decided-by w true m (Ok t) h = absurd h
 quit-decided-by w true m (Err f) h = h
 quit-decided-by w false m (Ok t) h = (m.state, tells-told w t m.state h, refl)
@@ -251,8 +253,8 @@ walked-quits : (w : Sight) (x : Step) (xs : List Step) (bad : Option ℕ) (s : S
 walked-quits w x xs bad s q =
     ap (λ (b : Bool). step w.watch x.command s >> λ t. goes_on w b xs bad (told w t)) q
 
-walked-goes : (w : Sight) (x : Step) (xs : List Step) (bad : Option ℕ) (s t : State) → ends_run x.command.verb ≡ false → step w.watch x.command s ≡ Ok t →
-    walked w (x ∷ xs) bad s ≡ walked w xs bad (told w t)
+walked-goes : (w : Sight) (x : Step) (xs : List Step) (bad : Option ℕ) (s t : State) → ends_run x.command.verb ≡ false →
+    step w.watch x.command s ≡ Ok t → walked w (x ∷ xs) bad s ≡ walked w xs bad (told w t)
 walked-goes w x xs bad s t q is =
     ap (λ (b : Bool). step w.watch x.command s >> λ u. goes_on w b xs bad (told w u)) q
     ∙ ap (λ (r : Result State Fault). r >> λ u. walked w xs bad (told w u)) is
@@ -262,7 +264,8 @@ quits-cases ed.Quit q = inl refl
 quits-cases ed.QuitAnyway q = inr refl
 quits-cases _ q = absurd cc
 
-steps-quit : (x : Step) (xs : List Step) (bad : Option ℕ) (m : Present) (answers : List Answer) (verb : Verb) → x.command.verb ≡ verb →
+steps-quit : (x : Step) (xs : List Step) (bad : Option ℕ) (m : Present) (answers : List Answer) (verb : Verb) →
+    x.command.verb ≡ verb →
     stop_of (steps (x ∷ xs) bad m answers) ≡ stop_of (step_by verb x m (λ t more. steps xs bad t more) answers)
 steps-quit x xs bad m answers verb is =
     prompted-stop m (step_by x.command.verb x m (λ t more. steps xs bad t more) answers)
@@ -276,7 +279,8 @@ decided-by : {r t : Result State Fault} {y z : Stop} → r ≡ t → y ≡ z →
 decided-by {r = r} {t = t} {y = y} {z = z} is to h =
     subst (λ (p : Stop). Decided t p) to (subst (λ (q : Result State Fault). Decided q y) is h)
 
-made-told : (r : Result State Fault) (o : Outcome) → EndAlike LeavesTold r (Ok (Makes o)) → (t : State) × (r ≡ Ok t) × Tells t o.state
+made-told : (r : Result State Fault) (o : Outcome) → EndAlike LeavesTold r (Ok (Makes o)) →
+    (t : State) × (r ≡ Ok t) × Tells t o.state
 made-told (Ok t) o h = (t, refl, h)
 made-told (Err f) o h = absurd h
 
@@ -310,7 +314,8 @@ module _ (k : Laws) (w : Sight) where
       let tells : EndAlike LeavesTold (step w.watch c s) y =
       subst (λ (z : Result Effect Fault). EndAlike LeavesTold (step w.watch c s) z) does (k.command w.watch c s m.state e h few) in
       subst (λ (z : Stop). Decided (walked w (x ∷ xs) bad s) z) (sym (steps-quit x xs bad m answers ed.QuitAnyway is))
-      (subst (λ (r : Result State Fault). Decided r (stop_of (ending m))) (sym (walked-quits w x xs bad s (ap (λ (v : Verb). ends_run v) is)))
+      (subst (λ (r : Result State Fault). Decided r (stop_of (ending m)))
+      (sym (walked-quits w x xs bad s (ap (λ (v : Verb). ends_run v) is)))
       (end-decided-by w m (step w.watch c s) tells))
 
   pub ends-decided : (x : Step) (xs : List Step) (bad : Option ℕ) (s : State) (m : Present) (answers : List Answer) →

@@ -75,7 +75,8 @@ abbrev pub sure_room : ℕ → List Bool → ℕ
 sure_room zero marks = 0
 sure_room (suc k) marks = mark_room (is_sure marks k) + sure_room k marks
 
-mark-falls : (few many both : Bool) → both ≡ few && many → (mark_room both ≤ mark_room few) × ((allows many few ≡ true) ⊎ (mark_room both < mark_room few))
+mark-falls : (few many both : Bool) → both ≡ few && many →
+    (mark_room both ≤ mark_room few) × ((allows many few ≡ true) ⊎ (mark_room both < mark_room few))
 mark-falls true true both e = rw e (omega arith, inl refl)
 mark-falls true false both e = rw e (omega arith, inr (omega arith))
 mark-falls false true both e = rw e (omega arith, inl refl)
@@ -83,11 +84,13 @@ mark-falls false false both e = rw e (omega arith, inl refl)
 
 both-is : (one other : List Bool) (k : ℕ) → k < 26 → is_sure (both_sure one other) k ≡ is_sure one k && is_sure other k
 unfolding both_sure
-both-is one other k l = get_or-map-range_with_len (λ (letter : ℕ). is_sure one letter && is_sure other letter) 0 26 k k false l (omega arith)
+both-is one other k l =
+    get_or-map-range_with_len (λ (letter : ℕ). is_sure one letter && is_sure other letter) 0 26 k k false l (omega arith)
 
 sure-falls : (one other : List Bool) (n : ℕ) → n ≤ 26 →
     (sure_room n (both_sure one other) ≤ sure_room n one)
-    × (((k : ℕ) → k < n → allows (is_sure other k) (is_sure one k) ≡ true) ⊎ (sure_room n (both_sure one other) < sure_room n one))
+    × (((k : ℕ) → k < n → allows (is_sure other k) (is_sure one k) ≡ true)
+    ⊎ (sure_room n (both_sure one other) < sure_room n one))
 sure-falls one other zero l = (omega arith, inl (λ k h. absurd (omega arith)))
 sure-falls one other (suc n) l =
     let before = sure-falls one other n (omega arith) in
@@ -99,19 +102,27 @@ sure-falls one other (suc n) l =
         | inr f ↦ inr (omega arith)
         | inl all ↦ elim here.1 [
           | inr f ↦ inr (omega arith)
-          | inl e ↦ inl (λ k h. elim (cases_lt k n) [ inl m ↦ all k m | inr m ↦ let same : n ≡ k = omega arith in subst (λ (i : ℕ). allows (is_sure other i) (is_sure one i) ≡ true) same e ])
+          | inl e ↦ inl (λ k h. elim (cases_lt k n) [
+            | inl m ↦ all k m
+            | inr m ↦ let same : n ≡ k = omega arith in
+                subst (λ (i : ℕ). allows (is_sure other i) (is_sure one i) ≡ true) same e
+          ])
         ]
       ],
     )
 
-among-each : (one other : List Bool) → ((k : ℕ) → k < 26 → allows (is_sure other k) (is_sure one k) ≡ true) → are_among one other ≡ true
+among-each : (one other : List Bool) → ((k : ℕ) → k < 26 → allows (is_sure other k) (is_sure one k) ≡ true) →
+    are_among one other ≡ true
 unfolding are_among
 among-each one other h = below-each (λ (k : ℕ). allows (is_sure other k) (is_sure one k)) 26 h
 
 falls-marks : (one other : List Bool) → Falls (are_among one other) (sure_room 26 (both_sure one other)) (sure_room 26 one)
 falls-marks one other =
     let h = sure-falls one other 26 (omega arith) in
-    record { no_more = h.0; fewer = λ e. elim h.1 [ inr f ↦ f | inl all ↦ let a : are_among one other ≡ true = among-each one other all in absurd cc ] }
+    record {
+      no_more = h.0;
+      fewer = λ e. elim h.1 [ inr f ↦ f | inl all ↦ let a : are_among one other ≡ true = among-each one other all in absurd cc ];
+    }
 
 -- ZONES
 
@@ -119,7 +130,8 @@ falls-zone : (old other new : Bounds) → IsZone old → IsZone new → zones.Co
     Falls (zone_covers old other) (total_room new) (total_room old)
 falls-zone old other new h n covers_old covers_other = record {
   no_more = total_room-covers new old n h covers_old;
-  fewer = λ e. total_room-not_covered new old n h covers_old (λ k. let a : zone_covers old other ≡ true = says-zone old other (Covers-through old new other k covers_other) in absurd cc);
+  fewer = λ e. total_room-not_covered new old n h covers_old
+      (λ k. let a : zone_covers old other ≡ true = says-zone old other (Covers-through old new other k covers_other) in absurd cc);
 }
 
 -- SETS
@@ -149,12 +161,15 @@ flag-fewer true b e f = absurd cc
 flag-fewer false true e f = omega arith
 flag-fewer false false e f = absurd cc
 
-lacking-fewer : (cs few many : List Choice) (c : Choice) → Holds few many → has_choice cs c ≡ true → has_choice few c ≡ false → has_choice many c ≡ true → lacking cs many < lacking cs few
+lacking-fewer : (cs few many : List Choice) (c : Choice) → Holds few many → has_choice cs c ≡ true → has_choice few c ≡ false →
+    has_choice many c ≡ true → lacking cs many < lacking cs few
 lacking-fewer [] few many c h i e f = absurd cc
 lacking-fewer (d ∷ cs) few many c h i e f = elim (or_cases (is_eq (order_of c d)) (has_choice cs c) i) [
   | inl q ↦
       let same : c ≡ d = same-choices c d q in
-      let here : flag_room (has_choice many d) < flag_room (has_choice few d) = flag-fewer (has_choice few d) (has_choice many d) (subst (λ (x : Choice). has_choice few x ≡ false) same e) (subst (λ (x : Choice). has_choice many x ≡ true) same f) in
+      let here : flag_room (has_choice many d) < flag_room (has_choice few d) =
+      flag-fewer (has_choice few d) (has_choice many d) (subst (λ (x : Choice). has_choice few x ≡ false) same e)
+      (subst (λ (x : Choice). has_choice many x ≡ true) same f) in
       let later = lacking-less cs few many h in
       omega arith
   | inr q ↦
@@ -164,13 +179,15 @@ lacking-fewer (d ∷ cs) few many c h i e f = elim (or_cases (is_eq (order_of c 
 ]
 
 -- a set of which not all is in another one has a member that is not there
-set-fewer : (cs few many new : List Choice) → Holds few many → Holds new many → are_choices new cs ≡ true → are_choices new few ≡ false → lacking cs many < lacking cs few
+set-fewer : (cs few many new : List Choice) → Holds few many → Holds new many → are_choices new cs ≡ true →
+    are_choices new few ≡ false → lacking cs many < lacking cs few
 set-fewer cs few many [] h k within e = absurd cc
 set-fewer cs few many (c ∷ new) h k within e =
     let inside = and_parts (has_choice cs c) (are_choices new cs) within in
     (elim (has_choice few c) as (λ b. has_choice few c ≡ b → b && are_choices new few ≡ false → lacking cs many < lacking cs few) [
       | true ↦ λ q f. set-fewer cs few many new h (λ d i. k d (or_right (is_eq (order_of d c)) (has_choice new d) i)) inside.1 f
-      | false ↦ λ q f. lacking-fewer cs few many c h inside.0 q (k c (or_left (is_eq (order_of c c)) (has_choice new c) (choice-itself c)))
+      | false ↦ λ q f. lacking-fewer cs few many c h inside.0 q
+          (k c (or_left (is_eq (order_of c c)) (has_choice new c) (choice-itself c)))
     ]) refl e
 
 held : (few many : List Choice) → are_choices few many ≡ true → Holds few many
@@ -183,8 +200,8 @@ held (d ∷ few) many within c h =
     ]
 
 -- a set grows to one that has all of both
-falls-set : (cs one other both : List Choice) → are_choices other cs ≡ true → are_choices one both ≡ true → are_choices other both ≡ true →
-    Falls (are_choices other one) (lacking cs both) (lacking cs one)
+falls-set : (cs one other both : List Choice) → are_choices other cs ≡ true → are_choices one both ≡ true →
+    are_choices other both ≡ true → Falls (are_choices other one) (lacking cs both) (lacking cs one)
 falls-set cs one other both within has_one has_other = record {
   no_more = lacking-less cs one both (held one both has_one);
   fewer = λ e. set-fewer cs one both other (held one both has_one) (held other both has_other) within e;
@@ -226,17 +243,19 @@ sure-most (suc n) marks =
 old-most : (old : Old) → IsZone old.zone → total_room old.zone + sure_room 26 old.marks < most_room
 old-most old h =
     let size = h.size in
-    let zone : total_room old.zone ≤ 1024 * 2000000000000001 = subst (λ (n : ℕ). total_room old.zone ≤ n * 2000000000000001) size (total-most old.zone h.kept) in
+    let zone : total_room old.zone ≤ 1024 * 2000000000000001 =
+    subst (λ (n : ℕ). total_room old.zone ≤ n * 2000000000000001) size (total-most old.zone h.kept) in
     let marks = sure-most 26 old.marks in
     omega arith
 
-falls-old : (one other : Option Old) → OldIsZone one → OldIsZone other → CoversOld (old_of_both one other) one → CoversOld (old_of_both one other) other →
-    Falls (old_covers one other) (old_room (old_of_both one other)) (old_room one)
+falls-old : (one other : Option Old) → OldIsZone one → OldIsZone other → CoversOld (old_of_both one other) one →
+    CoversOld (old_of_both one other) other → Falls (old_covers one other) (old_room (old_of_both one other)) (old_room one)
 falls-old None None h k c d = record { no_more = omega arith; fewer = λ e. absurd cc }
 falls-old (Some one) None h k c d = record { no_more = omega arith; fewer = λ e. absurd cc }
 falls-old None (Some other) h k c d = let f = old-most other k in record { no_more = omega arith; fewer = λ e. f }
 falls-old (Some one) (Some other) h k c d =
-    falls-and (zone_covers one.zone other.zone) (are_among one.marks other.marks) (total_room (join_of one.zone other.zone)) (total_room one.zone)
+    falls-and (zone_covers one.zone other.zone) (are_among one.marks other.marks) (total_room (join_of one.zone other.zone))
+    (total_room one.zone)
     (sure_room 26 (both_sure one.marks other.marks)) (sure_room 26 one.marks)
     (falls-zone one.zone other.zone (join_of one.zone other.zone) h (IsZone-join_of one.zone other.zone h k) c.0 d.0)
     (falls-marks one.marks other.marks)
@@ -244,12 +263,14 @@ falls-old (Some one) (Some other) h k c d =
 -- TEXTS
 
 -- those of a set that pass a test are fewer where not all do
-filter-length : (p : List ℕ → Bool) (set : List (List ℕ)) → (length (filter p set) ≤ length set) × (list_all p set ≡ false → length (filter p set) < length set)
+filter-length : (p : List ℕ → Bool) (set : List (List ℕ)) →
+    (length (filter p set) ≤ length set) × (list_all p set ≡ false → length (filter p set) < length set)
 filter-length p [] = (omega arith, λ e. absurd cc)
 filter-length p (t ∷ set) =
     let later = filter-length p set in
     let no_more = later.0 in
-    elim (p t) as (λ b. (length (cond b (t ∷ filter p set) (filter p set)) ≤ suc (length set)) × (b && list_all p set ≡ false → length (cond b (t ∷ filter p set) (filter p set)) < suc (length set))) [
+    elim (p t) as (λ b. (length (cond b (t ∷ filter p set) (filter p set)) ≤ suc (length set))
+    × (b && list_all p set ≡ false → length (cond b (t ∷ filter p set) (filter p set)) < suc (length set))) [
       | true ↦ (omega arith, λ e. let fewer = later.1 e in omega arith)
       | false ↦ (omega arith, λ e. omega arith)
     ]
@@ -286,12 +307,15 @@ held-less (t ∷ texts) few many h =
 room-fewer : (a b : Bool) → a ≡ false → b ≡ true → mark_room a < mark_room b
 room-fewer a b e f = rw (e, f) (omega arith)
 
-held-fewer : (texts few many : List (List ℕ)) (t : List ℕ) → HoldsTexts few many → is_member texts t ≡ true → is_member few t ≡ false → is_member many t ≡ true → held_of texts few < held_of texts many
+held-fewer : (texts few many : List (List ℕ)) (t : List ℕ) → HoldsTexts few many → is_member texts t ≡ true →
+    is_member few t ≡ false → is_member many t ≡ true → held_of texts few < held_of texts many
 held-fewer [] few many t h i e f = absurd cc
 held-fewer (u ∷ texts) few many t h i e f = elim (or_cases (pointwise nat_eq u t) (is_member texts t) i) [
   | inl q ↦
       let same : t ≡ u = sym ((bytes_decides u t).0 q) in
-      let here : mark_room (is_member few u) < mark_room (is_member many u) = room-fewer (is_member few u) (is_member many u) (subst (λ (x : List ℕ). is_member few x ≡ false) same e) (subst (λ (x : List ℕ). is_member many x ≡ true) same f) in
+      let here : mark_room (is_member few u) < mark_room (is_member many u) =
+      room-fewer (is_member few u) (is_member many u) (subst (λ (x : List ℕ). is_member few x ≡ false) same e)
+      (subst (λ (x : List ℕ). is_member many x ≡ true) same f) in
       let later = held-less texts few many h in
       omega arith
   | inr q ↦
@@ -301,14 +325,17 @@ held-fewer (u ∷ texts) few many t h i e f = elim (or_cases (pointwise nat_eq u
 ]
 
 -- where not each of some texts is in another set, one is lost
-lost-fewer : (texts few many other : List (List ℕ)) → HoldsTexts few many → HoldsTexts few other → (some : List (List ℕ)) → are_members some texts ≡ true → HoldsTexts some many → are_members some other ≡ false →
-    held_of texts few < held_of texts many
+lost-fewer : (texts few many other : List (List ℕ)) → HoldsTexts few many → HoldsTexts few other → (some : List (List ℕ)) →
+    are_members some texts ≡ true → HoldsTexts some many → are_members some other ≡ false → held_of texts few < held_of texts many
 lost-fewer texts few many other h k [] within g e = absurd cc
 lost-fewer texts few many other h k (t ∷ some) within g e =
     let inside = and_parts (is_member texts t) (are_members some texts) within in
-    (elim (is_member other t) as (λ b. is_member other t ≡ b → b && are_members some other ≡ false → held_of texts few < held_of texts many) [
-      | true ↦ λ q f. lost-fewer texts few many other h k some inside.1 (λ u i. g u (or_right (pointwise nat_eq t u) (is_member some u) i)) f
-      | false ↦ λ q f. held-fewer texts few many t h inside.0 (no-member (is_member few t) (is_member other t) (k t) q) (g t (or_left (pointwise nat_eq t t) (is_member some t) ((bytes_decides t t).1 refl)))
+    (elim (is_member other t) as (λ b. is_member other t ≡ b → b && are_members some other ≡ false →
+    held_of texts few < held_of texts many) [
+      | true ↦ λ q f. lost-fewer texts few many other h k some inside.1
+          (λ u i. g u (or_right (pointwise nat_eq t u) (is_member some u) i)) f
+      | false ↦ λ q f. held-fewer texts few many t h inside.0 (no-member (is_member few t) (is_member other t) (k t) q)
+          (g t (or_left (pointwise nat_eq t t) (is_member some t) ((bytes_decides t t).1 refl)))
     ]) refl e
   where
     no-member : (a b : Bool) → (a ≡ true → b ≡ true) → b ≡ false → a ≡ false
@@ -327,14 +354,16 @@ old_has_room texts None old_has = suc (length texts)
 old_has_room texts (Some old) old_has = held_of texts old_has
 
 falls-old_has : (texts : List (List ℕ)) (one other : Option Old) (has other_has : List (List ℕ)) → are_members has texts ≡ true →
-    Falls (old_has_covers other has other_has) (old_has_room texts (old_of_both one other) (old_has_of_both one other has other_has)) (old_has_room texts one has)
+    Falls (old_has_covers other has other_has) (old_has_room texts (old_of_both one other) (old_has_of_both one other has other_has))
+    (old_has_room texts one has)
 falls-old_has texts None None has other_has within = record { no_more = omega arith; fewer = λ e. absurd cc }
 falls-old_has texts (Some one) None has other_has within = record { no_more = omega arith; fewer = λ e. absurd cc }
 falls-old_has texts None (Some other) has other_has within =
     let most = held-most texts other_has in record { no_more = omega arith; fewer = λ e. omega arith }
 falls-old_has texts (Some one) (Some other) has other_has within = record {
   no_more = held-less texts (both_texts has other_has) has (in-both has other_has);
-  fewer = λ e. lost-fewer texts (both_texts has other_has) has other_has (in-both has other_has) (in-both_other has other_has) has within (λ t m. m) e;
+  fewer = λ e. lost-fewer texts (both_texts has other_has) has other_has (in-both has other_has) (in-both_other has other_has) has within
+      (λ t m. m) e;
 }
 
 -- A STATE, beside the patterns and the paths that may ever be remembered, and the patterns that some line may ever be known to match
@@ -347,8 +376,10 @@ state_room patterns names texts s =
     + (length s.has + old_has_room texts s.undo.was s.old_has)))))))
 
 module _ (patterns names : List Choice) (texts : List (List ℕ)) where
-  falls-united : (one other : State) (zone : Bounds) → HasZones one → HasZones other → are_choices other.patterns patterns ≡ true → are_choices other.names names ≡ true → are_members one.old_has texts ≡ true →
-      IsZone zone → Covers (united one other zone) one → Covers (united one other zone) other → Falls (covers one other) (state_room patterns names texts (united one other zone)) (state_room patterns names texts one)
+  falls-united : (one other : State) (zone : Bounds) → HasZones one → HasZones other →
+      are_choices other.patterns patterns ≡ true → are_choices other.names names ≡ true → are_members one.old_has texts ≡ true →
+      IsZone zone → Covers (united one other zone) one → Covers (united one other zone) other →
+      Falls (covers one other) (state_room patterns names texts (united one other zone)) (state_room patterns names texts one)
   unfolding covers
   falls-united one other zone h k p n o z c d =
       falls-and _ _ _ _ _ _ (falls-zone one.zone other.zone zone h.zone z c.zone d.zone) (
@@ -356,27 +387,36 @@ module _ (patterns names : List Choice) (texts : List (List ℕ)) where
       falls-and _ _ _ _ _ _ (falls-set patterns one.patterns other.patterns (union one.patterns other.patterns) p c.patterns d.patterns) (
       falls-and _ _ _ _ _ _
       (falls-and _ _ _ _ _ _ (falls-flag one.replacements.none other.replacements.none)
-      (falls-and _ _ _ _ _ _ (falls-flag one.replacements.plain other.replacements.plain) (falls-flag one.replacements.split other.replacements.split))) (
+      (falls-and _ _ _ _ _ _ (falls-flag one.replacements.plain other.replacements.plain)
+      (falls-flag one.replacements.split other.replacements.split))) (
       falls-and _ _ _ _ _ _ (falls-set names one.names other.names (union one.names other.names) n c.names d.names) (
-      falls-and _ _ _ _ _ _ (falls-and _ _ _ _ _ _ (falls-flag one.changed.no other.changed.no) (falls-flag one.changed.yes other.changed.yes)) (
+      falls-and _ _ _ _ _ _
+      (falls-and _ _ _ _ _ _ (falls-flag one.changed.no other.changed.no) (falls-flag one.changed.yes other.changed.yes)) (
       falls-and _ _ _ _ _ _ (falls-and _ _ _ _ _ _ (falls-flag one.undo.nothing other.undo.nothing) (
       falls-and _ _ _ _ _ _ (falls-flag one.undo.same other.undo.same) (falls-old one.undo.was other.undo.was h.old k.old c.was d.was)))
-      (falls-and _ _ _ _ _ _ (falls-has one.has other.has) (falls-old_has texts one.undo.was other.undo.was one.old_has other.old_has o))))))))
+      (falls-and _ _ _ _ _ _ (falls-has one.has other.has)
+      (falls-old_has texts one.undo.was other.undo.was one.old_has other.old_has o))))))))
 
-  falls-join : Laws → (one other : State) → HasZones one → HasZones other → are_choices other.patterns patterns ≡ true → are_choices other.names names ≡ true → are_members one.old_has texts ≡ true →
+  falls-join : Laws → (one other : State) → HasZones one → HasZones other → are_choices other.patterns patterns ≡ true →
+      are_choices other.names names ≡ true → are_members one.old_has texts ≡ true →
       Falls (covers one other) (state_room patterns names texts (join one other)) (state_room patterns names texts one)
   unfolding join
   falls-join l one other h k p n o =
-      falls-united one other (join_of one.zone other.zone) h k p n o (IsZone-join_of one.zone other.zone h.zone k.zone) (l.joined one other) (l.joined_other one other)
+      falls-united one other (join_of one.zone other.zone) h k p n o (IsZone-join_of one.zone other.zone h.zone k.zone) (l.joined one other)
+      (l.joined_other one other)
 
-  falls-widen : Laws → (one other : State) → HasZones one → HasZones other → are_choices other.patterns patterns ≡ true → are_choices other.names names ≡ true → are_members one.old_has texts ≡ true →
+  falls-widen : Laws → (one other : State) → HasZones one → HasZones other → are_choices other.patterns patterns ≡ true →
+      are_choices other.names names ≡ true → are_members one.old_has texts ≡ true →
       Falls (covers one other) (state_room patterns names texts (widen one other)) (state_room patterns names texts one)
   unfolding widen
   falls-widen l one other h k p n o =
-      falls-united one other (widening_of one.zone other.zone) h k p n o (IsZone-widening_of one.zone other.zone h.zone k.zone) (l.widened one other) (l.widened_other one other)
+      falls-united one other (widening_of one.zone other.zone) h k p n o (IsZone-widening_of one.zone other.zone h.zone k.zone)
+      (l.widened one other) (l.widened_other one other)
 
-  pub falls-next : Laws → (before : ℕ) (one other : State) → HasZones one → HasZones other → are_choices other.patterns patterns ≡ true → are_choices other.names names ≡ true → are_members one.old_has texts ≡ true →
+  pub falls-next : Laws → (before : ℕ) (one other : State) → HasZones one → HasZones other →
+      are_choices other.patterns patterns ≡ true → are_choices other.names names ≡ true → are_members one.old_has texts ≡ true →
       Falls (covers one other) (state_room patterns names texts (next_invariant before one other)) (state_room patterns names texts one)
   falls-next l before one other h k p n o =
-      either (λ (u : State). Falls (covers one other) (state_room patterns names texts u) (state_room patterns names texts one)) (nat_lt before 2) (join one other) (widen one other)
+      either (λ (u : State). Falls (covers one other) (state_room patterns names texts u) (state_room patterns names texts one))
+      (nat_lt before 2) (join one other) (widen one other)
       (falls-join l one other h k p n o) (falls-widen l one other h k p n o)

@@ -36,7 +36,8 @@ use Rattle.analyser.proofs.Rooms.{Laws, state_room, falls-next}
 
 -- ONE COMMAND
 
-pub needs-of : NeedsAreTheSame → (w : Sight) (c : Command) (s : State) (o : Option Fault) → fault_of (step w.watch c s) ≡ o → fault_of (step [] c s) ≡ o
+pub needs-of : NeedsAreTheSame → (w : Sight) (c : Command) (s : State) (o : Option Fault) → fault_of (step w.watch c s) ≡ o →
+    fault_of (step [] c s) ≡ o
 needs-of same w c s o e = same [] w.watch c s ∙ e
 
 pub met-none : (c : Command) (s : State) → fault_of (step [] c s) ≡ None → are_met c s ≡ true
@@ -47,7 +48,8 @@ pub unmet-some : (c : Command) (s : State) (why : Fault) → fault_of (step [] c
 unfolding are_met
 unmet-some c s why e = ap is_none e
 
-left-of : (w : Sight) (s t : State) (r : Result State Fault) → r ≡ Ok t → told w (elim r as (λ _. State) [ Ok u ↦ u | Err f ↦ s ]) ≡ told w t
+left-of : (w : Sight) (s t : State) (r : Result State Fault) → r ≡ Ok t →
+    told w (elim r as (λ _. State) [ Ok u ↦ u | Err f ↦ s ]) ≡ told w t
 left-of w s t (Ok u) e = cc
 left-of w s t (Err f) e = absurd cc
 
@@ -71,12 +73,15 @@ left-within : (patterns names : List Choice) (w : Sight) (s : State) (r : Result
 left-within patterns names w s (Ok t) h q = within-told patterns names w t q
 left-within patterns names w s (Err f) h q = within-told patterns names w s h
 
-within-left_by : (patterns names : List Choice) (w : Sight) (c : Command) (s : State) → are_choices (command_patterns c) patterns ≡ true → are_choices (verb_paths c.verb) names ≡ true → Within patterns names s →
+within-left_by : (patterns names : List Choice) (w : Sight) (c : Command) (s : State) →
+    are_choices (command_patterns c) patterns ≡ true → are_choices (verb_paths c.verb) names ≡ true → Within patterns names s →
     Within patterns names (left_by w c s)
 unfolding left_by
-within-left_by patterns names w c s g f q = left-within patterns names w s (step w.watch c s) q (within-step patterns names w.watch c s g f q)
+within-left_by patterns names w c s g f q =
+    left-within patterns names w s (step w.watch c s) q (within-step patterns names w.watch c s g f q)
 
-within-list : (patterns names : List Choice) (w : Sight) (cs : List Command) (s : State) → are_choices (list_patterns cs) patterns ≡ true → are_choices (list_names cs) names ≡ true → Within patterns names s →
+within-list : (patterns names : List Choice) (w : Sight) (cs : List Command) (s : State) →
+    are_choices (list_patterns cs) patterns ≡ true → are_choices (list_names cs) names ≡ true → Within patterns names s →
     Within patterns names (left_by_list w cs s)
 within-list patterns names w [] s g f q = q
 within-list patterns names w (c ∷ cs) s g f q =
@@ -84,7 +89,8 @@ within-list patterns names w (c ∷ cs) s g f q =
     let n = append-all (has_choice names) (verb_paths c.verb) (list_names cs) f in
     within-list patterns names w cs (left_by w c s) p.1 n.1 (within-left_by patterns names w c s p.0 n.0 q)
 
-among-list : (texts : List (List ℕ)) (w : Sight) (cs : List Command) (s : State) → are_members w.watch texts ≡ true → Among texts s → Among texts (left_by_list w cs s)
+among-list : (texts : List (List ℕ)) (w : Sight) (cs : List Command) (s : State) → are_members w.watch texts ≡ true →
+    Among texts s → Among texts (left_by_list w cs s)
 among-list texts w [] s g q = q
 among-list texts w (c ∷ cs) s g q = among-list texts w cs (left_by w c s) g (among-left_by texts w c s g q)
 
@@ -131,7 +137,8 @@ known-turned w x first invariant q =
           (among-told (texts_of w x first) w (body_entry verb invariant) (among-entry (texts_of w x first) verb invariant takes q.1)),
     )
 
-pub known-next : (w : Sight) (x : Step) (first : State) (before : ℕ) (invariant left : State) → Known w x first invariant → Known w x first left → Known w x first (next_invariant before invariant left)
+pub known-next : (w : Sight) (x : Step) (first : State) (before : ℕ) (invariant left : State) → Known w x first invariant →
+    Known w x first left → Known w x first (next_invariant before invariant left)
 known-next w x first before invariant left h q =
     either (Known w x first) (nat_lt before 2) _ _
     (within-join (patterns_of x first) (names_of x first) invariant left h.0 q.0, among-join (texts_of w x first) invariant left h.1 q.1)
@@ -144,7 +151,8 @@ inner-met w [] s inner h = refl
 inner-met w (c ∷ cs) s [] h = absurd h
 inner-met w (c ∷ cs) s (t ∷ inner) h = let e = h.1 in rw e (inner-met w cs (left_by w c s) inner h.2)
 
-inner-unmet : (w : Sight) (why : Fault) (cs : List Command) (s : State) (inner : List State) → InnerFail w why cs s inner → all_met w cs s ≡ false
+inner-unmet : (w : Sight) (why : Fault) (cs : List Command) (s : State) (inner : List State) → InnerFail w why cs s inner →
+    all_met w cs s ≡ false
 inner-unmet w why [] s inner h = absurd h
 inner-unmet w why (c ∷ cs) s [] h = absurd h
 inner-unmet w why (c ∷ cs) s (t ∷ []) h = let e : are_met c s ≡ false = unmet-some c s why h.1 in rw e refl
@@ -162,8 +170,10 @@ pub record Goes (w : Sight) (x : Step) (before : ℕ) (invariant next : State) :
   pub is : next ≡ next_invariant before invariant (turned w x invariant)
   pub goes : ends w x invariant ≡ false
 
-goes-if : (w : Sight) (x : Step) (before : ℕ) (invariant next t : State) (inner : List State) → AreInner w x.list (entered w x invariant) inner → t ≡ turned w x invariant → (covered : Bool) →
-    covers invariant t ≡ covered → (if covered then None else Some (next_invariant before invariant t)) ≡ Some next → Goes w x before invariant next
+goes-if : (w : Sight) (x : Step) (before : ℕ) (invariant next t : State) (inner : List State) →
+    AreInner w x.list (entered w x invariant) inner → t ≡ turned w x invariant → (covered : Bool) →
+    covers invariant t ≡ covered → (if covered then None else Some (next_invariant before invariant t)) ≡ Some next →
+    Goes w x before invariant next
 goes-if w x before invariant next t inner h e true c n = absurd cc
 goes-if w x before invariant next t inner h e false c n =
     let uncovered : covers invariant (turned w x invariant) ≡ false = subst (λ (u : State). covers invariant u ≡ false) e c in
@@ -175,20 +185,26 @@ goes-if w x before invariant next t inner h e false c n =
       goes = rw met uncovered;
     }
 
-pub goes-on : (w : Sight) (x : Step) (before : ℕ) (invariant next : State) (inner : List State) (failed : Option Fault) (t : State) → IsRound w x.list (entered w x invariant) inner failed t →
-    invariant_after before invariant failed t ≡ Some next → Goes w x before invariant next
+pub goes-on : (w : Sight) (x : Step) (before : ℕ) (invariant next : State) (inner : List State) (failed : Option Fault) (t : State) →
+    IsRound w x.list (entered w x invariant) inner failed t → invariant_after before invariant failed t ≡ Some next →
+    Goes w x before invariant next
 goes-on w x before invariant next inner (Some why) t h e = absurd cc
 goes-on w x before invariant next inner None t h e = goes-if w x before invariant next t inner h.0 h.1 (covers invariant t) refl e
 
-ends-if : (w : Sight) (x : Step) (before : ℕ) (invariant t : State) → t ≡ turned w x invariant → (covered : Bool) → covers invariant t ≡ covered →
-    (if covered then None else Some (next_invariant before invariant t)) ≡ None → ends w x invariant ≡ true
+ends-if : (w : Sight) (x : Step) (before : ℕ) (invariant t : State) → t ≡ turned w x invariant → (covered : Bool) →
+    covers invariant t ≡ covered → (if covered then None else Some (next_invariant before invariant t)) ≡ None →
+    ends w x invariant ≡ true
 ends-if w x before invariant t e true c n =
-    or_right (not (all_met w x.list (entered w x invariant))) (covers invariant (turned w x invariant)) (subst (λ (u : State). covers invariant u ≡ true) e c)
+    or_right (not (all_met w x.list (entered w x invariant))) (covers invariant (turned w x invariant))
+    (subst (λ (u : State). covers invariant u ≡ true) e c)
 ends-if w x before invariant t e false c n = absurd cc
 
-pub ends-here : (w : Sight) (x : Step) (before : ℕ) (invariant : State) (inner : List State) (failed : Option Fault) (t : State) → IsRound w x.list (entered w x invariant) inner failed t →
-    invariant_after before invariant failed t ≡ None → ends w x invariant ≡ true
-ends-here w x before invariant inner (Some why) t h e = let unmet : all_met w x.list (entered w x invariant) ≡ false = inner-unmet w why x.list (entered w x invariant) inner h in rw unmet refl
+pub ends-here : (w : Sight) (x : Step) (before : ℕ) (invariant : State) (inner : List State) (failed : Option Fault) (t : State) →
+    IsRound w x.list (entered w x invariant) inner failed t → invariant_after before invariant failed t ≡ None →
+    ends w x invariant ≡ true
+ends-here w x before invariant inner (Some why) t h e =
+    let unmet : all_met w x.list (entered w x invariant) ≡ false = inner-unmet w why x.list (entered w x invariant) inner h in
+    rw unmet refl
 ends-here w x before invariant inner None t h e = ends-if w x before invariant t h.1 (covers invariant t) refl e
 
 -- ALL ROUNDS SO FAR
@@ -202,9 +218,11 @@ pub record Rounds (w : Sight) (x : Step) (first : State) (counted : ℕ) (invari
   pub known : Known w x first invariant
 
 pub rounds-start : (w : Sight) (x : Step) (first : State) → Rounds w x first 0 first
-rounds-start w x first = record { number = 0; counts = refl; is = refl; none_before = λ n l. absurd (omega arith); known = known-first w x first }
+rounds-start w x first =
+    record { number = 0; counts = refl; is = refl; none_before = λ n l. absurd (omega arith); known = known-first w x first }
 
-same-next : (counted number : ℕ) (invariant left : State) → counted ≡ min number 2 → next_invariant counted invariant left ≡ next_invariant number invariant left
+same-next : (counted number : ℕ) (invariant left : State) → counted ≡ min number 2 →
+    next_invariant counted invariant left ≡ next_invariant number invariant left
 same-next counted number invariant left e = elim (cases_lt number 2) [
   | inl l ↦ let same : counted ≡ number = omega arith in ap (λ (n : ℕ). next_invariant n invariant left) same
   | inr l ↦
@@ -213,7 +231,8 @@ same-next counted number invariant left e = elim (cases_lt number 2) [
       rw (two, later) refl
 ]
 
-pub rounds-on : (w : Sight) (x : Step) (first invariant next : State) (counted more : ℕ) → Rounds w x first counted invariant → Goes w x counted invariant next → more ≡ min (counted + 1) 2 → Rounds w x first more next
+pub rounds-on : (w : Sight) (x : Step) (first invariant next : State) (counted more : ℕ) → Rounds w x first counted invariant →
+    Goes w x counted invariant next → more ≡ min (counted + 1) 2 → Rounds w x first more next
 rounds-on w x first invariant next counted more r g e =
     let counts = r.counts in
     let is : next ≡ round_invariant w x first (suc r.number) =
@@ -225,31 +244,39 @@ rounds-on w x first invariant next counted more r g e =
       is = is;
       none_before = λ n l. elim (cases_lt n r.number) [
         | inl k ↦ r.none_before n k
-        | inr k ↦ let same : r.number ≡ n = omega arith in subst (λ (m : ℕ). ends w x (round_invariant w x first m) ≡ false) same (subst (λ (u : State). ends w x u ≡ false) r.is g.goes)
+        | inr k ↦ let same : r.number ≡ n = omega arith in
+            subst (λ (m : ℕ). ends w x (round_invariant w x first m) ≡ false) same
+            (subst (λ (u : State). ends w x u ≡ false) r.is g.goes)
       ];
-      known = subst (λ (u : State). Known w x first u) (sym g.is) (known-next w x first counted invariant (turned w x invariant) r.known (known-turned w x first invariant r.known));
+      known = subst (λ (u : State). Known w x first u) (sym g.is)
+          (known-next w x first counted invariant (turned w x invariant) r.known (known-turned w x first invariant r.known));
     }
 
-pub rounds-end : (w : Sight) (x : Step) (first invariant : State) (counted : ℕ) → Rounds w x first counted invariant → ends w x invariant ≡ true → IsSettled w x first invariant
+pub rounds-end : (w : Sight) (x : Step) (first invariant : State) (counted : ℕ) → Rounds w x first counted invariant →
+    ends w x invariant ≡ true → IsSettled w x first invariant
 rounds-end w x first invariant counted r e = record { before = r.number; is = r.is; last = e; none_before = r.none_before }
 
 -- how often the invariant can still be weakened
 abbrev pub room_of : Sight → Step → (first invariant : State) → ℕ
 room_of w x first invariant = state_room (patterns_of x first) (names_of x first) (texts_of w x first) invariant
 
-pub rounds-fall : Laws → (w : Sight) (x : Step) (first invariant next : State) (counted : ℕ) → HasZones invariant → HasZones (turned w x invariant) → Rounds w x first counted invariant → Goes w x counted invariant next →
+pub rounds-fall : Laws → (w : Sight) (x : Step) (first invariant next : State) (counted : ℕ) → HasZones invariant →
+    HasZones (turned w x invariant) → Rounds w x first counted invariant → Goes w x counted invariant next →
     room_of w x first next < room_of w x first invariant
 rounds-fall l w x first invariant next counted h k r g =
     let within = known-turned w x first invariant r.known in
-    let falls = falls-next (patterns_of x first) (names_of x first) (texts_of w x first) l counted invariant (turned w x invariant) h k within.0.0 within.0.1 r.known.1.1 in
+    let falls = falls-next (patterns_of x first) (names_of x first) (texts_of w x first) l counted invariant (turned w x invariant) h k
+    within.0.0 within.0.1 r.known.1.1 in
     subst (λ (u : State). room_of w x first u < room_of w x first invariant) (sym g.is) (falls.fewer g.uncovered)
 
 -- THE WALK OVER A LIST
 
 -- what is known of the whole list, by what is known of the commands that are left
-pub record Passing (w : Sight) (all : List Command) (entry : State) (inner : List State) (coming : State) (left : List Command) : Type 0 where
+pub record Passing (w : Sight) (all : List Command) (entry : State) (inner : List State) (coming : State) (left : List Command) : Type
+    0 where
   pub on : (ts : List State) → AreInner w left coming ts → AreInner w all entry (inner ++ ts)
-  pub off : (why : Fault) (t : State) (ts : List State) → InnerFail w why left coming (t ∷ ts) → InnerFail w why all entry (inner ++ t ∷ ts)
+  pub off : (why : Fault) (t : State) (ts : List State) → InnerFail w why left coming (t ∷ ts) →
+      InnerFail w why all entry (inner ++ t ∷ ts)
   pub result : left_by_list w all entry ≡ left_by_list w left coming
 
 push-state : (inner later : List State) (t : State) → inner ++ (t ∷ later) ≡ (inner ++ t ∷ []) ++ later
@@ -260,86 +287,116 @@ append-no_state : (inner : List State) → inner ++ [] ≡ inner
 append-no_state [] = refl
 append-no_state (t ∷ inner) = ap (λ (l : List State). t ∷ l) (append-no_state inner)
 
-pub passing-on : (w : Sight) (all : List Command) (entry : State) (inner : List State) (s t : State) (c : Command) (cs : List Command) → are_met c s ≡ true → t ≡ left_by w c s →
-    Passing w all entry inner s (c ∷ cs) → Passing w all entry (inner ++ s ∷ []) t cs
+pub passing-on : (w : Sight) (all : List Command) (entry : State) (inner : List State) (s t : State) (c : Command) (cs : List Command) →
+    are_met c s ≡ true → t ≡ left_by w c s → Passing w all entry inner s (c ∷ cs) → Passing w all entry (inner ++ s ∷ []) t cs
 passing-on w all entry inner s t c cs met left p = record {
-  on = λ ts h. subst (λ (us : List State). AreInner w all entry us) (push-state inner ts s) (p.on (s ∷ ts) (refl, met, subst (λ (u : State). AreInner w cs u ts) left h));
-  off = λ why u ts h. subst (λ (us : List State). InnerFail w why all entry us) (push-state inner (u ∷ ts) s) (p.off why s (u ∷ ts) (refl, met, subst (λ (v : State). InnerFail w why cs v (u ∷ ts)) left h));
+  on = λ ts h. subst (λ (us : List State). AreInner w all entry us) (push-state inner ts s)
+      (p.on (s ∷ ts) (refl, met, subst (λ (u : State). AreInner w cs u ts) left h));
+  off = λ why u ts h. subst (λ (us : List State). InnerFail w why all entry us) (push-state inner (u ∷ ts) s)
+      (p.off why s (u ∷ ts) (refl, met, subst (λ (v : State). InnerFail w why cs v (u ∷ ts)) left h));
   result = p.result ∙ ap (λ (u : State). left_by_list w cs u) (sym left);
 }
 
-pub passing-off : (w : Sight) (all : List Command) (entry : State) (inner : List State) (s : State) (why : Fault) (c : Command) (cs : List Command) → fault_of (step [] c s) ≡ Some why →
-    Passing w all entry inner s (c ∷ cs) → InnerFail w why all entry (inner ++ s ∷ [])
+pub passing-off : (w : Sight) (all : List Command) (entry : State) (inner : List State) (s : State) (why : Fault) (c : Command)
+    (cs : List Command) → fault_of (step [] c s) ≡ Some why → Passing w all entry inner s (c ∷ cs) →
+    InnerFail w why all entry (inner ++ s ∷ [])
 passing-off w all entry inner s why c cs e p = p.off why s [] (refl, e)
 
-pub passing-end : (w : Sight) (all : List Command) (entry : State) (inner : List State) (s : State) → Passing w all entry inner s [] → AreInner w all entry inner × (s ≡ left_by_list w all entry)
-passing-end w all entry inner s p = (subst (λ (us : List State). AreInner w all entry us) (append-no_state inner) (p.on [] tt), sym p.result)
+pub passing-end : (w : Sight) (all : List Command) (entry : State) (inner : List State) (s : State) → Passing w all entry inner s [] →
+    AreInner w all entry inner × (s ≡ left_by_list w all entry)
+passing-end w all entry inner s p =
+    (subst (λ (us : List State). AreInner w all entry us) (append-no_state inner) (p.on [] tt), sym p.result)
 
 -- one command of it further
-pub passing-next : (w : Sight) (list : List memory.Command) (entry : State) (i : ℕ) (d : memory.Command) (inner more : List State) (s t told_of next : State) → i < length list → d ≡ get_or list i d → more ≡ inner ++ s ∷ [] →
-    fault_of (step [] (command_value d) s) ≡ None → step w.watch (command_value d) s ≡ Ok t → told_of ≡ told w t → next ≡ told_of →
-    Passing w (map command_value list) entry inner s (map command_value (drop i list)) →
+pub passing-next : (w : Sight) (list : List memory.Command) (entry : State) (i : ℕ) (d : memory.Command) (inner more : List State)
+    (s t told_of next : State) → i < length list → d ≡ get_or list i d → more ≡ inner ++ s ∷ [] →
+    fault_of (step [] (command_value d) s) ≡ None → step w.watch (command_value d) s ≡ Ok t → told_of ≡ told w t →
+    next ≡ told_of → Passing w (map command_value list) entry inner s (map command_value (drop i list)) →
     Passing w (map command_value list) entry more next (map command_value (drop (i + 1) list))
 passing-next w list entry i d inner more s t told_of next bound is pushed none after tells same p =
     let here : Passing w (map command_value list) entry inner s (command_value d ∷ map command_value (drop (i + 1) list)) =
-    subst (λ (cs : List memory.Command). Passing w (map command_value list) entry inner s (map command_value cs)) (at-place list i d bound is) p in
+    subst (λ (cs : List memory.Command). Passing w (map command_value list) entry inner s (map command_value cs))
+    (at-place list i d bound is) p in
     let left : next ≡ left_by w (command_value d) s = same ∙ tells ∙ sym (left-is w (command_value d) s t after) in
     subst (λ (us : List State). Passing w (map command_value list) entry us next (map command_value (drop (i + 1) list))) (sym pushed)
-    (passing-on w (map command_value list) entry inner s next (command_value d) (map command_value (drop (i + 1) list)) (met-none (command_value d) s none) left here)
+    (passing-on w (map command_value list) entry inner s next (command_value d) (map command_value (drop (i + 1) list))
+    (met-none (command_value d) s none) left here)
 
-pub passing-stops : (w : Sight) (list : List memory.Command) (entry : State) (i : ℕ) (d : memory.Command) (inner more : List State) (s : State) (why : Fault) → i < length list → d ≡ get_or list i d → more ≡ inner ++ s ∷ [] →
-    fault_of (step [] (command_value d) s) ≡ Some why → Passing w (map command_value list) entry inner s (map command_value (drop i list)) → InnerFail w why (map command_value list) entry more
+pub passing-stops : (w : Sight) (list : List memory.Command) (entry : State) (i : ℕ) (d : memory.Command) (inner more : List State)
+    (s : State) (why : Fault) → i < length list → d ≡ get_or list i d → more ≡ inner ++ s ∷ [] →
+    fault_of (step [] (command_value d) s) ≡ Some why →
+    Passing w (map command_value list) entry inner s (map command_value (drop i list)) →
+    InnerFail w why (map command_value list) entry more
 passing-stops w list entry i d inner more s why bound is pushed fails p =
     let here : Passing w (map command_value list) entry inner s (command_value d ∷ map command_value (drop (i + 1) list)) =
-    subst (λ (cs : List memory.Command). Passing w (map command_value list) entry inner s (map command_value cs)) (at-place list i d bound is) p in
+    subst (λ (cs : List memory.Command). Passing w (map command_value list) entry inner s (map command_value cs))
+    (at-place list i d bound is) p in
     subst (λ (us : List State). InnerFail w why (map command_value list) entry us) (sym pushed)
     (passing-off w (map command_value list) entry inner s why (command_value d) (map command_value (drop (i + 1) list)) fails here)
 
-pub passing-over : (w : Sight) (list : List memory.Command) (entry : State) (i : ℕ) (inner : List State) (s : State) → i ≡ length list → Passing w (map command_value list) entry inner s (map command_value (drop i list)) →
+pub passing-over : (w : Sight) (list : List memory.Command) (entry : State) (i : ℕ) (inner : List State) (s : State) →
+    i ≡ length list → Passing w (map command_value list) entry inner s (map command_value (drop i list)) →
     AreInner w (map command_value list) entry inner × (s ≡ left_by_list w (map command_value list) entry)
 passing-over w list entry i inner s e p =
-    passing-end w (map command_value list) entry inner s (subst (λ (cs : List memory.Command). Passing w (map command_value list) entry inner s (map command_value cs)) (counted-none list i e) p)
+    passing-end w (map command_value list) entry inner s
+    (subst (λ (cs : List memory.Command). Passing w (map command_value list) entry inner s (map command_value cs)) (counted-none list i e)
+    p)
 
 -- THE ROUNDS, by what the calls of one answer
 
-round-of : (w : Sight) (x : Step) (all : List Command) (invariant entry : State) (inner : List State) (failed : Option Fault) (t : State) → all ≡ x.list → entry ≡ entered w x invariant → IsRound w all entry inner failed t →
+round-of : (w : Sight) (x : Step) (all : List Command) (invariant entry : State) (inner : List State) (failed : Option Fault)
+    (t : State) → all ≡ x.list → entry ≡ entered w x invariant → IsRound w all entry inner failed t →
     IsRound w x.list (entered w x invariant) inner failed t
 round-of w x all invariant entry inner failed t same begins round =
-    subst (λ (cs : List Command). IsRound w cs (entered w x invariant) inner failed t) same (subst (λ (u : State). IsRound w all u inner failed t) begins round)
+    subst (λ (cs : List Command). IsRound w cs (entered w x invariant) inner failed t) same
+    (subst (λ (u : State). IsRound w all u inner failed t) begins round)
 
-goes-by : (w : Sight) (x : Step) (all : List Command) (invariant next entry : State) (counted : ℕ) (inner : List State) (failed : Option Fault) (t : State) (o : Option State) → all ≡ x.list → entry ≡ entered w x invariant →
-    IsRound w all entry inner failed t → o ≡ invariant_after counted invariant failed t → o ≡ Some next → Goes w x counted invariant next
+goes-by : (w : Sight) (x : Step) (all : List Command) (invariant next entry : State) (counted : ℕ) (inner : List State)
+    (failed : Option Fault) (t : State) (o : Option State) → all ≡ x.list → entry ≡ entered w x invariant →
+    IsRound w all entry inner failed t → o ≡ invariant_after counted invariant failed t → o ≡ Some next →
+    Goes w x counted invariant next
 goes-by w x all invariant next entry counted inner failed t o same begins round after some =
-    goes-on w x counted invariant next inner failed t (round-of w x all invariant entry inner failed t same begins round) (sym after ∙ some)
+    goes-on w x counted invariant next inner failed t (round-of w x all invariant entry inner failed t same begins round)
+    (sym after ∙ some)
 
-pub rounds-next : (w : Sight) (x : Step) (all : List Command) (first invariant next entry : State) (counted more : ℕ) (inner : List State) (failed : Option Fault) (t : State) (o : Option State) → all ≡ x.list → entry ≡ entered w x invariant →
-    IsRound w all entry inner failed t → o ≡ invariant_after counted invariant failed t → o ≡ Some next → more ≡ min (counted + 1) 2 → Rounds w x first counted invariant → Rounds w x first more next
+pub rounds-next : (w : Sight) (x : Step) (all : List Command) (first invariant next entry : State) (counted more : ℕ) (inner : List State)
+    (failed : Option Fault) (t : State) (o : Option State) → all ≡ x.list → entry ≡ entered w x invariant →
+    IsRound w all entry inner failed t → o ≡ invariant_after counted invariant failed t → o ≡ Some next →
+    more ≡ min (counted + 1) 2 → Rounds w x first counted invariant → Rounds w x first more next
 rounds-next w x all first invariant next entry counted more inner failed t o same begins round after some count r =
-    rounds-on w x first invariant next counted more r (goes-by w x all invariant next entry counted inner failed t o same begins round after some) count
+    rounds-on w x first invariant next counted more r
+    (goes-by w x all invariant next entry counted inner failed t o same begins round after some) count
 
-zones-turned : (w : Sight) (x : Step) (invariant next : State) (counted : ℕ) (inner : List State) (failed : Option Fault) (t : State) → IsRound w x.list (entered w x invariant) inner failed t →
-    invariant_after counted invariant failed t ≡ Some next → HasZones t → HasZones (turned w x invariant)
+zones-turned : (w : Sight) (x : Step) (invariant next : State) (counted : ℕ) (inner : List State) (failed : Option Fault) (t : State) →
+    IsRound w x.list (entered w x invariant) inner failed t → invariant_after counted invariant failed t ≡ Some next → HasZones t →
+    HasZones (turned w x invariant)
 zones-turned w x invariant next counted inner (Some why) t round after h = absurd cc
 zones-turned w x invariant next counted inner None t round after h = subst (λ (u : State). HasZones u) round.1 h
 
-pub rounds-smaller : Laws → (w : Sight) (x : Step) (all : List Command) (first invariant next entry : State) (counted : ℕ) (inner : List State) (failed : Option Fault) (t : State) (o : Option State) → all ≡ x.list → entry ≡ entered w x invariant →
-    IsRound w all entry inner failed t → o ≡ invariant_after counted invariant failed t → o ≡ Some next → HasZones invariant → HasZones t → Rounds w x first counted invariant →
-    room_of w x first next < room_of w x first invariant
+pub rounds-smaller : Laws → (w : Sight) (x : Step) (all : List Command) (first invariant next entry : State) (counted : ℕ)
+    (inner : List State) (failed : Option Fault) (t : State) (o : Option State) → all ≡ x.list → entry ≡ entered w x invariant →
+    IsRound w all entry inner failed t → o ≡ invariant_after counted invariant failed t → o ≡ Some next → HasZones invariant →
+    HasZones t → Rounds w x first counted invariant → room_of w x first next < room_of w x first invariant
 rounds-smaller l w x all first invariant next entry counted inner failed t o same begins round after some h k r =
     rounds-fall l w x first invariant next counted h
-    (zones-turned w x invariant next counted inner failed t (round-of w x all invariant entry inner failed t same begins round) (sym after ∙ some) k) r
+    (zones-turned w x invariant next counted inner failed t (round-of w x all invariant entry inner failed t same begins round)
+    (sym after ∙ some) k) r
     (goes-by w x all invariant next entry counted inner failed t o same begins round after some)
 
-known-of_round : (w : Sight) (list : List Command) (s : State) (inner : List State) (failed : Option Fault) (t : State) → IsRound w list s inner failed t → AreKnown w list s inner failed
+known-of_round : (w : Sight) (list : List Command) (s : State) (inner : List State) (failed : Option Fault) (t : State) →
+    IsRound w list s inner failed t → AreKnown w list s inner failed
 known-of_round w list s inner None t h = h.0
 known-of_round w list s inner (Some why) t h = h
 
-pub rounds-last : (w : Sight) (x : Step) (all : List Command) (first invariant entry : State) (counted : ℕ) (r : Round) (t : State) (o : Option State) → all ≡ x.list → entry ≡ entered w x invariant →
-    IsRound w all entry r.inner.items r.failed t → o ≡ invariant_after counted invariant r.failed t → o ≡ None → Rounds w x first counted invariant → IsLastRound w x first invariant r
+pub rounds-last : (w : Sight) (x : Step) (all : List Command) (first invariant entry : State) (counted : ℕ) (r : Round) (t : State)
+    (o : Option State) → all ≡ x.list → entry ≡ entered w x invariant → IsRound w all entry r.inner.items r.failed t →
+    o ≡ invariant_after counted invariant r.failed t → o ≡ None → Rounds w x first counted invariant →
+    IsLastRound w x first invariant r
 rounds-last w x all first invariant entry counted r t o same begins round after none so_far =
     let here = round-of w x all invariant entry r.inner.items r.failed t same begins round in
     record {
-      settled = rounds-end w x first invariant counted so_far (ends-here w x counted invariant r.inner.items r.failed t here (sym after ∙ none));
+      settled = rounds-end w x first invariant counted so_far
+          (ends-here w x counted invariant r.inner.items r.failed t here (sym after ∙ none));
       known = known-of_round w x.list (entered w x invariant) r.inner.items r.failed t here;
     }
 
@@ -348,11 +405,13 @@ rounds-last w x all first invariant entry counted r t o same begins round after 
 abbrev noted : State → Option Looped → Note
 noted s l = record { state = s; looped = l }
 
-known-of : (w : Sight) (x : Step) (s : State) (l : Option Looped) (global : Bool) → is_global x.command.verb ≡ global → IsKnownOfList w global x s l → IsKnownOfList w (is_global x.command.verb) x s l
+known-of : (w : Sight) (x : Step) (s : State) (l : Option Looped) (global : Bool) → is_global x.command.verb ≡ global →
+    IsKnownOfList w global x s l → IsKnownOfList w (is_global x.command.verb) x s l
 known-of w x s l global e h = subst (λ (b : Bool). IsKnownOfList w b x s l) (sym e) h
 
-pub global-leaves : (w : Sight) (x : Step) (s t u invariant : State) (r : Round) → is_global x.command.verb ≡ true → fault_of (step [] x.command s) ≡ None → IsLastRound w x (left_by w x.command s) invariant r →
-    r.failed ≡ None → u ≡ loop_end x s invariant → t ≡ told w u →
+pub global-leaves : (w : Sight) (x : Step) (s t u invariant : State) (r : Round) → is_global x.command.verb ≡ true →
+    fault_of (step [] x.command s) ≡ None → IsLastRound w x (left_by w x.command s) invariant r → r.failed ≡ None →
+    u ≡ loop_end x s invariant → t ≡ told w u →
     IsNote w x s (noted s (Some (record { invariant = invariant; inner = r.inner.items }))) × (t ≡ told w (loop_end x s invariant))
 global-leaves w x s t u invariant r global none last end is tells =
     let known = subst (λ (f : Option Fault). AreKnown w x.list (entered w x invariant) r.inner.items f) end last.known in (
@@ -360,8 +419,11 @@ global-leaves w x s t u invariant r global none last end is tells =
       tells ∙ ap (told w) is,
     )
 
-pub global-stops : (w : Sight) (x : Step) (s invariant : State) (number : ℕ) (why : Fault) (r : Round) → is_global x.command.verb ≡ true → fault_of (step [] x.command s) ≡ None → IsLastRound w x (left_by w x.command s) invariant r →
-    r.failed ≡ Some why → number ≡ length r.inner.items → ListFails w number why x s (record { invariant = invariant; inner = r.inner.items })
+pub global-stops : (w : Sight) (x : Step) (s invariant : State) (number : ℕ) (why : Fault) (r : Round) →
+    is_global x.command.verb ≡ true → fault_of (step [] x.command s) ≡ None →
+    IsLastRound w x (left_by w x.command s) invariant r →
+    r.failed ≡ Some why → number ≡ length r.inner.items →
+    ListFails w number why x s (record { invariant = invariant; inner = r.inner.items })
 global-stops w x s invariant number why r global none last end count =
     let known = subst (λ (f : Option Fault). AreKnown w x.list (entered w x invariant) r.inner.items f) end last.known in
     record {
@@ -372,25 +434,31 @@ global-stops w x s invariant number why r global none last end count =
       number = count;
     }
 
-pub last-begun : (w : Sight) (x : Step) (s first invariant : State) (r : Round) → first ≡ left_by w x.command s → IsLastRound w x first invariant r → IsLastRound w x (left_by w x.command s) invariant r
+pub last-begun : (w : Sight) (x : Step) (s first invariant : State) (r : Round) → first ≡ left_by w x.command s →
+    IsLastRound w x first invariant r → IsLastRound w x (left_by w x.command s) invariant r
 last-begun w x s first invariant r begins last = subst (λ (u : State). IsLastRound w x u invariant r) begins last
 
 -- what a command leaves, where its needs hold
-pub left-told : (w : Sight) (x : Step) (s t u : State) → step w.watch x.command s ≡ Ok u → t ≡ told w u → t ≡ left_by w x.command s
+pub left-told : (w : Sight) (x : Step) (s t u : State) → step w.watch x.command s ≡ Ok u → t ≡ told w u →
+    t ≡ left_by w x.command s
 left-told w x s t u after tells = tells ∙ sym (left-is w x.command s u after)
 
-pub plain-leaves : (w : Sight) (x : Step) (s t u : State) → is_global x.command.verb ≡ false → fault_of (step [] x.command s) ≡ None → step w.watch x.command s ≡ Ok u → t ≡ told w u → IsNote w x s (noted s None) × (t ≡ left_by w x.command s)
+pub plain-leaves : (w : Sight) (x : Step) (s t u : State) → is_global x.command.verb ≡ false →
+    fault_of (step [] x.command s) ≡ None → step w.watch x.command s ≡ Ok u → t ≡ told w u →
+    IsNote w x s (noted s None) × (t ≡ left_by w x.command s)
 plain-leaves w x s t u global none after tells = (
   record { state = refl; met = met-none x.command s none; list = known-of w x s None false global tt },
   left-told w x s t u after tells,
 )
 
-shape-if : (w : Sight) (global : Bool) (x : Step) (s : State) (l : Option looped.Looped) → IsKnownOfList w global x s (option_map looped_value l) → IfSome l (λ m. length m.inner.items ≡ length x.list)
+shape-if : (w : Sight) (global : Bool) (x : Step) (s : State) (l : Option looped.Looped) →
+    IsKnownOfList w global x s (option_map looped_value l) → IfSome l (λ m. length m.inner.items ≡ length x.list)
 shape-if w global x s None h = tt
 shape-if w false x s (Some l) h = absurd h
 shape-if w true x s (Some l) h = inner-length w x.list (entered w x l.invariant) l.inner.items h.1
 
-pub taken-shape : (w : Sight) (x : Step) (s t : State) (l : Option looped.Looped) (end : End) → IsTaken w x s l end t → end ≡ Leaves → IfSome l (λ m. length m.inner.items ≡ length x.list)
+pub taken-shape : (w : Sight) (x : Step) (s t : State) (l : Option looped.Looped) (end : End) → IsTaken w x s l end t →
+    end ≡ Leaves → IfSome l (λ m. length m.inner.items ≡ length x.list)
 taken-shape w x s t l end h e =
     let leaves = subst (λ (r : End). IsTaken w x s l r t) e h in
     shape-if w (is_global x.command.verb) x s l leaves.0.list

@@ -10,14 +10,23 @@ use Rattle.ed_base.specs.Parts.{block, exchanged, inserted, carried}
 pub use Rattle.ed_base.proofs.PartLemmas.{whole}
 pub use Rattle.line_store.proofs.Ranges.{length-block, block-none}
 
-pub length-exchanged : {X : Type 0} (a b : ℕ) (new xs : List X) → a ≤ b → b ≤ length xs → length (exchanged a b new xs) + (b - a) ≡ length xs + length new
+pub length-exchanged : {X : Type 0} (a b : ℕ) (new xs : List X) → a ≤ b → b ≤ length xs →
+    length (exchanged a b new xs) + (b - a) ≡ length xs + length new
 length-exchanged a b new xs h k =
-    omega (arith, length-append (take a xs) (new ++ drop b xs), length-append new (drop b xs), length-take-le a xs (omega arith), length-drop b xs)
+    omega (
+      arith,
+      length-append (take a xs) (new ++ drop b xs),
+      length-append new (drop b xs),
+      length-take-le a xs (omega arith),
+      length-drop b xs,
+    )
 
 -- one more element of a part
-pub block-more : {X : Type 0} (a i : ℕ) (xs : List X) (d : X) → a ≤ i → i < length xs → block a (i + 1) xs ≡ block a i xs ++ get_or xs i d ∷ []
+pub block-more : {X : Type 0} (a i : ℕ) (xs : List X) (d : X) → a ≤ i → i < length xs →
+    block a (i + 1) xs ≡ block a i xs ++ get_or xs i d ∷ []
 block-more a i xs d h k =
-    ap (drop a) (take_more xs i d k) ∙ drop-append-le a (take i xs) (get_or xs i d ∷ []) (omega (arith, length-take-le i xs (omega arith)))
+    ap (drop a) (take_more xs i d k)
+    ∙ drop-append-le a (take i xs) (get_or xs i d ∷ []) (omega (arith, length-take-le i xs (omega arith)))
 
 -- the elements after a place are those up to a later one, and those after it
 pub rear : {X : Type 0} (a b : ℕ) (xs : List X) → a ≤ b → b ≤ length xs → drop a xs ≡ block a b xs ++ drop b xs
@@ -25,7 +34,8 @@ rear a b xs h k =
     ap (drop a) (sym (take-append-drop b xs)) ∙ drop-append-le a (take b xs) (drop b xs) (omega (arith, length-take-le b xs k))
 
 -- elements put where a part was
-pub put-there : {X : Type 0} (a b : ℕ) (new xs : List X) → a ≤ length xs → exchanged a a new (exchanged a b [] xs) ≡ exchanged a b new xs
+pub put-there : {X : Type 0} (a b : ℕ) (new xs : List X) → a ≤ length xs →
+    exchanged a a new (exchanged a b [] xs) ≡ exchanged a b new xs
 put-there a b new xs h =
     ap (λ t. t ++ (new ++ drop a (take a xs ++ drop b xs))) (take_at (take a xs) (drop b xs) a (length-take-le a xs h))
     ∙ ap (λ t. take a xs ++ (new ++ t)) (drop_at (take a xs) (drop b xs) a (length-take-le a xs h))
@@ -35,16 +45,19 @@ pub taken-back : {X : Type 0} (front new old back : List X) (a b : ℕ) → leng
     exchanged a b old (front ++ (new ++ back)) ≡ front ++ (old ++ back)
 taken-back front new old back a b h k =
     ap (λ t. t ++ (old ++ drop b (front ++ (new ++ back)))) (take_at front (new ++ back) a h)
-    ∙ ap (λ t. front ++ (old ++ t)) (ap (drop b) (sym (append_assoc front new back)) ∙ drop_at (front ++ new) back b (length-append front new ∙ omega arith))
+    ∙ ap (λ t. front ++ (old ++ t))
+    (ap (drop b) (sym (append_assoc front new back)) ∙ drop_at (front ++ new) back b (length-append front new ∙ omega arith))
 
-block-there : {X : Type 0} (front new back : List X) (a b : ℕ) → length front ≡ a → a + length new ≡ b → block a b (front ++ (new ++ back)) ≡ new
+block-there : {X : Type 0} (front new back : List X) (a b : ℕ) → length front ≡ a → a + length new ≡ b →
+    block a b (front ++ (new ++ back)) ≡ new
 block-there front new back a b h k =
     ap (λ t. drop a (take b t)) (sym (append_assoc front new back))
     ∙ ap (drop a) (take_at (front ++ new) back b (length-append front new ∙ omega arith))
     ∙ drop_at front new a h
 
 -- elements that were put in place of a part, taken out again for it
-pub put-back : {X : Type 0} (a b n : ℕ) (new xs : List X) → a ≤ b → b ≤ length xs → length new ≡ n → exchanged a (a + n) (block a b xs) (exchanged a b new xs) ≡ xs
+pub put-back : {X : Type 0} (a b n : ℕ) (new xs : List X) → a ≤ b → b ≤ length xs → length new ≡ n →
+    exchanged a (a + n) (block a b xs) (exchanged a b new xs) ≡ xs
 put-back a b n new xs h k e =
     taken-back (take a xs) new (block a b xs) (drop b xs) a (a + n) (length-take-le a xs (omega arith)) (omega arith)
     ∙ whole a b xs h
@@ -68,11 +81,13 @@ carried-back a b place xs h k l =
     ∙ whole a b xs h
 
 -- an element of a list into which others were put: one in front of them, and one after them
-pub get_or-before : {X : Type 0} (a i : ℕ) (new xs : List X) (d : X) → i < a → a ≤ length xs → get_or (inserted a new xs) i d ≡ get_or xs i d
+pub get_or-before : {X : Type 0} (a i : ℕ) (new xs : List X) (d : X) → i < a → a ≤ length xs →
+    get_or (inserted a new xs) i d ≡ get_or xs i d
 get_or-before a i new xs d h k =
     get_or_append_left (take a xs) (new ++ drop a xs) d i (omega (arith, length-take-le a xs k)) ∙ get_or-take a xs i d h
 
-pub get_or-after : {X : Type 0} (a i j : ℕ) (new xs : List X) (d : X) → a ≤ i → a ≤ length xs → j ≡ i + length new → get_or (inserted a new xs) j d ≡ get_or xs i d
+pub get_or-after : {X : Type 0} (a i j : ℕ) (new xs : List X) (d : X) → a ≤ i → a ≤ length xs → j ≡ i + length new →
+    get_or (inserted a new xs) j d ≡ get_or xs i d
 get_or-after a i j new xs d h k e =
     get_or-append_right (take a xs) (new ++ drop a xs) a j d (length-take-le a xs k) (omega arith)
     ∙ get_or-append_right new (drop a xs) (length new) (j - a) d refl (omega arith)
@@ -80,8 +95,8 @@ get_or-after a i j new xs d h k e =
     ∙ ap (λ n. get_or xs n d) (let f : a + (j - a - length new) ≡ i = omega arith in f)
 
 -- elements that were put between others, taken out again
-pub taken-out : {X : Type 0} (a n : ℕ) (removed new after xs : List X) → removed ≡ [] → after ≡ inserted a new xs → a ≤ length xs → length new ≡ n →
-    exchanged a (a + n) removed after ≡ xs
+pub taken-out : {X : Type 0} (a n : ℕ) (removed new after xs : List X) → removed ≡ [] → after ≡ inserted a new xs →
+    a ≤ length xs → length new ≡ n → exchanged a (a + n) removed after ≡ xs
 taken-out a n removed new after xs none put h k =
     ap (λ t. exchanged a (a + n) t after) none
     ∙ ap (exchanged a (a + n) []) put
@@ -92,16 +107,20 @@ taken-out a n removed new after xs none put h k =
 pub block-before : {X : Type 0} (a b : ℕ) (new xs : List X) → b ≤ length xs → block a b (inserted b new xs) ≡ block a b xs
 block-before a b new xs h = ap (drop a) (take_at (take b xs) (new ++ drop b xs) b (length-take-le b xs h))
 
-pub taken-before : {X : Type 0} (a b : ℕ) (new xs : List X) → a ≤ b → b ≤ length xs → exchanged a b [] (inserted b new xs) ≡ exchanged a b new xs
+pub taken-before : {X : Type 0} (a b : ℕ) (new xs : List X) → a ≤ b → b ≤ length xs →
+    exchanged a b [] (inserted b new xs) ≡ exchanged a b new xs
 taken-before a b new xs h k =
     let mid = inserted b new xs in
-    ap (λ t. t ++ drop b mid) (sym (take-take a b mid h) ∙ ap (take a) (take_at (take b xs) (new ++ drop b xs) b (length-take-le b xs k)) ∙ take-take a b xs h)
+    ap (λ t. t ++ drop b mid)
+    (sym (take-take a b mid h) ∙ ap (take a) (take_at (take b xs) (new ++ drop b xs) b (length-take-le b xs k)) ∙ take-take a b xs h)
     ∙ ap (λ t. take a xs ++ t) (drop_at (take b xs) (new ++ drop b xs) b (length-take-le b xs k))
 
 -- what comes out of a list of one is all that was in it
-pub only-one : {X : Type 0} (xs ys : List X) (out : Option X) (x : X) → xs ≡ ys ++ option_to_list out → out ≡ Some x → length xs ≡ 1 → xs ≡ x ∷ []
+pub only-one : {X : Type 0} (xs ys : List X) (out : Option X) (x : X) → xs ≡ ys ++ option_to_list out → out ≡ Some x →
+    length xs ≡ 1 → xs ≡ x ∷ []
 only-one xs [] out x e f h = e ∙ ap option_to_list f
-only-one xs (y ∷ ys) out x e f h = absurd (omega (arith, ap length (e ∙ ap (λ t. (y ∷ ys) ++ option_to_list t) f), length-append ys (x ∷ [])))
+only-one xs (y ∷ ys) out x e f h =
+    absurd (omega (arith, ap length (e ∙ ap (λ t. (y ∷ ys) ++ option_to_list t) f), length-append ys (x ∷ [])))
 
 -- an element in place of another
 pub set-one : {X : Type 0} (i : ℕ) (y : X) (xs : List X) → i < length xs → set xs i y ≡ exchanged i (i + 1) (y ∷ []) xs
@@ -111,21 +130,23 @@ set-one i y xs h =
     ∙ ap (λ t. take i xs ++ t) (drop-set xs i y h)
 
 -- the texts of one more line
-pub texts-more : (a i : ℕ) (lines : List Line) (text : List ℕ) → a ≤ i → i < length lines → text ≡ (get_or lines i (plain_line [])).bytes →
-    texts (block a (i + 1) lines) ≡ texts (block a i lines) ++ text ∷ []
+pub texts-more : (a i : ℕ) (lines : List Line) (text : List ℕ) → a ≤ i → i < length lines →
+    text ≡ (get_or lines i (plain_line [])).bytes → texts (block a (i + 1) lines) ≡ texts (block a i lines) ++ text ∷ []
 texts-more a i lines text h k e =
     ap texts (block-more a i lines (plain_line []) h k)
     ∙ map-append (λ l. l.bytes) (block a i lines) (get_or lines i (plain_line []) ∷ [])
     ∙ ap (λ t. texts (block a i lines) ++ t ∷ []) (sym e)
 
 -- the text of one line
-pub text-one : (i : ℕ) (lines : List Line) (line : Line) → i < length lines → line ≡ get_or lines i (plain_line []) → line.bytes ∷ [] ≡ texts (block i (i + 1) lines)
+pub text-one : (i : ℕ) (lines : List Line) (line : Line) → i < length lines → line ≡ get_or lines i (plain_line []) →
+    line.bytes ∷ [] ≡ texts (block i (i + 1) lines)
 text-one i lines line h e =
-    sym (texts-more i i lines line.bytes (omega arith) h (ap (λ l. l.bytes) e) ∙ ap (λ t. texts t ++ line.bytes ∷ []) (block-none i lines))
+    sym (texts-more i i lines line.bytes (omega arith) h (ap (λ l. l.bytes) e)
+    ∙ ap (λ t. texts t ++ line.bytes ∷ []) (block-none i lines))
 
 -- one more line's text joined to the others
-pub joined-more : (a i : ℕ) (lines : List Line) (text : List ℕ) → a ≤ i → i < length lines → text ≡ (get_or lines i (plain_line [])).bytes →
-    concat (texts (block a (i + 1) lines)) ≡ concat (texts (block a i lines)) ++ text
+pub joined-more : (a i : ℕ) (lines : List Line) (text : List ℕ) → a ≤ i → i < length lines →
+    text ≡ (get_or lines i (plain_line [])).bytes → concat (texts (block a (i + 1) lines)) ≡ concat (texts (block a i lines)) ++ text
 joined-more a i lines text h k e =
     ap concat (texts-more a i lines text h k e)
     ∙ concat-append (texts (block a i lines)) (text ∷ [])

@@ -21,11 +21,15 @@ use Rattle.ed_commands.proofs.Blocks.{block-none, length-block, put-back}
 use Rattle.ed_commands.proofs.Texts.{texts-carried, texts-exchanged, texts-flagged_at, texts-plain}
 
 -- the lines become these, with what is kept of those before
-pub changing : (s : State) (p q : PastValue) (b : Before) (c : Change) (n count : ℕ) (lines new : List Line) (marks : List (Option ℕ)) →
-    texts_before c (texts lines) ≡ texts s.lines → lines ≡ new → n ≡ count →
-    ((e : Earlier) → earlier_after b.listed (kept_of b.current marks (texts s.lines)) e ≡ earlier_after b.listed (kept_at b.current s) e) → earlier_in s ≡ earlier_of p (texts s.lines) →
-    earlier_of q (texts lines) ≡ earlier_after b.listed (kept_of b.current marks (texts_before c (texts lines))) (earlier_of p (texts_before c (texts lines))) →
-    with_earlier (earlier_of q (texts lines)) (record s { lines = lines; current = n; changed = true }) ≡ left_by b s (altered new count s)
+pub changing : (s : State) (p q : PastValue) (b : Before) (c : Change) (n count : ℕ) (lines new : List Line)
+    (marks : List (Option ℕ)) → texts_before c (texts lines) ≡ texts s.lines → lines ≡ new → n ≡ count →
+    ((e : Earlier) →
+    earlier_after b.listed (kept_of b.current marks (texts s.lines)) e ≡ earlier_after b.listed (kept_at b.current s) e) →
+    earlier_in s ≡ earlier_of p (texts s.lines) →
+    earlier_of q (texts lines) ≡ earlier_after b.listed (kept_of b.current marks (texts_before c (texts lines)))
+    (earlier_of p (texts_before c (texts lines))) →
+    with_earlier (earlier_of q (texts lines)) (record s { lines = lines; current = n; changed = true }) ≡ left_by b s
+    (altered new count s)
 changing s p q b c n count lines new marks back put at own was kept =
     let earlier : earlier_of q (texts lines) ≡ earlier_after b.listed (kept_at b.current s) (earlier_in s) =
     kept
@@ -33,19 +37,24 @@ changing s p q b c n count lines new marks back put at own was kept =
     ∙ own (earlier_of p (texts s.lines))
     ∙ ap (earlier_after b.listed (kept_at b.current s)) (sym was) in
     ap (λ e. with_earlier e (record s { lines = lines; current = n; changed = true })) earlier
-    ∙ ap (λ t. with_earlier (earlier_after b.listed (kept_at b.current s) (earlier_in s)) (record s { lines = t; current = n; changed = true })) put
-    ∙ ap (λ m. with_earlier (earlier_after b.listed (kept_at b.current s) (earlier_in s)) (record s { lines = new; current = m; changed = true })) at
+    ∙ ap (λ t. with_earlier (earlier_after b.listed (kept_at b.current s) (earlier_in s))
+    (record s { lines = t; current = n; changed = true })) put
+    ∙ ap (λ m. with_earlier (earlier_after b.listed (kept_at b.current s) (earlier_in s))
+    (record s { lines = new; current = m; changed = true })) at
 
 -- lines whose letters or flags alone changed, with what is kept
-pub same-texts : (s : State) (p : PastValue) (n : ℕ) (lines new : List Line) → earlier_in s ≡ earlier_of p (texts s.lines) → lines ≡ new → texts new ≡ texts s.lines →
+pub same-texts : (s : State) (p : PastValue) (n : ℕ) (lines new : List Line) → earlier_in s ≡ earlier_of p (texts s.lines) →
+    lines ≡ new → texts new ≡ texts s.lines →
     with_earlier (earlier_of p (texts lines)) (record s { lines = lines; current = n }) ≡ record s { lines = new; current = n }
 same-texts s p n lines new was put same =
-    ap (λ e. with_earlier e (record s { lines = lines; current = n })) (ap (λ t. earlier_of p (texts t)) put ∙ ap (earlier_of p) same ∙ sym was)
+    ap (λ e. with_earlier e (record s { lines = lines; current = n }))
+    (ap (λ t. earlier_of p (texts t)) put ∙ ap (earlier_of p) same ∙ sym was)
     ∙ ap (λ t. record s { lines = t; current = n }) put
 
 -- the next flagged line is taken
-pub next-one : (s old : State) (p : PastValue) (place : ℕ) (found : Option ℕ) (lines : List Line) → s ≡ old → earlier_in s ≡ earlier_of p (texts s.lines) →
-    found ≡ flagged_place s.lines → found ≡ Some place → lines ≡ flagged_at place false s.lines →
+pub next-one : (s old : State) (p : PastValue) (place : ℕ) (found : Option ℕ) (lines : List Line) → s ≡ old →
+    earlier_in s ≡ earlier_of p (texts s.lines) → found ≡ flagged_place s.lines → found ≡ Some place →
+    lines ≡ flagged_at place false s.lines →
     with_earlier (earlier_of p (texts lines)) (record s { lines = lines; current = place + 1 }) ≡ unwrap_or (next_taken old) old
 next-one s old p place found lines is was next at put =
     same-texts s p (place + 1) lines (flagged_at place false s.lines) was put (texts-flagged_at place false s.lines)
@@ -58,21 +67,23 @@ pub replaced-back : (from entered : ℕ) (removed after before : List Line) → 
 replaced-back from entered removed after before back = sym (texts-exchanged from (from + entered) removed after) ∙ ap texts back
 
 -- the same of texts that were kept of the lines in whose place others came
-pub texts-back : (from to entered : ℕ) (removed : List (List ℕ)) (new after before : List Line) → from ≤ to → to ≤ length before → length new ≡ entered →
-    removed ≡ texts (block from to before) → after ≡ exchanged from to new before →
-    exchanged from (from + entered) removed (texts after) ≡ texts before
+pub texts-back : (from to entered : ℕ) (removed : List (List ℕ)) (new after before : List Line) → from ≤ to →
+    to ≤ length before → length new ≡ entered → removed ≡ texts (block from to before) →
+    after ≡ exchanged from to new before → exchanged from (from + entered) removed (texts after) ≡ texts before
 texts-back from to entered removed new after before h k counted taken put =
     ap (λ t. exchanged from (from + entered) t (texts after)) taken
     ∙ replaced-back from entered (block from to before) after before
     (ap (exchanged from (from + entered) (block from to before)) put ∙ put-back from to entered new before h k counted)
 
 -- and where no line went out
-pub texts-entered : (place entered : ℕ) (removed : List (List ℕ)) (new after before : List Line) → place ≤ length before → length new ≡ entered →
-    removed ≡ [] → after ≡ inserted place new before → exchanged place (place + entered) removed (texts after) ≡ texts before
+pub texts-entered : (place entered : ℕ) (removed : List (List ℕ)) (new after before : List Line) → place ≤ length before →
+    length new ≡ entered → removed ≡ [] → after ≡ inserted place new before →
+    exchanged place (place + entered) removed (texts after) ≡ texts before
 texts-entered place entered removed new after before h counted none put =
     texts-back place place entered removed new after before (omega arith) h counted (none ∙ ap texts (sym (block-none place before))) put
 
-pub moved-back : (a b place : ℕ) (after before : List Line) → carried a b place after ≡ before → carried a b place (texts after) ≡ texts before
+pub moved-back : (a b place : ℕ) (after before : List Line) → carried a b place after ≡ before →
+    carried a b place (texts after) ≡ texts before
 moved-back a b place after before back = sym (texts-carried a b place after) ∙ ap texts back
 
 -- lines made of texts are new
@@ -83,14 +94,16 @@ pub texts-made : (lines : List Line) (text : List (List ℕ)) → lines ≡ map 
 texts-made lines text h = ap texts h ∙ texts-plain text
 
 -- each of them is the line of its bytes
-pub new-one : (lines : List Line) (i : ℕ) (line : Line) → AreNew lines → i < length lines → line ≡ get_or lines i line → line ≡ plain_line line.bytes
+pub new-one : (lines : List Line) (i : ℕ) (line : Line) → AreNew lines → i < length lines → line ≡ get_or lines i line →
+    line ≡ plain_line line.bytes
 new-one lines i line new h e =
     e ∙ ap (λ t. get_or t i line) (sym new)
     ∙ get_or-map plain_line (texts lines) i line.bytes line (omega (arith, length-map lines (λ l. l.bytes)))
     ∙ ap plain_line (get_or-map (λ l. l.bytes) lines i line line.bytes h ∙ ap (λ l. l.bytes) (sym e))
 
 -- some lines entered
-pub entered-text : (a : ℕ) (text : List (List ℕ)) (s : State) → text ≢ [] → entered a text s ≡ altered (inserted a (map plain_line text) s.lines) (a + length text) s
+pub entered-text : (a : ℕ) (text : List (List ℕ)) (s : State) → text ≢ [] →
+    entered a text s ≡ altered (inserted a (map plain_line text) s.lines) (a + length text) s
 entered-text a [] s h = absurd (h refl)
 entered-text a (line ∷ more) s h = refl
 
@@ -101,23 +114,28 @@ some-lines (byte ∷ bytes) h none = let some = lines-some (byte ∷ bytes) (ome
 
 -- some lines copied
 pub copied-some : (a b target : ℕ) (s : State) → 1 ≤ a → a ≤ b → b ≤ length s.lines →
-    effect.copy (ranges.span a b) target s ≡ altered (inserted target (map plain_line (texts (block (a - 1) b s.lines))) s.lines) (target + (b - (a - 1))) s
+    effect.copy (ranges.span a b) target s ≡ altered (inserted target (map plain_line (texts (block (a - 1) b s.lines))) s.lines)
+    (target + (b - (a - 1))) s
 copied-some a b target s h k l =
     let text = texts (block (a - 1) b s.lines) in
-    let long : length text ≡ b - (a - 1) = length-map (block (a - 1) b s.lines) (λ line. line.bytes) ∙ length-block (a - 1) b s.lines l in
+    let long : length text ≡ b - (a - 1) = length-map (block (a - 1) b s.lines) (λ line. line.bytes)
+    ∙ length-block (a - 1) b s.lines l in
     entered-text target text s (λ none. absurd (omega (arith, ap length none)))
     ∙ ap (λ n. altered (inserted target (map plain_line text) s.lines) (target + n) s) long
 
 -- a text before a line, and in place of lines
-pub inserted-some : (text : List (List ℕ)) (x : ranges.Span) (s : State) → text ≢ [] → effect.insert text x s ≡ entered (x.first - 1) text s
+pub inserted-some : (text : List (List ℕ)) (x : ranges.Span) (s : State) → text ≢ [] →
+    effect.insert text x s ≡ entered (x.first - 1) text s
 inserted-some [] x s h = absurd (h refl)
 inserted-some (line ∷ more) x s h = refl
 
 pub changed-some : (text : List (List ℕ)) (x : ranges.Span) (s : State) → text ≢ [] →
-    effect.change text x s ≡ altered (exchanged (x.first - 1) x.last (map plain_line text) s.lines) (x.first - 1 + length (map plain_line text)) s
+    effect.change text x s ≡ altered (exchanged (x.first - 1) x.last (map plain_line text) s.lines)
+    (x.first - 1 + length (map plain_line text)) s
 changed-some [] x s h = absurd (h refl)
 changed-some (line ∷ more) x s h =
-    ap (λ n. altered (exchanged (x.first - 1) x.last (map plain_line (line ∷ more)) s.lines) (x.first - 1 + n) s) (sym (length-map (line ∷ more) plain_line))
+    ap (λ n. altered (exchanged (x.first - 1) x.last (map plain_line (line ∷ more)) s.lines) (x.first - 1 + n) s)
+    (sym (length-map (line ∷ more) plain_line))
 
 -- a move to this place
 placed : {A : Type 0} (inside : Bool) (fault : Fault) (left place : ℕ) (f : ℕ → Result A Fault) →
@@ -126,7 +144,8 @@ placed : {A : Type 0} (inside : Bool) (fault : Fault) (left place : ℕ) (f : �
 placed true fault left place f h = absurd cc
 placed false fault left place f h = ap f (let e : left ≡ place = cc in e)
 
-pub moved-to : (a b target place : ℕ) (s : State) → 1 ≤ a → a ≤ b → b ≤ length s.lines → place_beside (ranges.span a b) target ≡ Ok place →
+pub moved-to : (a b target place : ℕ) (s : State) → 1 ≤ a → a ≤ b → b ≤ length s.lines →
+    place_beside (ranges.span a b) target ≡ Ok place →
     effect.move (ranges.span a b) target s ≡ Ok (altered (carried (a - 1) b place s.lines) (place + (b - (a - 1))) s)
 moved-to a b target place s h k l p =
     placed (nat_le a target && nat_le target b) Destination (effect.place_left (ranges.span a b) target) place

@@ -28,10 +28,14 @@ abbrev pub with_last : Line → Option (List (List ℕ)) → Results → Results
 with_last line None earlier = (earlier.0 ++ line ∷ [], earlier.1)
 with_last line (Some texts) earlier = (earlier.0 ++ map plain_line texts, Some (length earlier.0 + length texts))
 
-first-last : (first last : Line) (a b : Option (List (List ℕ))) (r : Results) → onto first a (with_last last b r) ≡ with_last last b (onto first a r)
+first-last : (first last : Line) (a b : Option (List (List ℕ))) (r : Results) →
+    onto first a (with_last last b r) ≡ with_last last b (onto first a r)
 first-last first last None None r = refl
-first-last first last None (Some texts) r = ap (λ n. (first ∷ (r.0 ++ map plain_line texts), Some n)) (let e : 1 + (length r.0 + length texts) ≡ suc (length r.0) + length texts = omega arith in e)
-first-last first last (Some more) None r = ap (λ t. (t, Some (length more + unwrap_or r.1 0))) (sym (append_assoc (map plain_line more) r.0 (last ∷ [])))
+first-last first last None (Some texts) r =
+    ap (λ n. (first ∷ (r.0 ++ map plain_line texts), Some n))
+    (let e : 1 + (length r.0 + length texts) ≡ suc (length r.0) + length texts = omega arith in e)
+first-last first last (Some more) None r =
+    ap (λ t. (t, Some (length more + unwrap_or r.1 0))) (sym (append_assoc (map plain_line more) r.0 (last ∷ [])))
 first-last first last (Some more) (Some texts) r =
     ap (λ t. (t, Some (length more + (length r.0 + length texts)))) (sym (append_assoc (map plain_line more) r.0 (map plain_line texts)))
     ∙ ap (λ n. ((map plain_line more ++ r.0) ++ map plain_line texts, Some n))
@@ -43,48 +47,54 @@ of-one line (Some texts) =
     ap (λ t. (t, Some (length texts + 0))) (append-nil (map plain_line texts))
     ∙ ap (λ n. (map plain_line texts, Some n)) (let e : length texts + 0 ≡ 0 + length texts = omega arith in e)
 
-each-more : (f : List ℕ → Option (List (List ℕ))) (lines : List Line) (line : Line) → each f (lines ++ line ∷ []) ≡ with_last line (f line.bytes) (each f lines)
+each-more : (f : List ℕ → Option (List (List ℕ))) (lines : List Line) (line : Line) →
+    each f (lines ++ line ∷ []) ≡ with_last line (f line.bytes) (each f lines)
 each-more f [] line = of-one line (f line.bytes)
 each-more f (first ∷ lines) line =
     ap (onto first (f first.bytes)) (each-more f lines line) ∙ first-last first line (f first.bytes) (f line.bytes) (each f lines)
 
 -- what results of the lines of a block that goes on to one more
-pub each-further : (f : List ℕ → Option (List (List ℕ))) (a i : ℕ) (lines : List Line) (d : Line) → a ≤ i → i < length lines →
-    each f (block a (i + 1) lines) ≡ with_last (get_or lines i d) (f (get_or lines i d).bytes) (each f (block a i lines))
+pub each-further : (f : List ℕ → Option (List (List ℕ))) (a i : ℕ) (lines : List Line) (d : Line) → a ≤ i →
+    i < length lines → each f (block a (i + 1) lines) ≡ with_last (get_or lines i d) (f (get_or lines i d).bytes)
+    (each f (block a i lines))
 each-further f a i lines d h k = ap (each f) (block-more a i lines d h k) ∙ each-more f (block a i lines) (get_or lines i d)
 
 -- where the next line stands once those before it were exchanged for these
 pub stands-after : (a i : ℕ) (made lines : List Line) (d : Line) → i < length lines →
     exchanged a i made lines ≡ (take a lines ++ made) ++ get_or lines i d ∷ drop (i + 1) lines
 stands-after a i made lines d h =
-    ap (λ t. take a lines ++ (made ++ t)) (drop_more lines i d h) ∙ sym (append_assoc (take a lines) made (get_or lines i d ∷ drop (i + 1) lines))
+    ap (λ t. take a lines ++ (made ++ t)) (drop_more lines i d h)
+    ∙ sym (append_assoc (take a lines) made (get_or lines i d ∷ drop (i + 1) lines))
 
-pub next-line : (a i place : ℕ) (made lines now : List Line) (d : Line) → a ≤ i → i < length lines → now ≡ exchanged a i made lines →
-    place ≡ a + length made → get_or now place d ≡ get_or lines i d
+pub next-line : (a i place : ℕ) (made lines now : List Line) (d : Line) → a ≤ i → i < length lines →
+    now ≡ exchanged a i made lines → place ≡ a + length made → get_or now place d ≡ get_or lines i d
 next-line a i place made lines now d h k e p =
     ap (λ t. get_or t place d) (e ∙ stands-after a i made lines d k)
     ∙ get_or_at (take a lines ++ made) (get_or lines i d) (drop (i + 1) lines) d place
     (omega (arith, length-append (take a lines) made, length-take-le a lines (omega arith)))
 
 -- how many lines there are then
-pub counted : (a i : ℕ) (made lines now : List Line) → a ≤ i → i ≤ length lines → now ≡ exchanged a i made lines → length now + i ≡ length lines + (a + length made)
+pub counted : (a i : ℕ) (made lines now : List Line) → a ≤ i → i ≤ length lines → now ≡ exchanged a i made lines →
+    length now + i ≡ length lines + (a + length made)
 counted a i made lines now h k e = omega (arith, ap length e, length-exchanged a i made lines h k)
 
 -- the same place, counted from the end
-pub stands-at : (a i count n : ℕ) (made lines now : List Line) → a ≤ i → i < length lines → now ≡ exchanged a i made lines → count ≡ length lines →
-    n ≡ length now → n - (count - i) ≡ a + length made
+pub stands-at : (a i count n : ℕ) (made lines now : List Line) → a ≤ i → i < length lines → now ≡ exchanged a i made lines →
+    count ≡ length lines → n ≡ length now → n - (count - i) ≡ a + length made
 stands-at a i count n made lines now h k e f g = omega (arith, ap length e, length-exchanged a i made lines h (omega arith))
 
 -- it stays
-pub stayed : (a i : ℕ) (made lines : List Line) (d : Line) → i < length lines → exchanged a i made lines ≡ exchanged a (i + 1) (made ++ get_or lines i d ∷ []) lines
+pub stayed : (a i : ℕ) (made lines : List Line) (d : Line) → i < length lines →
+    exchanged a i made lines ≡ exchanged a (i + 1) (made ++ get_or lines i d ∷ []) lines
 stayed a i made lines d h =
     stands-after a i made lines d h
     ∙ append_assoc (take a lines) made (get_or lines i d ∷ drop (i + 1) lines)
     ∙ ap (λ t. take a lines ++ t) (sym (append_assoc made (get_or lines i d ∷ []) (drop (i + 1) lines)))
 
 -- or it is exchanged for others
-pub gone : (a i place : ℕ) (made new lines now : List Line) (d : Line) → a ≤ i → i < length lines → now ≡ exchanged a i made lines →
-    place ≡ a + length made → exchanged place (place + 1) new now ≡ exchanged a (i + 1) (made ++ new) lines
+pub gone : (a i place : ℕ) (made new lines now : List Line) (d : Line) → a ≤ i → i < length lines →
+    now ≡ exchanged a i made lines → place ≡ a + length made →
+    exchanged place (place + 1) new now ≡ exchanged a (i + 1) (made ++ new) lines
 gone a i place made new lines now d h k e p =
     ap (exchanged place (place + 1) new) (e ∙ stands-after a i made lines d k)
     ∙ taken-back (take a lines ++ made) (get_or lines i d ∷ []) new (drop (i + 1) lines) place (place + 1)
@@ -101,13 +111,15 @@ pub one-line : (text : List ℕ) → IsLine text → split_at_newlines text ≡ 
 one-line text h = lines_of-bytes_of (text ∷ []) (All-cons IsLine text [] h (All-nil IsLine))
 
 -- what a pattern's tree makes of a line is what its text makes of it
-pub made-by : (text : List ℕ) (tree : Tree) (parts : List Part) (which : Which) (line : List ℕ) (made : Option (List ℕ)) → pattern text ≡ Ok tree →
-    made ≡ replaced_in parts line (picked which (taken tree line)) → made_of text parts which line ≡ option_map split_at_newlines made
+pub made-by : (text : List ℕ) (tree : Tree) (parts : List Part) (which : Which) (line : List ℕ) (made : Option (List ℕ)) →
+    pattern text ≡ Ok tree → made ≡ replaced_in parts line (picked which (taken tree line)) →
+    made_of text parts which line ≡ option_map split_at_newlines made
 made-by text tree parts which line made h e =
     ap (λ p. elim p [ Ok t ↦ substituted t parts which line | Err fault ↦ None ]) h ∙ ap (option_map split_at_newlines) (sym e)
 
 -- what is kept of earlier buffers before the first line that changes, and after it
-pub none-kept : (made : Option ℕ) (listed : Bool) (before : Kept) (e : Earlier) → is_some made ≡ false → earlier_of_rewritten made listed before e ≡ e
+pub none-kept : (made : Option ℕ) (listed : Bool) (before : Kept) (e : Earlier) → is_some made ≡ false →
+    earlier_of_rewritten made listed before e ≡ e
 none-kept None listed before e h = refl
 none-kept (Some n) listed before e h = absurd cc
 
@@ -120,20 +132,22 @@ pub when-none : (made : Option ℕ) (P : Type 0) → is_some made ≡ false → 
 when-none None P h p = p
 when-none (Some n) P h p = absurd cc
 
-pub first-change : (was : PastValue) (b : Before) (lines old : List Line) (base : Earlier) → lines ≡ old → earlier_of was (texts lines) ≡ base →
-    earlier_after b.listed (kept_lines b.current lines) (earlier_of was (texts lines)) ≡ earlier_after b.listed (kept_lines b.current old) base
+pub first-change : (was : PastValue) (b : Before) (lines old : List Line) (base : Earlier) → lines ≡ old →
+    earlier_of was (texts lines) ≡ base → earlier_after b.listed (kept_lines b.current lines)
+    (earlier_of was (texts lines)) ≡ earlier_after b.listed (kept_lines b.current old) base
 first-change was b lines old base same kept =
     ap (λ k. earlier_after b.listed k (earlier_of was (texts lines))) (ap (kept_lines b.current) same)
     ∙ ap (earlier_after b.listed (kept_lines b.current old)) kept
 
 -- what results with one more line that stays
-pub with-none : (line : Line) (texts : Option (List (List ℕ))) (r : Results) → None ≡ option_map (map plain_line) texts → with_last line texts r ≡ (r.0 ++ line ∷ [], r.1)
+pub with-none : (line : Line) (texts : Option (List (List ℕ))) (r : Results) → None ≡ option_map (map plain_line) texts →
+    with_last line texts r ≡ (r.0 ++ line ∷ [], r.1)
 with-none line None r h = refl
 with-none line (Some texts) r h = absurd cc
 
 -- or with one that becomes these
-pub with-new : (line : Line) (texts : Option (List (List ℕ))) (new : List Line) (r : Results) → Some new ≡ option_map (map plain_line) texts →
-    with_last line texts r ≡ (r.0 ++ new, Some (length r.0 + length new))
+pub with-new : (line : Line) (texts : Option (List (List ℕ))) (new : List Line) (r : Results) →
+    Some new ≡ option_map (map plain_line) texts → with_last line texts r ≡ (r.0 ++ new, Some (length r.0 + length new))
 with-new line None new r h = absurd cc
 with-new line (Some texts) new r h =
     let e : new ≡ map plain_line texts = cc in
@@ -144,14 +158,16 @@ new-made None new h = absurd cc
 new-made (Some texts) new h = made-new new texts cc
 
 -- and there is one at least
-some-split : (made : Option (List ℕ)) (lines : List Line) → Some lines ≡ option_map (map plain_line) (option_map split_at_newlines made) → 0 < length lines
+some-split : (made : Option (List ℕ)) (lines : List Line) →
+    Some lines ≡ option_map (map plain_line) (option_map split_at_newlines made) → 0 < length lines
 some-split None lines h = absurd cc
 some-split (Some text) lines h =
     let e : lines ≡ map plain_line (split_at_newlines text) = cc in
     omega (arith, ap length e, length-map (split_at_newlines text) plain_line, some-lines text)
 
 some-told : (read : Result Tree BreFault) (parts : List Part) (which : Which) (line : List ℕ) (lines : List Line) →
-    Some lines ≡ option_map (map plain_line) (elim read [ Ok tree ↦ substituted tree parts which line | Err fault ↦ None ]) → 0 < length lines
+    Some lines ≡ option_map (map plain_line) (elim read [ Ok tree ↦ substituted tree parts which line | Err fault ↦ None ]) →
+    0 < length lines
 some-told (Ok tree) parts which line lines h = some-split (replaced_in parts line (picked which (taken tree line))) lines h
 some-told (Err fault) parts which line lines h = absurd cc
 

@@ -62,13 +62,15 @@ handed_more : (a b c o1 o2 w1 w2 : List ℕ) → a ++ w1 ≡ o1 ++ b → b ++ w2
 handed_more a b c o1 o2 w1 w2 e f =
     sym (append_assoc a w1 w2) ∙ ap (λ x. x ++ w2) e ∙ append_assoc o1 b w2 ∙ ap (λ x. o1 ++ x) f ∙ sym (append_assoc o1 o2 c)
 
-goes_more : (a b c : SessionValue) (g1 g2 : List Answer) (o1 o2 : List ℕ) (r1 r2 : List Request) → GoesOn a g1 o1 r1 b → GoesOn b g2 o2 r2 c
-    → GoesOn a (g1 ++ g2) (o1 ++ o2) (r1 ++ r2) c
+goes_more : (a b c : SessionValue) (g1 g2 : List Answer) (o1 o2 : List ℕ) (r1 r2 : List Request) → GoesOn a g1 o1 r1 b →
+    GoesOn b g2 o2 r2 c → GoesOn a (g1 ++ g2) (o1 ++ o2) (r1 ++ r2) c
 goes_more a b c g1 g2 o1 o2 r1 r2 x y = record {
   events = x.events ++ y.events;
   same = λ answers.
-      ap (rest a) (append_assoc g1 g2 answers) ∙ x.same (g2 ++ answers) ∙ ap (after x.events) (y.same answers) ∙ sym (after_more x.events y.events (rest c answers));
-  handed_out = ap (λ w. a.pending ++ w) (written_more x.events y.events) ∙ handed_more a.pending b.pending c.pending o1 o2 (written x.events) (written y.events) x.handed_out y.handed_out;
+      ap (rest a) (append_assoc g1 g2 answers) ∙ x.same (g2 ++ answers) ∙ ap (after x.events) (y.same answers)
+      ∙ sym (after_more x.events y.events (rest c answers));
+  handed_out = ap (λ w. a.pending ++ w) (written_more x.events y.events)
+      ∙ handed_more a.pending b.pending c.pending o1 o2 (written x.events) (written y.events) x.handed_out y.handed_out;
   answered = heard_more x.events y.events ∙ ap (λ h. h ++ heard y.events) x.answered ∙ ap (λ h. r1 ++ h) y.answered;
   stays = λ result over. y.stays result (x.stays result over);
 }
@@ -76,7 +78,8 @@ goes_more a b c g1 g2 o1 o2 r1 r2 x y = record {
 pub over_is : (p : Phase) (result : Result Ending Fault) → p ≡ phases.Over result → is_over p ≡ true
 over_is p result e = rw e refl
 
-not_over : (a b : SessionValue) (g : List Answer) (o : List ℕ) (r : List Request) → GoesOn a g o r b → is_over b.phase ≡ false → is_over a.phase ≡ false
+not_over : (a b : SessionValue) (g : List Answer) (o : List ℕ) (r : List Request) → GoesOn a g o r b → is_over b.phase ≡ false →
+    is_over a.phase ≡ false
 not_over a b g o r x h = over_or (a.phase) (λ result e. absurd (let t = over_is b.phase result (x.stays result e) in cc))
   where
     over_or : (p : Phase) → ((result : Result Ending Fault) → p ≡ phases.Over result → is_over p ≡ false) → is_over p ≡ false
@@ -86,14 +89,15 @@ not_over a b g o r x h = over_or (a.phase) (λ result e. absurd (let t = over_is
     over_or phases.Waiting k = refl
     over_or (phases.Over result) k = k result refl
 
-goes_and_breaks : (a b c : SessionValue) (g1 g2 : List Answer) (o1 o2 : List ℕ) (r1 r2 : List Request) → GoesOn a g1 o1 r1 b → BreaksOff b g2 o2 r2 c
-    → BreaksOff a (g1 ++ g2) (o1 ++ o2) (r1 ++ r2) c
+goes_and_breaks : (a b c : SessionValue) (g1 g2 : List Answer) (o1 o2 : List ℕ) (r1 r2 : List Request) → GoesOn a g1 o1 r1 b →
+    BreaksOff b g2 o2 r2 c → BreaksOff a (g1 ++ g2) (o1 ++ o2) (r1 ++ r2) c
 goes_and_breaks a b c g1 g2 o1 o2 r1 r2 x y = record {
   running = not_over a b g1 o1 r1 x y.running;
   over = y.over;
   written = written x.events ++ y.written;
   cut = λ answers.
-      subst (λ p. RunsOut p (written x.events ++ y.written) (r1 ++ r2)) (sym (ap (rest a) (append_assoc g1 g2 answers) ∙ x.same (g2 ++ answers)))
+      subst (λ p. RunsOut p (written x.events ++ y.written) (r1 ++ r2))
+      (sym (ap (rest a) (append_assoc g1 g2 answers) ∙ x.same (g2 ++ answers)))
       (subst (λ q. RunsOut (after x.events (rest b (g2 ++ answers))) (written x.events ++ y.written) (q ++ r2)) x.answered
       (runs_out_after x.events (rest b (g2 ++ answers)) y.written r2 (y.cut answers)));
   handed_out = handed_more a.pending b.pending c.pending o1 o2 (written x.events) y.written x.handed_out y.handed_out;
@@ -109,10 +113,11 @@ pub rest_over : (v : SessionValue) (result : Result Ending Fault) (answers : Lis
     rest v answers ≡ Stops v.present.help (Ends result)
 rest_over v result answers e = rw e refl
 
-breaks_and_goes : (a b c : SessionValue) (g1 g2 : List Answer) (o1 o2 : List ℕ) (r1 r2 : List Request) → BreaksOff a g1 o1 r1 b → GoesOn b g2 o2 r2 c
-    → BreaksOff a (g1 ++ g2) (o1 ++ o2) (r1 ++ r2) c
+breaks_and_goes : (a b c : SessionValue) (g1 g2 : List Answer) (o1 o2 : List ℕ) (r1 r2 : List Request) → BreaksOff a g1 o1 r1 b →
+    GoesOn b g2 o2 r2 c → BreaksOff a (g1 ++ g2) (o1 ++ o2) (r1 ++ r2) c
 breaks_and_goes a b c g1 g2 o1 o2 r1 r2 x y =
-    let none : y.events ≡ [] = no_steps b.present.help b.present.help _ y.events (rest c []) (sym (rest_over b (Err fault.Memory) (g2 ++ []) x.over) ∙ y.same []) in
+    let none : y.events ≡ [] =
+    no_steps b.present.help b.present.help _ y.events (rest c []) (sym (rest_over b (Err fault.Memory) (g2 ++ []) x.over) ∙ y.same []) in
     let silent : r2 ≡ [] = sym y.answered ∙ ap heard none in
     record {
       running = x.running;
@@ -120,23 +125,25 @@ breaks_and_goes a b c g1 g2 o1 o2 r1 r2 x y =
       written = x.written;
       cut = λ answers.
           subst (λ p. RunsOut p x.written (r1 ++ r2)) (sym (ap (rest a) (append_assoc g1 g2 answers)))
-          (subst (λ r. RunsOut (rest a (g1 ++ (g2 ++ answers))) x.written r) (sym (ap (λ r. r1 ++ r) silent ∙ append-nil r1)) (x.cut (g2 ++ answers)));
+          (subst (λ r. RunsOut (rest a (g1 ++ (g2 ++ answers))) x.written r) (sym (ap (λ r. r1 ++ r) silent ∙ append-nil r1))
+          (x.cut (g2 ++ answers)));
       handed_out =
           ap (λ w. a.pending ++ w) (sym (append-nil x.written))
-          ∙ handed_more a.pending b.pending c.pending o1 o2 x.written [] x.handed_out (ap (λ w. b.pending ++ w) (sym (ap written none)) ∙ y.handed_out);
+          ∙ handed_more a.pending b.pending c.pending o1 o2 x.written [] x.handed_out
+          (ap (λ w. b.pending ++ w) (sym (ap written none)) ∙ y.handed_out);
     }
 
 -- one call after another
-pub leads_more : (a b c : SessionValue) (g1 g2 : List Answer) (o1 o2 : List ℕ) (r1 r2 : List Request) → Leads a g1 o1 r1 b → Leads b g2 o2 r2 c
-    → Leads a (g1 ++ g2) (o1 ++ o2) (r1 ++ r2) c
+pub leads_more : (a b c : SessionValue) (g1 g2 : List Answer) (o1 o2 : List ℕ) (r1 r2 : List Request) → Leads a g1 o1 r1 b →
+    Leads b g2 o2 r2 c → Leads a (g1 ++ g2) (o1 ++ o2) (r1 ++ r2) c
 leads_more a b c g1 g2 o1 o2 r1 r2 (inl x) (inl y) = inl (goes_more a b c g1 g2 o1 o2 r1 r2 x y)
 leads_more a b c g1 g2 o1 o2 r1 r2 (inl x) (inr y) = inr (goes_and_breaks a b c g1 g2 o1 o2 r1 r2 x y)
 leads_more a b c g1 g2 o1 o2 r1 r2 (inr x) (inl y) = inr (breaks_and_goes a b c g1 g2 o1 o2 r1 r2 x y)
 leads_more a b c g1 g2 o1 o2 r1 r2 (inr x) (inr y) = absurd (let e = over_is b.phase (Err fault.Memory) x.over in let f = y.running in cc)
 
 -- a call without an answer after another
-pub leads_on : (a b c : SessionValue) (given : List Answer) (o1 o2 : List ℕ) (asked : List Request) → Leads a given o1 asked b → Leads b [] o2 [] c
-    → Leads a given (o1 ++ o2) asked c
+pub leads_on : (a b c : SessionValue) (given : List Answer) (o1 o2 : List ℕ) (asked : List Request) → Leads a given o1 asked b →
+    Leads b [] o2 [] c → Leads a given (o1 ++ o2) asked c
 leads_on a b c given o1 o2 asked x y =
     subst (λ g. Leads a g (o1 ++ o2) asked c) (append-nil given)
     (subst (λ r. Leads a (given ++ []) (o1 ++ o2) r c) (append-nil asked) (leads_more a b c given [] o1 o2 asked [] x y))
@@ -147,11 +154,15 @@ goes_on a b c x y = goes_more a b c [] [] [] [] [] [] x y
 
 -- what a step gives after a run that went on in silence
 pub gives_after : (a b c : SessionValue) (asks : Ask) → GoesOn a [] [] [] b → Gives b asks c → Gives a asks c
-gives_after a b c (ask.Output bytes) x y = record { some = y.some; leads = leads_more a b c [] [] [] bytes [] [] (inl x) y.leads; idle = y.idle; untold = y.untold }
-gives_after a b c (ask.Read path) x y = record { same = goes_on a b c x y.same; waiting = y.waiting; handed_out = y.handed_out; asks = y.asks }
-gives_after a b c (ask.Write path bytes) x y = record { same = goes_on a b c x y.same; waiting = y.waiting; handed_out = y.handed_out; asks = y.asks }
+gives_after a b c (ask.Output bytes) x y =
+    record { some = y.some; leads = leads_more a b c [] [] [] bytes [] [] (inl x) y.leads; idle = y.idle; untold = y.untold }
+gives_after a b c (ask.Read path) x y =
+    record { same = goes_on a b c x y.same; waiting = y.waiting; handed_out = y.handed_out; asks = y.asks }
+gives_after a b c (ask.Write path bytes) x y =
+    record { same = goes_on a b c x y.same; waiting = y.waiting; handed_out = y.handed_out; asks = y.asks }
 gives_after a b c (ask.Ended result) x y = record { same = goes_on a b c x y.same; over = y.over; handed_out = y.handed_out; told = y.told }
 
 -- a session goes on as it is
 pub goes_nowhere : (v : SessionValue) → GoesOn v [] [] [] v
-goes_nowhere v = record { events = []; same = λ answers. refl; handed_out = append-nil v.pending; answered = refl; stays = λ result over. over }
+goes_nowhere v =
+    record { events = []; same = λ answers. refl; handed_out = append-nil v.pending; answered = refl; stays = λ result over. over }

@@ -26,7 +26,8 @@ pub added_more : (old mid new x : Log) → mid ≡ old ++ added old mid → new 
 added_more old mid new x e f = added_is old new (added old mid ++ x) (f ∙ ap (λ y. y ++ x) e ∙ append_assoc old (added old mid) x)
 
 pub log_more : (old mid new x : Log) → mid ≡ old ++ added old mid → new ≡ mid ++ x → new ≡ old ++ added old new
-log_more old mid new x e f = f ∙ ap (λ y. y ++ x) e ∙ append_assoc old (added old mid) x ∙ ap (λ y. old ++ y) (sym (added_more old mid new x e f))
+log_more old mid new x e f = f ∙ ap (λ y. y ++ x) e ∙ append_assoc old (added old mid) x
+    ∙ ap (λ y. old ++ y) (sym (added_more old mid new x e f))
 
 -- no answer, none that doesn't fit
 pub raises_none : (old new : Log) (before now : ℕ) → new ≡ old → Raises (added old new) before now
@@ -40,8 +41,8 @@ one_fits : (r : Request) (a : Answer) → fits r a ≡ true → AllFit ((r, a) �
 one_fits r a h k d below = let z : k ≡ 0 = omega arith in rw z h
 
 -- one more answer
-pub raises_more : (log : Log) (r : Request) (a : Answer) (before now after : ℕ) → before ≤ now → Raises log before now → (fits r a ≡ false → now < after) → now ≤ after
-    → Raises (log ++ (r, a) ∷ []) before after
+pub raises_more : (log : Log) (r : Request) (a : Answer) (before now after : ℕ) → before ≤ now → Raises log before now →
+    (fits r a ≡ false → now < after) → now ≤ after → Raises (log ++ (r, a) ∷ []) before after
 raises_more log r a before now after below (inr rise) raises h = inr (omega arith)
 raises_more log r a before now after below (inl fit) raises h =
     elim (cases_Bool (fits r a)) [
@@ -51,15 +52,16 @@ raises_more log r a before now after below (inl fit) raises h =
     ]
 
 -- a read's answer that doesn't fit is a refusal
-pub read_raises : (path : List ℕ) (a : Answer) (before after : ℕ) → (a ≡ answer.Refused → before < after) → a ≢ answer.Done → fits (request.Read path) a ≡ false → before < after
+pub read_raises : (path : List ℕ) (a : Answer) (before after : ℕ) → (a ≡ answer.Refused → before < after) →
+    a ≢ answer.Done → fits (request.Read path) a ≡ false → before < after
 read_raises path (answer.Bytes bytes) before after refused done h = absurd (cc)
 read_raises path answer.Missing before after refused done h = absurd (cc)
 read_raises path answer.Refused before after refused done h = refused refl
 read_raises path answer.Done before after refused done h = absurd (done refl)
 
 -- and so is a write's
-pub write_raises : (path bytes : List ℕ) (a : Answer) (before after : ℕ) → (a ≡ answer.Refused → before < after) → (a ≡ answer.Done) ⊎ (a ≡ answer.Refused)
-    → fits (request.Write path bytes) a ≡ false → before < after
+pub write_raises : (path bytes : List ℕ) (a : Answer) (before after : ℕ) → (a ≡ answer.Refused → before < after) →
+    (a ≡ answer.Done) ⊎ (a ≡ answer.Refused) → fits (request.Write path bytes) a ≡ false → before < after
 write_raises path bytes (answer.Bytes read) before after refused done h = absurd (elim done [ inl e ↦ cc | inr e ↦ cc ])
 write_raises path bytes answer.Missing before after refused done h = absurd (elim done [ inl e ↦ cc | inr e ↦ cc ])
 write_raises path bytes answer.Refused before after refused done h = refused refl

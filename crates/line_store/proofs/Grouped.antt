@@ -9,11 +9,14 @@ pub length-groups : (groups within : List ℕ) → length (in_groups groups with
 length-groups groups within = length-map-range_with_len (λ k. get_or groups (k / group) 0 + get_or within k 0) 0 (length within)
 
 -- where a chunk begins
-pub get_or-groups : (groups within : List ℕ) (k : ℕ) → k < length within → get_or (in_groups groups within) k 0 ≡ get_or groups (k / group) 0 + get_or within k 0
-get_or-groups groups within k h = get_or-map-range_with_len (λ k. get_or groups (k / group) 0 + get_or within k 0) 0 (length within) k k 0 h (omega arith)
+pub get_or-groups : (groups within : List ℕ) (k : ℕ) → k < length within →
+    get_or (in_groups groups within) k 0 ≡ get_or groups (k / group) 0 + get_or within k 0
+get_or-groups groups within k h =
+    get_or-map-range_with_len (λ k. get_or groups (k / group) 0 + get_or within k 0) 0 (length within) k k 0 h (omega arith)
 
 -- where the first chunk of a group begins, the group does
-pub get_or-first : (groups within : List ℕ) (g : ℕ) → Grouped groups within → g < length groups → get_or (in_groups groups within) (group * g) 0 ≡ get_or groups g 0
+pub get_or-first : (groups within : List ℕ) (g : ℕ) → Grouped groups within → g < length groups →
+    get_or (in_groups groups within) (group * g) 0 ≡ get_or groups g 0
 get_or-first groups within g grouped h =
     let within-it : group * g < length within = omega (arith, grouped.used) in
     let e : group * g / group ≡ g = omega arith in
@@ -105,8 +108,8 @@ module _ {k end last : ℕ} {groups within more_groups more_within : List ℕ}
   }
 
 -- where one chunk begins before another of its group, there are lines between
-pub some-within : (k end m : ℕ) (groups within : List ℕ) → end ≡ k + min (group - k % group) (length within - k) → k + 1 ≤ m → m < end →
-    get_or (in_groups groups within) k 0 < get_or (in_groups groups within) m 0 → 0 < get_or within m 0
+pub some-within : (k end m : ℕ) (groups within : List ℕ) → end ≡ k + min (group - k % group) (length within - k) → k + 1 ≤ m →
+    m < end → get_or (in_groups groups within) k 0 < get_or (in_groups groups within) m 0 → 0 < get_or within m 0
 some-within k end m groups within e h l less =
     let inside : m < length within = omega arith in
     let same : m / group ≡ k / group = omega arith in
@@ -125,7 +128,8 @@ past-end : (list : List ℕ) (x k : ℕ) → length list < k → get_or (list ++
 past-end list x k h = get_or_past (list ++ x ∷ []) k 0 (omega (arith, length-append list (x ∷ [])))
 
 -- the place of a group's first chunk, with a chunk more that begins a group or is no first one
-first-pushed : (within : List ℕ) (x g : ℕ) → ((h : ℕ) → get_or within (group * h) 0 ≡ 0) → (group * g ≡ length within → x ≡ 0) → get_or (within ++ x ∷ []) (group * g) 0 ≡ 0
+first-pushed : (within : List ℕ) (x g : ℕ) → ((h : ℕ) → get_or within (group * h) 0 ≡ 0) →
+    (group * g ≡ length within → x ≡ 0) → get_or (within ++ x ∷ []) (group * g) 0 ≡ 0
 first-pushed within x g first here = ⊎_elim
     (λ l. before-end within x (group * g) l ∙ first g)
     (λ l. ⊎_elim
@@ -138,9 +142,11 @@ first-pushed within x g first here = ⊎_elim
 pub record Begun (start : ℕ) (groups within : List ℕ) : Type 0 where
   pub grouped : Grouped (groups ++ start ∷ []) (within ++ 0 ∷ [])
   pub last : get_or (in_groups (groups ++ start ∷ []) (within ++ 0 ∷ [])) (length within) 0 ≡ start
-  pub earlier : (k : ℕ) → k < length within → get_or (in_groups (groups ++ start ∷ []) (within ++ 0 ∷ [])) k 0 ≡ get_or (in_groups groups within) k 0
+  pub earlier : (k : ℕ) → k < length within →
+      get_or (in_groups (groups ++ start ∷ []) (within ++ 0 ∷ [])) k 0 ≡ get_or (in_groups groups within) k 0
 
-pub begun : (start : ℕ) (groups within : List ℕ) → Grouped groups within → length within % group ≡ 0 → start < 2 ^ 64 → Begun start groups within
+pub begun : (start : ℕ) (groups within : List ℕ) → Grouped groups within → length within % group ≡ 0 → start < 2 ^ 64 →
+    Begun start groups within
 begun start groups within grouped whole small =
     let more = length-append within (0 ∷ []) in
     let more_groups = length-append groups (start ∷ []) in
@@ -153,7 +159,8 @@ begun start groups within grouped whole small =
       at-end groups start,
       at-end within 0,
     ) in
-    let earlier : (k : ℕ) → k < length within → get_or (in_groups (groups ++ start ∷ []) (within ++ 0 ∷ [])) k 0 ≡ get_or (in_groups groups within) k 0 =
+    let earlier : (k : ℕ) → k < length within →
+    get_or (in_groups (groups ++ start ∷ []) (within ++ 0 ∷ [])) k 0 ≡ get_or (in_groups groups within) k 0 =
     λ k h. omega (
       arith,
       get_or-groups (groups ++ start ∷ []) (within ++ 0 ∷ []) k (omega arith),
@@ -170,7 +177,12 @@ begun start groups within grouped whole small =
             let now = get_or-groups (groups ++ start ∷ []) (within ++ 0 ∷ []) k h in
             ⊎_elim
             (λ l. omega (arith, earlier k l, get_or-groups groups within k l, grouped.fits k l))
-            (λ l. omega (arith, ap (λ n. get_or (in_groups (groups ++ start ∷ []) (within ++ 0 ∷ [])) n 0) (let e : k ≡ length within = omega arith in e), last))
+            (λ l. omega (
+              arith,
+              ap (λ n. get_or (in_groups (groups ++ start ∷ []) (within ++ 0 ∷ [])) n 0)
+                  (let e : k ≡ length within = omega arith in e),
+              last,
+            ))
             (cases_lt k (length within));
       };
       last = last;
@@ -181,17 +193,23 @@ begun start groups within grouped whole small =
 pub record Continued (start first : ℕ) (groups within : List ℕ) : Type 0 where
   pub grouped : Grouped groups (within ++ (start - first) ∷ [])
   pub last : get_or (in_groups groups (within ++ (start - first) ∷ [])) (length within) 0 ≡ start
-  pub earlier : (k : ℕ) → k < length within → get_or (in_groups groups (within ++ (start - first) ∷ [])) k 0 ≡ get_or (in_groups groups within) k 0
+  pub earlier : (k : ℕ) → k < length within →
+      get_or (in_groups groups (within ++ (start - first) ∷ [])) k 0 ≡ get_or (in_groups groups within) k 0
 
-pub continued : (start first : ℕ) (groups within : List ℕ) → Grouped groups within → length within % group ≢ 0 → start < 2 ^ 64 → first ≡ get_or groups (length within / group) 0 →
-    first ≤ start → Continued start first groups within
+pub continued : (start first : ℕ) (groups within : List ℕ) → Grouped groups within → length within % group ≢ 0 →
+    start < 2 ^ 64 → first ≡ get_or groups (length within / group) 0 → first ≤ start → Continued start first groups within
 continued start first groups within grouped part small is h =
     let new = within ++ (start - first) ∷ [] in
     let more = length-append within ((start - first) ∷ []) in
     let last : get_or (in_groups groups new) (length within) 0 ≡ start =
     omega (arith, get_or-groups groups new (length within) (omega arith), at-end within (start - first)) in
     let earlier : (k : ℕ) → k < length within → get_or (in_groups groups new) k 0 ≡ get_or (in_groups groups within) k 0 =
-    λ k h. omega (arith, get_or-groups groups new k (omega arith), get_or-groups groups within k h, before-end within (start - first) k h) in
+    λ k h. omega (
+      arith,
+      get_or-groups groups new k (omega arith),
+      get_or-groups groups within k h,
+      before-end within (start - first) k h,
+    ) in
     record {
       grouped = record {
         all = omega (arith, grouped.all, part);
@@ -210,7 +228,8 @@ continued start first groups within grouped part small is h =
 
 -- a group begins no later than what comes after all chunks
 pub group-least : (start : ℕ) (groups within : List ℕ) → Grouped groups within → length within % group ≢ 0 →
-    ((k : ℕ) → k < length within → get_or (in_groups groups within) k 0 ≤ start) → get_or groups (length within / group) 0 ≤ start
+    ((k : ℕ) → k < length within → get_or (in_groups groups within) k 0 ≤ start) →
+    get_or groups (length within / group) 0 ≤ start
 group-least start groups within grouped part order =
     let g = length within / group in
     let inside : group * g < length within = omega (arith, part) in

@@ -7,21 +7,27 @@ use Rattle.line_store.specs.Chunks.{joined, room_among, Known, Starts}
 use Rattle.line_store.proofs.Joined.{before-most, before-next, before-later, before-set_low, before-set_high, length-joined-set}
 
 -- each chunk's start was counted
-pub known-counted : (count : ℕ) (starts : StartsValue) (chunks : List (List Line)) → count ≡ length (joined chunks) → length chunks ≤ starts.room →
-    length starts.starts ≡ length chunks → Starts starts.starts chunks → Known count starts chunks
+pub known-counted : (count : ℕ) (starts : StartsValue) (chunks : List (List Line)) → count ≡ length (joined chunks) →
+    length chunks ≤ starts.room → length starts.starts ≡ length chunks → Starts starts.starts chunks → Known count starts chunks
 known-counted count starts chunks all room long are = record { all = all; room = room; long = long; before = are }
 
 -- where one more line can be counted, it can come in before each chunk
-pub start-fits : (m count : ℕ) (starts : StartsValue) (chunks : List (List Line)) → Known count starts chunks → m < length starts.starts →
-    length (joined chunks) + 1 < 2 ^ 64 → get_or starts.starts m 0 < 2 ^ 64 - 1
+pub start-fits : (m count : ℕ) (starts : StartsValue) (chunks : List (List Line)) → Known count starts chunks →
+    m < length starts.starts → length (joined chunks) + 1 < 2 ^ 64 → get_or starts.starts m 0 < 2 ^ 64 - 1
 start-fits m count starts chunks known h fits = omega (arith, known.before m (omega (arith, known.long)), before-most m chunks)
 
 -- a chunk that has lines begins before each later one
-pub start-more : (k m count : ℕ) (starts : StartsValue) (chunks : List (List Line)) → Known count starts chunks → k < m → m < length starts.starts →
-    0 < length (get_or chunks k []) → get_or starts.starts k 0 < get_or starts.starts m 0
+pub start-more : (k m count : ℕ) (starts : StartsValue) (chunks : List (List Line)) → Known count starts chunks → k < m →
+    m < length starts.starts → 0 < length (get_or chunks k []) → get_or starts.starts k 0 < get_or starts.starts m 0
 start-more k m count starts chunks known h l some =
     let within : k < length chunks = omega (arith, known.long) in
-    omega (arith, known.before k within, known.before m (omega (arith, known.long)), before-next k chunks within, before-later (k + 1) m chunks (omega arith))
+    omega (
+      arith,
+      known.before k within,
+      known.before m (omega (arith, known.long)),
+      before-next k chunks within,
+      before-later (k + 1) m chunks (omega arith),
+    )
 
 -- a chunk in place of another, where each later chunk begins as many lines further as it has more
 pub known-moved : (k count after : ℕ) (old new : StartsValue) (chunks : List (List Line)) (chunk : List Line) →
@@ -55,9 +61,11 @@ known-exchanged k count starts chunks chunk known inside same =
     known-moved k count count starts starts chunks chunk known inside (omega arith) refl refl (λ m h l. omega arith) (λ m h. refl)
 
 -- where no chunk is lost and no line comes in, there is as much room
-pub room-least : (old new : List (List Line)) → length old ≤ length new → length (joined new) ≤ length (joined old) → room_among old ≤ room_among new
+pub room-least : (old new : List (List Line)) → length old ≤ length new → length (joined new) ≤ length (joined old) →
+    room_among old ≤ room_among new
 room-least old new h l = omega arith
 
 -- a line more takes the room of one
-pub room-spent : (old new : List (List Line)) → length old ≤ length new → length (joined new) ≡ length (joined old) + 1 → room_among old ≤ room_among new + 1
+pub room-spent : (old new : List (List Line)) → length old ≤ length new → length (joined new) ≡ length (joined old) + 1 →
+    room_among old ≤ room_among new + 1
 room-spent old new h l = omega arith

@@ -12,14 +12,16 @@ pub block-none : {X : Type 0} (a : ℕ) (xs : List X) → block a a xs ≡ []
 block-none a xs = drop_all a (take a xs) (omega (arith, length-take a xs))
 
 -- an element put after the second of three parts
-pub insert-between : {X : Type 0} (xs ys zs : List X) (n : ℕ) (x : X) → n ≡ length xs + length ys → insert (xs ++ (ys ++ zs)) n x ≡ xs ++ ((ys ++ x ∷ []) ++ zs)
+pub insert-between : {X : Type 0} (xs ys zs : List X) (n : ℕ) (x : X) → n ≡ length xs + length ys →
+    insert (xs ++ (ys ++ zs)) n x ≡ xs ++ ((ys ++ x ∷ []) ++ zs)
 insert-between xs ys zs n x h =
     insert-append_right xs (ys ++ zs) (length xs) n x refl (omega arith)
     ∙ ap (λ t. xs ++ t) (insert-append_right ys zs (length ys) (n - length xs) x refl (omega arith))
     ∙ rw (let e : n - length xs - length ys ≡ 0 = omega arith in e) (ap (λ t. xs ++ t) (sym (append_assoc ys (x ∷ []) zs)))
 
 -- an element put before others that come in
-pub put-next : {X : Type 0} (n : ℕ) (x : X) (rest xs : List X) → n ≤ length xs → inserted (n + 1) rest (insert xs n x) ≡ inserted n (x ∷ rest) xs
+pub put-next : {X : Type 0} (n : ℕ) (x : X) (rest xs : List X) → n ≤ length xs →
+    inserted (n + 1) rest (insert xs n x) ≡ inserted n (x ∷ rest) xs
 put-next n x rest xs h =
     let front = take n xs ++ x ∷ [] in
     let long : length front ≡ n + 1 = omega (arith, length-append (take n xs) (x ∷ []), length-take-le n xs h) in
@@ -33,21 +35,24 @@ put-next n x rest xs h =
     ∙ append_assoc (take n xs) (x ∷ []) (rest ++ drop n xs)
 
 -- the last element of the first part taken out
-pub remove-last : {X : Type 0} (xs ys : List X) (i j : ℕ) → j ≡ i + 1 → j ≤ length xs → remove (take j xs ++ ys) i ≡ take i xs ++ ys
+pub remove-last : {X : Type 0} (xs ys : List X) (i j : ℕ) → j ≡ i + 1 → j ≤ length xs →
+    remove (take j xs ++ ys) i ≡ take i xs ++ ys
 remove-last xs ys i j e h =
-    ap (λ t. t ++ drop (suc i) (take j xs ++ ys)) (take-append-le i (take j xs) ys (omega (arith, length-take-le j xs h)) ∙ take-take i j xs (omega arith))
+    ap (λ t. t ++ drop (suc i) (take j xs ++ ys))
+    (take-append-le i (take j xs) ys (omega (arith, length-take-le j xs h)) ∙ take-take i j xs (omega arith))
     ∙ ap (λ t. take i xs ++ t) (drop_at (take j xs) ys (suc i) (length-take-le j xs h ∙ omega arith))
 
 -- the element that is taken out there
-pub last-of_front : {X : Type 0} (xs ys : List X) (i j b : ℕ) (d : X) → j ≡ i + 1 → j ≤ b → b ≤ length xs → get_or (take j xs ++ ys) i d ≡ get_or (take b xs) i d
+pub last-of_front : {X : Type 0} (xs ys : List X) (i j b : ℕ) (d : X) → j ≡ i + 1 → j ≤ b → b ≤ length xs →
+    get_or (take j xs ++ ys) i d ≡ get_or (take b xs) i d
 last-of_front xs ys i j b d e h k =
     get_or_append_left (take j xs) ys d i (omega (arith, length-take-le j xs (omega arith)))
     ∙ get_or-take j xs i d (omega arith)
     ∙ sym (get_or-take b xs i d (omega arith))
 
 -- one more element, in front of those that were taken
-pub taken-more : {X : Type 0} (taken part : List X) (x : X) (i j : ℕ) (d : X) → j ≡ i + 1 → i < length part → reverse taken ≡ drop j part → x ≡ get_or part i d →
-    reverse (taken ++ x ∷ []) ≡ drop i part
+pub taken-more : {X : Type 0} (taken part : List X) (x : X) (i j : ℕ) (d : X) → j ≡ i + 1 → i < length part →
+    reverse taken ≡ drop j part → x ≡ get_or part i d → reverse (taken ++ x ∷ []) ≡ drop i part
 taken-more taken part x i j d e h r k =
     reverse-append taken (x ∷ [])
     ∙ ap (λ t. x ∷ t) (r ∙ ap (λ n. drop n part) e)

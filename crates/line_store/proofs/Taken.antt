@@ -27,14 +27,15 @@ others-first from to count xs h k e =
     let left = take from xs ++ drop to xs in
     let more = block from to xs ++ drop count xs in
     let rest : block to count xs ≡ drop to xs = ap (drop to) (take_all count xs (omega arith)) in
-    let long : length left ≡ n = omega (arith, length-append (take from xs) (drop to xs), length-take-le from xs (omega arith), length-drop to xs) in
+    let long : length left ≡ n =
+    omega (arith, length-append (take from xs) (drop to xs), length-take-le from xs (omega arith), length-drop to xs) in
     ap (λ t. take n (take from xs ++ (t ++ more))) rest
     ∙ ap (take n) (sym (append_assoc (take from xs) (drop to xs) more))
     ∙ take_at left more n long
 
 -- elements that were put at the end, and carried from there to a place
-pub carried-in : {X : Type 0} (at count all : ℕ) (new xs : List X) → at ≤ count → count ≡ length xs → all ≡ count + length new →
-    swapped at count all (xs ++ new) ≡ inserted at new xs
+pub carried-in : {X : Type 0} (at count all : ℕ) (new xs : List X) → at ≤ count → count ≡ length xs →
+    all ≡ count + length new → swapped at count all (xs ++ new) ≡ inserted at new xs
 carried-in at count all new xs h e f =
     let a = take at xs in
     let b = drop at xs in
@@ -76,28 +77,34 @@ joined-exchanged low high new chunks =
     ∙ ap (λ t. t ++ (joined new ++ joined (drop high chunks))) (joined-take low chunks)
     ∙ ap (λ t. take (lines_before low chunks) (joined chunks) ++ (joined new ++ t)) (joined-drop high chunks)
 
-pub length-left : {X : Type 0} (from to count : ℕ) (xs : List X) → from ≤ to → to ≤ count → count ≡ length xs → length (exchanged from to [] xs) ≡ count - (to - from)
-length-left from to count xs h k e = omega (arith, length-append (take from xs) (drop to xs), length-take-le from xs (omega arith), length-drop to xs)
+pub length-left : {X : Type 0} (from to count : ℕ) (xs : List X) → from ≤ to → to ≤ count → count ≡ length xs →
+    length (exchanged from to [] xs) ≡ count - (to - from)
+length-left from to count xs h k e =
+    omega (arith, length-append (take from xs) (drop to xs), length-take-le from xs (omega arith), length-drop to xs)
 
-pub length-entered : {X : Type 0} (at : ℕ) (new xs : List X) → at ≤ length xs → length (inserted at new xs) ≡ length xs + length new
+pub length-entered : {X : Type 0} (at : ℕ) (new xs : List X) → at ≤ length xs →
+    length (inserted at new xs) ≡ length xs + length new
 length-entered at new xs h =
     omega (arith, length-append (take at xs) (new ++ drop at xs), length-append new (drop at xs), length-take-le at xs h, length-drop at xs)
 
 -- chunks that begin at later places are later ones
-pub in-order : {X : Type 0} (chunks : List (List X)) (j k low high : ℕ) → lines_before j chunks ≡ low → lines_before k chunks ≡ high → low < high → j ≤ k
+pub in-order : {X : Type 0} (chunks : List (List X)) (j k low high : ℕ) → lines_before j chunks ≡ low →
+    lines_before k chunks ≡ high → low < high → j ≤ k
 in-order chunks j k low high a b h = ⊎_elim (λ l. absurd (omega (arith, before-later k j chunks (omega arith)))) (λ l. l) (cases_lt k j)
 
 -- the same, of chunks that begin at these places
-pub block-there : {X : Type 0} (low high from to : ℕ) (chunks : List (List X)) (lines : List X) → low ≤ high → lines_before low chunks ≡ from → lines_before high chunks ≡ to →
-    joined chunks ≡ lines → joined (block low high chunks) ≡ block from to lines
+pub block-there : {X : Type 0} (low high from to : ℕ) (chunks : List (List X)) (lines : List X) → low ≤ high →
+    lines_before low chunks ≡ from → lines_before high chunks ≡ to → joined chunks ≡ lines →
+    joined (block low high chunks) ≡ block from to lines
 block-there low high from to chunks lines h a b same =
     joined-block low high chunks h
     ∙ ap (λ n. block n (lines_before high chunks) (joined chunks)) a
     ∙ ap (λ n. block from n (joined chunks)) b
     ∙ ap (block from to) same
 
-pub exchanged-there : {X : Type 0} (low high from to : ℕ) (new chunks : List (List X)) (lines : List X) → lines_before low chunks ≡ from → lines_before high chunks ≡ to →
-    joined chunks ≡ lines → joined (exchanged low high new chunks) ≡ exchanged from to (joined new) lines
+pub exchanged-there : {X : Type 0} (low high from to : ℕ) (new chunks : List (List X)) (lines : List X) →
+    lines_before low chunks ≡ from → lines_before high chunks ≡ to → joined chunks ≡ lines →
+    joined (exchanged low high new chunks) ≡ exchanged from to (joined new) lines
 exchanged-there low high from to new chunks lines a b same =
     joined-exchanged low high new chunks
     ∙ ap (λ n. exchanged n (lines_before high chunks) (joined new) (joined chunks)) a
@@ -105,16 +112,20 @@ exchanged-there low high from to new chunks lines a b same =
     ∙ ap (exchanged from to (joined new)) same
 
 -- how many lines are left once chunks have gone out, and there once some have come in
-pub lines-left : {X : Type 0} (low high count : ℕ) (chunks : List (List X)) → low ≤ high → lines_before low chunks + count ≡ lines_before high chunks →
+pub lines-left : {X : Type 0} (low high count : ℕ) (chunks : List (List X)) → low ≤ high →
+    lines_before low chunks + count ≡ lines_before high chunks →
     length (joined (exchanged low high [] chunks)) + count ≡ length (joined chunks)
 lines-left low high count chunks h e =
     let most = before-most high chunks in
-    let left = length-left (lines_before low chunks) (lines_before high chunks) (length (joined chunks)) (joined chunks) (before-later low high chunks h) most refl in
+    let left = length-left (lines_before low chunks) (lines_before high chunks) (length (joined chunks)) (joined chunks)
+    (before-later low high chunks h) most refl in
     omega (arith, ap length (joined-exchanged low high [] chunks))
 
-pub lines-entered : {X : Type 0} (at : ℕ) (new chunks : List (List X)) → length (joined (inserted at new chunks)) ≡ length (joined chunks) + length (joined new)
+pub lines-entered : {X : Type 0} (at : ℕ) (new chunks : List (List X)) →
+    length (joined (inserted at new chunks)) ≡ length (joined chunks) + length (joined new)
 lines-entered at new chunks =
-    ap length (joined-exchanged at at new chunks) ∙ length-entered (lines_before at chunks) (joined new) (joined chunks) (before-most at chunks)
+    ap length (joined-exchanged at at new chunks)
+    ∙ length-entered (lines_before at chunks) (joined new) (joined chunks) (before-most at chunks)
 
 -- how many chunks
 pub chunks-left : {X : Type 0} (low high : ℕ) (xs : List X) → low ≤ high → length (exchanged low high [] xs) ≤ length xs
@@ -128,7 +139,8 @@ chunks-left low high xs h =
       length-drop high xs,
     )
 
-pub length-there : {X : Type 0} (from to : ℕ) (part lines : List X) → part ≡ block from to lines → to ≤ length lines → to - from ≡ length part
+pub length-there : {X : Type 0} (from to : ℕ) (part lines : List X) → part ≡ block from to lines → to ≤ length lines →
+    to - from ≡ length part
 length-there from to part lines is h = sym (ap length is ∙ length-block from to lines h)
 
 -- how many lines have the flag
@@ -167,14 +179,17 @@ flags-entered at new lines none =
     )
 
 -- no line before a place had the flag, nor has one before that where others came in
-pub unflagged-entered : (place at : ℕ) (new lines : List Line) → at ≤ length lines → Unflagged place lines → Unflagged (min place at) (inserted at new lines)
+pub unflagged-entered : (place at : ℕ) (new lines : List Line) → at ≤ length lines → Unflagged place lines →
+    Unflagged (min place at) (inserted at new lines)
 unflagged-entered place at new lines h none k l =
-    ap (λ line. line.flag) (get_or_append_left (take at lines) (new ++ drop at lines) (plain_line []) k (omega (arith, length-take-le at lines h))
+    ap (λ line. line.flag)
+    (get_or_append_left (take at lines) (new ++ drop at lines) (plain_line []) k (omega (arith, length-take-le at lines h))
     ∙ get_or-take at lines k (plain_line []) (omega arith))
     ∙ none k (omega arith)
 
 -- the letters of some of the first lines, and of lines that follow others
-lettered-take : (marks : List (Option ℕ)) (place count : ℕ) (lines : List Line) → lettered marks place (take count lines) ≡ take count (lettered marks place lines)
+lettered-take : (marks : List (Option ℕ)) (place count : ℕ) (lines : List Line) →
+    lettered marks place (take count lines) ≡ take count (lettered marks place lines)
 lettered-take marks place zero lines = refl
 lettered-take marks place (suc n) [] = refl
 lettered-take marks place (suc n) (line ∷ lines) = ap (λ t. line_with marks place line ∷ t) (lettered-take marks (suc place) n lines)
@@ -182,23 +197,27 @@ lettered-take marks place (suc n) (line ∷ lines) = ap (λ t. line_with marks p
 lettered-append : (marks : List (Option ℕ)) (place next : ℕ) (xs ys : List Line) → next ≡ place + length xs →
     lettered marks place (xs ++ ys) ≡ lettered marks place xs ++ lettered marks next ys
 lettered-append marks place next [] ys e = ap (λ n. lettered marks n ys) (let f : place ≡ next = omega arith in f)
-lettered-append marks place next (x ∷ xs) ys e = ap (λ t. line_with marks place x ∷ t) (lettered-append marks (suc place) next xs ys (omega arith))
+lettered-append marks place next (x ∷ xs) ys e =
+    ap (λ t. line_with marks place x ∷ t) (lettered-append marks (suc place) next xs ys (omega arith))
 
 -- no letter marks a place after all that letters have
-not-there : (count place : ℕ) (o : Option ℕ) → ((p : ℕ) → o ≡ Some p → p < count) → count ≤ place → is_at place o ≡ false
+not-there : (count place : ℕ) (o : Option ℕ) → ((p : ℕ) → o ≡ Some p → p < count) → count ≤ place →
+    is_at place o ≡ false
 not-there count place None below h = refl
 not-there count place (Some p) below h = not_at place p (λ e. let l = below p refl in omega arith)
 
-none-after : (marks : List (Option ℕ)) (count place : ℕ) → AllBelow count marks → count ≤ place → letters_at place marks ≡ no_letters
+none-after : (marks : List (Option ℕ)) (count place : ℕ) → AllBelow count marks → count ≤ place →
+    letters_at place marks ≡ no_letters
 none-after marks count place below h =
-    letters_at-are place marks no_letters refl (λ letter l. not-there count place (get_or marks letter None) (below letter) h ∙ sym (none_marked 26 letter))
+    letters_at-are place marks no_letters refl
+    (λ letter l. not-there count place (get_or marks letter None) (below letter) h ∙ sym (none_marked 26 letter))
 
 bare-flag : (flag : Bool) → cond flag 1 0 ≤ 0 → flag ≡ false
 bare-flag true h = absurd (omega arith)
 bare-flag false h = refl
 
-plain-after : (marks : List (Option ℕ)) (count place : ℕ) (new : List Line) → AllBelow count marks → count ≤ place → flag_count new ≡ 0 →
-    lettered marks place new ≡ map plain_line (texts new)
+plain-after : (marks : List (Option ℕ)) (count place : ℕ) (new : List Line) → AllBelow count marks → count ≤ place →
+    flag_count new ≡ 0 → lettered marks place new ≡ map plain_line (texts new)
 plain-after marks count place [] below h none = refl
 plain-after marks count place (line ∷ new) below h none =
     let counted = sum_by-cons (λ line. cond line.flag 1 0) line new in
@@ -207,8 +226,10 @@ plain-after marks count place (line ∷ new) below h none =
     ∙ ap (λ t. plain_line line.bytes ∷ t) (plain-after marks count (suc place) new below (omega arith) (omega arith))
 
 -- a block of lines has gone out, and its letters mark no line
-pub lettered-left : (from to count : ℕ) (marks : List (Option ℕ)) (lines : List Line) → from ≤ to → to ≤ count → count ≡ length lines →
-    lettered (places_below (count - (to - from)) (places_swapped from to count marks)) 0 (exchanged from to [] lines) ≡ exchanged from to [] (lettered marks 0 lines)
+pub lettered-left : (from to count : ℕ) (marks : List (Option ℕ)) (lines : List Line) → from ≤ to → to ≤ count →
+    count ≡ length lines →
+    lettered (places_below (count - (to - from)) (places_swapped from to count marks)) 0 (exchanged from to [] lines) ≡ exchanged from to
+    [] (lettered marks 0 lines)
 lettered-left from to count marks lines h k e =
     let n = count - (to - from) in
     let now = places_swapped from to count marks in
@@ -220,16 +241,19 @@ lettered-left from to count marks lines h k e =
     ∙ others-first from to count (lettered marks 0 lines) h k (e ∙ sym (length-lettered marks 0 lines))
 
 -- a block of lines has come in, which no letter marks
-pub lettered-entered : (at count all : ℕ) (marks : List (Option ℕ)) (new lines : List Line) → at ≤ count → count ≡ length lines → all ≡ count + length new →
-    AllBelow count marks → flag_count new ≡ 0 →
-    lettered (places_swapped at count all marks) 0 (inserted at new lines) ≡ inserted at (map plain_line (texts new)) (lettered marks 0 lines)
+pub lettered-entered : (at count all : ℕ) (marks : List (Option ℕ)) (new lines : List Line) → at ≤ count →
+    count ≡ length lines → all ≡ count + length new → AllBelow count marks → flag_count new ≡ 0 →
+    lettered (places_swapped at count all marks) 0 (inserted at new lines) ≡ inserted at (map plain_line (texts new))
+    (lettered marks 0 lines)
 lettered-entered at count all marks new lines h e f below none =
-    let long : length (map plain_line (texts new)) ≡ length new = length-map (texts new) plain_line ∙ length-map new (λ line. line.bytes) in
+    let long : length (map plain_line (texts new)) ≡ length new = length-map (texts new) plain_line
+    ∙ length-map new (λ line. line.bytes) in
     ap (lettered (places_swapped at count all marks) 0) (sym (carried-in at count all new lines h e f))
     ∙ lettered-swapped at count all marks (lines ++ new) h (omega arith) (omega (arith, length-append lines new))
     ∙ ap (swapped at count all) (lettered-append marks 0 count lines new (omega arith)
     ∙ ap (λ t. lettered marks 0 lines ++ t) (plain-after marks count count new below (omega arith) none))
-    ∙ carried-in at count all (map plain_line (texts new)) (lettered marks 0 lines) h (e ∙ sym (length-lettered marks 0 lines)) (omega arith)
+    ∙ carried-in at count all (map plain_line (texts new)) (lettered marks 0 lines) h (e ∙ sym (length-lettered marks 0 lines))
+    (omega arith)
 
 pub below-later : (count all : ℕ) (marks : List (Option ℕ)) → count ≤ all → AllBelow count marks → AllBelow all marks
 below-later count all marks h below letter place e = let l = below letter place e in omega arith
@@ -243,9 +267,11 @@ pub texts-block : (from to : ℕ) (lines : List Line) → texts (block from to l
 texts-block from to lines =
     sym (drop-map (λ (l : Line). l.bytes) from (take to lines)) ∙ ap (drop from) (sym (take-map (λ (l : Line). l.bytes) to lines))
 
-pub block-lettered : (from to : ℕ) (marks : List (Option ℕ)) (lines : List Line) → texts (block from to lines) ≡ texts (block from to (lettered marks 0 lines))
+pub block-lettered : (from to : ℕ) (marks : List (Option ℕ)) (lines : List Line) →
+    texts (block from to lines) ≡ texts (block from to (lettered marks 0 lines))
 block-lettered from to marks lines =
-    texts-block from to lines ∙ ap (block from to) (sym (texts-lettered marks 0 lines)) ∙ sym (texts-block from to (lettered marks 0 lines))
+    texts-block from to lines ∙ ap (block from to) (sym (texts-lettered marks 0 lines))
+    ∙ sym (texts-block from to (lettered marks 0 lines))
 
 -- the texts of new lines are those that they were made of
 pub texts-plain : (text : List (List ℕ)) → texts (map plain_line text) ≡ text
@@ -258,12 +284,14 @@ texts-drop_plain (suc n) [] = refl
 texts-drop_plain (suc n) (line ∷ lines) = texts-drop_plain n lines
 
 -- a new line after others
-pub plain-push : (lines : List Line) (line : Line) → map plain_line (texts (lines ++ line ∷ [])) ≡ map plain_line (texts lines) ++ plain_line line.bytes ∷ []
+pub plain-push : (lines : List Line)
+    (line : Line) → map plain_line (texts (lines ++ line ∷ [])) ≡ map plain_line (texts lines) ++ plain_line line.bytes ∷ []
 plain-push [] line = refl
 plain-push (first ∷ lines) line = ap (λ t. plain_line first.bytes ∷ t) (plain-push lines line)
 
 -- one of them
-pub plain-at : (lines : List Line) (i : ℕ) (d : Line) → i < length lines → get_or (map plain_line (texts lines)) i d ≡ plain_line (get_or lines i d).bytes
+pub plain-at : (lines : List Line) (i : ℕ) (d : Line) → i < length lines →
+    get_or (map plain_line (texts lines)) i d ≡ plain_line (get_or lines i d).bytes
 plain-at [] i d h = absurd (omega arith)
 plain-at (line ∷ lines) zero d h = refl
 plain-at (line ∷ lines) (suc i) d h = plain-at lines i d (omega arith)

@@ -21,7 +21,8 @@ block-one i xs x h is =
     ∙ drop_at (take i xs) (get_or xs i x ∷ []) i (length-take-le i xs (omega arith))
     ∙ ap (λ y. y ∷ []) (sym is)
 
-block-joined : {X : Type 0} (a i j : ℕ) (xs : List X) → a ≤ i → i ≤ j → i ≤ length xs → block a j xs ≡ block a i xs ++ block i j xs
+block-joined : {X : Type 0} (a i j : ℕ) (xs : List X) → a ≤ i → i ≤ j → i ≤ length xs →
+    block a j xs ≡ block a i xs ++ block i j xs
 block-joined a i j xs h k l =
     ap (drop a) (sym (front i j xs k)) ∙ drop-append-le a (take i xs) (block i j xs) (omega (arith, length-take-le i xs l))
 
@@ -59,7 +60,8 @@ written-on a i j lines old mid new h k l first second =
     }
 
 -- a part of the second of two lists
-block-after : {X : Type 0} (xs ys : List X) (i j m n : ℕ) → i ≡ length xs + m → j ≡ length xs + n → block i j (xs ++ ys) ≡ block m n ys
+block-after : {X : Type 0} (xs ys : List X) (i j m n : ℕ) → i ≡ length xs + m → j ≡ length xs + n →
+    block i j (xs ++ ys) ≡ block m n ys
 block-after [] ys i j m n e f =
     ap (λ t. block t j ys) (let g : i ≡ m = omega arith in g) ∙ ap (λ t. block m t ys) (let g : j ≡ n = omega arith in g)
 block-after (x ∷ xs) ys zero j m n e f = absurd (omega arith)
@@ -81,8 +83,8 @@ block-in_chunk (chunk ∷ chunks) (suc k) a b i j h l e f =
     ∙ block-in_chunk chunks k a b m n (omega arith) l (omega arith) (omega arith)
 
 -- lines of a chunk
-pub written-chunk : (chunks : List (List Line)) (k a b i j : ℕ) (old new : List ℕ) → k < length chunks → b ≤ length (get_or chunks k []) →
-    i ≡ lines_before k chunks + a → j ≡ lines_before k chunks + b →
+pub written-chunk : (chunks : List (List Line)) (k a b i j : ℕ) (old new : List ℕ) → k < length chunks →
+    b ≤ length (get_or chunks k []) → i ≡ lines_before k chunks + a → j ≡ lines_before k chunks + b →
     Written a b (get_or chunks k []) old new → Written i j (joined chunks) old new
 written-chunk chunks k a b i j old new h l e f part =
     let same = ap texts (block-in_chunk chunks k a b i j h l e f) in

@@ -22,7 +22,8 @@ pub same-path : (path bytes : List ℕ) (files : Files) → file_at path ((path,
 same-path path bytes files = rw ((bytes_decides path path).1 refl, file_at) refl
 
 -- what is held, where the files are these
-pub these-hold : (real : Log) (files these made this : Files) → Holds real files made → these ≡ files → this ≡ made → Holds real these this
+pub these-hold : (real : Log) (files these made this : Files) → Holds real files made → these ≡ files → this ≡ made →
+    Holds real these this
 these-hold real files these made this h e f = rw (e, f) h
 
 -- where nothing was written, a read shows what the real files answer
@@ -90,7 +91,8 @@ write-kept real files made bytes at true h e = absurd (some-none bytes e)
 write-kept real files made bytes at false h e = h.kept at e
 
 -- a file that was written is held
-pub holds-write : (real : Log) (files made : Files) (path bytes : List ℕ) → Holds real files made → Holds real ((path, bytes) ∷ files) ((path, bytes) ∷ made)
+pub holds-write : (real : Log) (files made : Files) (path bytes : List ℕ) → Holds real files made →
+    Holds real ((path, bytes) ∷ files) ((path, bytes) ∷ made)
 holds-write real files made path bytes h = record {
   shown = λ at read e. record {
     as_written = λ more w. write-written real files made bytes at read more (pointwise nat_eq path at) h e w;

@@ -47,15 +47,18 @@ IsIsolated-any_zone x hx = record {
   column = λ p hp n. bound-any_zone p x hp hx ∙ any_bound-beside p x n;
 }
 
-pub IsIsolated-after_guard : (zone : Bounds) (x y z : ℕ) (c : ℤ) → x < 32 → y < 32 → z < 32 → y ≢ x → z ≢ x → IsIsolated zone x → IsIsolated (after_guard zone y z c) x
+pub IsIsolated-after_guard : (zone : Bounds) (x y z : ℕ) (c : ℤ) → x < 32 → y < 32 → z < 32 → y ≢ x → z ≢ x →
+    IsIsolated zone x → IsIsolated (after_guard zone y z c) x
 unfolding guard_bound
 IsIsolated-after_guard zone x y z c hx hy hz ny nz h = record {
   itself = bound-after_guard zone y z c x x hx hx ∙ (rw (h.itself, h.row y hy ny) refl);
   row = λ q hq n. bound-after_guard zone y z c x q hx hq ∙ (rw (h.row q hq n, h.row y hy ny) refl);
-  column = λ p hp n. bound-after_guard zone y z c p x hp hx ∙ (rw (h.column p hp n, h.column z hz nz) (tighten-column (bound zone p y) c));
+  column = λ p hp n. bound-after_guard zone y z c p x hp hx
+      ∙ (rw (h.column p hp n, h.column z hz nz) (tighten-column (bound zone p y) c));
 }
 
-pub IsIsolated-after_set : (zone : Bounds) (x y z : ℕ) (c : ℤ) → x < 32 → y < 32 → z < 32 → y ≢ x → z ≢ x → IsIsolated zone x → IsIsolated (after_set zone y z c) x
+pub IsIsolated-after_set : (zone : Bounds) (x y z : ℕ) (c : ℤ) → x < 32 → y < 32 → z < 32 → y ≢ x → z ≢ x →
+    IsIsolated zone x → IsIsolated (after_set zone y z c) x
 IsIsolated-after_set zone x y z c hx hy hz ny nz h = record {
   itself = bound-after_set zone y z c x x hx hx ∙ set_bound-other zone y z c x x (swapped y x ny) (swapped y x ny) ∙ h.itself;
   row = λ q hq n. bound-after_set zone y z c x q hx hq ∙ (elim (eqb_tells q y) [
@@ -68,9 +71,11 @@ IsIsolated-after_set zone x y z c hx hy hz ny nz h = record {
   ]);
 }
 
-pub IsIsolated-after_shift : (zone : Bounds) (x y : ℕ) (low high : Option ℤ) → x < 32 → y < 32 → y ≢ x → IsIsolated zone x → IsIsolated (after_shift zone y low high) x
+pub IsIsolated-after_shift : (zone : Bounds) (x y : ℕ) (low high : Option ℤ) → x < 32 → y < 32 → y ≢ x → IsIsolated zone x →
+    IsIsolated (after_shift zone y low high) x
 IsIsolated-after_shift zone x y low high hx hy ny h = record {
-  itself = bound-after_shift zone y low high x x hx hx ∙ shift_bound-other zone y low high x x (swapped y x ny) (swapped y x ny) ∙ h.itself;
+  itself = bound-after_shift zone y low high x x hx hx ∙ shift_bound-other zone y low high x x (swapped y x ny) (swapped y x ny)
+      ∙ h.itself;
   row = λ q hq n. bound-after_shift zone y low high x q hx hq ∙ (elim (eqb_tells q y) [
     | inl e ↦ rw e.1 (shift_bound-column zone y low high x (swapped y x ny) ∙ (rw (h.row y hy ny) refl))
     | inr e ↦ shift_bound-other zone y low high x q (swapped y x ny) e.1 ∙ h.row q hq n
@@ -81,7 +86,8 @@ IsIsolated-after_shift zone x y low high hx hy ny h = record {
   ]);
 }
 
-pub IsIsolated-after_forget : (zone : Bounds) (x y : ℕ) → x < 32 → y ≢ x → IsIsolated zone x → IsIsolated (after_forget zone y) x
+pub IsIsolated-after_forget : (zone : Bounds) (x y : ℕ) → x < 32 → y ≢ x → IsIsolated zone x →
+    IsIsolated (after_forget zone y) x
 IsIsolated-after_forget zone x y hx ny h = record {
   itself = bound-after_forget zone y x x hx hx ∙ forget_bound-other zone y x x (swapped y x ny) (swapped y x ny) ∙ h.itself;
   row = λ q hq n. bound-after_forget zone y x q hx hq ∙ (elim (eqb_tells q y) [
@@ -101,7 +107,8 @@ IsIsolated-forgotten zone x hx = record {
   column = λ p hp n. bound-after_forget zone x p x hp hx ∙ forget_bound-column zone x p n;
 }
 
-pub IsIsolated-join_of : (one other : Bounds) (x : ℕ) → x < 32 → IsIsolated one x → IsIsolated other x → IsIsolated (join_of one other) x
+pub IsIsolated-join_of : (one other : Bounds) (x : ℕ) → x < 32 → IsIsolated one x → IsIsolated other x →
+    IsIsolated (join_of one other) x
 unfolding join_bound
 IsIsolated-join_of one other x hx h k = record {
   itself = bound-join_of one other x x hx hx ∙ (rw (h.itself, k.itself) refl);
@@ -109,7 +116,8 @@ IsIsolated-join_of one other x hx h k = record {
   column = λ p hp n. bound-join_of one other p x hp hx ∙ (rw (h.column p hp n) refl);
 }
 
-pub IsIsolated-widening_of : (old new : Bounds) (x : ℕ) → x < 32 → IsIsolated old x → IsIsolated new x → IsIsolated (widening_of old new) x
+pub IsIsolated-widening_of : (old new : Bounds) (x : ℕ) → x < 32 → IsIsolated old x → IsIsolated new x →
+    IsIsolated (widening_of old new) x
 IsIsolated-widening_of old new x hx h k = record {
   itself = bound-widening_of old new x x hx hx ∙ widening_bound-diagonal old new x ∙ (rw (h.itself, k.itself) refl);
   row = λ q hq n. bound-widening_of old new x q hx hq ∙ widening_bound-other old new x q (swapped q x n) ∙ (rw (h.row q hq n) refl);

@@ -22,7 +22,8 @@ data Compared (a b : List (List ℕ)) (x y : List ℕ) : Type 0 where
   longer : (r : List (List ℕ)) → a ++ r ≡ b → x ≡ bytes_of r ++ y → Compared a b x y
   shorter : (r : List (List ℕ)) → a ≡ b ++ r → bytes_of r ++ x ≡ y → Compared a b x y
 
-compared : (a b : List (List ℕ)) (x y : List ℕ) → AreLines a → AreLines b → bytes_of a ++ x ≡ bytes_of b ++ y → Compared a b x y
+compared : (a b : List (List ℕ)) (x y : List ℕ) → AreLines a → AreLines b → bytes_of a ++ x ≡ bytes_of b ++ y →
+    Compared a b x y
 compared [] b x y h k e = longer b refl e
 compared (l ∷ a) [] x y h k e = shorter (l ∷ a) refl e
 compared (l ∷ a) (m ∷ b) x y h k e =
@@ -70,11 +71,14 @@ text-version bytes c t f = f c.version (bytes_of (texts (rest_lines c))) (sym t.
 
 text-line : (bytes : List ℕ) (c : Certificate) (number : ℕ) → IsText bytes c → IsLineFault number bytes → ⊥
 text-line bytes c number t f =
-    let same : bytes_of (lines_of c) ++ [] ≡ bytes_of (f.above ++ f.line ∷ []) ++ f.after = append-nil (bytes_of (lines_of c)) ∙ sym (text-is c) ∙ t.1 ∙ f.parted in
+    let same : bytes_of (lines_of c) ++ [] ≡ bytes_of (f.above ++ f.line ∷ []) ++ f.after = append-nil (bytes_of (lines_of c))
+    ∙ sym (text-is c) ∙ t.1 ∙ f.parted in
     elim (compared (lines_of c) (f.above ++ f.line ∷ []) [] f.after (text-lines c t.0) (fault-lines number bytes f) same) [
       | longer r is after ↦
           let none = no-rest r [] f.after (All-nil (λ b. b ≢ newline)) after in
-          f.refused (begins-of c (f.above ++ f.line ∷ []) [] t.0 (sym (append-nil (lines_of c)) ∙ ap (λ (l : List (List ℕ)). lines_of c ++ l) (sym none) ∙ is ∙ sym (append-nil (f.above ++ f.line ∷ []))))
+          f.refused (begins-of c (f.above ++ f.line ∷ []) [] t.0
+          (sym (append-nil (lines_of c)) ∙ ap (λ (l : List (List ℕ)). lines_of c ++ l) (sym none) ∙ is
+          ∙ sym (append-nil (f.above ++ f.line ∷ []))))
       | shorter r is before ↦ f.refused (begins-of c (f.above ++ f.line ∷ []) r t.0 is)
     ]
 
@@ -91,7 +95,8 @@ text-more c w later h k e =
           sym (sym (ap (λ (l : List (List ℕ)). bytes_of l ++ []) none) ∙ before)
     ]
 
-text-less : (c : Certificate) (lines : List (List ℕ)) (last : List ℕ) → HasText c → AreLines lines → IsLine last → (IsWhole lines → ⊥) → text_of c ≡ bytes_of lines ++ last → ⊥
+text-less : (c : Certificate) (lines : List (List ℕ)) (last : List ℕ) → HasText c → AreLines lines → IsLine last →
+    (IsWhole lines → ⊥) → text_of c ≡ bytes_of lines ++ last → ⊥
 text-less c lines last h are is_line unfinished e =
     let same : bytes_of lines ++ last ≡ bytes_of (lines_of c) ++ [] = sym e ∙ text-is c ∙ sym (append-nil (bytes_of (lines_of c))) in
     elim (compared lines (lines_of c) last [] are (text-lines c h) same) [
@@ -102,45 +107,54 @@ text-less c lines last h are is_line unfinished e =
             is = (h, text-is c ∙ ap bytes_of (sym is ∙ ap (λ (l : List (List ℕ)). lines ++ l) none ∙ append-nil lines));
           })
       | shorter r is before ↦ elim r as (λ q. lines ≡ lines_of c ++ q → bytes_of q ++ last ≡ [] → ⊥) [
-        | [] ↦ λ all none. unfinished (record { certificate = c; is = (h, text-is c ∙ ap bytes_of (sym (all ∙ append-nil (lines_of c)))) })
+        | [] ↦ λ all none. unfinished
+            (record { certificate = c; is = (h, text-is c ∙ ap bytes_of (sym (all ∙ append-nil (lines_of c)))) })
         | l ∷ q ↦ λ all none. no-bytes l (bytes_of q ++ last) (sym (append_assoc l (newline ∷ bytes_of q) last) ∙ none)
       ] is before
     ]
 
 text-size-of : (bytes : List ℕ) (c : Certificate) → HasText c → text_of c ≡ bytes → IsSizeFault bytes → ⊥
-text-size-of bytes c h e (more lines later w some) = some (text-more c w.certificate later h w.is.0 (e ∙ ap (λ (b : List ℕ). b ++ later) (sym w.is.1)))
+text-size-of bytes c h e (more lines later w some) =
+    some (text-more c w.certificate later h w.is.0 (e ∙ ap (λ (b : List ℕ). b ++ later) (sym w.is.1)))
 text-size-of bytes c h e (less lines last are some begun unfinished is_line) = text-less c lines last h are is_line unfinished e
 
 -- lines that begin a text begin with its first line
-first-line-of : (lines : List (List ℕ)) (after : List ℕ) → AreLines lines → lines ≢ [] → Begins lines → IsVersionFault (bytes_of lines ++ after) → ⊥
+first-line-of : (lines : List (List ℕ)) (after : List ℕ) → AreLines lines → lines ≢ [] → Begins lines →
+    IsVersionFault (bytes_of lines ++ after) → ⊥
 first-line-of [] after are some b f = some refl
 first-line-of (l ∷ lines) after are some b f =
     let goes = begins-goes (l ∷ lines) b are in
     let first : version_text b.certificate.version ≡ l = first-of goes.is in
-    f b.certificate.version (bytes_of lines ++ after) (append_assoc l (newline ∷ bytes_of lines) after ∙ ap (λ (x : List ℕ). x ++ newline ∷ (bytes_of lines ++ after)) (sym first))
+    f b.certificate.version (bytes_of lines ++ after)
+    (append_assoc l (newline ∷ bytes_of lines) after ∙ ap (λ (x : List ℕ). x ++ newline ∷ (bytes_of lines ++ after)) (sym first))
 
 version-line : (bytes : List ℕ) (number : ℕ) → IsVersionFault bytes → IsLineFault number bytes → ⊥
 version-line bytes number v f =
     first-line-of f.above (f.line ++ newline ∷ f.after) f.are_lines f.some f.begun
     (subst (λ (b : List ℕ). IsVersionFault b)
-    (f.parted ∙ ap (λ (b : List ℕ). b ++ f.after) (bytes_of-append f.above (f.line ∷ [])) ∙ append_assoc (bytes_of f.above) (f.line ++ newline ∷ []) f.after
+    (f.parted ∙ ap (λ (b : List ℕ). b ++ f.after) (bytes_of-append f.above (f.line ∷ []))
+    ∙ append_assoc (bytes_of f.above) (f.line ++ newline ∷ []) f.after
     ∙ ap (λ (b : List ℕ). bytes_of f.above ++ b) (append_assoc f.line (newline ∷ []) f.after))
     v)
 
 version-size : (bytes : List ℕ) → IsVersionFault bytes → IsSizeFault bytes → ⊥
 version-size bytes v (more lines later w some) =
     v w.certificate.version (bytes_of (texts (rest_lines w.certificate)) ++ later)
-    (ap (λ (b : List ℕ). b ++ later) (sym w.is.1 ∙ text-is w.certificate) ∙ append_assoc (version_text w.certificate.version) (newline ∷ bytes_of (texts (rest_lines w.certificate))) later)
+    (ap (λ (b : List ℕ). b ++ later) (sym w.is.1 ∙ text-is w.certificate)
+    ∙ append_assoc (version_text w.certificate.version) (newline ∷ bytes_of (texts (rest_lines w.certificate))) later)
 version-size bytes v (less lines last are some begun unfinished is_line) = first-line-of lines last are some begun v
 
 -- the lines above one line fault are no more than those above another
-no-longer : (bytes : List ℕ) (one other : ℕ) (f : IsLineFault one bytes) (g : IsLineFault other bytes) → length g.above ≤ length f.above
+no-longer : (bytes : List ℕ) (one other : ℕ) (f : IsLineFault one bytes) (g : IsLineFault other bytes) →
+    length g.above ≤ length f.above
 no-longer bytes one other f g =
     let same : bytes_of (f.above ++ f.line ∷ []) ++ f.after ≡ bytes_of g.above ++ (g.line ++ newline ∷ g.after) =
-    sym f.parted ∙ g.parted ∙ ap (λ (b : List ℕ). b ++ g.after) (bytes_of-append g.above (g.line ∷ [])) ∙ append_assoc (bytes_of g.above) (g.line ++ newline ∷ []) g.after
+    sym f.parted ∙ g.parted ∙ ap (λ (b : List ℕ). b ++ g.after) (bytes_of-append g.above (g.line ∷ []))
+    ∙ append_assoc (bytes_of g.above) (g.line ++ newline ∷ []) g.after
     ∙ ap (λ (b : List ℕ). bytes_of g.above ++ b) (append_assoc g.line (newline ∷ []) g.after) in
     elim (compared (f.above ++ f.line ∷ []) g.above f.after (g.line ++ newline ∷ g.after) (fault-lines one bytes f) g.are_lines same) [
-      | longer r is after ↦ absurd (f.refused (begins-less (f.above ++ f.line ∷ []) r (begins-same g.above ((f.above ++ f.line ∷ []) ++ r) (sym is) g.begun)))
+      | longer r is after ↦ absurd
+          (f.refused (begins-less (f.above ++ f.line ∷ []) r (begins-same g.above ((f.above ++ f.line ∷ []) ++ r) (sym is) g.begun)))
       | shorter r is before ↦ elim r as (λ q. f.above ++ f.line ∷ [] ≡ g.above ++ q → length g.above ≤ length f.above) [
         | [] ↦ λ all. absurd (f.refused (begins-same g.above (f.above ++ f.line ∷ []) (sym (all ∙ append-nil g.above)) g.begun))
         | l ∷ q ↦ λ all.
@@ -162,8 +176,8 @@ front-empty [] b e = refl
 front-empty (l ∷ a) b e = absurd cc
 
 -- a line fault and a text before more bytes
-line-more-after : (bytes : List ℕ) (number : ℕ) (f : IsLineFault number bytes) (w : Certificate) (later : List ℕ) (r : List (List ℕ)) → HasText w → f.above ++ r ≡ lines_of w →
-    f.line ++ newline ∷ f.after ≡ bytes_of r ++ later → ⊥
+line-more-after : (bytes : List ℕ) (number : ℕ) (f : IsLineFault number bytes) (w : Certificate) (later : List ℕ)
+    (r : List (List ℕ)) → HasText w → f.above ++ r ≡ lines_of w → f.line ++ newline ∷ f.after ≡ bytes_of r ++ later → ⊥
 line-more-after bytes number f w later [] h is after =
     f.unfinished (record { certificate = w; is = (h, text-is w ∙ ap bytes_of (sym (sym (append-nil f.above) ∙ is))) })
 line-more-after bytes number f w later (l ∷ r) h is after =
@@ -175,39 +189,52 @@ line-more-after bytes number f w later (l ∷ r) h is after =
     (sym is ∙ ap (λ (x : List ℕ). f.above ++ x ∷ r) (sym cut.0) ∙ sym (append_assoc f.above (f.line ∷ []) r)))
 
 -- a line fault and a size fault
-line-more : (bytes : List ℕ) (number : ℕ) (f : IsLineFault number bytes) (w : Certificate) (later : List ℕ) → HasText w → bytes ≡ text_of w ++ later → ⊥
+line-more : (bytes : List ℕ) (number : ℕ) (f : IsLineFault number bytes) (w : Certificate) (later : List ℕ) → HasText w →
+    bytes ≡ text_of w ++ later → ⊥
 line-more bytes number f w later h e =
     let same : bytes_of f.above ++ (f.line ++ newline ∷ f.after) ≡ bytes_of (lines_of w) ++ later =
-    sym (ap (λ (b : List ℕ). bytes_of f.above ++ b) (append_assoc f.line (newline ∷ []) f.after)) ∙ sym (append_assoc (bytes_of f.above) (f.line ++ newline ∷ []) f.after)
-    ∙ ap (λ (b : List ℕ). b ++ f.after) (sym (bytes_of-append f.above (f.line ∷ []))) ∙ sym f.parted ∙ e ∙ ap (λ (b : List ℕ). b ++ later) (text-is w) in
+    sym (ap (λ (b : List ℕ). bytes_of f.above ++ b) (append_assoc f.line (newline ∷ []) f.after))
+    ∙ sym (append_assoc (bytes_of f.above) (f.line ++ newline ∷ []) f.after)
+    ∙ ap (λ (b : List ℕ). b ++ f.after) (sym (bytes_of-append f.above (f.line ∷ []))) ∙ sym f.parted ∙ e
+    ∙ ap (λ (b : List ℕ). b ++ later) (text-is w) in
     elim (compared f.above (lines_of w) (f.line ++ newline ∷ f.after) later f.are_lines (text-lines w h) same) [
       | longer r is after ↦ line-more-after bytes number f w later r h is after
       | shorter r is before ↦
           let goes = begins-goes f.above f.begun f.are_lines in
           let whole = goes.is ∙ ap (λ (l : List (List ℕ)). l ++ goes.later) is ∙ append_assoc (lines_of w) r goes.later in
           let none : r ++ goes.later ≡ [] =
-          rest-ends f.begun.certificate w (r ++ goes.later) (version-same f.begun.certificate.version w.version (first-of whole)) f.begun.is.0 h (later-of whole) in
+          rest-ends f.begun.certificate w (r ++ goes.later) (version-same f.begun.certificate.version w.version (first-of whole))
+          f.begun.is.0 h (later-of whole) in
           let empty : r ≡ [] = front-empty r goes.later none in
           f.unfinished (record {
             certificate = w;
-            is = (h, text-is w ∙ ap bytes_of (sym (is ∙ ap (λ (l : List (List ℕ)). lines_of w ++ l) empty ∙ append-nil (lines_of w))));
+            is = (
+              h,
+              text-is w
+                  ∙ ap bytes_of (sym (is ∙ ap (λ (l : List (List ℕ)). lines_of w ++ l) empty ∙ append-nil (lines_of w))),
+            );
           })
     ]
 
 line-size : (bytes : List ℕ) (number : ℕ) → IsLineFault number bytes → IsSizeFault bytes → ⊥
-line-size bytes number f (more lines later w some) = line-more bytes number f w.certificate later w.is.0 (ap (λ (b : List ℕ). b ++ later) (sym w.is.1))
+line-size bytes number f (more lines later w some) =
+    line-more bytes number f w.certificate later w.is.0 (ap (λ (b : List ℕ). b ++ later) (sym w.is.1))
 line-size bytes number f (less lines last are some begun unfinished is_line) =
     elim (compared (f.above ++ f.line ∷ []) lines f.after last (fault-lines number bytes f) are (sym f.parted)) [
-      | longer r is after ↦ f.refused (begins-less (f.above ++ f.line ∷ []) r (begins-same lines ((f.above ++ f.line ∷ []) ++ r) (sym is) begun))
+      | longer r is after ↦ f.refused
+          (begins-less (f.above ++ f.line ∷ []) r (begins-same lines ((f.above ++ f.line ∷ []) ++ r) (sym is) begun))
       | shorter r is before ↦
           let none = no-rest r last f.after is_line (sym before) in
-          f.refused (begins-same lines (f.above ++ f.line ∷ []) (sym (is ∙ ap (λ (l : List (List ℕ)). lines ++ l) none ∙ append-nil lines)) begun)
+          f.refused (begins-same lines (f.above ++ f.line ∷ [])
+          (sym (is ∙ ap (λ (l : List (List ℕ)). lines ++ l) none ∙ append-nil lines)) begun)
     ]
 
-pub text-apart : (bytes : List ℕ) (c : Certificate) → IsText bytes c → (IsVersionFault bytes → ⊥) × ((number : ℕ) → IsLineFault number bytes → ⊥) × (IsSizeFault bytes → ⊥)
+pub text-apart : (bytes : List ℕ) (c : Certificate) → IsText bytes c →
+    (IsVersionFault bytes → ⊥) × ((number : ℕ) → IsLineFault number bytes → ⊥) × (IsSizeFault bytes → ⊥)
 text-apart bytes c t = (λ f. text-version bytes c t f, λ n f. text-line bytes c n t f, λ f. text-size-of bytes c t.0 t.1 f)
 
-pub version-apart : (bytes : List ℕ) → IsVersionFault bytes → ((number : ℕ) → IsLineFault number bytes → ⊥) × (IsSizeFault bytes → ⊥)
+pub version-apart : (bytes : List ℕ) → IsVersionFault bytes →
+    ((number : ℕ) → IsLineFault number bytes → ⊥) × (IsSizeFault bytes → ⊥)
 version-apart bytes v = (λ n f. version-line bytes n v f, λ f. version-size bytes v f)
 
 pub line-apart : (bytes : List ℕ) (one other : ℕ) → IsLineFault one bytes → IsLineFault other bytes → one ≡ other
@@ -217,12 +244,14 @@ pub size-apart : (bytes : List ℕ) (number : ℕ) → IsLineFault number bytes 
 size-apart bytes number f s = line-size bytes number f s
 
 -- bytes that are read have no fault
-pub no-line : (bytes : List ℕ) (r : Result public.Certificate Unread) → IsReadAs bytes r → result_err r ≡ None → (number : ℕ) → IsLineFault number bytes → ⊥
+pub no-line : (bytes : List ℕ) (r : Result public.Certificate Unread) → IsReadAs bytes r → result_err r ≡ None →
+    (number : ℕ) → IsLineFault number bytes → ⊥
 no-line bytes (Ok c) h e number f = (text-apart bytes (certificate_value c) h).1 number f
 no-line bytes (Err unread) h e number f = absurd cc
 
 -- the fault of bytes that aren't read
-pub the-fault : (bytes : List ℕ) (r : Result public.Certificate Unread) (given unread : Unread) → IsReadAs bytes r → result_err r ≡ Some given → given ≡ unread → IsReadAs bytes (Err unread)
+pub the-fault : (bytes : List ℕ) (r : Result public.Certificate Unread) (given unread : Unread) → IsReadAs bytes r →
+    result_err r ≡ Some given → given ≡ unread → IsReadAs bytes (Err unread)
 the-fault bytes (Ok c) given unread h e is = absurd cc
 the-fault bytes (Err other) given unread h e is =
     let same : other ≡ unread = cc in

@@ -23,12 +23,14 @@ abbrev pub Limits : Type 0
 Limits = ℕ × Option ℕ
 
 -- a certificate of its parts
-abbrev pub certificate_of : Version → Choice → Limits → List (List ℕ) → List Note → State → Limits → List (List ℕ) → Certificate
+abbrev pub certificate_of : Version → Choice → Limits → List (List ℕ) → List Note → State → Limits → List (List ℕ) →
+    Certificate
 certificate_of version path start has notes last final writes =
     certificate_made version path start.0 start.1 has notes last final.0 final.1 writes
 
-pub certificate-formed : (version : Version) (path : Choice) (start : Limits) (has : List (List ℕ)) (notes : List Note) (last : State) (final : Limits) (writes : List (List ℕ)) →
-    ChoiceIsBytes path → AreStartLimits start → IsSaidIn version has → All (NoteHasText version) notes → StateHasText version last → AreLimits final → TextsAreFormed writes →
+pub certificate-formed : (version : Version) (path : Choice) (start : Limits) (has : List (List ℕ)) (notes : List Note) (last : State)
+    (final : Limits) (writes : List (List ℕ)) → ChoiceIsBytes path → AreStartLimits start → IsSaidIn version has →
+    All (NoteHasText version) notes → StateHasText version last → AreLimits final → TextsAreFormed writes →
     HasTextIn version (certificate_of version path start has notes last final writes)
 certificate-formed version path start has notes last final writes p s t n l f w = (
   refl,
@@ -63,37 +65,50 @@ abbrev has_texts : Version → List (List ℕ) → List (List ℕ)
 has_texts version has = texts (matched_lines version (codes "has") has)
 
 -- the lines of a certificate, part by part
-lines-right : (version : Version) (path : Choice) (start : Limits) (has : List (List ℕ)) (notes : List Note) (last : State) (final : Limits) (writes : List (List ℕ)) →
-    texts (rest_lines (certificate_of version path start has notes last final writes))
-    ≡ path_texts path ++ start_texts start ++ (has_texts version has ++ (texts (notes_lines version notes) ++ (texts (state_lines version last) ++ (final_texts final ++ writes_texts writes))))
+lines-right : (version : Version) (path : Choice) (start : Limits) (has : List (List ℕ)) (notes : List Note) (last : State)
+    (final : Limits)
+    (writes : List (List ℕ)) →
+    texts (rest_lines (certificate_of version path start has notes last final writes)) ≡ path_texts path ++ start_texts
+    start ++ (has_texts version
+    has ++ (texts (notes_lines version notes) ++ (texts (state_lines version last) ++ (final_texts final ++ writes_texts writes))))
 lines-right version path start has notes last final writes =
     ap (λ (l : List (List ℕ)). path_texts path ++ start_texts start ++ l) (
-    texts-append (matched_lines version (codes "has") has) (notes_lines version notes ++ (state_lines version last ++ limits_line (codes "final") final ∷ writes_line writes ∷ []))
+    texts-append (matched_lines version (codes "has") has)
+    (notes_lines version notes ++ (state_lines version last ++ limits_line (codes "final") final ∷ writes_line writes ∷ []))
     ∙ ap (λ (l : List (List ℕ)). has_texts version has ++ l) (
     texts-append (notes_lines version notes) (state_lines version last ++ limits_line (codes "final") final ∷ writes_line writes ∷ [])
-    ∙ ap (λ (l : List (List ℕ)). texts (notes_lines version notes) ++ l) (texts-append (state_lines version last) (limits_line (codes "final") final ∷ writes_line writes ∷ []))))
+    ∙ ap (λ (l : List (List ℕ)). texts (notes_lines version notes) ++ l)
+    (texts-append (state_lines version last) (limits_line (codes "final") final ∷ writes_line writes ∷ []))))
 
-lines-before : (version : Version) (path : Choice) (start : Limits) (has : List (List ℕ)) (notes : List Note) (last : State) (final : Limits) (writes : List (List ℕ)) (back : List (List ℕ)) →
+lines-before : (version : Version) (path : Choice) (start : Limits) (has : List (List ℕ)) (notes : List Note) (last : State)
+    (final : Limits) (writes : List (List ℕ)) (back : List (List ℕ)) →
     texts (rest_lines (certificate_of version path start has notes last final writes)) ++ back
-    ≡ path_texts path ++ start_texts start ++ (has_texts version has ++ (texts (notes_lines version notes) ++ (texts (state_lines version last) ++ (final_texts final ++ writes_texts writes ++ back))))
+    ≡ path_texts path ++ start_texts
+    start ++ (has_texts version
+    has ++ (texts (notes_lines version notes) ++ (texts (state_lines version last) ++ (final_texts final ++ writes_texts writes ++ back))))
 lines-before version path start has notes last final writes back =
     ap (λ (l : List (List ℕ)). l ++ back) (lines-right version path start has notes last final writes)
     ∙ ap (λ (l : List (List ℕ)). path_texts path ++ start_texts start ++ l) (
-    append_assoc (has_texts version has) (texts (notes_lines version notes) ++ (texts (state_lines version last) ++ (final_texts final ++ writes_texts writes))) back
+    append_assoc (has_texts version has)
+    (texts (notes_lines version notes) ++ (texts (state_lines version last) ++ (final_texts final ++ writes_texts writes))) back
     ∙ ap (λ (l : List (List ℕ)). has_texts version has ++ l) (
     append_assoc (texts (notes_lines version notes)) (texts (state_lines version last) ++ (final_texts final ++ writes_texts writes)) back
-    ∙ ap (λ (l : List (List ℕ)). texts (notes_lines version notes) ++ l) (append_assoc (texts (state_lines version last)) (final_texts final ++ writes_texts writes) back)))
+    ∙ ap (λ (l : List (List ℕ)). texts (notes_lines version notes) ++ l)
+    (append_assoc (texts (state_lines version last)) (final_texts final ++ writes_texts writes) back)))
 
 -- the lines of a certificate below the first, in a version
 abbrev lines_at : Version → Certificate → List Line
 lines_at version c =
     path_line c.path ∷ limits_line (codes "start") (c.min, c.max) ∷ matched_lines version (codes "has") c.has
-    ++ (notes_lines version c.notes ++ (state_lines version c.last ++ limits_line (codes "final") (c.low, c.high) ∷ writes_line c.writes ∷ []))
+    ++ (notes_lines version
+    c.notes ++ (state_lines version c.last ++ limits_line (codes "final") (c.low, c.high) ∷ writes_line c.writes ∷ []))
 
 -- what stands below the first two lines
 abbrev after_start : Version → Certificate → (back : List (List ℕ)) → List (List ℕ)
 after_start version c back =
-    has_texts version c.has ++ (texts (notes_lines version c.notes) ++ (texts (state_lines version c.last) ++ (final_texts (c.low, c.high) ++ writes_texts c.writes ++ back)))
+    has_texts version
+    c.has ++ (texts (notes_lines version c.notes)
+    ++ (texts (state_lines version c.last) ++ (final_texts (c.low, c.high) ++ writes_texts c.writes ++ back)))
 
 below-start : (c : Certificate) (back : List (List ℕ)) →
     texts (rest_lines c) ++ back ≡ path_texts c.path ++ start_texts (c.min, c.max) ++ after_start c.version c back
@@ -191,7 +206,8 @@ module _ (version : Version) where
       record {
         value = certificate_of version v.0 v.1.0 v.1.1.0 v.1.1.1.0 v.1.1.1.1.0 v.1.1.1.1.1.0 v.1.1.1.1.1.1;
         has =
-            certificate-formed version v.0 v.1.0 v.1.1.0 v.1.1.1.0 v.1.1.1.1.0 v.1.1.1.1.1.0 v.1.1.1.1.1.1 h.0 h.1.0 h.1.1.0 h.1.1.1.0 h.1.1.1.1.0 h.1.1.1.1.1.0 h.1.1.1.1.1.1;
+            certificate-formed version v.0 v.1.0 v.1.1.0 v.1.1.1.0 v.1.1.1.1.0 v.1.1.1.1.1.0 v.1.1.1.1.1.1 h.0 h.1.0 h.1.1.0 h.1.1.1.0
+            h.1.1.1.1.0 h.1.1.1.1.1.0 h.1.1.1.1.1.1;
         is = k.is;
       }
 
@@ -218,46 +234,65 @@ module _ (version : Version) where
   cuts-state a b x y h k e = (front-state version a b x y h k e).1
 
   -- what may stand after each of its pieces, once that was read
-  pub path-read : {old mid : Left} (path : Choice) → ChoiceIsBytes path × Took (path_texts path) old mid → SoFar (IsOf rest_lines (HasTextIn version)) (IsOf from_start FromStart) old mid
+  pub path-read : {old mid : Left} (path : Choice) → ChoiceIsBytes path × Took (path_texts path) old mid →
+      SoFar (IsOf rest_lines (HasTextIn version)) (IsOf from_start FromStart) old mid
   path-read {old} path read = on _ _ _ _ (rest-begun old) (cuts-line path_line ChoiceIsBytes) path read
 
-  pub start-read : {old mid new : Left} → SoFar (IsOf rest_lines (HasTextIn version)) (IsOf from_start FromStart) old mid → (value : Limits) → AreStartLimits value × Took (start_texts value) mid new → SoFar (IsOf rest_lines (HasTextIn version)) (IsOf from_has FromHas) old new
+  pub start-read : {old mid new : Left} → SoFar (IsOf rest_lines (HasTextIn version)) (IsOf from_start FromStart) old mid →
+      (value : Limits) → AreStartLimits value × Took (start_texts value) mid new →
+      SoFar (IsOf rest_lines (HasTextIn version)) (IsOf from_has FromHas) old new
   start-read so_far value read = on _ _ _ _ so_far (cuts-line (limits_line (codes "start")) AreStartLimits) value read
 
-  pub has-read : {old mid new : Left} → SoFar (IsOf rest_lines (HasTextIn version)) (IsOf from_has FromHas) old mid → (value : List (List ℕ)) → IsSaidIn version value × Took (has_texts version value) mid new → SoFar (IsOf rest_lines (HasTextIn version)) (IsOf from_notes FromNotes) old new
+  pub has-read : {old mid new : Left} → SoFar (IsOf rest_lines (HasTextIn version)) (IsOf from_has FromHas) old mid →
+      (value : List (List ℕ)) → IsSaidIn version value × Took (has_texts version value) mid new →
+      SoFar (IsOf rest_lines (HasTextIn version)) (IsOf from_notes FromNotes) old new
   has-read so_far value read = on _ _ _ _ so_far (cuts-matched version (codes "has")) value read
 
-  pub notes-read : {old mid new : Left} → SoFar (IsOf rest_lines (HasTextIn version)) (IsOf from_notes FromNotes) old mid → (value : List Note) → All (NoteHasText version) value × Took (texts (notes_lines version value)) mid new → SoFar (IsOf rest_lines (HasTextIn version)) (IsOf from_last FromLast) old new
+  pub notes-read : {old mid new : Left} → SoFar (IsOf rest_lines (HasTextIn version)) (IsOf from_notes FromNotes) old mid →
+      (value : List Note) → All (NoteHasText version) value × Took (texts (notes_lines version value)) mid new →
+      SoFar (IsOf rest_lines (HasTextIn version)) (IsOf from_last FromLast) old new
   notes-read so_far value read = on _ _ _ _ so_far cuts-notes value read
 
-  pub last-read : {old mid new : Left} → SoFar (IsOf rest_lines (HasTextIn version)) (IsOf from_last FromLast) old mid → (value : State) → StateHasText version value × Took (texts (state_lines version value)) mid new → SoFar (IsOf rest_lines (HasTextIn version)) (IsOf from_final FromFinal) old new
+  pub last-read : {old mid new : Left} → SoFar (IsOf rest_lines (HasTextIn version)) (IsOf from_last FromLast) old mid →
+      (value : State) → StateHasText version value × Took (texts (state_lines version value)) mid new →
+      SoFar (IsOf rest_lines (HasTextIn version)) (IsOf from_final FromFinal) old new
   last-read so_far value read = on _ _ _ _ so_far cuts-state value read
 
-  pub final-read : {old mid new : Left} → SoFar (IsOf rest_lines (HasTextIn version)) (IsOf from_final FromFinal) old mid → (value : Limits) → AreLimits value × Took (final_texts value) mid new → SoFar (IsOf rest_lines (HasTextIn version)) (IsOf (alone writes_line) TextsAreFormed) old new
+  pub final-read : {old mid new : Left} → SoFar (IsOf rest_lines (HasTextIn version)) (IsOf from_final FromFinal) old mid →
+      (value : Limits) → AreLimits value × Took (final_texts value) mid new →
+      SoFar (IsOf rest_lines (HasTextIn version)) (IsOf (alone writes_line) TextsAreFormed) old new
   final-read so_far value read = on _ _ _ _ so_far (cuts-line (limits_line (codes "final")) AreLimits) value read
 
   -- what stands below the last state
-  below-last : (c w : Certificate) (back more : List (List ℕ)) → IsSaid version c → IsSaid version w → after_start version c back ≡ after_start version w more →
+  below-last : (c w : Certificate) (back more : List (List ℕ)) → IsSaid version c → IsSaid version w →
+      after_start version c back ≡ after_start version w more →
       final_texts (c.low, c.high) ++ writes_texts c.writes ++ back ≡ final_texts (w.low, w.high) ++ writes_texts w.writes ++ more
   below-last c w back more h k e =
-      cuts-state c.last w.last (final_texts (c.low, c.high) ++ writes_texts c.writes ++ back) (final_texts (w.low, w.high) ++ writes_texts w.writes ++ more) h.1.1 k.1.1
+      cuts-state c.last w.last (final_texts (c.low, c.high) ++ writes_texts c.writes ++ back)
+      (final_texts (w.low, w.high) ++ writes_texts w.writes ++ more) h.1.1 k.1.1
       (cuts-notes c.notes w.notes _ _ h.1.0 k.1.0 (cuts-matched version (codes "has") c.has w.has _ _ h.0 k.0 e))
 
   -- all of its lines
-  pub rest-taken : {old a b c d e f new : Left} (path : Choice) (start : Limits) (has : List (List ℕ)) (notes : List Note) (last : State) (final : Limits) (writes : List (List ℕ)) →
-      Took (path_texts path) old a → Took (start_texts start) a b → Took (has_texts version has) b c → Took (texts (notes_lines version notes)) c d → Took (texts (state_lines version last)) d e → Took (final_texts final) e f →
-      Took (writes_texts writes) f new → Took (texts (rest_lines (certificate_of version path start has notes last final writes))) old new
+  pub rest-taken : {old a b c d e f new : Left} (path : Choice) (start : Limits) (has : List (List ℕ)) (notes : List Note) (last : State)
+      (final : Limits) (writes : List (List ℕ)) → Took (path_texts path) old a → Took (start_texts start) a b →
+      Took (has_texts version has) b c → Took (texts (notes_lines version notes)) c d → Took (texts (state_lines version last)) d e →
+      Took (final_texts final) e f → Took (writes_texts writes) f new →
+      Took (texts (rest_lines (certificate_of version path start has notes last final writes))) old new
   rest-taken {old} {a} {b} {c} {d} {e} {f} {new} path start has notes last final writes p s t n l q w =
       took-is (
       ap (λ (x : List (List ℕ)). path_texts path ++ start_texts start ++ x) (
-      append_assoc (has_texts version has ++ texts (notes_lines version notes) ++ texts (state_lines version last)) (final_texts final) (writes_texts writes)
-      ∙ append_assoc (has_texts version has ++ texts (notes_lines version notes)) (texts (state_lines version last)) (final_texts final ++ writes_texts writes)
-      ∙ append_assoc (has_texts version has) (texts (notes_lines version notes)) (texts (state_lines version last) ++ (final_texts final ++ writes_texts writes)))
+      append_assoc (has_texts version has ++ texts (notes_lines version notes) ++ texts (state_lines version last)) (final_texts final)
+      (writes_texts writes)
+      ∙ append_assoc (has_texts version has ++ texts (notes_lines version notes)) (texts (state_lines version last))
+      (final_texts final ++ writes_texts writes)
+      ∙ append_assoc (has_texts version has) (texts (notes_lines version notes))
+      (texts (state_lines version last) ++ (final_texts final ++ writes_texts writes)))
       ∙ sym (lines-right version path start has notes last final writes))
       (took-more (took-more (took-more (took-more (took-more (took-more p s) t) n) l) q) w)
 
 -- the lines of one certificate aren't the front of another's of the same version
-pub rest-ends : (c w : Certificate) (more : List (List ℕ)) → c.version ≡ w.version → HasText c → HasText w → texts (rest_lines c) ≡ texts (rest_lines w) ++ more → more ≡ []
+pub rest-ends : (c w : Certificate) (more : List (List ℕ)) → c.version ≡ w.version → HasText c → HasText w →
+    texts (rest_lines c) ≡ texts (rest_lines w) ++ more → more ≡ []
 rest-ends c w more same h k e =
     let below : after_start c.version c [] ≡ after_start w.version w more =
     later-of (later-of (sym (below-start c []) ∙ append-nil (texts (rest_lines c)) ∙ e ∙ below-start w more)) in

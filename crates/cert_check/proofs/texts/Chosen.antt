@@ -44,7 +44,8 @@ one-word [] (y ∷ b) e = absurd cc
 one-word (x ∷ a) [] e = absurd cc
 one-word (x ∷ a) (y ∷ b) e = cc
 
-pub marks-same : (a b : List Bool) → length a ≡ length b → letters_words (sure_letters 97 a) ≡ letters_words (sure_letters 97 b) → a ≡ b
+pub marks-same : (a b : List Bool) → length a ≡ length b → letters_words (sure_letters 97 a) ≡ letters_words (sure_letters 97 b) →
+    a ≡ b
 marks-same a b l e = letters-same 97 a b l (one-word (sure_letters 97 a) (sure_letters 97 b) e)
 
 -- hexadecimal digits
@@ -87,7 +88,9 @@ spelled-of b = elim (cases_Bool (is_itself b)) [
 
 spelled-above : (b : ℕ) → Spelled b → Above 32 (byte_text b)
 spelled-above b (itself e l n) = subst (λ (t : List ℕ). Above 32 t) (sym e) (l, tt)
-spelled-above b (escaped e) = subst (λ (t : List ℕ). Above 32 t) (sym e) (omega arith, (digit-above _ (digit-of (b / 16)), (digit-above _ (digit-of (b % 16)), tt)))
+spelled-above b (escaped e) =
+    subst (λ (t : List ℕ). Above 32 t) (sym e)
+    (omega arith, (digit-above _ (digit-of (b / 16)), (digit-above _ (digit-of (b % 16)), tt)))
 
 bytes-above : (bytes : List ℕ) → Above 32 (flat_map byte_text bytes)
 bytes-above [] = tt
@@ -98,13 +101,17 @@ choice-above None = (omega arith, tt)
 choice-above (Some bytes) = (omega arith, bytes-above bytes)
 
 -- two bytes with what follows
-pub spelled-same : (x y : ℕ) (r s : List ℕ) → Spelled x → Spelled y → byte_text x ++ r ≡ byte_text y ++ s → (x ≡ y) × (r ≡ s)
-spelled-same x y r s (itself a l n) (itself b m o) e = let f : x ∷ r ≡ y ∷ s = ap (λ (t : List ℕ). t ++ r) (sym a) ∙ e ∙ ap (λ (t : List ℕ). t ++ s) b in (cc, cc)
+pub spelled-same : (x y : ℕ) (r s : List ℕ) → Spelled x → Spelled y → byte_text x ++ r ≡ byte_text y ++ s →
+    (x ≡ y) × (r ≡ s)
+spelled-same x y r s (itself a l n) (itself b m o) e = let f : x ∷ r ≡ y ∷ s = ap (λ (t : List ℕ). t ++ r) (sym a) ∙ e
+    ∙ ap (λ (t : List ℕ). t ++ s) b in (cc, cc)
 spelled-same x y r s (itself a l n) (escaped b) e =
-    let f : x ∷ r ≡ 37 ∷ hexadecimal (y / 16) ∷ hexadecimal (y % 16) ∷ s = ap (λ (t : List ℕ). t ++ r) (sym a) ∙ e ∙ ap (λ (t : List ℕ). t ++ s) b in
+    let f : x ∷ r ≡ 37 ∷ hexadecimal (y / 16) ∷ hexadecimal (y % 16) ∷ s = ap (λ (t : List ℕ). t ++ r) (sym a) ∙ e
+    ∙ ap (λ (t : List ℕ). t ++ s) b in
     let is : x ≡ 37 = cc in absurd (n is)
 spelled-same x y r s (escaped a) (itself b m o) e =
-    let f : 37 ∷ hexadecimal (x / 16) ∷ hexadecimal (x % 16) ∷ r ≡ y ∷ s = ap (λ (t : List ℕ). t ++ r) (sym a) ∙ e ∙ ap (λ (t : List ℕ). t ++ s) b in
+    let f : 37 ∷ hexadecimal (x / 16) ∷ hexadecimal (x % 16) ∷ r ≡ y ∷ s = ap (λ (t : List ℕ). t ++ r) (sym a) ∙ e
+    ∙ ap (λ (t : List ℕ). t ++ s) b in
     let is : y ≡ 37 = cc in absurd (o is)
 spelled-same x y r s (escaped a) (escaped b) e =
     let f : 37 ∷ hexadecimal (x / 16) ∷ hexadecimal (x % 16) ∷ r ≡ 37 ∷ hexadecimal (y / 16) ∷ hexadecimal (y % 16) ∷ s =
@@ -115,7 +122,8 @@ spelled-same x y r s (escaped a) (escaped b) e =
 
 pub something : (y : ℕ) (s : List ℕ) → Spelled y → [] ≡ byte_text y ++ s → ⊥
 something y s (itself b m o) e = let f : [] ≡ y ∷ s = e ∙ ap (λ (t : List ℕ). t ++ s) b in absurd cc
-something y s (escaped b) e = let f : [] ≡ 37 ∷ hexadecimal (y / 16) ∷ hexadecimal (y % 16) ∷ s = e ∙ ap (λ (t : List ℕ). t ++ s) b in absurd cc
+something y s (escaped b) e = let f : [] ≡ 37 ∷ hexadecimal (y / 16) ∷ hexadecimal (y % 16) ∷ s = e
+    ∙ ap (λ (t : List ℕ). t ++ s) b in absurd cc
 
 bytes-same : (a b : List ℕ) → flat_map byte_text a ≡ flat_map byte_text b → a ≡ b
 bytes-same [] [] e = refl
@@ -171,10 +179,14 @@ possible-words : (b : Bool) (w : Word) → Above 32 w → AreWords (possible b w
 possible-words true w h = (h, tt)
 possible-words false w h = tt
 
-pub two-words : (u v : Word) → all_above 32 u ≡ true → all_above 32 v ≡ true → (a b : Bool) → AreWords (possible a u ++ possible b v)
-two-words u v hu hv a b = AreWords-append (possible a u) (possible b v) (possible-words a u (Above-from_test 32 u hu)) (possible-words b v (Above-from_test 32 v hv))
+pub two-words : (u v : Word) → all_above 32 u ≡ true → all_above 32 v ≡ true → (a b : Bool) →
+    AreWords (possible a u ++ possible b v)
+two-words u v hu hv a b =
+    AreWords-append (possible a u) (possible b v) (possible-words a u (Above-from_test 32 u hu))
+    (possible-words b v (Above-from_test 32 v hv))
 
-pub three-words : (u v w : Word) → all_above 32 u ≡ true → all_above 32 v ≡ true → all_above 32 w ≡ true → (a b c : Bool) → AreWords (possible a u ++ possible b v ++ possible c w)
+pub three-words : (u v w : Word) → all_above 32 u ≡ true → all_above 32 v ≡ true → all_above 32 w ≡ true → (a b c : Bool) →
+    AreWords (possible a u ++ possible b v ++ possible c w)
 three-words u v w hu hv hw a b c =
     AreWords-append (possible a u ++ possible b v) (possible c w) (two-words u v hu hv a b) (possible-words c w (Above-from_test 32 w hw))
 
@@ -182,7 +194,8 @@ three-words u v w hu hv hw a b c =
 abbrev Lacks : Word → List Word → Type 0
 Lacks w words = list_any (pointwise nat_eq w) words ≡ false
 
-lacks-other : (w v : Word) (b : Bool) (rest : List Word) → pointwise nat_eq w v ≡ false → Lacks w rest → Lacks w (possible b v ++ rest)
+lacks-other : (w v : Word) (b : Bool) (rest : List Word) → pointwise nat_eq w v ≡ false → Lacks w rest →
+    Lacks w (possible b v ++ rest)
 lacks-other w v true rest other h = rw other h
 lacks-other w v false rest other h = h
 
@@ -195,7 +208,8 @@ has-first w r s h e =
     let has : list_any (pointwise nat_eq w) (w ∷ r) ≡ true = rw (nat_list_eq_equiv.refl w) refl in
     absurd (false≢true (sym h ∙ ap (list_any (pointwise nat_eq w)) (sym e) ∙ has))
 
-first-same : (w : Word) (a p : Bool) (r s : List Word) → Lacks w r → Lacks w s → possible a w ++ r ≡ possible p w ++ s → (a ≡ p) × (r ≡ s)
+first-same : (w : Word) (a p : Bool) (r s : List Word) → Lacks w r → Lacks w s → possible a w ++ r ≡ possible p w ++ s →
+    (a ≡ p) × (r ≡ s)
 first-same w true true r s h k e = (refl, cc)
 first-same w true false r s h k e = absurd (has-first w r s k e)
 first-same w false true r s h k e = absurd (has-first w s r h (sym e))
@@ -208,7 +222,8 @@ last-same w false true e = absurd cc
 last-same w false false e = refl
 
 -- where the words differ, each was possible in both or in neither
-pub two-same : (u v : Word) → pointwise nat_eq u v ≡ false → (a b p q : Bool) → possible a u ++ possible b v ≡ possible p u ++ possible q v → (a ≡ p) × (b ≡ q)
+pub two-same : (u v : Word) → pointwise nat_eq u v ≡ false → (a b p q : Bool) →
+    possible a u ++ possible b v ≡ possible p u ++ possible q v → (a ≡ p) × (b ≡ q)
 two-same u v other a b p q e =
     let first = first-same u a p (possible b v) (possible q v) (lacks-one u v b other) (lacks-one u v q other) e in
     (first.0, last-same v b q first.1)
@@ -218,11 +233,13 @@ pub record Same (a b c p q r : Bool) : Type 0 where
   pub second : b ≡ q
   pub third : c ≡ r
 
-pub three-same : (u v w : Word) → pointwise nat_eq u v ≡ false → pointwise nat_eq u w ≡ false → pointwise nat_eq v w ≡ false → (a b c p q r : Bool) →
-    possible a u ++ possible b v ++ possible c w ≡ possible p u ++ possible q v ++ possible r w → Same a b c p q r
+pub three-same : (u v w : Word) → pointwise nat_eq u v ≡ false → pointwise nat_eq u w ≡ false → pointwise nat_eq v w ≡ false →
+    (a b c p q r : Bool) → possible a u ++ possible b v ++ possible c w ≡ possible p u ++ possible q v ++ possible r w →
+    Same a b c p q r
 three-same u v w uv uw vw a b c p q r e =
     let after : Bool → Bool → List Word = λ y z. possible y v ++ possible z w in
     let lacks : (y z : Bool) → Lacks u (after y z) = λ y z. lacks-other u v y (possible z w) uv (lacks-one u w z uw) in
-    let first = first-same u a p (after b c) (after q r) (lacks b c) (lacks q r) (sym (append_assoc (possible a u) _ _) ∙ e ∙ append_assoc (possible p u) _ _) in
+    let first = first-same u a p (after b c) (after q r) (lacks b c) (lacks q r)
+    (sym (append_assoc (possible a u) _ _) ∙ e ∙ append_assoc (possible p u) _ _) in
     let later = two-same v w vw b c q r first.1 in
     record { first = first.0; second = later.0; third = later.1 }

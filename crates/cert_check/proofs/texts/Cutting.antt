@@ -15,7 +15,8 @@ ends [] = tt
 ends (w ∷ ws) = refl
 
 -- a word and what is left after it are parted in one way
-pub word-same : (w v r s : List ℕ) → IsUnspaced w → IsUnspaced v → EndsWord r → EndsWord s → w ++ r ≡ v ++ s → (w ≡ v) × (r ≡ s)
+pub word-same : (w v r s : List ℕ) → IsUnspaced w → IsUnspaced v → EndsWord r → EndsWord s → w ++ r ≡ v ++ s →
+    (w ≡ v) × (r ≡ s)
 word-same [] [] r s hw hv hr hs e = (refl, e)
 word-same [] (y ∷ v) [] s hw hv hr hs e = absurd cc
 word-same [] (y ∷ v) (b ∷ r) s hw hv hr hs e = absurd (hv.0 (sym (first-of e) ∙ hr))
@@ -33,7 +34,8 @@ pub record Split (word left : List ℕ) (ws : List Word) : Type 0 where
   pub is : ws ≡ word ∷ later
   pub rest : spaced later ≡ left
 
-pub first-split : (text word left : List ℕ) (ws : List Word) → IsFirstWord text word left → AreWords ws → spaced ws ≡ text → Split word left ws
+pub first-split : (text word left : List ℕ) (ws : List Word) → IsFirstWord text word left → AreWords ws → spaced ws ≡ text →
+    Split word left ws
 first-split text word left [] h a e = let none : [] ≡ space ∷ (word ++ left) = e ∙ h.0 in absurd cc
 first-split text word left (w ∷ ws) h a e =
     let both = word-same w word (spaced ws) left (unspaced w a.0) h.1.0 (ends ws) h.1.1 (later-of (e ∙ h.0)) in
@@ -43,7 +45,8 @@ pub first-of-list : {w a : Word} {ws later : List Word} → w ∷ ws ≡ a ∷ l
 first-of-list e = (cc, cc)
 
 -- a text that begins with no space has no words
-pub no-words : (text : List ℕ) (w : Word) (ws : List Word) → ((later : List ℕ) → text ≢ space ∷ later) → spaced (w ∷ ws) ≡ text → ⊥
+pub no-words : (text : List ℕ) (w : Word) (ws : List Word) → ((later : List ℕ) → text ≢ space ∷ later) →
+    spaced (w ∷ ws) ≡ text → ⊥
 no-words text w ws h e = h (w ++ spaced ws) (sym e)
 
 stops : (b : Bool) (n : ℕ) → b ≡ true → cond (not b) (1 + n) 0 ≡ 0
@@ -58,7 +61,8 @@ pub front-unspaced : (xs : List ℕ) → IsUnspaced (take (prefix_len is_in_word
 front-unspaced [] = tt
 front-unspaced (x ∷ xs) = elim (cases_Bool (x == 32)) [
   | inl h ↦ subst (λ (n : ℕ). IsUnspaced (take n (x ∷ xs))) (sym (stops (x == 32) (prefix_len is_in_word xs) h)) tt
-  | inr h ↦ subst (λ (n : ℕ). IsUnspaced (take n (x ∷ xs))) (sym (continues (x == 32) (prefix_len is_in_word xs) h)) ((λ e. eqb-false x 32 h e), front-unspaced xs)
+  | inr h ↦ subst (λ (n : ℕ). IsUnspaced (take n (x ∷ xs))) (sym (continues (x == 32) (prefix_len is_in_word xs) h))
+      ((λ e. eqb-false x 32 h e), front-unspaced xs)
 ]
 
 pub left-ends : (xs : List ℕ) → EndsWord (drop (prefix_len is_in_word xs) xs)

@@ -8,14 +8,16 @@ use Rattle.ed_rules.specs.Formed.{may_say}
 
 -- the test at a place
 pub at-place : (marks : List Bool) (zone : Bounds) (place : ℕ) →
-    may_say marks (place / 32) (place % 32) (bound zone (place / 32) (place % 32)) ≡ may_say marks (place / 32) (place % 32) (get_or zone place None)
+    may_say marks (place / 32) (place % 32) (bound zone (place / 32) (place % 32)) ≡ may_say marks (place / 32) (place % 32)
+    (get_or zone place None)
 unfolding bound
 at-place marks zone place =
     let at : 32 * (place / 32) + place % 32 ≡ place = omega arith in
     ap (λ k. may_say marks (place / 32) (place % 32) (get_or zone k None)) at
 
 -- what holds of each element, one element further
-pub all-more : {X : Type 0} (P : X → Type 0) (xs : List X) (i : ℕ) (x : X) → i < length xs → x ≡ get_or xs i x → All P (take i xs) → P x → All P (take (i + 1) xs)
+pub all-more : {X : Type 0} (P : X → Type 0) (xs : List X) (i : ℕ) (x : X) → i < length xs → x ≡ get_or xs i x →
+    All P (take i xs) → P x → All P (take (i + 1) xs)
 all-more {X} P xs i x h is before here =
     subst (λ (ys : List X). All P ys) (sym (take_more xs i x h))
     (All-append P (take i xs) (get_or xs i x ∷ []) before (All-cons P (get_or xs i x) [] (subst (λ (y : X). P y) is here) (All-nil P)))
@@ -23,7 +25,8 @@ all-more {X} P xs i x h is before here =
 pub all-end : {X : Type 0} (P : X → Type 0) (xs : List X) (i : ℕ) → length xs ≤ i → All P (take i xs) → All P xs
 all-end {X} P xs i h before = subst (λ (ys : List X). All P ys) (take_all i xs h) before
 
-pub all-fails : {X : Type 0} (P : X → Type 0) (xs : List X) (i : ℕ) (x : X) → i < length xs → x ≡ get_or xs i x → (P x → ⊥) → All P xs → ⊥
+pub all-fails : {X : Type 0} (P : X → Type 0) (xs : List X) (i : ℕ) (x : X) → i < length xs → x ≡ get_or xs i x →
+    (P x → ⊥) → All P xs → ⊥
 all-fails {X} P xs i x h is not_here all = not_here (subst (λ (y : X). P y) (sym is) (all i x h))
 
 pub from-map : {X Y : Type 0} (P : X → Type 0) (f : Y → X) (ys : List Y) → All P (map f ys) → All (λ y. P (f y)) ys

@@ -21,6 +21,8 @@ has-fixed marks name low =
     ap (λ (b : Bool). nat_lt name 3 || (b && is_sure marks (name - 6))) (lt-leb 6 name low) ∙ or-false (nat_lt name 3)
 
 -- a name whose word isn't that of the number 0, of the current or of the last line
-later-word : (name : ℕ) → (name ≡ 0 → ⊥) → (name ≡ 1 → ⊥) → (name ≡ 2 → ⊥) → name_word name ≡ (97 + (name - 6)) ∷ []
+later-word : (name : ℕ) → (name ≡ 0 → ⊥) → (name ≡ 1 → ⊥) → (name ≡ 2 → ⊥) →
+    name_word name ≡ (97 + (name - 6)) ∷ []
 later-word name zero current last =
-    cond-false (name == 0) _ _ (ne_eqb name 0 zero) ∙ cond-false (name == 1) _ _ (ne_eqb name 1 current) ∙ cond-false (name == 2) _ _ (ne_eqb name 2 last)
+    cond-false (name == 0) _ _ (ne_eqb name 0 zero) ∙ cond-false (name == 1) _ _ (ne_eqb name 1 current)
+    ∙ cond-false (name == 2) _ _ (ne_eqb name 2 last)

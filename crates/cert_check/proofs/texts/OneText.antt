@@ -37,10 +37,13 @@ Below-append [] b h k = k
 Below-append (x ∷ a) b h k = (h.0, Below-append a b h.1 k)
 
 decimal-below : (n : ℕ) → n < 2 ^ 64 → Below (decimal n)
-decimal-below n h = decimal_by_steps (λ n ds. Below ds) (λ k l. (omega arith, tt)) (λ k ds l rest. Below-append ds ((48 + k % 10) ∷ []) rest (omega arith, tt)) n h
+decimal-below n h =
+    decimal_by_steps (λ n ds. Below ds) (λ k l. (omega arith, tt))
+    (λ k ds l rest. Below-append ds ((48 + k % 10) ∷ []) rest (omega arith, tt)) n h
 
 not-any : (n : ℕ) → n < 2 ^ 64 → codes "any" ≡ decimal n → ⊥
-not-any n h e = let below : Below (codes "any") = subst (λ (t : List ℕ). Below t) (sym e) (decimal-below n h) in let first = below.0 in omega arith
+not-any n h e = let below : Below (codes "any") = subst (λ (t : List ℕ). Below t) (sym e) (decimal-below n h) in let first = below.0 in
+    omega arith
 
 pub limit-same : (m n : Option ℕ) → is_limit m ≡ true → is_limit n ≡ true → limit_word m ≡ limit_word n → m ≡ n
 limit-same None None h k e = refl
@@ -52,7 +55,8 @@ limit-same (Some m) (Some n) h k e = ap (λ (x : ℕ). Some x) (decimal_injectiv
 pub texts-words : (key : Word) (texts : List (List ℕ)) → Above 32 key → IsLineOfWords (texts_line key texts)
 texts-words key texts h = (h, words-are-words choice_word choice-above (map Some texts))
 
-pub matched-words : (version : Version) (key : Word) (texts : List (List ℕ)) → Above 32 key → AreLinesOfWords (matched_lines version key texts)
+pub matched-words : (version : Version) (key : Word) (texts : List (List ℕ)) → Above 32 key →
+    AreLinesOfWords (matched_lines version key texts)
 matched-words One key texts h = tt
 matched-words Two key texts h = (texts-words key texts h, tt)
 
@@ -74,7 +78,8 @@ module _ (version : Version) where
     (
       (
         Above-from_test 32 (codes "replacements") refl,
-        three-words (codes "none") (codes "plain") (codes "split") refl refl refl s.replacements.none s.replacements.plain s.replacements.split,
+        three-words (codes "none") (codes "plain") (codes "split") refl refl refl s.replacements.none s.replacements.plain
+            s.replacements.split,
       ),
       (
         (Above-from_test 32 (codes "names") refl, words-are-words choice_word choice-above s.names),
@@ -103,19 +108,23 @@ module _ (version : Version) where
         ),
       )
 
-  pub headed-words : (head : Word) (s : State) → Above 32 head → StateHasText version s → AreLinesOfWords (headed_lines version head s)
+  pub headed-words : (head : Word) (s : State) → Above 32 head → StateHasText version s →
+      AreLinesOfWords (headed_lines version head s)
   headed-words head s a h = ((a, tt), state-words s h)
 
-  pub inner-words : (states : List State) → All (StateHasText version) states → AreLinesOfWords (flat_map (headed_lines version (codes "inner")) states)
+  pub inner-words : (states : List State) → All (StateHasText version) states →
+      AreLinesOfWords (flat_map (headed_lines version (codes "inner")) states)
   inner-words [] h = tt
   inner-words (s ∷ states) h =
       AreLinesOfWords-append (headed_lines version (codes "inner") s) (flat_map (headed_lines version (codes "inner")) states)
-      (headed-words (codes "inner") s (Above-from_test 32 (codes "inner") refl) (All-head (StateHasText version) s states h)) (inner-words states (All-tail (StateHasText version) s states h))
+      (headed-words (codes "inner") s (Above-from_test 32 (codes "inner") refl) (All-head (StateHasText version) s states h))
+      (inner-words states (All-tail (StateHasText version) s states h))
 
   pub looped-words : (l : Option Looped) → LoopedHasText version l → AreLinesOfWords (looped_lines version l)
   looped-words None h = tt
   looped-words (Some l) h =
-      AreLinesOfWords-append (headed_lines version (codes "loop") l.invariant ++ flat_map (headed_lines version (codes "inner")) l.inner) ((codes "done" ∷ []) ∷ [])
+      AreLinesOfWords-append (headed_lines version (codes "loop") l.invariant ++ flat_map (headed_lines version (codes "inner")) l.inner)
+      ((codes "done" ∷ []) ∷ [])
       (AreLinesOfWords-append (headed_lines version (codes "loop") l.invariant) (flat_map (headed_lines version (codes "inner")) l.inner)
       (headed-words (codes "loop") l.invariant (Above-from_test 32 (codes "loop") refl) h.0) (inner-words l.inner h.1))
       ((Above-from_test 32 (codes "done") refl, tt), tt)
@@ -150,7 +159,8 @@ version-same One Two e = absurd (versions-differ e)
 version-same Two One e = absurd (versions-differ (sym e))
 version-same Two Two e = refl
 
-pub certificate-words : (c : Certificate) → HasText c → AreLinesOfWords (opening_lines c ++ flat_map (note_lines c.version) c.notes ++ closing_lines c)
+pub certificate-words : (c : Certificate) → HasText c →
+    AreLinesOfWords (opening_lines c ++ flat_map (note_lines c.version) c.notes ++ closing_lines c)
 certificate-words c h =
     let start = start-parts c h in
     let final = final-parts c h in
@@ -166,13 +176,15 @@ certificate-words c h =
       ),
     )
     (notes-words c.version c.notes h.notes))
-    (AreLinesOfWords-append (headed_lines c.version (codes "end") c.last) (bounds_line (codes "final") c.low c.high ∷ texts_line (codes "writes") c.writes ∷ [])
+    (AreLinesOfWords-append (headed_lines c.version (codes "end") c.last)
+    (bounds_line (codes "final") c.low c.high ∷ texts_line (codes "writes") c.writes ∷ [])
     (headed-words c.version (codes "end") c.last (Above-from_test 32 (codes "end") refl) h.last) (
       (Above-from_test 32 (codes "final") refl, (decimal-above c.low (few c.low final.0), (limit-above c.high final.1, tt))),
       (texts-words (codes "writes") c.writes (Above-from_test 32 (codes "writes") refl), tt),
     ))
 
-abbrev pub certificate_made : Version → Option (List ℕ) → ℕ → Option ℕ → List (List ℕ) → List Note → State → ℕ → Option ℕ → List (List ℕ) → Certificate
+abbrev pub certificate_made : Version → Option (List ℕ) → ℕ → Option ℕ → List (List ℕ) → List Note → State → ℕ →
+    Option ℕ → List (List ℕ) → Certificate
 certificate_made version path min max has notes last low high writes = record {
   version = version;
   path = path;
@@ -195,9 +207,11 @@ certificate-by a b v p m x t n l w h s = λ k. certificate_made (v k) (p k) (m k
 abbrev pub lines_in : Version → Certificate → List Line
 lines_in version c =
     path_line c.path ∷ bounds_line (codes "start") c.min c.max ∷ matched_lines version (codes "has") c.has
-    ++ after_notes version c.notes (state_lines version c.last ++ bounds_line (codes "final") c.low c.high ∷ texts_line (codes "writes") c.writes ∷ [])
+    ++ after_notes version c.notes
+    (state_lines version c.last ++ bounds_line (codes "final") c.low c.high ∷ texts_line (codes "writes") c.writes ∷ [])
 
-pub whole-lines : (c : Certificate) → opening_lines c ++ flat_map (note_lines c.version) c.notes ++ closing_lines c ≡ version_line c.version ∷ lines_in c.version c
+pub whole-lines : (c : Certificate) →
+    opening_lines c ++ flat_map (note_lines c.version) c.notes ++ closing_lines c ≡ version_line c.version ∷ lines_in c.version c
 whole-lines c =
     ap (λ (l : List Line). version_line c.version ∷ path_line c.path ∷ bounds_line (codes "start") c.min c.max ∷ l)
     (append_assoc (matched_lines c.version (codes "has") c.has) (flat_map (note_lines c.version) c.notes) (closing_lines c))
@@ -209,8 +223,8 @@ IsSaid version c = IsSaidIn version c.has × (All (NoteHasText version) c.notes 
 pub said-in : (version : Version) (c : Certificate) → c.version ≡ version → HasText c → IsSaid version c
 said-in version c same h = subst (λ (v : Version). IsSaid v c) same (h.has, (h.notes, h.last))
 
-lines-in-same : (version : Version) (a b : Certificate) → a.version ≡ b.version → HasText a → HasText b → IsSaid version a → IsSaid version b →
-    lines_in version a ≡ lines_in version b → a ≡ b
+lines-in-same : (version : Version) (a b : Certificate) → a.version ≡ b.version → HasText a → HasText b → IsSaid version a →
+    IsSaid version b → lines_in version a ≡ lines_in version b → a ≡ b
 lines-in-same version a b v h k i j path =
     let closing_a : List Line = bounds_line (codes "final") a.low a.high ∷ texts_line (codes "writes") a.writes ∷ [] in
     let closing_b : List Line = bounds_line (codes "final") b.low b.high ∷ texts_line (codes "writes") b.writes ∷ [] in
@@ -232,7 +246,8 @@ lines-in-same version a b v h k i j path =
     (limit-same a.high b.high (final-parts a h).1 (final-parts b k).1 (first-of (later-of final_words)))
     (texts-same a.writes b.writes (later-of (first-of (later-of ended.1))))
 
-lines-of-same : (a b : Certificate) → HasText a → HasText b → version_line a.version ∷ lines_in a.version a ≡ version_line b.version ∷ lines_in b.version b → a ≡ b
+lines-of-same : (a b : Certificate) → HasText a → HasText b →
+    version_line a.version ∷ lines_in a.version a ≡ version_line b.version ∷ lines_in b.version b → a ≡ b
 lines-of-same a b h k e =
     let same = version-same a.version b.version (ap (λ (l : Line). line_text l) (first-of e)) in
     lines-in-same b.version a b same h k
@@ -244,6 +259,7 @@ unfolding text_of
 one-text bytes a b h k =
     lines-of-same a b h.0 k.0 (
     sym (whole-lines a)
-    ∙ lines-same (opening_lines a ++ flat_map (note_lines a.version) a.notes ++ closing_lines a) (opening_lines b ++ flat_map (note_lines b.version) b.notes ++ closing_lines b)
+    ∙ lines-same (opening_lines a ++ flat_map (note_lines a.version) a.notes ++ closing_lines a)
+    (opening_lines b ++ flat_map (note_lines b.version) b.notes ++ closing_lines b)
     (certificate-words a h.0) (certificate-words b k.0) (h.1 ∙ sym k.1)
     ∙ whole-lines b)

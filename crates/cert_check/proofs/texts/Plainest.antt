@@ -66,12 +66,14 @@ abbrev pub plain_found : Found
 plain_found = record { nothing = true; same = false; was = false }
 
 -- a state of its parts, the last of them with what some line of an earlier buffer matches
-abbrev pub state_of : Old → List (List ℕ) → List Choice → Replacements → List Choice → Changed → Undo × List (List ℕ) → State
+abbrev pub state_of : Old → List (List ℕ) → List Choice → Replacements → List Choice → Changed → Undo × List (List ℕ) →
+    State
 state_of old has patterns replacements names changed found =
     state_made old.zone old.marks patterns replacements names changed found.0 has found.1
 
-pub state-formed : (version : Version) (old : Old) (has : List (List ℕ)) (patterns : List Choice) (r : Replacements) (names : List Choice) (c : Changed) (found : Undo × List (List ℕ)) →
-    MarkedIsFormed old → IsSaidIn version has → SetIsFormed patterns → IsSomeReplacement r → SetIsFormed names → IsSomeChange c → UndoIsFormed version found →
+pub state-formed : (version : Version) (old : Old) (has : List (List ℕ)) (patterns : List Choice) (r : Replacements) (names : List Choice)
+    (c : Changed) (found : Undo × List (List ℕ)) → MarkedIsFormed old → IsSaidIn version has → SetIsFormed patterns →
+    IsSomeReplacement r → SetIsFormed names → IsSomeChange c → UndoIsFormed version found →
     StateHasText version (state_of old has patterns r names c found)
 state-formed version old has patterns r names c found h s p i n j k = record {
   formed = record {
@@ -92,5 +94,6 @@ plain_state = state_of plain_old [] plain_set plain_replacements plain_set plain
 
 pub plain-state : (version : Version) → StateHasText version plain_state
 plain-state version =
-    state-formed version plain_old [] plain_set plain_replacements plain_set plain_change plain_undo plain-old (plain-said version) plain-set refl plain-set refl
+    state-formed version plain_old [] plain_set plain_replacements plain_set plain_change plain_undo plain-old (plain-said version)
+    plain-set refl plain-set refl
     (plain-undo version)

@@ -12,7 +12,8 @@ use Rattle.cert_check.proofs.texts.Separated.{later-of}
 -- the byte that spells a letter
 pub letter-byte : (byte letter : ℕ) → letter_of byte ≡ Some letter → byte ≡ 97 + letter
 letter-byte byte letter is =
-    (elim (nat_le 97 byte && nat_le byte 122) as (λ b. nat_le 97 byte && nat_le byte 122 ≡ b → (elim b as (λ _. Option ℕ) [ true ↦ Some (byte - 97) | false ↦ None ]) ≡ Some letter → byte ≡ 97 + letter) [
+    (elim (nat_le 97 byte && nat_le byte 122) as (λ b. nat_le 97 byte && nat_le byte 122 ≡ b →
+    (elim b as (λ _. Option ℕ) [ true ↦ Some (byte - 97) | false ↦ None ]) ≡ Some letter → byte ≡ 97 + letter) [
       | true ↦ λ test same.
           let low : 97 ≤ byte = leb-true 97 byte (and_parts (nat_le 97 byte) (nat_le byte 122) test).0 in
           let at : byte - 97 ≡ letter = cc in
@@ -40,9 +41,11 @@ letter-added p (suc k) (true ∷ marks) l h =
     ∙ ap (λ (q : ℕ). p ∷ (sure_letters (suc p) marks ++ q ∷ [])) at
 letter-added p (suc k) (false ∷ marks) l h =
     let at : suc p + k ≡ p + suc k = omega arith in
-    letter-added (suc p) k marks (omega arith) (λ j m. h (suc j) (omega arith)) ∙ ap (λ (q : ℕ). sure_letters (suc p) marks ++ q ∷ []) at
+    letter-added (suc p) k marks (omega arith) (λ j m. h (suc j) (omega arith))
+    ∙ ap (λ (q : ℕ). sure_letters (suc p) marks ++ q ∷ []) at
 
-pub unsure-later : (marks : List Bool) (k : ℕ) → ((j : ℕ) → k ≤ j → get_or marks j false ≡ false) → (j : ℕ) → k + 1 ≤ j → get_or (set marks k true) j false ≡ false
+pub unsure-later : (marks : List Bool) (k : ℕ) → ((j : ℕ) → k ≤ j → get_or marks j false ≡ false) → (j : ℕ) →
+    k + 1 ≤ j → get_or (set marks k true) j false ≡ false
 unsure-later [] k h j l = h j (omega arith)
 unsure-later (b ∷ marks) zero h zero l = absurd (omega arith)
 unsure-later (b ∷ marks) zero h (suc j) l = h (suc j) (omega arith)
@@ -54,28 +57,34 @@ letters-here : (b : Bool) (p : ℕ) (marks : List Bool) (left later : List ℕ) 
 letters-here true p marks left later e is = later-of (e ∙ is)
 letters-here false p marks left later e is = absurd (later-letters (suc p) p marks later (omega arith) (e ∙ is))
 
-letters-not-here : (b : Bool) (p : ℕ) (marks : List Bool) (left : List ℕ) → sure_letters p (b ∷ marks) ≡ left → ((later : List ℕ) → left ≢ p ∷ later) → sure_letters (suc p) marks ≡ left
+letters-not-here : (b : Bool) (p : ℕ) (marks : List Bool) (left : List ℕ) → sure_letters p (b ∷ marks) ≡ left →
+    ((later : List ℕ) → left ≢ p ∷ later) → sure_letters (suc p) marks ≡ left
 letters-not-here true p marks left e absent = absurd (absent (sure_letters (suc p) marks) (sym e))
 letters-not-here false p marks left e absent = e
 
-letters-at : (marks : List Bool) (k : ℕ) (left : List ℕ) → k < length marks → sure_letters (97 + k) (drop k marks) ≡ left → sure_letters (97 + k) (get_or marks k false ∷ drop (suc k) marks) ≡ left
+letters-at : (marks : List Bool) (k : ℕ) (left : List ℕ) → k < length marks → sure_letters (97 + k) (drop k marks) ≡ left →
+    sure_letters (97 + k) (get_or marks k false ∷ drop (suc k) marks) ≡ left
 letters-at marks k left l e = ap (λ (ms : List Bool). sure_letters (97 + k) ms) (sym (drop-cons marks k false l)) ∙ e
 
-one-further : (marks : List Bool) (k : ℕ) (left : List ℕ) → sure_letters (suc (97 + k)) (drop (suc k) marks) ≡ left → sure_letters (97 + (k + 1)) (drop (k + 1) marks) ≡ left
+one-further : (marks : List Bool) (k : ℕ) (left : List ℕ) → sure_letters (suc (97 + k)) (drop (suc k) marks) ≡ left →
+    sure_letters (97 + (k + 1)) (drop (k + 1) marks) ≡ left
 one-further marks k left e =
     let at : 97 + (k + 1) ≡ suc (97 + k) = omega arith in
     let next : k + 1 ≡ suc k = omega arith in
     ap (λ (p : ℕ). sure_letters p (drop (k + 1) marks)) at ∙ ap (λ (i : ℕ). sure_letters (suc (97 + k)) (drop i marks)) next ∙ e
 
-pub letter-taken : (marks : List Bool) (k : ℕ) (left later : List ℕ) → k < length marks → left ≡ (97 + k) ∷ later → sure_letters (97 + k) (drop k marks) ≡ left →
-    sure_letters (97 + (k + 1)) (drop (k + 1) marks) ≡ later
+pub letter-taken : (marks : List Bool) (k : ℕ) (left later : List ℕ) → k < length marks → left ≡ (97 + k) ∷ later →
+    sure_letters (97 + k) (drop k marks) ≡ left → sure_letters (97 + (k + 1)) (drop (k + 1) marks) ≡ later
 letter-taken marks k left later l is e =
-    one-further marks k later (letters-here (get_or marks k false) (97 + k) (drop (suc k) marks) left later (letters-at marks k left l e) is)
+    one-further marks k later
+    (letters-here (get_or marks k false) (97 + k) (drop (suc k) marks) left later (letters-at marks k left l e) is)
 
-pub letter-kept : (marks : List Bool) (k : ℕ) (left : List ℕ) → k < length marks → ((later : List ℕ) → left ≢ (97 + k) ∷ later) → sure_letters (97 + k) (drop k marks) ≡ left →
+pub letter-kept : (marks : List Bool) (k : ℕ) (left : List ℕ) → k < length marks →
+    ((later : List ℕ) → left ≢ (97 + k) ∷ later) → sure_letters (97 + k) (drop k marks) ≡ left →
     sure_letters (97 + (k + 1)) (drop (k + 1) marks) ≡ left
 letter-kept marks k left l absent e =
-    one-further marks k left (letters-not-here (get_or marks k false) (97 + k) (drop (suc k) marks) left (letters-at marks k left l e) absent)
+    one-further marks k left
+    (letters-not-here (get_or marks k false) (97 + k) (drop (suc k) marks) left (letters-at marks k left l e) absent)
 
 -- letters say which word they are
 pub letters-word-same : (a b : List ℕ) → spaced (letters_words a) ≡ spaced (letters_words b) → a ≡ b

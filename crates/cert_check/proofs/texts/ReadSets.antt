@@ -37,7 +37,8 @@ code-of word names = record {
   another = λ x r. refl;
 }
 
-pub spaced-same : {A : Type 0} (word : A → Word) → AreNames word → (a b : List A) → spaced (map word a) ≡ spaced (map word b) → a ≡ b
+pub spaced-same : {A : Type 0} (word : A → Word) → AreNames word → (a b : List A) → spaced (map word a) ≡ spaced (map word b) →
+    a ≡ b
 spaced-same word names [] [] e = refl
 spaced-same word names [] (y ∷ b) e = absurd cc
 spaced-same word names (x ∷ a) [] e = absurd cc
@@ -49,19 +50,23 @@ spaced-same word names (x ∷ a) (y ∷ b) e =
     let rest : a ≡ b = spaced-same word names a b both.1 in
     cc
 
-others : {A : Type 0} (word : A → Word) → AreNames word → (done all : List A) (left text : List ℕ) → spaced (map word done) ++ left ≡ text →
-    (0 < length done → EndsWord left) → spaced (map word all) ≡ text → Left (λ x. space ∷ word x) done all left
+others : {A : Type 0} (word : A → Word) → AreNames word → (done all : List A) (left text : List ℕ) →
+    spaced (map word done) ++ left ≡ text → (0 < length done → EndsWord left) → spaced (map word all) ≡ text →
+    Left (λ x. space ∷ word x) done all left
 others word names done all left text sofar end e =
     left-of (λ x. space ∷ word x) EndsWord (code-of word names) done all left end
     (sym (spaced-map word all) ∙ e ∙ sym sofar ∙ ap (λ (t : List ℕ). t ++ left) (spaced-map word done))
 
 -- a first word that no item has
-pub stopped : {A : Type 0} (word : A → Word) (Has : A → Type 0) → AreNames word → (done all : List A) (left text w later : List ℕ) → spaced (map word done) ++ left ≡ text →
-    (0 < length done → EndsWord left) → IsFirstWord left w later → ((x : A) → Has x → word x ≢ w) → All Has all → spaced (map word all) ≡ text → ⊥
+pub stopped : {A : Type 0} (word : A → Word) (Has : A → Type 0) → AreNames word →
+    (done all : List A) (left text w later : List ℕ) → spaced (map word done) ++ left ≡ text →
+    (0 < length done → EndsWord left) → IsFirstWord left w later → ((x : A) → Has x → word x ≢ w) → All Has all →
+    spaced (map word all) ≡ text → ⊥
 stopped {A} word Has names done all left text w later sofar end first absent has e =
     let l = others word names done all left text sofar end e in
     elim l.later as (λ t. l.later ≡ t → ⊥) [
-      | [] ↦ λ is. let none : [] ≡ space ∷ (w ++ later) = ap (λ (t : List A). flat_map (λ x. space ∷ word x) t) (sym is) ∙ l.rest ∙ first.0 in absurd cc
+      | [] ↦ λ is. let none : [] ≡ space ∷ (w ++ later) = ap (λ (t : List A). flat_map (λ x. space ∷ word x) t) (sym is)
+          ∙ l.rest ∙ first.0 in absurd cc
       | x ∷ xs ↦ λ is.
           let rest : (space ∷ word x) ++ flat_map (λ x. space ∷ word x) xs ≡ space ∷ (w ++ later) =
           ap (λ (t : List A). flat_map (λ x. space ∷ word x) t) (sym is) ∙ l.rest ∙ first.0 in
@@ -73,21 +78,25 @@ stopped {A} word Has names done all left text w later sofar end first absent has
     ] refl
 
 -- what is left begins with no space, and is something
-pub ended : {A : Type 0} (word : A → Word) → AreNames word → (done all : List A) (left text : List ℕ) → spaced (map word done) ++ left ≡ text →
-    (0 < length done → EndsWord left) → ((later : List ℕ) → left ≢ space ∷ later) → ([] ≡ left → ⊥) → spaced (map word all) ≡ text → ⊥
+pub ended : {A : Type 0} (word : A → Word) → AreNames word → (done all : List A) (left text : List ℕ) →
+    spaced (map word done) ++ left ≡ text → (0 < length done → EndsWord left) →
+    ((later : List ℕ) → left ≢ space ∷ later) → ([] ≡ left → ⊥) → spaced (map word all) ≡ text → ⊥
 ended {A} word names done all left text sofar end absent some e =
     let l = others word names done all left text sofar end e in
     elim l.later as (λ t. l.later ≡ t → ⊥) [
       | [] ↦ λ is. some (ap (λ (t : List A). flat_map (λ x. space ∷ word x) t) (sym is) ∙ l.rest)
-      | x ∷ xs ↦ λ is. absent (word x ++ flat_map (λ x. space ∷ word x) xs) (sym (ap (λ (t : List A). flat_map (λ x. space ∷ word x) t) (sym is) ∙ l.rest))
+      | x ∷ xs ↦ λ is. absent (word x ++ flat_map (λ x. space ∷ word x) xs)
+          (sym (ap (λ (t : List A). flat_map (λ x. space ∷ word x) t) (sym is) ∙ l.rest))
     ] refl
 
 -- the words of a line after its key
-pub after-its-key : (key line left : List ℕ) (words : List Word) → line ≡ key ++ left → line_text (key ∷ words) ≡ line → spaced words ≡ left
+pub after-its-key : (key line left : List ℕ) (words : List Word) → line ≡ key ++ left → line_text (key ∷ words) ≡ line →
+    spaced words ≡ left
 after-its-key key line left words is e = append_cancel_left key (spaced words) left (e ∙ is)
 
 -- texts are spelled as choices that aren't none
-pub spelled-texts : (texts : List (List ℕ)) → spaced (map choice_word (map Some texts)) ≡ spaced (map (λ (text : List ℕ). choice_word (Some text)) texts)
+pub spelled-texts : (texts : List (List ℕ)) →
+    spaced (map choice_word (map Some texts)) ≡ spaced (map (λ (text : List ℕ). choice_word (Some text)) texts)
 spelled-texts texts = ap (λ (words : List Word). spaced words) (map-map choice_word Some texts)
 
 -- lines of sets are the same where the sets are
@@ -123,23 +132,28 @@ formed-set : (set : List Choice) → SetIsFormed set → is_set set ≡ true
 formed-set [] h = let some = h.some in absurd (omega arith)
 formed-set (c ∷ set) h = h.rising
 
-pub choices-read : (key line : List ℕ) (read : List Choice) (set : Option (List Choice)) → line_text (choices_line key read) ≡ line → All ChoiceIsBytes read →
-    IfSome set (λ s. s ≡ read) → IfSome set (λ s. is_set s ≡ true) → IfNone set (is_set read ≡ false) → ReadsAs (choices_line key) SetIsFormed line set
-choices-read key line read set is bytes = sorted-read (choices_line key) SetIsFormed is_set (choices-told key) formed-set line read set is (set-formed read bytes)
+pub choices-read : (key line : List ℕ) (read : List Choice) (set : Option (List Choice)) →
+    line_text (choices_line key read) ≡ line → All ChoiceIsBytes read → IfSome set (λ s. s ≡ read) →
+    IfSome set (λ s. is_set s ≡ true) → IfNone set (is_set read ≡ false) → ReadsAs (choices_line key) SetIsFormed line set
+choices-read key line read set is bytes =
+    sorted-read (choices_line key) SetIsFormed is_set (choices-told key) formed-set line read set is (set-formed read bytes)
 
-pub texts-read : (key line : List ℕ) (read : List (List ℕ)) (set : Option (List (List ℕ))) → line_text (texts_line key read) ≡ line → All ChoiceIsBytes (map Some read) →
-    IfSome set (λ s. s ≡ read) → IfSome set (λ s. are_rising s ≡ true) → IfNone set (are_rising read ≡ false) → ReadsAs (texts_line key) TextsAreFormed line set
+pub texts-read : (key line : List ℕ) (read : List (List ℕ)) (set : Option (List (List ℕ))) →
+    line_text (texts_line key read) ≡ line → All ChoiceIsBytes (map Some read) → IfSome set (λ s. s ≡ read) →
+    IfSome set (λ s. are_rising s ≡ true) → IfNone set (are_rising read ≡ false) → ReadsAs (texts_line key) TextsAreFormed line set
 texts-read key line read set is bytes =
-    sorted-read (texts_line key) TextsAreFormed are_rising (texts-told key) (λ a h. h.rising) line read set is (λ rising. record { bytes = bytes; rising = rising })
+    sorted-read (texts_line key) TextsAreFormed are_rising (texts-told key) (λ a h. h.rising) line read set is
+    (λ rising. record { bytes = bytes; rising = rising })
 
 -- the words of a line after its key are read as those of the line
-pub line-reads : {A : Type 0} (words : A → List Word) (Has : A → Type 0) (key line left : List ℕ) (v : Option A) → line ≡ key ++ left →
-    WordReadsAs (λ a. spaced (words a)) Has left v → ReadsAs (λ a. key ∷ words a) Has line v
+pub line-reads : {A : Type 0} (words : A → List Word) (Has : A → Type 0) (key line left : List ℕ) (v : Option A) →
+    line ≡ key ++ left → WordReadsAs (λ a. spaced (words a)) Has left v → ReadsAs (λ a. key ∷ words a) Has line v
 line-reads words Has key line left None is h = λ a has e. h a has (after-its-key key line left (words a) is e)
 line-reads words Has key line left (Some a) is h = (ap (λ (t : List ℕ). key ++ t) h.0 ∙ sym is, h.1)
 
 -- all of a text was read
-pub texts-spelled : (texts : List (List ℕ)) (left text : List ℕ) → spaced (map (λ (t : List ℕ). choice_word (Some t)) texts) ++ left ≡ text → left ≡ [] →
+pub texts-spelled : (texts : List (List ℕ)) (left text : List ℕ) →
+    spaced (map (λ (t : List ℕ). choice_word (Some t)) texts) ++ left ≡ text → left ≡ [] →
     spaced (map choice_word (map Some texts)) ≡ text
 texts-spelled texts left text read none =
     spelled-texts texts ∙ sym (append-nil (spaced (map (λ (t : List ℕ). choice_word (Some t)) texts)))

@@ -64,11 +64,13 @@ AreWords-append [] b h k = k
 AreWords-append (w ∷ a) b h k = (h.0, AreWords-append a b h.1 k)
 
 -- a line of words has but these words
-pub words-same : (w v : Word) (ws vs : List Word) → Above 32 w → Above 32 v → AreWords ws → AreWords vs → w ++ spaced ws ≡ v ++ spaced vs →
-    (w ≡ v) × (ws ≡ vs)
+pub words-same : (w v : Word) (ws vs : List Word) → Above 32 w → Above 32 v → AreWords ws → AreWords vs →
+    w ++ spaced ws ≡ v ++ spaced vs → (w ≡ v) × (ws ≡ vs)
 words-same w v [] [] hw hv hws hvs e = (sym (append-nil w) ∙ e ∙ append-nil v, refl)
-words-same w v [] (v2 ∷ vs) hw hv hws hvs e = absurd (no-separator 32 space w v (v2 ++ spaced vs) (omega arith) hw (sym (append-nil w) ∙ e))
-words-same w v (w2 ∷ ws) [] hw hv hws hvs e = absurd (no-separator 32 space v w (w2 ++ spaced ws) (omega arith) hv (sym (append-nil v) ∙ sym e))
+words-same w v [] (v2 ∷ vs) hw hv hws hvs e =
+    absurd (no-separator 32 space w v (v2 ++ spaced vs) (omega arith) hw (sym (append-nil w) ∙ e))
+words-same w v (w2 ∷ ws) [] hw hv hws hvs e =
+    absurd (no-separator 32 space v w (w2 ++ spaced ws) (omega arith) hv (sym (append-nil v) ∙ sym e))
 words-same w v (w2 ∷ ws) (v2 ∷ vs) hw hv hws hvs e =
     let cut = cut-once 32 space w v (w2 ++ spaced ws) (v2 ++ spaced vs) (omega arith) hw hv e in
     let later = words-same w2 v2 ws vs hws.0 hvs.0 hws.1 hvs.1 cut.1 in
@@ -109,14 +111,17 @@ AreLinesOfWords-append (l ∷ a) b h k = (h.0, AreLinesOfWords-append a b h.1 k)
 
 -- bytes are the text of one list of lines at most
 no-lines : (l : Line) (lines : List Line) → lines_text (l ∷ lines) ≡ [] → ⊥
-no-lines l lines e = elim (line_text l) as (λ t. t ++ newline ∷ lines_text lines ≡ [] → ⊥) [ [] ↦ λ d. absurd cc | b ∷ bs ↦ λ d. absurd cc ] e
+no-lines l lines e =
+    elim (line_text l) as (λ t. t ++ newline ∷ lines_text lines ≡ [] → ⊥) [ [] ↦ λ d. absurd cc | b ∷ bs ↦ λ d. absurd cc ]
+    e
 
 pub lines-same : (a b : List Line) → AreLinesOfWords a → AreLinesOfWords b → lines_text a ≡ lines_text b → a ≡ b
 lines-same [] [] h k e = refl
 lines-same [] (m ∷ b) h k e = absurd (no-lines m b (sym e))
 lines-same (l ∷ a) [] h k e = absurd (no-lines l a e)
 lines-same (l ∷ a) (m ∷ b) h k e =
-    let cut = cut-once 31 newline (line_text l) (line_text m) (lines_text a) (lines_text b) (omega arith) (Above-line l h.0) (Above-line m k.0) e in
+    let cut = cut-once 31 newline (line_text l) (line_text m) (lines_text a) (lines_text b) (omega arith) (Above-line l h.0)
+    (Above-line m k.0) e in
     let first : l ≡ m = line-same l m h.0 k.0 cut.0 in
     let rest : a ≡ b = lines-same a b h.1 k.1 cut.1 in
     cc

@@ -32,14 +32,16 @@ pub spoken-small : (b : PlacedBound) (s : IsSpoken b) → mag s.number < 2 ^ 63
 spoken-small b s = small s.number (subst (λ (v : Option ℤ). IsKept v) s.is s.kept)
 
 pub spoken-above : (b : PlacedBound) → IsSpoken b → Above 32 (spoken_word b)
-spoken-above b s = subst (λ (w : Word). Above 32 w) (sym (spoken-is b s)) (bound-above (b.place / 32) (b.place % 32) s.number (spoken-small b s))
+spoken-above b s =
+    subst (λ (w : Word). Above 32 w) (sym (spoken-is b s)) (bound-above (b.place / 32) (b.place % 32) s.number (spoken-small b s))
 
 same-placed : (a b : PlacedBound) → a.place ≡ b.place → a.bound ≡ b.bound → a ≡ b
 same-placed a b e f = ap (λ (k : ℕ). placed k a.bound) e ∙ ap (λ (v : Option ℤ). placed b.place v) f
 
 pub spoken-same : (a b : PlacedBound) → IsSpoken a → IsSpoken b → spoken_word a ≡ spoken_word b → a ≡ b
 spoken-same a b s t e =
-    let same = bound-same (a.place / 32) (a.place % 32) s.number (b.place / 32) (b.place % 32) t.number s.row s.column t.row t.column (spoken-small a s) (spoken-small b t)
+    let same = bound-same (a.place / 32) (a.place % 32) s.number (b.place / 32) (b.place % 32) t.number s.row s.column t.row t.column
+    (spoken-small a s) (spoken-small b t)
     (sym (spoken-is a s) ∙ e ∙ spoken-is b t) in
     let row = same.row in
     let column = same.column in
@@ -48,8 +50,8 @@ spoken-same a b s t e =
 -- THE FIRST WORD OF A TEXT
 
 -- a text whose first word says a bound
-pub first-same : (b d : PlacedBound) (words : List Word) (text left : List ℕ) → IsSpoken b → IsSpoken d → (space ∷ spoken_word b) ++ spaced words ≡ text → IsFirstWord text (spoken_word d) left →
-    (b ≡ d) × (spaced words ≡ left)
+pub first-same : (b d : PlacedBound) (words : List Word) (text left : List ℕ) → IsSpoken b → IsSpoken d →
+    (space ∷ spoken_word b) ++ spaced words ≡ text → IsFirstWord text (spoken_word d) left → (b ≡ d) × (spaced words ≡ left)
 first-same b d words text left s t e first =
     let both = word-same (spoken_word b) (spoken_word d) (spaced words) left (unspaced (spoken_word b) (spoken-above b s)) first.1.0
     (ends words) first.1.1 (later-of (e ∙ first.0)) in
@@ -66,12 +68,20 @@ first-kept text left x y number said b words s e =
     subst (λ (n : ℤ). IsKept (Some n)) same.number (subst IsKept s.is s.kept)
 
 -- a number that is said and kept is a spoken bound
-pub first-spoken : (text left : List ℕ) (x y : ℕ) (number : ℤ) (b : PlacedBound) → IsSaid x y number left text → x < 32 → y < 32 → b.place ≡ 32 * x + y → b.bound ≡ Some number → IsKept b.bound →
-    IsSpoken b × IsFirstWord text (spoken_word b) left
+pub first-spoken : (text left : List ℕ) (x y : ℕ) (number : ℤ) (b : PlacedBound) → IsSaid x y number left text → x < 32 →
+    y < 32 → b.place ≡ 32 * x + y → b.bound ≡ Some number → IsKept b.bound → IsSpoken b × IsFirstWord text (spoken_word b) left
 first-spoken text left x y number b said hx hy at is kept =
     let row : x ≡ b.place / 32 = omega arith in
     let column : y ≡ b.place % 32 = omega arith in
-    let s : IsSpoken b = record { placed = omega arith; number = number; is = is; kept = kept; row = subst IsNamed row said.row; column = subst IsNamed column said.column } in
+    let s : IsSpoken b =
+    record {
+      placed = omega arith;
+      number = number;
+      is = is;
+      kept = kept;
+      row = subst IsNamed row said.row;
+      column = subst IsNamed column said.column;
+    } in
     let word : said_word x y number ≡ spoken_word b =
     ap (λ (p : ℕ). said_word p y number) row ∙ ap (λ (q : ℕ). said_word (b.place / 32) q number) column ∙ sym (spoken-is b s) in (
       s,
@@ -88,8 +98,9 @@ pub record SaysRest (from : ℕ) (left : List ℕ) : Type 0 where
   pub says : spaced (map spoken_word later) ≡ left
 
 -- the first of them, where a bound is read first
-says-first : (bounds : List PlacedBound) (from : ℕ) (left later : List ℕ) (d : PlacedBound) → All IsSpoken bounds → Rise from bounds → spaced (map spoken_word bounds) ≡ left →
-    IsSpoken d → IsFirstWord left (spoken_word d) later → (from ≤ d.place) × SaysRest (suc d.place) later
+says-first : (bounds : List PlacedBound) (from : ℕ) (left later : List ℕ) (d : PlacedBound) → All IsSpoken bounds →
+    Rise from bounds → spaced (map spoken_word bounds) ≡ left → IsSpoken d → IsFirstWord left (spoken_word d) later →
+    (from ≤ d.place) × SaysRest (suc d.place) later
 says-first [] from left later d all rises e s first = let none : [] ≡ space ∷ (spoken_word d ++ later) = e ∙ first.0 in absurd cc
 says-first (b ∷ bounds) from left later d all rises e s first =
     let both = first-same b d (map spoken_word bounds) left later (All-head IsSpoken b bounds all) s e first in (
@@ -102,35 +113,42 @@ says-first (b ∷ bounds) from left later d all rises e s first =
       },
     )
 
-pub rest-first : (from : ℕ) (left later : List ℕ) (d : PlacedBound) → IsSpoken d → IsFirstWord left (spoken_word d) later → SaysRest from left →
-    (from ≤ d.place) × SaysRest (suc d.place) later
+pub rest-first : (from : ℕ) (left later : List ℕ) (d : PlacedBound) → IsSpoken d → IsFirstWord left (spoken_word d) later →
+    SaysRest from left → (from ≤ d.place) × SaysRest (suc d.place) later
 rest-first from left later d s first r = says-first r.later from left later d r.spoken r.rises r.says s first
 
-says-none : (bounds : List PlacedBound) (left : List ℕ) → All IsSpoken bounds → spaced (map spoken_word bounds) ≡ left → left ≢ [] →
-    ((b : PlacedBound) (words : List Word) → IsSpoken b → (space ∷ spoken_word b) ++ spaced words ≢ left) → ⊥
+says-none : (bounds : List PlacedBound) (left : List ℕ) → All IsSpoken bounds → spaced (map spoken_word bounds) ≡ left →
+    left ≢ [] → ((b : PlacedBound) (words : List Word) → IsSpoken b → (space ∷ spoken_word b) ++ spaced words ≢ left) → ⊥
 says-none [] left all e some absent = some (sym e)
 says-none (b ∷ bounds) left all e some absent = absent b (map spoken_word bounds) (All-head IsSpoken b bounds all) e
 
-pub rest-none : (from : ℕ) (left : List ℕ) → left ≢ [] → ((b : PlacedBound) (words : List Word) → IsSpoken b → (space ∷ spoken_word b) ++ spaced words ≢ left) → SaysRest from left → ⊥
+pub rest-none : (from : ℕ) (left : List ℕ) → left ≢ [] →
+    ((b : PlacedBound) (words : List Word) → IsSpoken b → (space ∷ spoken_word b) ++ spaced words ≢ left) → SaysRest from left →
+    ⊥
 rest-none from left some absent r = says-none r.later left r.spoken r.says some absent
 
 -- one bound further
-pub said-further : (bounds more : List PlacedBound) (d : PlacedBound) (left later text : List ℕ) → more ≡ bounds ++ d ∷ [] → IsFirstWord left (spoken_word d) later →
-    spaced (map spoken_word bounds) ++ left ≡ text → spaced (map spoken_word more) ++ later ≡ text
+pub said-further : (bounds more : List PlacedBound) (d : PlacedBound) (left later text : List ℕ) → more ≡ bounds ++ d ∷ [] →
+    IsFirstWord left (spoken_word d) later → spaced (map spoken_word bounds) ++ left ≡ text →
+    spaced (map spoken_word more) ++ later ≡ text
 said-further bounds more d left later text is first e =
     ap (λ (bs : List PlacedBound). spaced (map spoken_word bs) ++ later) is
     ∙ ap (λ (ws : List Word). spaced ws ++ later) (map-append spoken_word bounds (d ∷ []))
     ∙ ap (λ (t : List ℕ). t ++ later) (flat_map-append (λ (w : Word). space ∷ w) (map spoken_word bounds) (spoken_word d ∷ []))
     ∙ append_assoc (spaced (map spoken_word bounds)) (spaced (spoken_word d ∷ [])) later
-    ∙ ap (λ (t : List ℕ). spaced (map spoken_word bounds) ++ t) (ap (λ (t : List ℕ). t ++ later) (append-nil (space ∷ spoken_word d)) ∙ sym first.0)
+    ∙ ap (λ (t : List ℕ). spaced (map spoken_word bounds) ++ t)
+    (ap (λ (t : List ℕ). t ++ later) (append-nil (space ∷ spoken_word d)) ∙ sym first.0)
     ∙ e
 
-pub spoken-further : (bounds more : List PlacedBound) (d : PlacedBound) → more ≡ bounds ++ d ∷ [] → All IsSpoken bounds → IsSpoken d → All IsSpoken more
+pub spoken-further : (bounds more : List PlacedBound) (d : PlacedBound) → more ≡ bounds ++ d ∷ [] → All IsSpoken bounds →
+    IsSpoken d → All IsSpoken more
 spoken-further bounds more d is all s =
-    subst (λ (bs : List PlacedBound). All IsSpoken bs) (sym is) (All-append IsSpoken bounds (d ∷ []) all (All-cons IsSpoken d [] s (All-nil IsSpoken)))
+    subst (λ (bs : List PlacedBound). All IsSpoken bs) (sym is)
+    (All-append IsSpoken bounds (d ∷ []) all (All-cons IsSpoken d [] s (All-nil IsSpoken)))
 
 -- the same text says the same bounds
-pub bounds-same : (a b : List PlacedBound) → All IsSpoken a → All IsSpoken b → spaced (map spoken_word a) ≡ spaced (map spoken_word b) → a ≡ b
+pub bounds-same : (a b : List PlacedBound) → All IsSpoken a → All IsSpoken b →
+    spaced (map spoken_word a) ≡ spaced (map spoken_word b) → a ≡ b
 bounds-same [] [] s t e = refl
 bounds-same [] (d ∷ b) s t e = absurd cc
 bounds-same (c ∷ a) [] s t e = absurd cc
@@ -158,7 +176,8 @@ known-some zone =
       | inr f ↦ f
     ])
 
-placed-spoken : (bounds : List PlacedBound) → All IsSpoken bounds → All SaysSome bounds → flat_map placed_words bounds ≡ map spoken_word bounds
+placed-spoken : (bounds : List PlacedBound) → All IsSpoken bounds → All SaysSome bounds →
+    flat_map placed_words bounds ≡ map spoken_word bounds
 placed-spoken [] s t = refl
 placed-spoken (b ∷ bounds) s t =
     let first : IsSpoken b = All-head IsSpoken b bounds s in
@@ -178,7 +197,8 @@ pub formed-spoken : (zone : Bounds) → ZoneIsFormed all_marks zone → All IsSp
 formed-spoken zone h =
     zone-all IsSpoken zone (λ k l e.
     let size = h.is_zone.size in
-    elim (said all_marks (k / 32) (k % 32) (get_or zone k None) (h.says k (omega arith)) (h.is_zone.kept k)) as (λ _. IsSpoken (placed k (get_or zone k None))) [
+    elim (said all_marks (k / 32) (k % 32) (get_or zone k None) (h.says k (omega arith)) (h.is_zone.kept k)) as (λ _. IsSpoken
+    (placed k (get_or zone k None))) [
       | silent is none ↦ let unknown = any-unknown k (get_or zone k None) is in absurd cc
       | spoken c is one hx hy hc ↦ record { placed = omega arith; number = c; is = is; kept = h.is_zone.kept k; row = hx; column = hy }
     ])

@@ -52,19 +52,22 @@ has-all marks x l h =
     (elim (nat_lt x 3) as (λ r. nat_lt x 3 ≡ r → r || (nat_le 6 x && is_sure all_marks (x - 6)) ≡ true) [
       | true ↦ λ e. refl
       | false ↦ λ e.
-          let other : nat_le 6 x && is_sure marks (x - 6) ≡ true = ap (λ (r : Bool). r || (nat_le 6 x && is_sure marks (x - 6))) (sym e) ∙ h in
+          let other : nat_le 6 x && is_sure marks (x - 6) ≡ true = ap (λ (r : Bool). r || (nat_le 6 x && is_sure marks (x - 6))) (sym e)
+          ∙ h in
           let six = and_parts (nat_le 6 x) (is_sure marks (x - 6)) other in
           let low : 6 ≤ x = leb-true 6 x six.0 in
           ap (λ (r : Bool). r && is_sure all_marks (x - 6)) six.0 ∙ sure-all (x - 6) (omega arith)
     ]) refl
 
-says-all : (marks : List Bool) (x y : ℕ) (b : Option ℤ) → x < 32 → y < 32 → may_say marks x y b ≡ true → may_say all_marks x y b ≡ true
+says-all : (marks : List Bool) (x y : ℕ) (b : Option ℤ) → x < 32 → y < 32 → may_say marks x y b ≡ true →
+    may_say all_marks x y b ≡ true
 says-all marks x y None l m h = h
 says-all marks x y (Some c) l m h =
     (elim (says_nothing x y c) as (λ r. says_nothing x y c ≡ r → r || (has_name all_marks x && has_name all_marks y) ≡ true) [
       | true ↦ λ e. refl
       | false ↦ λ e.
-          let other : has_name marks x && has_name marks y ≡ true = ap (λ (r : Bool). r || (has_name marks x && has_name marks y)) (sym e) ∙ h in
+          let other : has_name marks x && has_name marks y ≡ true =
+          ap (λ (r : Bool). r || (has_name marks x && has_name marks y)) (sym e) ∙ h in
           let both = and_parts (has_name marks x) (has_name marks y) other in
           and_from (has_name all_marks x) (has_name all_marks y) (has-all marks x l both.0) (has-all marks y m both.1)
     ]) refl
@@ -80,7 +83,8 @@ formed-more marks zone h = record {
 }
 
 -- a zone, then its marks
-pub marked-zone : (zone_key marks_key : Word) → Expects (IsOf (marked_lines zone_key marks_key) MarkedIsFormed) [] (IsOf (alone (zone_line zone_key)) (ZoneIsFormed all_marks))
+pub marked-zone : (zone_key marks_key : Word) →
+    Expects (IsOf (marked_lines zone_key marks_key) MarkedIsFormed) [] (IsOf (alone (zone_line zone_key)) (ZoneIsFormed all_marks))
 marked-zone zone_key marks_key = record {
   continued = λ lines k. record {
     more = texts (marks_line marks_key all_marks ∷ []);
@@ -103,7 +107,8 @@ pub after-same : (a b c : List ℕ) → a ++ b ≡ a ++ c → b ≡ c
 after-same [] b c e = e
 after-same (x ∷ a) b c e = after-same a b c (later-of e)
 
-key-words : (key : Word) (ws vs : List Word) → AreWords ws → AreWords vs → line_text (key ∷ ws) ≡ line_text (key ∷ vs) → ws ≡ vs
+key-words : (key : Word) (ws vs : List Word) → AreWords ws → AreWords vs → line_text (key ∷ ws) ≡ line_text (key ∷ vs) →
+    ws ≡ vs
 key-words key ws vs h k e = (words-same [] [] ws vs tt tt h k (after-same key (spaced ws) (spaced vs) e)).1
 
 pub marked-marks : (zone_key marks_key : Word) (zone : Bounds) → ZoneIsFormed all_marks zone →
@@ -115,13 +120,15 @@ marked-marks zone_key marks_key zone h = record {
     is = record {
       value = record { zone = zone; marks = k.value };
       has = k.has;
-      is = ap (λ (l : List (List ℕ)). texts (zone_line zone_key zone ∷ []) ++ l) k.is ∙ sym (append-nil (texts (zone_line zone_key zone ∷ []) ++ lines));
+      is = ap (λ (l : List (List ℕ)). texts (zone_line zone_key zone ∷ []) ++ l) k.is
+          ∙ sym (append-nil (texts (zone_line zone_key zone ∷ []) ++ lines));
     };
   };
   goes_on = λ whole back after k same.
       let lines = ap (λ (l : List (List ℕ)). l ++ back) k.is ∙ same in
       let words =
-      key-words zone_key (bounds_words 0 k.value.zone) (bounds_words 0 zone) (bounds-are-words 0 k.value.zone (zone-said k.value.marks k.value.zone k.has))
+      key-words zone_key (bounds_words 0 k.value.zone) (bounds_words 0 zone)
+      (bounds-are-words 0 k.value.zone (zone-said k.value.marks k.value.zone k.has))
       (bounds-are-words 0 zone (zone-said all_marks zone h)) (first-of lines) in
       let is = zone-same k.value.marks all_marks k.value.zone zone k.has h words in record {
         here = texts (marks_line marks_key k.value.marks ∷ []);
@@ -232,7 +239,8 @@ module _ (version : Version) where
       record {
         value = state_of v.0 v.1.0 v.1.1.0 v.1.1.1.0 v.1.1.1.1.0 v.1.1.1.1.1.0 v.1.1.1.1.1.1;
         has =
-            state-formed version v.0 v.1.0 v.1.1.0 v.1.1.1.0 v.1.1.1.1.0 v.1.1.1.1.1.0 v.1.1.1.1.1.1 h.0 h.1.0 h.1.1.0 h.1.1.1.0 h.1.1.1.1.0 h.1.1.1.1.1.0 h.1.1.1.1.1.1;
+            state-formed version v.0 v.1.0 v.1.1.0 v.1.1.1.0 v.1.1.1.1.0 v.1.1.1.1.1.0 v.1.1.1.1.1.1 h.0 h.1.0 h.1.1.0 h.1.1.1.0 h.1.1.1.1.0
+            h.1.1.1.1.1.0 h.1.1.1.1.1.1;
         is = k.is;
       }
 
@@ -252,34 +260,46 @@ module _ (version : Version) where
   state-begun old = begun (IsOf (state_lines version) (StateHasText version)) (IsOf from_marked FromMarked) old pieces-state state-pieces
 
   -- what may stand after each of its pieces, once that was read
-  pub marked-read : {old mid : Left} (marked : Old) → MarkedIsFormed marked × Took (texts (marked_lines (codes "zone") (codes "marks") marked)) old mid →
+  pub marked-read : {old mid : Left}
+      (marked : Old) → MarkedIsFormed marked × Took (texts (marked_lines (codes "zone") (codes "marks") marked)) old mid →
       SoFar (IsOf (state_lines version) (StateHasText version)) (IsOf from_has FromHas) old mid
   marked-read {old} marked read = on _ _ _ _ (state-begun old) (cuts-marked (codes "zone") (codes "marks")) marked read
 
-  pub has-read : {old mid new : Left} → SoFar (IsOf (state_lines version) (StateHasText version)) (IsOf from_has FromHas) old mid → (value : List (List ℕ)) → IsSaidIn version value × Took (texts (matched_lines version (codes "has") value)) mid new →
+  pub has-read : {old mid new : Left} → SoFar (IsOf (state_lines version) (StateHasText version)) (IsOf from_has FromHas) old mid →
+      (value : List (List ℕ)) → IsSaidIn version value × Took (texts (matched_lines version (codes "has") value)) mid new →
       SoFar (IsOf (state_lines version) (StateHasText version)) (IsOf from_patterns FromPatterns) old new
   has-read so_far value read = on _ _ _ _ so_far (cuts-matched version (codes "has")) value read
 
-  pub patterns-read : {old mid new : Left} → SoFar (IsOf (state_lines version) (StateHasText version)) (IsOf from_patterns FromPatterns) old mid → (value : List Choice) → SetIsFormed value × Took (texts (alone (choices_line (codes "patterns")) value)) mid new →
+  pub patterns-read : {old mid new : Left} → SoFar (IsOf (state_lines version) (StateHasText version))
+      (IsOf from_patterns FromPatterns) old mid → (value : List Choice) →
+      SetIsFormed value × Took (texts (alone (choices_line (codes "patterns")) value)) mid new →
       SoFar (IsOf (state_lines version) (StateHasText version)) (IsOf from_replacements FromReplacements) old new
   patterns-read so_far value read = on _ _ _ _ so_far (cuts-line (choices_line (codes "patterns")) SetIsFormed) value read
 
-  pub replacements-read : {old mid new : Left} → SoFar (IsOf (state_lines version) (StateHasText version)) (IsOf from_replacements FromReplacements) old mid → (value : Replacements) → IsSomeReplacement value × Took (texts (alone replacements_line value)) mid new →
+  pub replacements-read : {old mid new : Left} → SoFar (IsOf (state_lines version) (StateHasText version))
+      (IsOf from_replacements FromReplacements) old mid → (value : Replacements) →
+      IsSomeReplacement value × Took (texts (alone replacements_line value)) mid new →
       SoFar (IsOf (state_lines version) (StateHasText version)) (IsOf from_names FromNames) old new
   replacements-read so_far value read = on _ _ _ _ so_far (cuts-line replacements_line IsSomeReplacement) value read
 
-  pub names-read : {old mid new : Left} → SoFar (IsOf (state_lines version) (StateHasText version)) (IsOf from_names FromNames) old mid → (value : List Choice) → SetIsFormed value × Took (texts (alone (choices_line (codes "names")) value)) mid new →
+  pub names-read : {old mid new : Left} → SoFar (IsOf (state_lines version) (StateHasText version))
+      (IsOf from_names FromNames) old mid → (value : List Choice) →
+      SetIsFormed value × Took (texts (alone (choices_line (codes "names")) value)) mid new →
       SoFar (IsOf (state_lines version) (StateHasText version)) (IsOf from_changed FromChanged) old new
   names-read so_far value read = on _ _ _ _ so_far (cuts-line (choices_line (codes "names")) SetIsFormed) value read
 
-  pub changed-read : {old mid new : Left} → SoFar (IsOf (state_lines version) (StateHasText version)) (IsOf from_changed FromChanged) old mid → (value : Changed) → IsSomeChange value × Took (texts (alone changed_line value)) mid new →
+  pub changed-read : {old mid new : Left} → SoFar (IsOf (state_lines version) (StateHasText version))
+      (IsOf from_changed FromChanged) old mid → (value : Changed) →
+      IsSomeChange value × Took (texts (alone changed_line value)) mid new →
       SoFar (IsOf (state_lines version) (StateHasText version)) (IsOf (undo_lines version) (UndoIsFormed version)) old new
   changed-read so_far value read = on _ _ _ _ so_far (cuts-line changed_line IsSomeChange) value read
 
   -- all of them were read
-  pub state-taken : {old mid new : Left} (marked : Old) (has : List (List ℕ)) (patterns : List Choice) (r : Replacements) (names : List Choice) (c : Changed) (found : Undone) →
+  pub state-taken : {old mid new : Left} (marked : Old) (has : List (List ℕ)) (patterns : List Choice) (r : Replacements)
+      (names : List Choice) (c : Changed) (found : Undone) →
       Took (texts (marked_lines (codes "zone") (codes "marks") marked) ++ texts (matched_lines version (codes "has") has)) old mid →
-      Took (texts (after_matched version (state_of marked has patterns r names c found))) mid new → Took (texts (state_lines version (state_of marked has patterns r names c found))) old new
+      Took (texts (after_matched version (state_of marked has patterns r names c found))) mid new →
+      Took (texts (state_lines version (state_of marked has patterns r names c found))) old new
   state-taken {old} {mid} {new} marked has patterns r names c found above below =
       subst (λ (l : List (List ℕ)). Took l old new)
       (ap (λ (l : List (List ℕ)). texts (marked_lines (codes "zone") (codes "marks") marked) ++ l)
@@ -287,7 +307,8 @@ module _ (version : Version) where
       (took-more above below)
 
   undo-continued : (nothing same was : Bool) (lines : List (List ℕ)) → (nothing || same || was) ≡ true →
-      texts (alone found_line (record { nothing = nothing; same = same; was = was })) ≡ lines → Continued (IsOf (undo_lines version) (UndoIsFormed version)) ([] ++ lines)
+      texts (alone found_line (record { nothing = nothing; same = same; was = was })) ≡ lines →
+      Continued (IsOf (undo_lines version) (UndoIsFormed version)) ([] ++ lines)
   undo-continued nothing same true lines h e = record {
     more = texts (old_lines version (Some plain_old) []);
     is = record {
@@ -324,8 +345,8 @@ module _ (version : Version) where
   FromOld = AreFormed MarkedIsFormed (IsSaidIn version)
 
   -- they stand where the line says so
-  was-follows : (was : Option Old) (has : List (List ℕ)) (back after : List (List ℕ)) → is_some was ≡ true → OldIsFormed was → OldIsSaidIn version was has →
-      texts (old_lines version was has) ++ back ≡ after → GoesOn (IsOf from_old FromOld) after
+  was-follows : (was : Option Old) (has : List (List ℕ)) (back after : List (List ℕ)) → is_some was ≡ true → OldIsFormed was →
+      OldIsSaidIn version was has → texts (old_lines version was has) ++ back ≡ after → GoesOn (IsOf from_old FromOld) after
   unfolding followed AreFormed
   was-follows None has back after is h s e = absurd cc
   was-follows (Some old) has back after is h s e = record {
@@ -335,7 +356,8 @@ module _ (version : Version) where
     parted = sym e;
   }
 
-  undo-old : (f : Found) → IsFound f → f.was ≡ true → Expects (IsOf (undo_lines version) (UndoIsFormed version)) (texts (found_line f ∷ [])) (IsOf from_old FromOld)
+  undo-old : (f : Found) → IsFound f → f.was ≡ true →
+      Expects (IsOf (undo_lines version) (UndoIsFormed version)) (texts (found_line f ∷ [])) (IsOf from_old FromOld)
   unfolding followed AreFormed
   undo-old f h was = record {
     continued = λ lines k. record {
@@ -349,7 +371,8 @@ module _ (version : Version) where
             line_text (codes "undo" ∷ possible f.nothing (codes "nothing") ++ possible f.same (codes "same") ++ possible b (codes "was"))
             ∷ texts (old_lines version (Some k.value.0) k.value.1))
             (sym was)
-            ∙ ap (λ (l : List (List ℕ)). texts (found_line f ∷ []) ++ l) k.is ∙ sym (append-nil (texts (found_line f ∷ []) ++ lines));
+            ∙ ap (λ (l : List (List ℕ)). texts (found_line f ∷ []) ++ l) k.is
+            ∙ sym (append-nil (texts (found_line f ∷ []) ++ lines));
       };
     };
     goes_on = λ whole back after k same.
@@ -362,16 +385,18 @@ module _ (version : Version) where
   }
 
   -- what may stand after that line, and after the earlier buffer
-  pub found-read : {old mid : Left} (f : Found) → f.was ≡ true → IsFound f × Took (texts (found_line f ∷ [])) old mid → SoFar (IsOf (undo_lines version) (UndoIsFormed version)) (IsOf from_old FromOld) old mid
+  pub found-read : {old mid : Left} (f : Found) → f.was ≡ true → IsFound f × Took (texts (found_line f ∷ [])) old mid →
+      SoFar (IsOf (undo_lines version) (UndoIsFormed version)) (IsOf from_old FromOld) old mid
   found-read f was read = record { front = texts (found_line f ∷ []); expects = undo-old f read.0 was; took = read.1 }
 
-  pub old-read : {old mid new : Left} → SoFar (IsOf (undo_lines version) (UndoIsFormed version)) (IsOf from_old FromOld) old mid → (value : Old) →
-      MarkedIsFormed value × Took (texts (marked_lines (codes "old-zone") (codes "old-marks") value)) mid new →
+  pub old-read : {old mid new : Left} → SoFar (IsOf (undo_lines version) (UndoIsFormed version)) (IsOf from_old FromOld) old mid →
+      (value : Old) → MarkedIsFormed value × Took (texts (marked_lines (codes "old-zone") (codes "old-marks") value)) mid new →
       SoFar (IsOf (undo_lines version) (UndoIsFormed version)) (IsOf (matched_lines version (codes "old-has")) (IsSaidIn version)) old new
   old-read so_far value read = on _ _ _ _ so_far (cuts-marked (codes "old-zone") (codes "old-marks")) value read
 
   -- what undo may find, the earlier buffer, and what some line of it matches, were read
-  pub undo-read : {before mid after new : Left} (f : Found) (old : Old) (has : List (List ℕ)) → f.was ≡ true → IsFound f × Took (texts (found_line f ∷ [])) before mid →
+  pub undo-read : {before mid after new : Left} (f : Found) (old : Old) (has : List (List ℕ)) → f.was ≡ true →
+      IsFound f × Took (texts (found_line f ∷ [])) before mid →
       MarkedIsFormed old × Took (texts (marked_lines (codes "old-zone") (codes "old-marks") old)) mid after →
       IsSaidIn version has × Took (texts (matched_lines version (codes "old-has") has)) after new →
       UndoIsFormed version (undo_with f old, has) × Took (texts (undo_lines version (undo_with f old, has))) before new
@@ -379,6 +404,7 @@ module _ (version : Version) where
     (ap (λ (b : Bool). f.nothing || f.same || b) (sym was) ∙ found.0, (marked.0, matched.0)),
     subst
         (λ (b : Bool).
-        Took (line_text (codes "undo" ∷ possible f.nothing (codes "nothing") ++ possible f.same (codes "same") ++ possible b (codes "was")) ∷ texts (old_lines version (Some old) has)) before new)
+        Took (line_text (codes "undo" ∷ possible f.nothing (codes "nothing") ++ possible f.same (codes "same") ++ possible b
+        (codes "was")) ∷ texts (old_lines version (Some old) has)) before new)
         was (took-more (took-more found.1 marked.1) matched.1),
   )

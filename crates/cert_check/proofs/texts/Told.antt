@@ -64,24 +64,31 @@ line-above (x ∷ a) h = let low = h.0 in All-cons (λ b. b ≢ newline) x a (λ
 
 lines-above : (lines : List text.Line) → AreLinesOfWords lines → AreLines (texts lines)
 lines-above [] h = All-nil IsLine
-lines-above (l ∷ lines) h = All-cons IsLine (line_text l) (texts lines) (line-above (line_text l) (Above-line l h.0)) (lines-above lines h.1)
+lines-above (l ∷ lines) h =
+    All-cons IsLine (line_text l) (texts lines) (line-above (line_text l) (Above-line l h.0)) (lines-above lines h.1)
 
 -- the first line of a certificate, and the others
-whole-lines : (c : Certificate) → opening_lines c ++ flat_map (note_lines c.version) c.notes ++ closing_lines c ≡ version_line c.version ∷ rest_lines c
+whole-lines : (c : Certificate) →
+    opening_lines c ++ flat_map (note_lines c.version) c.notes ++ closing_lines c ≡ version_line c.version ∷ rest_lines c
 whole-lines c =
     one_text.whole-lines c
-    ∙ ap (λ (l : List text.Line). version_line c.version ∷ path_line c.path ∷ bounds_line (codes "start") c.min c.max ∷ (matched_lines c.version (codes "has") c.has ++ l))
-    (sym (notes-assoc c.version c.notes (state_lines c.version c.last ++ bounds_line (codes "final") c.low c.high ∷ texts_line (codes "writes") c.writes ∷ [])))
+    ∙ ap (λ (l : List text.Line). version_line c.version ∷ path_line c.path ∷ bounds_line (codes "start") c.min
+    c.max ∷ (matched_lines c.version (codes "has") c.has ++ l))
+    (sym (notes-assoc c.version c.notes
+    (state_lines c.version c.last ++ bounds_line (codes "final") c.low c.high ∷ texts_line (codes "writes") c.writes ∷ [])))
 
 pub text-is : (c : Certificate) → text_of c ≡ bytes_of (version_text c.version ∷ texts (rest_lines c))
 unfolding text_of
 text-is c = ap (λ (l : List text.Line). bytes_of (texts l)) (whole-lines c)
 
 pub text-lines : (c : Certificate) → HasText c → AreLines (version_text c.version ∷ texts (rest_lines c))
-text-lines c h = lines-above (version_line c.version ∷ rest_lines c) (subst (λ (l : List text.Line). AreLinesOfWords l) (whole-lines c) (certificate-words c h))
+text-lines c h =
+    lines-above (version_line c.version ∷ rest_lines c)
+    (subst (λ (l : List text.Line). AreLinesOfWords l) (whole-lines c) (certificate-words c h))
 
 -- lines below the first that begin those of a certificate
-begins-from : (version : versions.Version) (lines later : List (List ℕ)) → IsOf rest_lines (HasTextIn version) (lines ++ later) → Begins (version_text version ∷ lines)
+begins-from : (version : versions.Version) (lines later : List (List ℕ)) → IsOf rest_lines (HasTextIn version) (lines ++ later) →
+    Begins (version_text version ∷ lines)
 begins-from version lines later k = record {
   certificate = k.value;
   more = later;
@@ -92,36 +99,45 @@ begins-from version lines later k = record {
   );
 }
 
-begun-lines : (version : versions.Version) (lines later : List (List ℕ)) → IsOf rest_lines (HasTextIn version) (lines ++ later) → AreLines (version_text version ∷ lines)
+begun-lines : (version : versions.Version) (lines later : List (List ℕ)) → IsOf rest_lines (HasTextIn version) (lines ++ later) →
+    AreLines (version_text version ∷ lines)
 begun-lines version lines later k =
     front-lines (version_text version ∷ lines) later
     (subst (λ (v : versions.Version). AreLines (version_text v ∷ (lines ++ later))) k.has.0
     (subst (λ (l : List (List ℕ)). AreLines (version_text k.value.version ∷ l)) k.is (text-lines k.value k.has.1)))
 
 -- lines that begin a text are the front of a certificate's
-pub begins-goes : (lines : List (List ℕ)) (b : Begins lines) → AreLines lines → Goes (version_text b.certificate.version ∷ texts (rest_lines b.certificate)) lines
+pub begins-goes : (lines : List (List ℕ)) (b : Begins lines) → AreLines lines →
+    Goes (version_text b.certificate.version ∷ texts (rest_lines b.certificate)) lines
 begins-goes lines b h =
-    lines-front (version_text b.certificate.version ∷ texts (rest_lines b.certificate)) lines (bytes_of b.more) (text-lines b.certificate b.is.0) h
+    lines-front (version_text b.certificate.version ∷ texts (rest_lines b.certificate)) lines (bytes_of b.more)
+    (text-lines b.certificate b.is.0) h
     (sym (text-is b.certificate) ∙ b.is.1 ∙ bytes_of-append lines b.more)
 
-pub whole-is : (lines : List (List ℕ)) (w : IsWhole lines) → AreLines lines → version_text w.certificate.version ∷ texts (rest_lines w.certificate) ≡ lines
+pub whole-is : (lines : List (List ℕ)) (w : IsWhole lines) → AreLines lines →
+    version_text w.certificate.version ∷ texts (rest_lines w.certificate) ≡ lines
 whole-is lines w h =
     sym (lines_of-bytes_of (version_text w.certificate.version ∷ texts (rest_lines w.certificate)) (text-lines w.certificate w.is.0))
     ∙ ap lines_of (sym (text-is w.certificate) ∙ w.is.1) ∙ lines_of-bytes_of lines h
 
 -- all bytes: the first line, lines below it and what is left
-parted-after : (version : versions.Version) (bytes rest after : List ℕ) (lines : List (List ℕ)) → bytes ≡ version_text version ++ newline ∷ rest → rest ≡ bytes_of lines ++ after → bytes ≡ bytes_of (version_text version ∷ lines) ++ after
+parted-after : (version : versions.Version) (bytes rest after : List ℕ) (lines : List (List ℕ)) →
+    bytes ≡ version_text version ++ newline ∷ rest → rest ≡ bytes_of lines ++ after →
+    bytes ≡ bytes_of (version_text version ∷ lines) ++ after
 parted-after version bytes rest after lines e f =
-    e ∙ ap (λ (r : List ℕ). version_text version ++ newline ∷ r) f ∙ sym (append_assoc (version_text version) (newline ∷ bytes_of lines) after)
+    e ∙ ap (λ (r : List ℕ). version_text version ++ newline ∷ r) f
+    ∙ sym (append_assoc (version_text version) (newline ∷ bytes_of lines) after)
 
-one-line-more : (above : List (List ℕ)) (line after : List ℕ) → bytes_of above ++ (line ++ newline ∷ after) ≡ bytes_of (above ++ line ∷ []) ++ after
+one-line-more : (above : List (List ℕ)) (line after : List ℕ) →
+    bytes_of above ++ (line ++ newline ∷ after) ≡ bytes_of (above ++ line ∷ []) ++ after
 one-line-more above line after =
     ap (λ (r : List ℕ). bytes_of above ++ r) (sym (append_assoc line (newline ∷ []) after))
     ∙ sym (append_assoc (bytes_of above) (line ++ newline ∷ []) after)
     ∙ ap (λ (r : List ℕ). r ++ after) (sym (bytes_of-append above (line ∷ [])))
 
-strange-line : (version : versions.Version) (bytes : List ℕ) (mid : Left) (wanted : Wanted) → bytes ≡ version_text version ++ newline ∷ mid.bytes → mid.above ≡ 1 → IsStrange (IsOf rest_lines (HasTextIn version)) mid wanted →
-    IsLineFault wanted.line bytes
+strange-line : (version : versions.Version) (bytes : List ℕ) (mid : Left) (wanted : Wanted) →
+    bytes ≡ version_text version ++ newline ∷ mid.bytes → mid.above ≡ 1 →
+    IsStrange (IsOf rest_lines (HasTextIn version)) mid wanted → IsLineFault wanted.line bytes
 strange-line version bytes mid wanted e one f =
     let are = begun-lines version f.above f.more f.begun in
     let counted = f.number_is in
@@ -129,7 +145,8 @@ strange-line version bytes mid wanted e one f =
       above = version_text version ∷ f.above;
       line = f.line;
       after = f.after;
-      parted = parted-after version bytes mid.bytes f.after (f.above ++ f.line ∷ []) e (f.parted ∙ one-line-more f.above f.line f.after);
+      parted = parted-after version bytes mid.bytes f.after (f.above ++ f.line ∷ []) e
+          (f.parted ∙ one-line-more f.above f.line f.after);
       are_lines = are;
       is_line = f.is_line;
       some = λ none. absurd cc;
@@ -137,16 +154,21 @@ strange-line version bytes mid wanted e one f =
       begun = begins-from version f.above f.more f.begun;
       unfinished = λ w.
           let is = whole-is (version_text version ∷ f.above) w are in
-          f.stuck (texts (rest_lines w.certificate)) (f.line ∷ []) [] (record { value = w.certificate; has = (version-same w.certificate.version version (first-of is), w.is.0); is = refl })
+          f.stuck (texts (rest_lines w.certificate)) (f.line ∷ []) []
+          (record { value = w.certificate; has = (version-same w.certificate.version version (first-of is), w.is.0); is = refl })
           (ap (λ (l : List (List ℕ)). l ++ f.line ∷ []) (later-of is));
       refused = λ b.
-          let goes = begins-goes (version_text version ∷ f.above ++ f.line ∷ []) b (All-append IsLine (version_text version ∷ f.above) (f.line ∷ []) are (All-cons IsLine f.line [] f.is_line (All-nil IsLine))) in
-          f.stuck (texts (rest_lines b.certificate)) [] goes.later (record { value = b.certificate; has = (version-same b.certificate.version version (first-of goes.is), b.is.0); is = refl })
+          let goes = begins-goes (version_text version ∷ f.above ++ f.line ∷ []) b
+          (All-append IsLine (version_text version ∷ f.above) (f.line ∷ []) are
+          (All-cons IsLine f.line [] f.is_line (All-nil IsLine))) in
+          f.stuck (texts (rest_lines b.certificate)) [] goes.later
+          (record { value = b.certificate; has = (version-same b.certificate.version version (first-of goes.is), b.is.0); is = refl })
           (append-nil (texts (rest_lines b.certificate)) ∙ later-of goes.is ∙ append_assoc f.above (f.line ∷ []) goes.later);
     }
 
 -- a line that may stand below others of the lines after the first
-stands-told : (version : versions.Version) (above : List (List ℕ)) (word : Word) → SomeLine (MayStand (IsOf rest_lines (HasTextIn version)) above) word →
+stands-told : (version : versions.Version) (above : List (List ℕ)) (word : Word) →
+    SomeLine (MayStand (IsOf rest_lines (HasTextIn version)) above) word →
     SomeLine (λ line. IsLine line × Begins (version_text version ∷ above ++ line ∷ [])) word
 stands-told version above word s =
     let k = subst (IsOf rest_lines (HasTextIn version)) (sym (append_assoc above (s.line ∷ []) s.holds.more)) s.holds.is in
@@ -160,44 +182,54 @@ stands-told version above word s =
       );
     }
 
-strange-wanted : (version : versions.Version) (bytes : List ℕ) (mid : Left) (wanted : Wanted) → bytes ≡ version_text version ++ newline ∷ mid.bytes → mid.above ≡ 1 → IsStrange (IsOf rest_lines (HasTextIn version)) mid wanted →
-    IsWanted wanted bytes
+strange-wanted : (version : versions.Version) (bytes : List ℕ) (mid : Left) (wanted : Wanted) →
+    bytes ≡ version_text version ++ newline ∷ mid.bytes → mid.above ≡ 1 →
+    IsStrange (IsOf rest_lines (HasTextIn version)) mid wanted → IsWanted wanted bytes
 unfolding strange-line
 strange-wanted version bytes mid wanted e one f =
     let are = begun-lines version f.above f.more f.begun in
     record {
       fault = strange-line version bytes mid wanted e one f;
       kind = λ line is_line b.
-          let goes = begins-goes (version_text version ∷ f.above ++ line ∷ []) b (All-append IsLine (version_text version ∷ f.above) (line ∷ []) are (All-cons IsLine line [] is_line (All-nil IsLine))) in
-          f.other (texts (rest_lines b.certificate)) [] goes.later line (record { value = b.certificate; has = (version-same b.certificate.version version (first-of goes.is), b.is.0); is = refl })
+          let goes = begins-goes (version_text version ∷ f.above ++ line ∷ []) b
+          (All-append IsLine (version_text version ∷ f.above) (line ∷ []) are (All-cons IsLine line [] is_line (All-nil IsLine))) in
+          f.other (texts (rest_lines b.certificate)) [] goes.later line
+          (record { value = b.certificate; has = (version-same b.certificate.version version (first-of goes.is), b.is.0); is = refl })
           (append-nil (texts (rest_lines b.certificate)) ∙ later-of goes.is ∙ append_assoc f.above (line ∷ []) goes.later);
       each =
-          All-weaker (SomeLine (MayStand (IsOf rest_lines (HasTextIn version)) f.above)) (SomeLine (λ line. IsLine line × Begins (version_text version ∷ f.above ++ line ∷ [])))
+          All-weaker (SomeLine (MayStand (IsOf rest_lines (HasTextIn version)) f.above))
+          (SomeLine (λ line. IsLine line × Begins (version_text version ∷ f.above ++ line ∷ [])))
           (λ word s. stands-told version f.above word s) (keys wanted.kind) f.each;
     }
 
-short-lines : (version : versions.Version) (bytes : List ℕ) (mid : Left) → bytes ≡ version_text version ++ newline ∷ mid.bytes → IsShort (IsOf rest_lines (HasTextIn version)) mid → IsSizeFault bytes
+short-lines : (version : versions.Version) (bytes : List ℕ) (mid : Left) → bytes ≡ version_text version ++ newline ∷ mid.bytes →
+    IsShort (IsOf rest_lines (HasTextIn version)) mid → IsSizeFault bytes
 short-lines version bytes mid e f =
     let are = begun-lines version f.above f.more f.begun in
     subst IsSizeFault (sym (parted-after version bytes mid.bytes f.last f.above e f.parted))
     (less (version_text version ∷ f.above) f.last are (λ none. absurd cc) (begins-from version f.above f.more f.begun)
     (λ w.
     let is = whole-is (version_text version ∷ f.above) w are in
-    f.stuck (texts (rest_lines w.certificate)) [] (record { value = w.certificate; has = (version-same w.certificate.version version (first-of is), w.is.0); is = refl }) (append-nil (texts (rest_lines w.certificate)) ∙ later-of is))
+    f.stuck (texts (rest_lines w.certificate)) []
+    (record { value = w.certificate; has = (version-same w.certificate.version version (first-of is), w.is.0); is = refl })
+    (append-nil (texts (rest_lines w.certificate)) ∙ later-of is))
     f.is_line)
 
 -- the fault of the lines below the first is that of the bytes
-pub told : (version : versions.Version) (bytes : List ℕ) (mid : Left) (fault : Unread) → bytes ≡ version_text version ++ newline ∷ mid.bytes → mid.above ≡ 1 → IsFault (IsOf rest_lines (HasTextIn version)) mid fault →
-    IsReadAs bytes (Err fault)
+pub told : (version : versions.Version) (bytes : List ℕ) (mid : Left) (fault : Unread) →
+    bytes ≡ version_text version ++ newline ∷ mid.bytes → mid.above ≡ 1 →
+    IsFault (IsOf rest_lines (HasTextIn version)) mid fault → IsReadAs bytes (Err fault)
 told version bytes mid Version e one f = absurd f
 told version bytes mid (Line wanted) e one f = strange-wanted version bytes mid wanted e one f
 told version bytes mid Size e one f = short-lines version bytes mid e f
 told version bytes mid Memory e one f = tt
 
-pub told-exit : (version : versions.Version) (bytes : List ℕ) (mid : Left) (r : Result public.Certificate Unread) (given fault : Unread) → r ≡ Err given → given ≡ fault →
-    bytes ≡ version_text version ++ newline ∷ mid.bytes → mid.above ≡ 1 → IsFault (IsOf rest_lines (HasTextIn version)) mid fault → IsReadAs bytes r
+pub told-exit : (version : versions.Version) (bytes : List ℕ) (mid : Left) (r : Result public.Certificate Unread)
+    (given fault : Unread) → r ≡ Err given → given ≡ fault → bytes ≡ version_text version ++ newline ∷ mid.bytes →
+    mid.above ≡ 1 → IsFault (IsOf rest_lines (HasTextIn version)) mid fault → IsReadAs bytes r
 told-exit version bytes mid r given fault is same e one f =
-    subst (λ (q : Result public.Certificate Unread). IsReadAs bytes q) (sym (is ∙ ap (λ (x : Unread). Err x) same)) (told version bytes mid fault e one f)
+    subst (λ (q : Result public.Certificate Unread). IsReadAs bytes q) (sym (is ∙ ap (λ (x : Unread). Err x) same))
+    (told version bytes mid fault e one f)
 
 -- the first line is that of no version
 pub no-version-line : (bytes : List ℕ) → IsLine bytes → IsVersionFault bytes
@@ -207,33 +239,37 @@ version-lines : (version : versions.Version) → IsLine (version_text version)
 version-lines One = line-above (version_text One) (omega arith)
 version-lines Two = line-above (version_text Two) (omega arith)
 
-pub other-version : (bytes line after : List ℕ) → IsLine line → bytes ≡ line ++ newline ∷ after → ((version : versions.Version) → Unit {0} → version_text version ≢ line) → IsVersionFault bytes
+pub other-version : (bytes line after : List ℕ) → IsLine line → bytes ≡ line ++ newline ∷ after →
+    ((version : versions.Version) → Unit {0} → version_text version ≢ line) → IsVersionFault bytes
 other-version bytes line after h is other version rest e =
     let cut = same_line line (version_text version) after rest h (version-lines version) (sym is ∙ e) in
     other version tt (sym cut.0)
 
 -- the lines of a certificate, and all else
-text-read : (version : versions.Version) (bytes : List ℕ) (mid new : Left) (c : Certificate) → bytes ≡ version_text version ++ newline ∷ mid.bytes → Took (texts (rest_lines c)) mid new →
-    c.version ≡ version → bytes ≡ text_of c ++ new.bytes
+text-read : (version : versions.Version) (bytes : List ℕ) (mid new : Left) (c : Certificate) →
+    bytes ≡ version_text version ++ newline ∷ mid.bytes → Took (texts (rest_lines c)) mid new → c.version ≡ version →
+    bytes ≡ text_of c ++ new.bytes
 text-read version bytes mid new c e t same =
     parted-after version bytes mid.bytes new.bytes (texts (rest_lines c)) e t.parted
     ∙ ap (λ (v : versions.Version). bytes_of (version_text v ∷ texts (rest_lines c)) ++ new.bytes) (sym same)
     ∙ ap (λ (b : List ℕ). b ++ new.bytes) (sym (text-is c))
 
-pub whole-read : (version : versions.Version) (bytes : List ℕ) (mid new : Left) (c : Certificate) → bytes ≡ version_text version ++ newline ∷ mid.bytes → Took (texts (rest_lines c)) mid new →
-    HasTextIn version c → new.bytes ≡ [] → IsText bytes c
+pub whole-read : (version : versions.Version) (bytes : List ℕ) (mid new : Left) (c : Certificate) →
+    bytes ≡ version_text version ++ newline ∷ mid.bytes → Took (texts (rest_lines c)) mid new → HasTextIn version c →
+    new.bytes ≡ [] → IsText bytes c
 whole-read version bytes mid new c e t h none =
     (h.1, sym (text-read version bytes mid new c e t h.0 ∙ ap (λ (b : List ℕ). text_of c ++ b) none ∙ append-nil (text_of c)))
 
-pub more-left : (version : versions.Version) (bytes : List ℕ) (mid new : Left) (c : Certificate) → bytes ≡ version_text version ++ newline ∷ mid.bytes → Took (texts (rest_lines c)) mid new →
-    HasTextIn version c → new.bytes ≢ [] → IsSizeFault bytes
+pub more-left : (version : versions.Version) (bytes : List ℕ) (mid new : Left) (c : Certificate) →
+    bytes ≡ version_text version ++ newline ∷ mid.bytes → Took (texts (rest_lines c)) mid new → HasTextIn version c →
+    new.bytes ≢ [] → IsSizeFault bytes
 more-left version bytes mid new c e t h some =
     subst IsSizeFault (sym (text-read version bytes mid new c e t h.0 ∙ ap (λ (b : List ℕ). b ++ new.bytes) (text-is c)))
     (more (version_text c.version ∷ texts (rest_lines c)) new.bytes (record { certificate = c; is = (h.1, text-is c) }) some)
 
 -- the first line was read
-pub version-read : (version : versions.Version) (bytes start line rest : List ℕ) → start ≡ bytes → version_text version ≡ line → start ≡ line ++ newline ∷ rest →
-    bytes ≡ version_text version ++ newline ∷ rest
+pub version-read : (version : versions.Version) (bytes start line rest : List ℕ) → start ≡ bytes → version_text version ≡ line →
+    start ≡ line ++ newline ∷ rest → bytes ≡ version_text version ++ newline ∷ rest
 version-read version bytes start line rest is same parted = sym is ∙ parted ∙ ap (λ (l : List ℕ). l ++ newline ∷ rest) (sym same)
 
 pub at-end : (b : Bool) (bytes : List ℕ) → IsTrue b ↔ (bytes ≡ []) → b ≡ true → bytes ≡ []
@@ -251,7 +287,7 @@ unread-told bytes (Line wanted) h = h.fault
 unread-told bytes Size h = h
 unread-told bytes Memory h = tt
 
-pub reading-told : (bytes : List ℕ) (r : Result public.Certificate CertFault) (unread : Unread) → IsErrAnd r (λ given. given ≡ fault_of unread) →
-    IsReadAs bytes (Err unread) → IsReading bytes r
+pub reading-told : (bytes : List ℕ) (r : Result public.Certificate CertFault) (unread : Unread) →
+    IsErrAnd r (λ given. given ≡ fault_of unread) → IsReadAs bytes (Err unread) → IsReading bytes r
 reading-told bytes (Ok c) unread is h = absurd is
 reading-told bytes (Err given) unread is h = subst (λ (x : CertFault). IsReading bytes (Err x)) (sym is) (unread-told bytes unread h)

@@ -21,10 +21,12 @@ use Rattle.cert_check.proofs.texts.Chosen.{marks-same, choices-same, texts-same,
 use Rattle.cert_check.proofs.texts.Separated.{first-of, later-of}
 
 -- a zone beside its marks
-pub zone-same : (m n : List Bool) (a b : Bounds) → ZoneIsFormed m a → ZoneIsFormed n b → bounds_words 0 a ≡ bounds_words 0 b → a ≡ b
+pub zone-same : (m n : List Bool) (a b : Bounds) → ZoneIsFormed m a → ZoneIsFormed n b → bounds_words 0 a ≡ bounds_words 0 b →
+    a ≡ b
 zone-same m n a b h k e = bounds-same 0 a b (h.is_zone.size ∙ sym k.is_zone.size) (zone-said m a h) (zone-said n b k) e
 
-pub letters-same : (m n : List Bool) (a b : Bounds) → ZoneIsFormed m a → ZoneIsFormed n b → letters_words (sure_letters 97 m) ≡ letters_words (sure_letters 97 n) → m ≡ n
+pub letters-same : (m n : List Bool) (a b : Bounds) → ZoneIsFormed m a → ZoneIsFormed n b →
+    letters_words (sure_letters 97 m) ≡ letters_words (sure_letters 97 n) → m ≡ n
 letters-same m n a b h k e = marks-same m n (h.letters ∙ sym k.letters) e
 
 abbrev pub old_made : Bounds → List Bool → Old
@@ -52,9 +54,11 @@ undo_made nothing same was = record { nothing = nothing; same = same; was = was 
 
 pub undo-by : (a b : Undo) → a.nothing ≡ b.nothing → a.same ≡ b.same → a.was ≡ b.was → a ≡ b
 undo-by a b x y z =
-    ap (λ (n : Bool). undo_made n a.same a.was) x ∙ ap (λ (n : Bool). undo_made b.nothing n a.was) y ∙ ap (λ (n : Option Old). undo_made b.nothing b.same n) z
+    ap (λ (n : Bool). undo_made n a.same a.was) x ∙ ap (λ (n : Bool). undo_made b.nothing n a.was) y
+    ∙ ap (λ (n : Option Old). undo_made b.nothing b.same n) z
 
-abbrev pub state_made : Bounds → List Bool → List Choice → Replacements → List Choice → Changed → Undo → List (List ℕ) → List (List ℕ) → State
+abbrev pub state_made : Bounds → List Bool → List Choice → Replacements → List Choice → Changed → Undo → List (List ℕ) →
+    List (List ℕ) → State
 state_made zone marks patterns replacements names changed undo has old_has = record {
   zone = zone;
   marks = marks;
@@ -67,7 +71,9 @@ state_made zone marks patterns replacements names changed undo has old_has = rec
   old_has = old_has;
 }
 
-state-by : (a b : State) → a.zone ≡ b.zone → a.marks ≡ b.marks → a.patterns ≡ b.patterns → a.replacements ≡ b.replacements → a.names ≡ b.names → a.changed ≡ b.changed → a.undo ≡ b.undo → a.has ≡ b.has → a.old_has ≡ b.old_has → a ≡ b
+state-by : (a b : State) → a.zone ≡ b.zone → a.marks ≡ b.marks → a.patterns ≡ b.patterns →
+    a.replacements ≡ b.replacements → a.names ≡ b.names → a.changed ≡ b.changed → a.undo ≡ b.undo → a.has ≡ b.has →
+    a.old_has ≡ b.old_has → a ≡ b
 state-by a b z m p r n c u h o = λ k. state_made (z k) (m k) (p k) (r k) (n k) (c k) (u k) (h k) (o k)
 
 -- lines that begin with different letters
@@ -88,8 +94,8 @@ pub note-by : (a b : Note) → a.state ≡ b.state → a.looped ≡ b.looped →
 note-by a b i n = λ k. note_made (i k) (n k)
 
 -- what some line matches, before other lines
-pub matched-same : (version : Version) (key : Word) (m n : List (List ℕ)) (r s : List Line) → IsSaidIn version m → IsSaidIn version n →
-    matched_lines version key m ++ r ≡ matched_lines version key n ++ s → (m ≡ n) × (r ≡ s)
+pub matched-same : (version : Version) (key : Word) (m n : List (List ℕ)) (r s : List Line) → IsSaidIn version m →
+    IsSaidIn version n → matched_lines version key m ++ r ≡ matched_lines version key n ++ s → (m ≡ n) × (r ≡ s)
 matched-same One key m n r s h k e = (h ∙ sym k, e)
 matched-same Two key m n r s h k e = (texts-same m n (later-of (first-of e)), later-of e)
 
@@ -102,7 +108,8 @@ pub record SameOld (a b : Option Old) (m n : List (List ℕ)) (r s : List Line) 
 module _ (version : Version) where
   -- an earlier buffer, a state, notes, before other lines
 
-  old-same : (a b : Option Old) (m n : List (List ℕ)) (r s : List Line) → is_some a ≡ is_some b → OldIsFormed a → OldIsFormed b → OldIsSaidIn version a m → OldIsSaidIn version b n →
+  old-same : (a b : Option Old) (m n : List (List ℕ)) (r s : List Line) → is_some a ≡ is_some b → OldIsFormed a →
+      OldIsFormed b → OldIsSaidIn version a m → OldIsSaidIn version b n →
       old_lines version a m ++ r ≡ old_lines version b n ++ s → SameOld a b m n r s
   old-same None None m n r s i h k p q e = record { was = refl; has = p ∙ sym q; later = e }
   old-same None (Some b) m n r s i h k p q e = absurd cc
@@ -120,7 +127,8 @@ module _ (version : Version) where
       choices_line (codes "patterns") s.patterns ∷ replacements_line s.replacements ∷ choices_line (codes "names") s.names
       ∷ changed_line s.changed ∷ undo_line s.undo ∷ old_lines version s.undo.was s.old_has
 
-  pub state-same : (a b : State) (r s : List Line) → StateHasText version a → StateHasText version b → state_lines version a ++ r ≡ state_lines version b ++ s → (a ≡ b) × (r ≡ s)
+  pub state-same : (a b : State) (r s : List Line) → StateHasText version a → StateHasText version b →
+      state_lines version a ++ r ≡ state_lines version b ++ s → (a ≡ b) × (r ≡ s)
   state-same a b r s said other zone =
       let h = said.formed in
       let k = other.formed in
@@ -170,17 +178,20 @@ module _ (version : Version) where
       let rests = sym (append_assoc (state_lines version x) (flat_map (headed_lines version (codes "inner")) a)
       ((codes "done" ∷ []) ∷ r)) ∙ later-of e
       ∙ append_assoc (state_lines version y) (flat_map (headed_lines version (codes "inner")) b) ((codes "done" ∷ []) ∷ s) in
-      let here = state-same x y (after_inner a r) (after_inner b s) (All-head (StateHasText version) x a h) (All-head (StateHasText version) y b k) rests in
+      let here = state-same x y (after_inner a r) (after_inner b s) (All-head (StateHasText version) x a h)
+      (All-head (StateHasText version) y b k) rests in
       let rest = inner-same a b r s (All-tail (StateHasText version) x a h) (All-tail (StateHasText version) y b k) here.1 in
       (ap (λ (z : State). z ∷ a) here.0 ∙ ap (λ (l : List State). y ∷ l) rest.0, rest.1)
 
   -- no list begins where another note or the end does
-  no-list : (notes : List Note) (r : List Line) (s : State) (rest : List Line) → after_notes notes r ≡ (codes "loop" ∷ []) ∷ rest → ⊥
+  no-list : (notes : List Note) (r : List Line) (s : State) (rest : List Line) →
+      after_notes notes r ≡ (codes "loop" ∷ []) ∷ rest → ⊥
   no-list [] r s rest e = letter-differs (omega arith) e
   no-list (n ∷ notes) r s rest e = letter-differs (omega arith) (sym e)
 
   looped-same : (a b : Option Looped) (p q : List Note) (r s : List Line) → LoopedHasText version a → LoopedHasText version b →
-      looped_lines version a ++ after_notes p r ≡ looped_lines version b ++ after_notes q s → (a ≡ b) × (after_notes p r ≡ after_notes q s)
+      looped_lines version a ++ after_notes p r ≡ looped_lines version b ++ after_notes q s →
+      (a ≡ b) × (after_notes p r ≡ after_notes q s)
   looped-same None None p q r s h k e = (refl, e)
   looped-same None (Some b) p q r s h k e = absurd (no-list p r b.invariant _ e)
   looped-same (Some a) None p q r s h k e = absurd (no-list q s a.invariant _ (sym e))
@@ -202,7 +213,8 @@ module _ (version : Version) where
       (ap (λ (l : Looped). Some l) (looped-by a b here.0 rest.0), rest.1)
 
   note-split : (n : Note) (notes : List Note) (r : List Line) →
-      after_notes (n ∷ notes) r ≡ (codes "note" ∷ []) ∷ (state_lines version n.state ++ (looped_lines version n.looped ++ after_notes notes r))
+      after_notes (n ∷ notes)
+      r ≡ (codes "note" ∷ []) ∷ (state_lines version n.state ++ (looped_lines version n.looped ++ after_notes notes r))
   note-split n notes r =
       append_assoc (note_lines version n) (flat_map (note_lines version) notes) ((codes "end" ∷ []) ∷ r)
       ∙ append_assoc (headed_lines version (codes "note") n.state) (looped_lines version n.looped) (after_notes notes r)

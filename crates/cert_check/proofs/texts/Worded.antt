@@ -9,7 +9,9 @@ use Rattle.cert_check.specs.text.Text.{Word, name_word}
 use Rattle.cert_check.proofs.texts.Separated.{Above, Above-append}
 
 pub decimal-above : (n : ℕ) → n < 2 ^ 64 → Above 32 (decimal n)
-decimal-above n h = decimal_by_steps (λ n ds. Above 32 ds) (λ k l. (omega arith, tt)) (λ k ds l rest. Above-append 32 ds ((48 + k % 10) ∷ []) rest (omega arith, tt)) n h
+decimal-above n h =
+    decimal_by_steps (λ n ds. Above 32 ds) (λ k l. (omega arith, tt))
+    (λ k ds l rest. Above-append 32 ds ((48 + k % 10) ∷ []) rest (omega arith, tt)) n h
 
 pub signed-above : (c : ℤ) → mag c < 2 ^ 63 → Above 32 (signed_decimal c)
 signed-above (pos n) h = decimal-above n (omega arith)
@@ -31,7 +33,9 @@ pub name-byte : (place : ℕ) → name_word place ≡ name_byte place ∷ []
 name-byte place = byte-if (place == 0) 48 _ _ (byte-if (place == 1) 46 _ _ (byte-if (place == 2) 36 _ _ refl))
 
 pub name-above : (place : ℕ) → Above 32 (name_word place)
-name-above place = above-if (place == 0) _ _ (omega arith, tt) (above-if (place == 1) _ _ (omega arith, tt) (above-if (place == 2) _ _ (omega arith, tt) (omega arith, tt)))
+name-above place =
+    above-if (place == 0) _ _ (omega arith, tt)
+    (above-if (place == 1) _ _ (omega arith, tt) (above-if (place == 2) _ _ (omega arith, tt) (omega arith, tt)))
 
 -- a name that texts have
 abbrev pub Named : ℕ → Type 0
@@ -95,7 +99,8 @@ pub bound-above : (x y : ℕ) (c : ℤ) → mag c < 2 ^ 63 → Above 32 (bound_w
 bound-above x y c h =
     Above-append 32 (name_word x ++ codes "-" ++ name_word y ++ codes "<=") (signed_decimal c)
     (Above-append 32 (name_word x ++ codes "-" ++ name_word y) (codes "<=")
-    (Above-append 32 (name_word x ++ codes "-") (name_word y) (Above-append 32 (name_word x) (codes "-") (name-above x) (omega arith, tt)) (name-above y))
+    (Above-append 32 (name_word x ++ codes "-") (name_word y) (Above-append 32 (name_word x) (codes "-") (name-above x) (omega arith, tt))
+    (name-above y))
     (omega arith, (omega arith, tt)))
     (signed-above c h)
 
@@ -104,7 +109,8 @@ bound-bytes x y c =
     ap (λ (w : Word). w ++ codes "-" ++ name_word y ++ codes "<=" ++ signed_decimal c) (name-byte x)
     ∙ ap (λ (w : Word). (name_byte x ∷ []) ++ codes "-" ++ w ++ codes "<=" ++ signed_decimal c) (name-byte y)
 
-first-same : {a1 a2 b1 b2 : ℕ} {r s : List ℕ} → a1 ∷ 45 ∷ a2 ∷ 60 ∷ 61 ∷ r ≡ b1 ∷ 45 ∷ b2 ∷ 60 ∷ 61 ∷ s → (a1 ≡ b1) × ((a2 ≡ b2) × (r ≡ s))
+first-same : {a1 a2 b1 b2 : ℕ} {r s : List ℕ} → a1 ∷ 45 ∷ a2 ∷ 60 ∷ 61 ∷ r ≡ b1 ∷ 45 ∷ b2 ∷ 60 ∷ 61 ∷ s →
+    (a1 ≡ b1) × ((a2 ≡ b2) × (r ≡ s))
 first-same e = (cc, (cc, cc))
 
 pub record SameBound (x y : ℕ) (c : ℤ) (p q : ℕ) (d : ℤ) : Type 0 where
@@ -112,8 +118,12 @@ pub record SameBound (x y : ℕ) (c : ℤ) (p q : ℕ) (d : ℤ) : Type 0 where
   pub column : y ≡ q
   pub number : c ≡ d
 
-pub bound-same : (x y : ℕ) (c : ℤ) (p q : ℕ) (d : ℤ) → Named x → Named y → Named p → Named q → mag c < 2 ^ 63 → mag d < 2 ^ 63 →
-    bound_word x y c ≡ bound_word p q d → SameBound x y c p q d
+pub bound-same : (x y : ℕ) (c : ℤ) (p q : ℕ) (d : ℤ) → Named x → Named y → Named p → Named q → mag c < 2 ^ 63 →
+    mag d < 2 ^ 63 → bound_word x y c ≡ bound_word p q d → SameBound x y c p q d
 bound-same x y c p q d hx hy hp hq hc hd e =
     let parts = first-same (sym (bound-bytes x y c) ∙ e ∙ bound-bytes p q d) in
-    record { row = name-same x p hx hp parts.0; column = name-same y q hy hq parts.1.0; number = signed_decimal_injective c d hc hd parts.1.1 }
+    record {
+      row = name-same x p hx hp parts.0;
+      column = name-same y q hy hq parts.1.0;
+      number = signed_decimal_injective c d hc hd parts.1.1;
+    }

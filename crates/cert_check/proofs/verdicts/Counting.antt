@@ -15,7 +15,8 @@ pub counted-bounded : (commands : List Command) → length (counted (steps_value
 counted-bounded [] = omega arith
 counted-bounded (c ∷ cs) =
     let later = counted-bounded cs in
-    elim (ends_run (verb_value c.verb)) as (λ b. length (step_value c ∷ more_counted b (steps_value cs)) ≤ length (c ∷ cs)) [ true ↦ omega arith | false ↦ omega arith ]
+    elim (ends_run (verb_value c.verb)) as (λ b. length (step_value c ∷ more_counted b (steps_value cs)) ≤ length (c ∷ cs))
+    [ true ↦ omega arith | false ↦ omega arith ]
 
 pub counted-next : (commands : List Command) (i : ℕ) (d : Command) → i < length (counted (steps_value commands)) →
     drop i (counted (steps_value commands)) ≡ step_value (get_or commands i d) ∷ drop (suc i) (counted (steps_value commands))
@@ -44,13 +45,15 @@ or-off : (ends : Bool) (b : Bool) → ends ≡ true → ends || b ≡ true
 or-off true b e = refl
 or-off false b e = absurd cc
 
-on-length : (c : Command) (cs : List Command) → ends_run (verb_value c.verb) ≡ false → length (counted (steps_value (c ∷ cs))) ≡ 1 + length (counted (steps_value cs))
+on-length : (c : Command) (cs : List Command) → ends_run (verb_value c.verb) ≡ false →
+    length (counted (steps_value (c ∷ cs))) ≡ 1 + length (counted (steps_value cs))
 on-length c cs e = more-on (ends_run (verb_value c.verb)) (step_value c) (steps_value cs) e
 
 off-length : (c : Command) (cs : List Command) → ends_run (verb_value c.verb) ≡ true → length (counted (steps_value (c ∷ cs))) ≡ 1
 off-length c cs e = more-off (ends_run (verb_value c.verb)) (step_value c) (steps_value cs) e
 
-on-quit : (c : Command) (cs : List Command) → ends_run (verb_value c.verb) ≡ false → has_quit (steps_value (c ∷ cs)) ≡ has_quit (steps_value cs)
+on-quit : (c : Command) (cs : List Command) → ends_run (verb_value c.verb) ≡ false →
+    has_quit (steps_value (c ∷ cs)) ≡ has_quit (steps_value cs)
 on-quit c cs e = or-on (ends_run (verb_value c.verb)) (has_quit (steps_value cs)) e
 
 off-quit : (c : Command) (cs : List Command) → ends_run (verb_value c.verb) ≡ true → has_quit (steps_value (c ∷ cs)) ≡ true
@@ -66,17 +69,22 @@ pub at-place : {A : Type 0} (xs : List A) (i : ℕ) (x : A) → i < length xs �
     drop i xs ≡ x ∷ drop (i + 1) xs
 at-place {A} xs i x h is = drop_more xs i x h ∙ ap (λ (y : A). y ∷ drop (i + 1) xs) (sym is)
 
-pub count-on : (commands : List Command) (i : ℕ) (d : Command) → i < length commands → d ≡ get_or commands i d → ends_run (verb_value d.verb) ≡ false →
-    CountedTo commands i → CountedTo commands (i + 1)
+pub count-on : (commands : List Command) (i : ℕ) (d : Command) → i < length commands → d ≡ get_or commands i d →
+    ends_run (verb_value d.verb) ≡ false → CountedTo commands i → CountedTo commands (i + 1)
 count-on commands i d h is e before =
     let at = at-place commands i d h is in
     let number = ap (λ (l : List Command). length (counted (steps_value l))) at ∙ on-length d (drop (i + 1) commands) e in
     let was = before.number in
-    record { number = omega arith; quit = before.quit ∙ ap (λ (l : List Command). has_quit (steps_value l)) at ∙ on-quit d (drop (i + 1) commands) e }
+    record {
+      number = omega arith;
+      quit = before.quit ∙ ap (λ (l : List Command). has_quit (steps_value l)) at
+          ∙ on-quit d (drop (i + 1) commands) e;
+    }
 
 -- a command that ends the run is the last that is counted
-pub count-off : (commands : List Command) (i : ℕ) (d : Command) → i < length commands → d ≡ get_or commands i d → ends_run (verb_value d.verb) ≡ true →
-    CountedTo commands i → (i + 1 ≡ length (counted (steps_value commands))) × (true ≡ has_quit (steps_value commands))
+pub count-off : (commands : List Command) (i : ℕ) (d : Command) → i < length commands → d ≡ get_or commands i d →
+    ends_run (verb_value d.verb) ≡ true → CountedTo commands i →
+    (i + 1 ≡ length (counted (steps_value commands))) × (true ≡ has_quit (steps_value commands))
 count-off commands i d h is e before =
     let at = at-place commands i d h is in
     let number = ap (λ (l : List Command). length (counted (steps_value l))) at ∙ off-length d (drop (i + 1) commands) e in

@@ -24,11 +24,13 @@ each-below test n h k l =
     let size = length-range_with_len 0 n in
     subst (λ (i : ℕ). test i ≡ true) (counted n k l) (AllPass-from_list_all test (range_with_len 0 n) h k 0 (omega arith))
 
-pub below-each : (test : ℕ → Bool) (n : ℕ) → ((k : ℕ) → k < n → test k ≡ true) → list_all test (range_with_len 0 n) ≡ true
+pub below-each : (test : ℕ → Bool) (n : ℕ) → ((k : ℕ) → k < n → test k ≡ true) →
+    list_all test (range_with_len 0 n) ≡ true
 below-each test n h =
     let size = length-range_with_len 0 n in
     list_all-from_AllPass test (range_with_len 0 n)
-    (All-from_get_or (λ (i : ℕ). test i ≡ true) (range_with_len 0 n) 0 (λ k l. let m : k < n = omega arith in subst (λ (i : ℕ). test i ≡ true) (sym (counted n k m)) (h k m)))
+    (All-from_get_or (λ (i : ℕ). test i ≡ true) (range_with_len 0 n) 0
+    (λ k l. let m : k < n = omega arith in subst (λ (i : ℕ). test i ≡ true) (sym (counted n k m)) (h k m)))
 
 allows-says : (weak strong : Bool) → allows weak strong ≡ true → Allows weak strong
 allows-says weak true h e = h
@@ -40,21 +42,25 @@ says-allows weak false h = refl
 
 zone-says : (weak strong : Bounds) → zone_covers weak strong ≡ true → zones.Covers weak strong
 unfolding zone_covers
-zone-says weak strong h = Covers-each weak strong (each-below (λ (k : ℕ). covers_bound (get_or weak k None) (get_or strong k None)) 1024 h)
+zone-says weak strong h =
+    Covers-each weak strong (each-below (λ (k : ℕ). covers_bound (get_or weak k None) (get_or strong k None)) 1024 h)
 
 pub says-zone : (weak strong : Bounds) → zones.Covers weak strong → zone_covers weak strong ≡ true
 unfolding zone_covers
-says-zone weak strong h = below-each (λ (k : ℕ). covers_bound (get_or weak k None) (get_or strong k None)) 1024 (each-Covers weak strong h)
+says-zone weak strong h =
+    below-each (λ (k : ℕ). covers_bound (get_or weak k None) (get_or strong k None)) 1024 (each-Covers weak strong h)
 
 among-says : (few many : List Bool) → are_among few many ≡ true → AreAmong few many
 unfolding are_among
 among-says few many h letter l =
-    allows-says (get_or many letter false) (get_or few letter false) (each-below (λ (k : ℕ). allows (get_or many k false) (get_or few k false)) 26 h letter l)
+    allows-says (get_or many letter false) (get_or few letter false)
+    (each-below (λ (k : ℕ). allows (get_or many k false) (get_or few k false)) 26 h letter l)
 
 says-among : (few many : List Bool) → AreAmong few many → are_among few many ≡ true
 unfolding are_among
 says-among few many h =
-    below-each (λ (k : ℕ). allows (get_or many k false) (get_or few k false)) 26 (λ letter l. says-allows (get_or many letter false) (get_or few letter false) (h letter l))
+    below-each (λ (k : ℕ). allows (get_or many k false) (get_or few k false)) 26
+    (λ letter l. says-allows (get_or many letter false) (get_or few letter false) (h letter l))
 
 old-says : (weak strong : Option Old) → old_covers weak strong ≡ true → CoversOld weak strong
 old-says weak None h = tt
@@ -67,13 +73,16 @@ says-old : (weak strong : Option Old) → CoversOld weak strong → old_covers w
 says-old weak None h = refl
 says-old None (Some strong) h = absurd h
 says-old (Some weak) (Some strong) h =
-    and_from (zone_covers weak.zone strong.zone) (are_among weak.marks strong.marks) (says-zone weak.zone strong.zone h.0) (says-among weak.marks strong.marks h.1)
+    and_from (zone_covers weak.zone strong.zone) (are_among weak.marks strong.marks) (says-zone weak.zone strong.zone h.0)
+    (says-among weak.marks strong.marks h.1)
 
-old_has-says : (was : Option Old) (weak strong : List (List ℕ)) → old_has_covers was weak strong ≡ true → CoversOldHas was weak strong
+old_has-says : (was : Option Old) (weak strong : List (List ℕ)) → old_has_covers was weak strong ≡ true →
+    CoversOldHas was weak strong
 old_has-says None weak strong h = tt
 old_has-says (Some old) weak strong h = h
 
-says-old_has : (was : Option Old) (weak strong : List (List ℕ)) → CoversOldHas was weak strong → old_has_covers was weak strong ≡ true
+says-old_has : (was : Option Old) (weak strong : List (List ℕ)) → CoversOldHas was weak strong →
+    old_has_covers was weak strong ≡ true
 says-old_has None weak strong h = refl
 says-old_has (Some old) weak strong h = h
 
@@ -117,9 +126,11 @@ says-covers weak strong h =
     and_from _ _ (says-among weak.marks strong.marks h.marks) (
     and_from _ _ h.patterns (
     and_from _ _ (and_from _ _ (says-allows weak.replacements.none strong.replacements.none h.no_replacement)
-    (and_from _ _ (says-allows weak.replacements.plain strong.replacements.plain h.plain_replacement) (says-allows weak.replacements.split strong.replacements.split h.split_replacement))) (
+    (and_from _ _ (says-allows weak.replacements.plain strong.replacements.plain h.plain_replacement)
+    (says-allows weak.replacements.split strong.replacements.split h.split_replacement))) (
     and_from _ _ h.names (
-    and_from _ _ (and_from _ _ (says-allows weak.changed.no strong.changed.no h.unchanged) (says-allows weak.changed.yes strong.changed.yes h.changed))
+    and_from _ _ (and_from _ _ (says-allows weak.changed.no strong.changed.no h.unchanged)
+    (says-allows weak.changed.yes strong.changed.yes h.changed))
     (and_from _ _ (and_from _ _ (says-allows weak.undo.nothing strong.undo.nothing h.nothing)
     (and_from _ _ (says-allows weak.undo.same strong.undo.same h.same) (says-old weak.undo.was strong.undo.was h.was)))
     (and_from _ _ h.matched (says-old_has strong.undo.was weak.old_has strong.old_has h.old_matched))))))))

@@ -25,7 +25,8 @@ use Rattle.cert_check.proofs.verdicts.Counting.{counted-next, at-place}
 
 -- one check and those after it, which stand at one number
 one-check : (b : Bool) (number : ℕ) (later : Verdict) (rest : Bool) → later ≡ verdict_at number rest →
-    (elim b as (λ _. Verdict) [ true ↦ later | false ↦ Refused (record { command = number; inner = None }) ]) ≡ verdict_at number (b && rest)
+    (elim b as (λ _. Verdict) [ true ↦ later | false ↦ Refused (record { command = number; inner = None }) ]) ≡ verdict_at number
+    (b && rest)
 one-check true number later rest h = h
 one-check false number later rest h = refl
 
@@ -59,7 +60,8 @@ holds-at false p later e = absurd cc
 abbrev three : (p : Place) (a b l : Bool) (later : Verdict) → Verdict
 three p a b l later =
     elim a as (λ _. Verdict) [
-      | true ↦ elim b as (λ _. Verdict) [ true ↦ elim l as (λ _. Verdict) [ true ↦ later | false ↦ Refused p ] | false ↦ Refused p ]
+      | true ↦ elim b as (λ _. Verdict)
+          [ true ↦ elim l as (λ _. Verdict) [ true ↦ later | false ↦ Refused p ] | false ↦ Refused p ]
       | false ↦ Refused p
     ]
 
@@ -75,7 +77,8 @@ three-fail true true false p later e = refl
 three-fail true false l p later e = refl
 three-fail false b l p later e = refl
 
-some-if : (a b l : Bool) (u t : State) → cond a (cond l (cond b (Some u) None) None) None ≡ Some t → (a && (b && l) ≡ true) × (u ≡ t)
+some-if : (a b l : Bool) (u t : State) → cond a (cond l (cond b (Some u) None) None) None ≡ Some t →
+    (a && (b && l) ≡ true) × (u ≡ t)
 some-if true true true u t e = (refl, cc)
 some-if true false true u t e = absurd cc
 some-if true b false u t e = absurd cc
@@ -88,24 +91,27 @@ none-if true false l u e = refl
 none-if false b l u e = refl
 
 -- what the list of a global command leaves isn't covered by its invariant
-pub loop-off : (w : Sight) (number : ℕ) (writes : List (List ℕ)) (x : Step) (l : Looped) (known start t u : State) → covers l.invariant start ≡ true →
+pub loop-off : (w : Sight) (number : ℕ) (writes : List (List ℕ)) (x : Step) (l : Looped) (known start t u : State) →
+    covers l.invariant start ≡ true →
     ListGoesTo w number writes x.list l.inner (told w (body_entry x.command.verb l.invariant)) None t → covers l.invariant t ≡ false →
     LoopGoesTo w number writes x l known start (Some (inner_at number (length x.list + 1))) u
 loop-off w number writes x l known start t u first goes again = λ later.
     let turned : ℕ → State → List Check = λ inner s. at_place (inner_at number inner) (covers l.invariant s) ∷ later in
-    holds-at (covers l.invariant start) (command_at number) (list_checks w number 1 writes (told w (body_entry x.command.verb l.invariant)) x.list l.inner turned) first
+    holds-at (covers l.invariant start) (command_at number)
+    (list_checks w number 1 writes (told w (body_entry x.command.verb l.invariant)) x.list l.inner turned) first
     ∙ goes turned
     ∙ fails-at (covers l.invariant t) (inner_at number (length x.list + 1)) later again
 
 -- where all checks of a command hold, those after it are left
-pub command-on : (w : Sight) (p : Place) (writes : List (List ℕ)) (c : Command) (known coming t : State) → passed w writes c known coming ≡ Some t →
+pub command-on : (w : Sight) (p : Place) (writes : List (List ℕ)) (c : Command) (known coming t : State) →
+    passed w writes c known coming ≡ Some t →
     ((later : List Check) → verdict_of (command_checks p writes c known coming later) ≡ verdict_of later) × (left_by w c known ≡ t)
 command-on w p writes c known coming t e =
     let all = some-if (covers known coming) (are_met c known) (are_listed writes c known) (left_by w c known) t e in
     (λ later. three-hold (covers known coming) (are_met c known) (are_listed writes c known) p (verdict_of later) all.0, all.1)
 
-pub command-off : (w : Sight) (p : Place) (writes : List (List ℕ)) (c : Command) (known coming : State) (later : List Check) → passed w writes c known coming ≡ None →
-    verdict_of (command_checks p writes c known coming later) ≡ Refused p
+pub command-off : (w : Sight) (p : Place) (writes : List (List ℕ)) (c : Command) (known coming : State) (later : List Check) →
+    passed w writes c known coming ≡ None → verdict_of (command_checks p writes c known coming later) ≡ Refused p
 command-off w p writes c known coming later e =
     three-fail (covers known coming) (are_met c known) (are_listed writes c known) p (verdict_of later)
     (none-if (covers known coming) (are_met c known) (are_listed writes c known) (left_by w c known) e)
@@ -121,36 +127,48 @@ mapped-here {A = A} {B = B} f xs index x h is =
     ∙ ap (λ (ys : List B). f x ∷ ys) (sym (drop-map f (index + 1) xs))
 
 -- the commands of a list and what is known before them, from a place on
-abbrev pub list_from : Sight → (number : ℕ) → (writes : List (List ℕ)) → List public_command.Command → List State → (turned : ℕ → State → List Check) → (index : ℕ) → State → Verdict
+abbrev pub list_from : Sight → (number : ℕ) → (writes : List (List ℕ)) → List public_command.Command → List State →
+    (turned : ℕ → State → List Check) → (index : ℕ) → State → Verdict
 list_from w number writes list states turned index coming =
     verdict_of (list_checks w number (index + 1) writes coming (drop index (map command_value list)) (drop index states) turned)
 
-module _ (w : Sight) (number : ℕ) (writes : List (List ℕ)) (list : List public_command.Command) (states : List State) (turned : ℕ → State → List Check) where
-  list-here : (index : ℕ) (d : public_command.Command) (known coming : State) → index < length states → length states ≡ length list → d ≡ get_or list index d → known ≡ get_or states index known →
+module _ (w : Sight) (number : ℕ) (writes : List (List ℕ)) (list : List public_command.Command) (states : List State)
+    (turned : ℕ → State → List Check) where
+  list-here : (index : ℕ) (d : public_command.Command) (known coming : State) → index < length states →
+      length states ≡ length list → d ≡ get_or list index d → known ≡ get_or states index known →
       list_from w number writes list states turned index coming
       ≡ verdict_of (command_checks (inner_at number (index + 1)) writes (command_value d) known coming
-      (list_checks w number (index + 1 + 1) writes (left_by w (command_value d) known) (drop (index + 1) (map command_value list)) (drop (index + 1) states) turned))
+      (list_checks w number (index + 1 + 1) writes (left_by w (command_value d) known) (drop (index + 1) (map command_value list))
+      (drop (index + 1) states) turned))
   list-here index d known coming h size is_d is_known =
       let commands : drop index (map command_value list) ≡ command_value d ∷ drop (index + 1) (map command_value list) =
       mapped-here command_value list index d (omega arith) is_d in
       let knowns : drop index states ≡ known ∷ drop (index + 1) states = at-place states index known h is_known in
       ap (λ (cs : List Command). verdict_of (list_checks w number (index + 1) writes coming cs (drop index states) turned)) commands
-      ∙ ap (λ (ss : List State). verdict_of (list_checks w number (index + 1) writes coming (command_value d ∷ drop (index + 1) (map command_value list)) ss turned)) knowns
+      ∙ ap (λ (ss : List State). verdict_of
+      (list_checks w number (index + 1) writes coming (command_value d ∷ drop (index + 1) (map command_value list)) ss turned)) knowns
 
-  pub list-on : (index : ℕ) (d : public_command.Command) (known coming t : State) → index < length states → length states ≡ length list → d ≡ get_or list index d → known ≡ get_or states index known →
-      passed w writes (command_value d) known coming ≡ Some t → list_from w number writes list states turned index coming ≡ list_from w number writes list states turned (index + 1) t
+  pub list-on : (index : ℕ) (d : public_command.Command) (known coming t : State) → index < length states →
+      length states ≡ length list → d ≡ get_or list index d → known ≡ get_or states index known →
+      passed w writes (command_value d) known coming ≡ Some t →
+      list_from w number writes list states turned index coming ≡ list_from w number writes list states turned (index + 1) t
   list-on index d known coming t h size is_d is_known is =
       let on = command-on w (inner_at number (index + 1)) writes (command_value d) known coming t is in
       list-here index d known coming h size is_d is_known
-      ∙ on.0 (list_checks w number (index + 1 + 1) writes (left_by w (command_value d) known) (drop (index + 1) (map command_value list)) (drop (index + 1) states) turned)
-      ∙ ap (λ (u : State). verdict_of (list_checks w number (index + 1 + 1) writes u (drop (index + 1) (map command_value list)) (drop (index + 1) states) turned)) on.1
+      ∙ on.0 (list_checks w number (index + 1 + 1) writes (left_by w (command_value d) known) (drop (index + 1) (map command_value list))
+      (drop (index + 1) states) turned)
+      ∙ ap (λ (u : State). verdict_of
+      (list_checks w number (index + 1 + 1) writes u (drop (index + 1) (map command_value list)) (drop (index + 1) states) turned)) on.1
 
-  pub list-off : (index : ℕ) (d : public_command.Command) (known coming : State) → index < length states → length states ≡ length list → d ≡ get_or list index d → known ≡ get_or states index known →
-      passed w writes (command_value d) known coming ≡ None → list_from w number writes list states turned index coming ≡ Refused (inner_at number (index + 1))
+  pub list-off : (index : ℕ) (d : public_command.Command) (known coming : State) → index < length states →
+      length states ≡ length list → d ≡ get_or list index d → known ≡ get_or states index known →
+      passed w writes (command_value d) known coming ≡ None →
+      list_from w number writes list states turned index coming ≡ Refused (inner_at number (index + 1))
   list-off index d known coming h size is_d is_known is =
       list-here index d known coming h size is_d is_known
       ∙ command-off w (inner_at number (index + 1)) writes (command_value d) known coming
-      (list_checks w number (index + 1 + 1) writes (left_by w (command_value d) known) (drop (index + 1) (map command_value list)) (drop (index + 1) states) turned) is
+      (list_checks w number (index + 1 + 1) writes (left_by w (command_value d) known) (drop (index + 1) (map command_value list))
+      (drop (index + 1) states) turned) is
 
   pub list-over : (index : ℕ) (coming : State) → index ≡ length states → length states ≡ length list →
       list_from w number writes list states turned index coming ≡ verdict_of (turned (length (map command_value list) + 1) coming)
@@ -164,31 +182,39 @@ module _ (w : Sight) (number : ℕ) (writes : List (List ℕ)) (list : List publ
 -- THE STEPS
 
 -- the commands and notes from a place on
-abbrev pub verdict_from : Sight → (writes : List (List ℕ)) → (ℕ → State → List Check) → List public_command.Command → List public.Note → (index : ℕ) → State → Verdict
+abbrev pub verdict_from : Sight → (writes : List (List ℕ)) → (ℕ → State → List Check) → List public_command.Command →
+    List public.Note → (index : ℕ) → State → Verdict
 verdict_from w writes end commands notes index s =
     verdict_of (checks_from w writes end (index + 1) s (drop index (counted (steps_value commands))) (drop index (map note_value notes)))
 
 -- the command and the note at a place, and those after it
-steps-here : (commands : List public_command.Command) (index : ℕ) (d : public_command.Command) → index < length (counted (steps_value commands)) → d ≡ get_or commands index d →
+steps-here : (commands : List public_command.Command) (index : ℕ) (d : public_command.Command) →
+    index < length (counted (steps_value commands)) → d ≡ get_or commands index d →
     drop index (counted (steps_value commands)) ≡ step_value d ∷ drop (index + 1) (counted (steps_value commands))
 steps-here commands index d h is_d =
     let xs : List Step = counted (steps_value commands) in
-    counted-next commands index d h ∙ ap (λ (e : public_command.Command). step_value e ∷ drop (suc index) xs) (sym is_d) ∙ ap (λ k. step_value d ∷ drop k xs) (sym (add-one index))
+    counted-next commands index d h ∙ ap (λ (e : public_command.Command). step_value e ∷ drop (suc index) xs) (sym is_d)
+    ∙ ap (λ k. step_value d ∷ drop k xs) (sym (add-one index))
 
-module _ (w : Sight) (writes : List (List ℕ)) (end : ℕ → State → List Check) (commands : List public_command.Command) (notes : List public.Note) where
+module _ (w : Sight) (writes : List (List ℕ)) (end : ℕ → State → List Check) (commands : List public_command.Command)
+    (notes : List public.Note) where
   from-here : (index : ℕ) (d : public_command.Command) (n : public.Note) (s : State) → index < length notes →
       length notes ≡ length (counted (steps_value commands)) → d ≡ get_or commands index d → n ≡ get_or notes index n →
       verdict_from w writes end commands notes index s
-      ≡ verdict_of (checks_from w writes end (index + 1) s (step_value d ∷ drop (index + 1) (counted (steps_value commands))) (note_value n ∷ drop (index + 1) (map note_value notes)))
+      ≡ verdict_of (checks_from w writes end (index + 1) s (step_value d ∷ drop (index + 1) (counted (steps_value commands)))
+      (note_value n ∷ drop (index + 1) (map note_value notes)))
   from-here index d n s h size is_d is_n =
       let xs : List Step = counted (steps_value commands) in
-      ap (λ (ys : List Step). verdict_of (checks_from w writes end (index + 1) s ys (drop index (map note_value notes)))) (steps-here commands index d (omega arith) is_d)
-      ∙ ap (λ (ns : List Note). verdict_of (checks_from w writes end (index + 1) s (step_value d ∷ drop (index + 1) xs) ns)) (mapped-here note_value notes index n h is_n)
+      ap (λ (ys : List Step). verdict_of (checks_from w writes end (index + 1) s ys (drop index (map note_value notes))))
+      (steps-here commands index d (omega arith) is_d)
+      ∙ ap (λ (ns : List Note). verdict_of (checks_from w writes end (index + 1) s (step_value d ∷ drop (index + 1) xs) ns))
+      (mapped-here note_value notes index n h is_n)
 
   -- the checks after this step
   abbrev later_checks : ℕ → public_command.Command → public.Note → List Check
   later_checks index d n =
-      checks_from w writes end (index + 1 + 1) (left_after w (note_value n).looped (step_value d) n.state) (drop (index + 1) (counted (steps_value commands))) (drop (index + 1) (map note_value notes))
+      checks_from w writes end (index + 1 + 1) (left_after w (note_value n).looped (step_value d) n.state)
+      (drop (index + 1) (counted (steps_value commands))) (drop (index + 1) (map note_value notes))
 
   pub go-on : (index : ℕ) (d : public_command.Command) (n : public.Note) (s t : State) → index < length notes →
       length notes ≡ length (counted (steps_value commands)) → d ≡ get_or commands index d → n ≡ get_or notes index n →
@@ -197,16 +223,19 @@ module _ (w : Sight) (writes : List (List ℕ)) (end : ℕ → State → List Ch
   go-on index d n s t h size is_d is_n goes =
       from-here index d n s h size is_d is_n
       ∙ goes.1 (later_checks index d n)
-      ∙ ap (λ (u : State). verdict_of (checks_from w writes end (index + 1 + 1) u (drop (index + 1) (counted (steps_value commands))) (drop (index + 1) (map note_value notes)))) (sym goes.0)
+      ∙ ap (λ (u : State). verdict_of
+      (checks_from w writes end (index + 1 + 1) u (drop (index + 1) (counted (steps_value commands)))
+      (drop (index + 1) (map note_value notes)))) (sym goes.0)
 
   pub stop-here : (index : ℕ) (d : public_command.Command) (n : public.Note) (s t : State) (place : Place) → index < length notes →
       length notes ≡ length (counted (steps_value commands)) → d ≡ get_or commands index d → n ≡ get_or notes index n →
-      StepGoesTo w (index + 1) writes (step_value d) (note_value n) s (Some place) t → verdict_from w writes end commands notes index s ≡ Refused place
+      StepGoesTo w (index + 1) writes (step_value d) (note_value n) s (Some place) t →
+      verdict_from w writes end commands notes index s ≡ Refused place
   stop-here index d n s t place h size is_d is_n goes = from-here index d n s h size is_d is_n ∙ goes (later_checks index d n)
 
   -- after the last note come the checks of the end
-  pub gone-through : (index : ℕ) (s : State) → index ≡ length notes →
-      length notes ≡ length (counted (steps_value commands)) → verdict_from w writes end commands notes index s ≡ verdict_of (end (length (map note_value notes) + 1) s)
+  pub gone-through : (index : ℕ) (s : State) → index ≡ length notes → length notes ≡ length (counted (steps_value commands)) →
+      verdict_from w writes end commands notes index s ≡ verdict_of (end (length (map note_value notes) + 1) s)
   gone-through index s at_end size =
       let xs : List Step = counted (steps_value commands) in
       let counts : length (map note_value notes) ≡ length notes = length-map notes note_value in
@@ -236,24 +265,28 @@ abbrev pub shape_from : List public_command.Command → List public.Note → (in
 shape_from commands notes index = are_shaped (drop index (counted (steps_value commands))) (drop index (map note_value notes))
 
 module _ (commands : List public_command.Command) (notes : List public.Note) where
-  shape-here : (index : ℕ) (d : public_command.Command) (n : public.Note) → index < length notes → length notes ≡ length (counted (steps_value commands)) → d ≡ get_or commands index d → n ≡ get_or notes index n →
+  shape-here : (index : ℕ) (d : public_command.Command) (n : public.Note) → index < length notes →
+      length notes ≡ length (counted (steps_value commands)) → d ≡ get_or commands index d → n ≡ get_or notes index n →
       shape_from commands notes index ≡ fits (step_value d) (note_value n) && shape_from commands notes (index + 1)
   shape-here index d n h size is_d is_n =
       let xs : List Step = counted (steps_value commands) in
       ap (λ (ys : List Step). are_shaped ys (drop index (map note_value notes))) (steps-here commands index d (omega arith) is_d)
       ∙ ap (λ (ns : List Note). are_shaped (step_value d ∷ drop (index + 1) xs) ns) (mapped-here note_value notes index n h is_n)
 
-  pub shape-on : (index : ℕ) (d : public_command.Command) (n : public.Note) → index < length notes → length notes ≡ length (counted (steps_value commands)) → d ≡ get_or commands index d → n ≡ get_or notes index n →
+  pub shape-on : (index : ℕ) (d : public_command.Command) (n : public.Note) → index < length notes →
+      length notes ≡ length (counted (steps_value commands)) → d ≡ get_or commands index d → n ≡ get_or notes index n →
       fits (step_value d) (note_value n) ≡ true → shape_from commands notes index ≡ shape_from commands notes (index + 1)
   shape-on index d n h size is_d is_n fit =
       shape-here index d n h size is_d is_n ∙ ap (λ b. b && shape_from commands notes (index + 1)) fit
 
-  pub shape-off : (index : ℕ) (d : public_command.Command) (n : public.Note) → index < length notes → length notes ≡ length (counted (steps_value commands)) → d ≡ get_or commands index d → n ≡ get_or notes index n →
+  pub shape-off : (index : ℕ) (d : public_command.Command) (n : public.Note) → index < length notes →
+      length notes ≡ length (counted (steps_value commands)) → d ≡ get_or commands index d → n ≡ get_or notes index n →
       fits (step_value d) (note_value n) ≡ false → shape_from commands notes index ≡ false
   shape-off index d n h size is_d is_n unfit =
       shape-here index d n h size is_d is_n ∙ ap (λ b. b && shape_from commands notes (index + 1)) unfit
 
-  pub shape-over : (index : ℕ) → index ≡ length notes → length notes ≡ length (counted (steps_value commands)) → shape_from commands notes index ≡ true
+  pub shape-over : (index : ℕ) → index ≡ length notes → length notes ≡ length (counted (steps_value commands)) →
+      shape_from commands notes index ≡ true
   shape-over index at_end size =
       let xs : List Step = counted (steps_value commands) in
       let counts : length (map note_value notes) ≡ length notes = length-map notes note_value in
@@ -261,39 +294,50 @@ module _ (commands : List public_command.Command) (notes : List public.Note) whe
       ∙ ap (λ (ns : List Note). are_shaped [] ns) (drop_all index (map note_value notes) (omega arith))
 
   -- another number of notes
-  pub shape-size : (number : ℕ) → number ≡ length (counted (steps_value commands)) → (length notes ≡ number → ⊥) → are_shaped (counted (steps_value commands)) (map note_value notes) ≡ false
+  pub shape-size : (number : ℕ) → number ≡ length (counted (steps_value commands)) → (length notes ≡ number → ⊥) →
+      are_shaped (counted (steps_value commands)) (map note_value notes) ≡ false
   shape-size number is differ =
-      unshaped-length (counted (steps_value commands)) (map note_value notes) (λ e. differ (sym (length-map notes note_value) ∙ e ∙ sym is))
+      unshaped-length (counted (steps_value commands)) (map note_value notes)
+      (λ e. differ (sym (length-map notes note_value) ∙ e ∙ sym is))
 
-  pub noted-length : are_shaped (counted (steps_value commands)) (map note_value notes) ≡ true → length notes ≡ length (counted (steps_value commands))
+  pub noted-length : are_shaped (counted (steps_value commands)) (map note_value notes) ≡ true →
+      length notes ≡ length (counted (steps_value commands))
   noted-length all = sym (length-map notes note_value) ∙ shaped-length (counted (steps_value commands)) (map note_value notes) all
 
   -- of each note in the right shape the command fits
-  pub shape-fits : (index : ℕ) (d : public_command.Command) (n : public.Note) → index < length notes → d ≡ get_or commands index d → n ≡ get_or notes index n →
-      are_shaped (counted (steps_value commands)) (map note_value notes) ≡ true → shape_from commands notes index ≡ true → fits (step_value d) (note_value n) ≡ true
+  pub shape-fits : (index : ℕ) (d : public_command.Command) (n : public.Note) → index < length notes →
+      d ≡ get_or commands index d → n ≡ get_or notes index n →
+      are_shaped (counted (steps_value commands)) (map note_value notes) ≡ true → shape_from commands notes index ≡ true →
+      fits (step_value d) (note_value n) ≡ true
   shape-fits index d n h is_d is_n all from =
       (and_parts (fits (step_value d) (note_value n)) (shape_from commands notes (index + 1))
       (sym (shape-here index d n h (noted-length all) is_d is_n) ∙ from)).0
 
 -- what is accepted can't fail, by the law
-pub sound-by : {E : Type 0} (r : Result Verdict E) (script : Script) (c : Certificate) → ((s : Script) (d : Certificate) → IsTrue (list_all is_step s.steps) → judged s d ≡ Accepted → CannotFail s d) →
-    IsTrue (list_all is_step script.steps) → IfOk r (λ answer. answer ≡ judged script c) → IfOk r (λ answer. answer ≡ Accepted → CannotFail script c)
+pub sound-by : {E : Type 0} (r : Result Verdict E) (script : Script) (c : Certificate) →
+    ((s : Script) (d : Certificate) → IsTrue (list_all is_step s.steps) → judged s d ≡ Accepted → CannotFail s d) →
+    IsTrue (list_all is_step script.steps) → IfOk r (λ answer. answer ≡ judged script c) →
+    IfOk r (λ answer. answer ≡ Accepted → CannotFail script c)
 sound-by (Ok answer) script c law stands is = λ e. law script c stands (sym is ∙ e)
 sound-by (Err f) script c law stands is = tt
 
 -- the verdict by what the checker finds: notes in another shape, a command's check that fails, or the end
-judged-shape : (script : Script) (c : Certificate) → are_shaped (counted script.steps) c.notes ≡ false → judged script c ≡ verdict_at 0 false
+judged-shape : (script : Script) (c : Certificate) → are_shaped (counted script.steps) c.notes ≡ false →
+    judged script c ≡ verdict_at 0 false
 judged-shape script c e =
     let w : Sight = seen_by script c in
     fails-at (are_shaped (counted script.steps) c.notes) (command_at 0)
-    (checks_from w c.writes (end_checks (has_quit script.steps) script.fault c) 1 (told w (start c.path c.min c.max c.has)) (counted script.steps) c.notes) e
+    (checks_from w c.writes (end_checks (has_quit script.steps) script.fault c) 1 (told w (start c.path c.min c.max c.has))
+    (counted script.steps) c.notes) e
 
 judged-fails : (script : Script) (c : Certificate) (place : Place) (t : State) → are_shaped (counted script.steps) c.notes ≡ true →
-    GoesTo (seen_by script c) c.writes (counted script.steps) c.notes (told (seen_by script c) (start c.path c.min c.max c.has)) (Some place) t → judged script c ≡ Refused place
+    GoesTo (seen_by script c) c.writes (counted script.steps) c.notes (told (seen_by script c) (start c.path c.min c.max c.has))
+    (Some place) t → judged script c ≡ Refused place
 judged-fails script c place t shaped goes =
     let w : Sight = seen_by script c in
     let end : ℕ → State → List Check = end_checks (has_quit script.steps) script.fault c in
-    holds-at (are_shaped (counted script.steps) c.notes) (command_at 0) (checks_from w c.writes end 1 (told w (start c.path c.min c.max c.has)) (counted script.steps) c.notes) shaped
+    holds-at (are_shaped (counted script.steps) c.notes) (command_at 0)
+    (checks_from w c.writes end 1 (told w (start c.path c.min c.max c.has)) (counted script.steps) c.notes) shaped
     ∙ goes end
 
 judged-left : (script : Script) (c : Certificate) (t : State) → are_shaped (counted script.steps) c.notes ≡ true →
@@ -302,28 +346,37 @@ judged-left : (script : Script) (c : Certificate) (t : State) → are_shaped (co
 judged-left script c t shaped goes =
     let w : Sight = seen_by script c in
     let end : ℕ → State → List Check = end_checks (has_quit script.steps) script.fault c in
-    holds-at (are_shaped (counted script.steps) c.notes) (command_at 0) (checks_from w c.writes end 1 (told w (start c.path c.min c.max c.has)) (counted script.steps) c.notes) shaped
+    holds-at (are_shaped (counted script.steps) c.notes) (command_at 0)
+    (checks_from w c.writes end 1 (told w (start c.path c.min c.max c.has)) (counted script.steps) c.notes) shaped
     ∙ goes end ∙ end-verdict (has_quit script.steps) script.fault c (length c.notes + 1) t
 
-judged-passage : (script : Script) (c : Certificate) (failed : Option Place) (t : State) → are_shaped (counted script.steps) c.notes ≡ true →
-    GoesTo (seen_by script c) c.writes (counted script.steps) c.notes (told (seen_by script c) (start c.path c.min c.max c.has)) failed t → judged script c ≡ verdict_after failed t (has_quit script.steps) script.fault c
+judged-passage : (script : Script) (c : Certificate) (failed : Option Place) (t : State) →
+    are_shaped (counted script.steps) c.notes ≡ true →
+    GoesTo (seen_by script c) c.writes (counted script.steps) c.notes (told (seen_by script c) (start c.path c.min c.max c.has)) failed
+    t → judged script c ≡ verdict_after failed t (has_quit script.steps) script.fault c
 judged-passage script c None t shaped goes = judged-left script c t shaped goes
 judged-passage script c (Some place) t shaped goes = judged-fails script c place t shaped goes
 
-pub judged-by : (script : Script) (c : Certificate) (w : Sight) (writes : List (List ℕ)) (xs : List Step) (notes : List Note) (s : State) (quit : Bool) (failed : Option Place) (t : State) → w ≡ seen_by script c → writes ≡ c.writes → xs ≡ counted script.steps →
-    notes ≡ c.notes → s ≡ told w (start c.path c.min c.max c.has) → quit ≡ has_quit script.steps → are_shaped xs notes ≡ true → GoesTo w writes xs notes s failed t →
-    verdict_after failed t quit script.fault c ≡ judged script c
+pub judged-by : (script : Script) (c : Certificate) (w : Sight) (writes : List (List ℕ)) (xs : List Step) (notes : List Note) (s : State)
+    (quit : Bool) (failed : Option Place) (t : State) → w ≡ seen_by script c → writes ≡ c.writes → xs ≡ counted script.steps →
+    notes ≡ c.notes → s ≡ told w (start c.path c.min c.max c.has) → quit ≡ has_quit script.steps →
+    are_shaped xs notes ≡ true → GoesTo w writes xs notes s failed t → verdict_after failed t quit script.fault c ≡ judged script c
 judged-by script c w writes xs notes s quit failed t same_sight same_writes same_steps same_notes same_start same_quit shaped goes =
     let shape : are_shaped (counted script.steps) c.notes ≡ true =
-    subst (λ (ns : List Note). are_shaped (counted script.steps) ns ≡ true) same_notes (subst (λ (ys : List Step). are_shaped ys notes ≡ true) same_steps shaped) in
+    subst (λ (ns : List Note). are_shaped (counted script.steps) ns ≡ true) same_notes
+    (subst (λ (ys : List Step). are_shaped ys notes ≡ true) same_steps shaped) in
     let by_writes = subst (λ (ws : List (List ℕ)). GoesTo w ws xs notes s failed t) same_writes goes in
     let by_steps = subst (λ (ys : List Step). GoesTo w c.writes ys notes s failed t) same_steps by_writes in
     let by_notes = subst (λ (ns : List Note). GoesTo w c.writes (counted script.steps) ns s failed t) same_notes by_steps in
     let by_start = subst (λ (u : State). GoesTo w c.writes (counted script.steps) c.notes u failed t) same_start by_notes in
-    ap (λ (q : Bool). verdict_after failed t q script.fault c) same_quit ∙ sym (judged-passage script c failed t shape (subst (λ (v : Sight). GoesTo v c.writes (counted script.steps) c.notes (told v (start c.path c.min c.max c.has)) failed t) same_sight by_start))
+    ap (λ (q : Bool). verdict_after failed t q script.fault c) same_quit
+    ∙ sym (judged-passage script c failed t shape
+    (subst (λ (v : Sight). GoesTo v c.writes (counted script.steps) c.notes (told v (start c.path c.min c.max c.has)) failed t) same_sight
+    by_start))
 
-pub judged-by_shape : (script : Script) (c : Certificate) (xs : List Step) (notes : List Note) → xs ≡ counted script.steps → notes ≡ c.notes →
-    are_shaped xs notes ≡ false → judged script c ≡ verdict_at 0 false
+pub judged-by_shape : (script : Script) (c : Certificate) (xs : List Step) (notes : List Note) → xs ≡ counted script.steps →
+    notes ≡ c.notes → are_shaped xs notes ≡ false → judged script c ≡ verdict_at 0 false
 judged-by_shape script c xs notes same_steps same_notes e =
     judged-shape script c
-    (subst (λ (ns : List Note). are_shaped (counted script.steps) ns ≡ false) same_notes (subst (λ (ys : List Step). are_shaped ys notes ≡ false) same_steps e))
+    (subst (λ (ns : List Note). are_shaped (counted script.steps) ns ≡ false) same_notes
+    (subst (λ (ys : List Step). are_shaped ys notes ≡ false) same_steps e))

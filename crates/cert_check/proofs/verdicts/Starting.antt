@@ -36,7 +36,8 @@ use Rattle.std.specs.List.{list_all}
 
 -- what is left runs well from each editor that was opened over lines that the certificate allows
 abbrev OpensWell : Certificate → (path : Option (List ℕ)) → Further → Type 0
-OpensWell c path go = (bytes : List ℕ) → IsAllowed c (lines_of bytes) → (m : Present) → m.state ≡ opened path bytes → (answers : List Answer) →
+OpensWell c path go = (bytes : List ℕ) → IsAllowed c (lines_of bytes) → (m : Present) → m.state ≡ opened path bytes →
+    (answers : List Answer) →
     RunsWell c (go m answers)
 
 start-well : (c : Certificate) (path : Option (List ℕ)) (m : Present) (go : Further) (answers : List Answer) → m.state ≡ opening →
@@ -51,14 +52,19 @@ start-well c (Some path) m go (answer.Missing ∷ later) new within h =
     let q : Present = runs.with_state (loaded [] path m.state) m in
     let well = h [] within q (subst (λ (e : editor.State). loaded [] path e ≡ opened (Some path) []) (sym new) refl) later in
     (All-cons (MayAsk c) (request.Read path) _ tt well.0, well.1)
-start-well c (Some path) m go (answer.Refused ∷ later) new within h = (All-cons (MayAsk c) (request.Read path) [] tt (All-nil (MayAsk c)), refl)
-start-well c (Some path) m go (answer.Done ∷ later) new within h = (All-cons (MayAsk c) (request.Read path) [] tt (All-nil (MayAsk c)), refl)
+start-well c (Some path) m go (answer.Refused ∷ later) new within h =
+    (All-cons (MayAsk c) (request.Read path) [] tt (All-nil (MayAsk c)), refl)
+start-well c (Some path) m go (answer.Done ∷ later) new within h =
+    (All-cons (MayAsk c) (request.Read path) [] tt (All-nil (MayAsk c)), refl)
 
 -- what the version tells of the start stands for such an editor
-started : StartIsSound → (v : Version) (path : Option (List ℕ)) (min : ℕ) (max : Option ℕ) (has : List (List ℕ)) (bytes : List ℕ) → IsWithin min max (length (lines_of bytes)) →
-    Match (elim v as (λ _. List (List ℕ)) [ version.One ↦ [] | version.Two ↦ has ]) (lines_of bytes) → StandsFor (told_by v (start path min max has)) (opened path bytes)
+started : StartIsSound → (v : Version) (path : Option (List ℕ)) (min : ℕ) (max : Option ℕ) (has : List (List ℕ))
+    (bytes : List ℕ) → IsWithin min max (length (lines_of bytes)) →
+    Match (elim v as (λ _. List (List ℕ)) [ version.One ↦ [] | version.Two ↦ has ]) (lines_of bytes) →
+    StandsFor (told_by v (start path min max has)) (opened path bytes)
 unfolding start
-started k version.One path min max has bytes within matched = told-stands-by version.One (start path min max []) (opened path bytes) (k path min max [] bytes within refl)
+started k version.One path min max has bytes within matched =
+    told-stands-by version.One (start path min max []) (opened path bytes) (k path min max [] bytes within refl)
 started k version.Two path min max has bytes within matched = k path min max has bytes within matched
 
 seen-version : (script : Script) (v : Version) (has : List (List ℕ)) → (sight_of script v has).version ≡ v
@@ -80,7 +86,8 @@ marked-safe k erased lines w script c first marks stands shape h begun o answers
     let real : Present = runs.with_state (opened c.path bytes) m in
     let run : steps script.steps script.fault (runs.with_state e m) more ≡ steps script.steps script.fault real more =
     erased (marks bytes) script.steps script.fault text real more known.0 refl refl refl in
-    subst (λ (u : editor.State). RunsWell c (steps script.steps script.fault (runs.with_state u m) more)) (sym new) (subst (λ (p : Progress). RunsWell c p) run well) in
+    subst (λ (u : editor.State). RunsWell c (steps script.steps script.fault (runs.with_state u m) more)) (sym new)
+    (subst (λ (p : Progress). RunsWell c p) run well) in
     subst (λ (p : Option (List ℕ)). RunsWell c (runs.start p (present o) (steps script.steps script.fault) answers)) (sym same)
     (start-well c c.path (present o) (steps script.steps script.fault) answers refl allowed goes)
 
@@ -100,17 +107,21 @@ accepted-safe sound suffice script c stands h =
 
 -- VERSION 1
 
-matched-nothing : (v : Version) (has lines : List (List ℕ)) → v ≡ version.One → Match (elim v as (λ _. List (List ℕ)) [ version.One ↦ [] | version.Two ↦ has ]) lines
+matched-nothing : (v : Version) (has lines : List (List ℕ)) → v ≡ version.One →
+    Match (elim v as (λ _. List (List ℕ)) [ version.One ↦ [] | version.Two ↦ has ]) lines
 matched-nothing version.One has lines is = refl
 matched-nothing version.Two has lines is = absurd cc
 
 -- a start is allowed where its number of lines lies in the bounds
-pub within-allowed : (c : Certificate) (lines : List (List ℕ)) → c.version ≡ version.One → IsWithin c.min c.max (length lines) → IsAllowed c lines
+pub within-allowed : (c : Certificate) (lines : List (List ℕ)) → c.version ≡ version.One → IsWithin c.min c.max (length lines) →
+    IsAllowed c lines
 within-allowed c lines one within = (within, matched-nothing c.version c.has lines one)
 
-some-allowed : (c : Certificate) (lines : Option (List (List ℕ))) → c.version ≡ version.One → IfSome lines (λ found. IsWithin c.min c.max (length found)) → IfSome lines (IsAllowed c)
+some-allowed : (c : Certificate) (lines : Option (List (List ℕ))) → c.version ≡ version.One →
+    IfSome lines (λ found. IsWithin c.min c.max (length found)) → IfSome lines (IsAllowed c)
 some-allowed c None one within = tt
 some-allowed c (Some lines) one within = within-allowed c lines one within
 
-pub safe-in-bounds : (script : Script) (c : Certificate) → c.version ≡ version.One → CannotFail script c → CannotFailInBounds script c
+pub safe-in-bounds : (script : Script) (c : Certificate) → c.version ≡ version.One → CannotFail script c →
+    CannotFailInBounds script c
 safe-in-bounds script c one safe o answers same within = safe o answers same (some-allowed c (start_lines c.path answers) one within)

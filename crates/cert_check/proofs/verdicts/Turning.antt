@@ -55,15 +55,18 @@ tested version.Two verb = verb
 
 all-taken : (ls : List Line) → FlaggedPass (is_taken_by ed.QuitAnyway) ls
 all-taken [] = All-nil (λ (line : Line). line.flag ≡ true → is_taken_by ed.QuitAnyway line.bytes ≡ true)
-all-taken (l ∷ ls) = All-cons (λ (line : Line). line.flag ≡ true → is_taken_by ed.QuitAnyway line.bytes ≡ true) l ls (λ flag. refl) (all-taken ls)
+all-taken (l ∷ ls) =
+    All-cons (λ (line : Line). line.flag ≡ true → is_taken_by ed.QuitAnyway line.bytes ≡ true) l ls (λ flag. refl) (all-taken ls)
 
-first-taken : TakenHaveFlags → (v : Version) (c : Command) (e : editor.State) (given : Option Answer) (o : Outcome) → command e c given ≡ Ok (Makes o) →
-    is_global c.verb ≡ true → IsUnflagged v e → FlaggedPass (is_taken_by (tested v c.verb)) o.state.lines
+first-taken : TakenHaveFlags → (v : Version) (c : Command) (e : editor.State) (given : Option Answer) (o : Outcome) →
+    command e c given ≡ Ok (Makes o) → is_global c.verb ≡ true → IsUnflagged v e →
+    FlaggedPass (is_taken_by (tested v c.verb)) o.state.lines
 first-taken k version.One c e given o is g none = all-taken o.state.lines
 first-taken k version.Two c e given o is g none = k c e given o is g none
 
 -- what the version tells of the list's first state stands for the editor with a line that was taken
-entry-stands : (v : Version) (verb : Verb) (invariant : State) (e : editor.State) → StandsFor (body_entry (tested v verb) invariant) e → StandsFor (told_by v (body_entry verb invariant)) e
+entry-stands : (v : Version) (verb : Verb) (invariant : State) (e : editor.State) → StandsFor (body_entry (tested v verb) invariant) e →
+    StandsFor (told_by v (body_entry verb invariant)) e
 entry-stands version.One verb invariant e st = told-stands-by version.One (body_entry ed.QuitAnyway invariant) e st
 entry-stands version.Two verb invariant e st = st
 
@@ -77,14 +80,17 @@ pub record Inside (test : List ℕ → Bool) (x : Step) (most : ℕ) (begun now 
   pub pass : FlaggedPass test now.lines
   pub few : flags now ≤ most
 
-noted-open : (list : List Command) (v : Verb) (f g : editor.State) (here : Open) → (may_alter v ≡ true → list_may_alter list ≡ true) → Notes v f.global g.global → f.global ≡ Some here →
-    (here.altered ≡ true → list_may_alter list ≡ true) → (now : Open) × (g.global ≡ Some now) × (now.before ≡ here.before) × (now.altered ≡ true → list_may_alter list ≡ true)
+noted-open : (list : List Command) (v : Verb) (f g : editor.State) (here : Open) →
+    (may_alter v ≡ true → list_may_alter list ≡ true) → Notes v f.global g.global → f.global ≡ Some here →
+    (here.altered ≡ true → list_may_alter list ≡ true) →
+    (now : Open) × (g.global ≡ Some now) × (now.before ≡ here.before) × (now.altered ≡ true → list_may_alter list ≡ true)
 noted-open list v f g here may (inl same) is m = (here, same ∙ is, refl, m)
 noted-open list v f g here may (inr (n, same)) is m = (noted here, same ∙ ap (option_map noted) is, refl, λ _. may n)
 
 -- after a command of the list it is so
-leads-inside : ListLaws → (test : List ℕ → Bool) (x : Step) (most : ℕ) (d : Command) → verbs.is_listed d ≡ true → (may_alter d.verb ≡ true → list_may_alter x.list ≡ true) → (e f g : editor.State) → Leads d f g →
-    Inside test x most e f → Inside test x most e g
+leads-inside : ListLaws → (test : List ℕ → Bool) (x : Step) (most : ℕ) (d : Command) → verbs.is_listed d ≡ true →
+    (may_alter d.verb ≡ true → list_may_alter x.list ≡ true) → (e f g : editor.State) → Leads d f g → Inside test x most e f →
+    Inside test x most e g
 leads-inside k test x most d is_listed may e f g leads i =
     let o : Outcome = leads.1 in
     let now = noted-open x.list d.verb f g i.here may
@@ -102,7 +108,8 @@ leads-inside k test x most d is_listed may e f g leads i =
     }
 
 -- and once a line is taken, of which there are fewer then
-taken-inside : (test : List ℕ → Bool) (x : Step) (most : ℕ) (e f g : editor.State) → next_taken f ≡ Some g → Inside test x (suc most) e f → Inside test x most e g
+taken-inside : (test : List ℕ → Bool) (x : Step) (most : ℕ) (e f g : editor.State) → next_taken f ≡ Some g →
+    Inside test x (suc most) e f → Inside test x most e g
 taken-inside test x most e f g is i =
     let few = i.few in
     let left = is-taken test most f g is i.pass (omega arith) in
@@ -111,8 +118,10 @@ taken-inside test x most e f g is i =
 -- THE LIST
 
 -- what the list leaves is checked, whether or not it is run
-list-turned : (w : Sight) (number : ℕ) (writes : List (List ℕ)) (turned : ℕ → State → List Check) (cs : List Command) (states : List State) (inner : ℕ) (coming : State) → length states ≡ length cs →
-    verdict_of (list_checks w number inner writes coming cs states turned) ≡ Accepted → (last : ℕ) × (t : State) × (verdict_of (turned last t) ≡ Accepted)
+list-turned : (w : Sight) (number : ℕ) (writes : List (List ℕ)) (turned : ℕ → State → List Check) (cs : List Command)
+    (states : List State) (inner : ℕ) (coming : State) → length states ≡ length cs →
+    verdict_of (list_checks w number inner writes coming cs states turned) ≡ Accepted →
+    (last : ℕ) × (t : State) × (verdict_of (turned last t) ≡ Accepted)
 list-turned w number writes turned [] states inner coming size a = (inner, coming, a)
 list-turned w number writes turned (x ∷ cs) [] inner coming size a = absurd (omega arith)
 list-turned w number writes turned (x ∷ cs) (s ∷ states) inner coming size a =
@@ -122,10 +131,14 @@ list-turned w number writes turned (x ∷ cs) (s ∷ states) inner coming size a
     list-turned w number writes turned cs states (inner + 1) (left_by w x s) (omega arith) paths.1
 
 -- the commands of the list that are left for a line
-module _ (k : ListLaws) (w : Sight) (c : Certificate) (number : ℕ) (test : List ℕ → Bool) (x : Step) (most : ℕ) (e : editor.State) (turned : ℕ → State → List Check) (go : Further)
-    (h : (inner : ℕ) (t : State) → verdict_of (turned inner t) ≡ Accepted → (m : Present) → StandsFor t m.state → Inside test x most e m.state → (answers : List Answer) → RunsWell c (go m answers)) where
-  listed-well : (cs : List Command) (states : List State) (inner : ℕ) (coming : State) → length states ≡ length cs → list_all verbs.is_listed cs ≡ true → (list_may_alter cs ≡ true → list_may_alter x.list ≡ true) →
-      verdict_of (list_checks w number inner c.writes coming cs states turned) ≡ Accepted → (m : Present) → StandsFor coming m.state → Inside test x most e m.state → (answers : List Answer) → RunsWell c (listed cs m go answers)
+module _ (k : ListLaws) (w : Sight) (c : Certificate) (number : ℕ) (test : List ℕ → Bool) (x : Step) (most : ℕ) (e : editor.State)
+    (turned : ℕ → State → List Check) (go : Further)
+    (h : (inner : ℕ) (t : State) → verdict_of (turned inner t) ≡ Accepted → (m : Present) → StandsFor t m.state →
+    Inside test x most e m.state → (answers : List Answer) → RunsWell c (go m answers)) where
+  listed-well : (cs : List Command) (states : List State) (inner : ℕ) (coming : State) → length states ≡ length cs →
+      list_all verbs.is_listed cs ≡ true → (list_may_alter cs ≡ true → list_may_alter x.list ≡ true) →
+      verdict_of (list_checks w number inner c.writes coming cs states turned) ≡ Accepted → (m : Present) →
+      StandsFor coming m.state → Inside test x most e m.state → (answers : List Answer) → RunsWell c (listed cs m go answers)
   listed-well [] states inner coming size all may a m st i answers = h inner coming a m st i answers
   listed-well (d ∷ cs) [] inner coming size all may a m st i answers = absurd (omega arith)
   listed-well (d ∷ cs) (s ∷ states) inner coming size all may a m st i answers =
@@ -136,8 +149,10 @@ module _ (k : ListLaws) (w : Sight) (c : Certificate) (number : ℕ) (test : Lis
       let others = (and_parts (verbs.is_listed d) (list_all verbs.is_listed cs) all).1 in
       one-well k.single w c d s m (λ t. listed cs t go) answers met.0 paths.0 (covers-stands k.single s coming m.state covered.0 st)
       (λ q more leads stands.
-      listed-well cs states (inner + 1) (left_by w d s) (omega arith) others (λ l. may (or_right (may_alter d.verb) (list_may_alter cs) l)) paths.1 q stands
-      (leads-inside k test x most d is_listed (λ l. may (or_left (may_alter d.verb) (list_may_alter cs) l)) e m.state q.state leads i) more)
+      listed-well cs states (inner + 1) (left_by w d s) (omega arith) others (λ l. may (or_right (may_alter d.verb) (list_may_alter cs) l))
+      paths.1 q stands
+      (leads-inside k test x most d is_listed (λ l. may (or_left (may_alter d.verb) (list_may_alter cs) l)) e m.state q.state leads i)
+      more)
 
 -- what is left after the list, where it is checked that the invariant says no more
 abbrev after_list : (number : ℕ) → Looped → (later : List Check) → ℕ → State → List Check
@@ -155,33 +170,44 @@ abbrev test_of : Sight → Step → List ℕ → Bool
 test_of w x = is_taken_by (tested w.version x.command.verb)
 
 -- a global command that began where the editor was in the state e, and what is left after it
-module _ (k : ListLaws) (w : Sight) (c : Certificate) (number : ℕ) (x : Step) (s : State) (l : Looped) (e : editor.State) (before : StandsFor s e) (later : List Check) (size : length l.inner ≡ length x.list)
+module _ (k : ListLaws) (w : Sight) (c : Certificate) (number : ℕ) (x : Step) (s : State) (l : Looped) (e : editor.State)
+    (before : StandsFor s e) (later : List Check) (size : length l.inner ≡ length x.list)
     (all : list_all verbs.is_listed x.list ≡ true)
-    (accepted : verdict_of (list_checks w number 1 c.writes (entry_of w x l) x.list l.inner (after_list number l later)) ≡ Accepted) (go : Further)
+    (accepted : verdict_of (list_checks w number 1 c.writes (entry_of w x l) x.list l.inner (after_list number l later)) ≡ Accepted)
+    (go : Further)
     (h : GoesWell c w (end_of w x s l) go) where
-  over-well : (most : ℕ) (m : Present) → StandsFor l.invariant m.state → Inside (test_of w x) x most e m.state → FlaggedPass passes_none m.state.lines → (answers : List Answer) → RunsWell c (go (with_state (closed m.state) m) answers)
+  over-well : (most : ℕ) (m : Present) → StandsFor l.invariant m.state → Inside (test_of w x) x most e m.state →
+      FlaggedPass passes_none m.state.lines → (answers : List Answer) → RunsWell c (go (with_state (closed m.state) m) answers)
   over-well most m st i none answers =
-      h (with_state (closed m.state) m) (told-stands w (loop_end x s l.invariant) (closed m.state) (k.over x s l.invariant e m.state i.here before st i.is i.before i.may))
+      h (with_state (closed m.state) m)
+      (told-stands w (loop_end x s l.invariant) (closed m.state) (k.over x s l.invariant e m.state i.here before st i.is i.before i.may))
       (over-unflagged w.version e m.state i.here i.is i.before none) answers
 
-  turns-well : (n : ℕ) (m : Present) → StandsFor l.invariant m.state → Inside (test_of w x) x n e m.state → (answers : List Answer) → RunsWell c (turns n x.list m go answers)
+  turns-well : (n : ℕ) (m : Present) → StandsFor l.invariant m.state → Inside (test_of w x) x n e m.state →
+      (answers : List Answer) → RunsWell c (turns n x.list m go answers)
   turns-well zero m st i answers = over-well zero m st i (none-left m.state.lines i.few) answers
   turns-well (suc n) m st i answers =
-      (elim (next_taken m.state) as (λ o. next_taken m.state ≡ o → RunsWell c (turn o (λ f. listed x.list (with_state f m) (λ t. turns n x.list t go)) (go (with_state (closed m.state) m)) answers)) [
+      (elim (next_taken m.state) as (λ o. next_taken m.state ≡ o →
+      RunsWell c (turn o (λ f. listed x.list (with_state f m) (λ t. turns n x.list t go)) (go (with_state (closed m.state) m)) answers)) [
         | None ↦ λ is. over-well (suc n) m st i (none-found m.state is) answers
         | Some f ↦ λ is.
             listed-well k w c number (test_of w x) x n e (after_list number l later) (λ t. turns n x.list t go)
-            (λ inner t a q stands j more. turns-well n q (covers-stands k.single l.invariant t q.state (first-holds (covers l.invariant t) _ _ a).0 stands) j more)
+            (λ inner t a q stands j more. turns-well n q
+            (covers-stands k.single l.invariant t q.state (first-holds (covers l.invariant t) _ _ a).0 stands) j more)
             x.list l.inner 1 (entry_of w x l) size all (λ z. z) accepted (with_state f m)
-            (entry-stands w.version x.command.verb l.invariant f (k.turn (tested w.version x.command.verb) l.invariant m.state f st i.pass is))
+            (entry-stands w.version x.command.verb l.invariant f
+            (k.turn (tested w.version x.command.verb) l.invariant m.state f st i.pass is))
             (taken-inside (test_of w x) x n e m.state f is i) answers
       ]) refl
 
 -- its addresses, its lines' flags, and then its list for each of them
-global-well : (k : ListLaws) (w : Sight) (c : Certificate) (number : ℕ) (x : Step) (s : State) (l : Looped) (m : Present) → StandsFor s m.state → IsUnflagged w.version m.state → is_global x.command.verb ≡ true →
-    (later : List Check) → length l.inner ≡ length x.list → list_all verbs.is_listed x.list ≡ true → are_met x.command s ≡ true → are_listed c.writes x.command s ≡ true →
-    covers l.invariant (left_by w x.command s) ≡ true → verdict_of (list_checks w number 1 c.writes (entry_of w x l) x.list l.inner (after_list number l later)) ≡ Accepted → (go : Further) →
-    GoesWell c w (end_of w x s l) go → (answers : List Answer) → RunsWell c (one x.command m (λ t. global (kept m.state) x.list t go) answers)
+global-well : (k : ListLaws) (w : Sight) (c : Certificate) (number : ℕ) (x : Step) (s : State) (l : Looped) (m : Present) →
+    StandsFor s m.state → IsUnflagged w.version m.state → is_global x.command.verb ≡ true → (later : List Check) →
+    length l.inner ≡ length x.list → list_all verbs.is_listed x.list ≡ true → are_met x.command s ≡ true →
+    are_listed c.writes x.command s ≡ true → covers l.invariant (left_by w x.command s) ≡ true →
+    verdict_of (list_checks w number 1 c.writes (entry_of w x l) x.list l.inner (after_list number l later)) ≡ Accepted →
+    (go : Further) → GoesWell c w (end_of w x s l) go → (answers : List Answer) →
+    RunsWell c (one x.command m (λ t. global (kept m.state) x.list t go) answers)
 global-well k w c number x s l m st none g later size all met paths covered accepted go h answers =
     let t : State = left_by w x.command s in
     let plain : State = plainly_left w x.command s in
@@ -192,21 +218,32 @@ global-well k w c number x s l m st none g later size all met paths covered acce
     subst (λ (u : editor.State). StandsFor plain (open_in u)) leads.3
     (k.begun w.watch x.command s plain m.state leads.0 leads.1 (kept m.state) st (met-gives k.single.needs w x.command s met) leads.2) in
     let pass : FlaggedPass (test_of w x) q.state.lines =
-    subst (λ (u : editor.State). FlaggedPass (test_of w x) u.lines) leads.3 (first-taken k.taken w.version x.command m.state leads.0 leads.1 leads.2 g none) in
+    subst (λ (u : editor.State). FlaggedPass (test_of w x) u.lines) leads.3
+    (first-taken k.taken w.version x.command m.state leads.0 leads.1 leads.2 g none) in
     turns-well k w c number x s l m.state st later size all accepted go h (flags q.state) (with_state (open_in q.state) q)
     (covers-stands k.single l.invariant t (open_in q.state) covered (left-stands w x.command s (open_in q.state) begun))
-    (record { here = record { before = kept m.state; altered = false }; is = refl; before = refl; may = λ z. absurd cc; pass = pass; few = omega arith }) more)
+    (record {
+      here = record { before = kept m.state; altered = false };
+      is = refl;
+      before = refl;
+      may = λ z. absurd cc;
+      pass = pass;
+      few = omega arith;
+    }) more)
 
 -- what the checks of a global command say, and those of its list together with those after it
-pub record GlobalHolds (w : Sight) (c : Certificate) (number : ℕ) (x : Step) (s : State) (l : Looped) (coming : State) (later : List Check) : Type 0 where
+pub record GlobalHolds (w : Sight) (c : Certificate) (number : ℕ) (x : Step) (s : State) (l : Looped) (coming : State)
+    (later : List Check) : Type 0 where
   pub comes : covers s coming ≡ true
   pub met : are_met x.command s ≡ true
   pub paths : are_listed c.writes x.command s ≡ true
   pub covered : covers l.invariant (left_by w x.command s) ≡ true
   pub turns : verdict_of (list_checks w number 1 c.writes (entry_of w x l) x.list l.inner (after_list number l later)) ≡ Accepted
 
-pub global-holds : (w : Sight) (c : Certificate) (number : ℕ) (x : Step) (s : State) (l : Looped) (coming : State) (later : List Check) →
-    verdict_of (step_checks w number c.writes x (record { state = s; looped = Some l }) coming later) ≡ Accepted → GlobalHolds w c number x s l coming later
+pub global-holds : (w : Sight) (c : Certificate) (number : ℕ) (x : Step) (s : State) (l : Looped) (coming : State)
+    (later : List Check) →
+    verdict_of (step_checks w number c.writes x (record { state = s; looped = Some l }) coming later) ≡ Accepted →
+    GlobalHolds w c number x s l coming later
 global-holds w c number x s l coming later h =
     let comes = first-holds (covers s coming) _ _ h in
     let met = first-holds (are_met x.command s) _ _ comes.1 in
@@ -215,8 +252,8 @@ global-holds w c number x s l coming later h =
     record { comes = comes.0; met = met.0; paths = paths.0; covered = covered.0; turns = covered.1 }
 
 -- those after it hold too
-pub later-holds : (w : Sight) (c : Certificate) (number : ℕ) (x : Step) (s : State) (l : Looped) (coming : State) (later : List Check) → length l.inner ≡ length x.list →
-    GlobalHolds w c number x s l coming later → verdict_of later ≡ Accepted
+pub later-holds : (w : Sight) (c : Certificate) (number : ℕ) (x : Step) (s : State) (l : Looped) (coming : State) (later : List Check) →
+    length l.inner ≡ length x.list → GlobalHolds w c number x s l coming later → verdict_of later ≡ Accepted
 later-holds w c number x s l coming later size h =
     let left = list-turned w number c.writes (after_list number l later) x.list l.inner 1 (entry_of w x l) size h.turns in
     (first-holds (covers l.invariant left.1) _ _ left.2).1
@@ -228,11 +265,14 @@ global-step (ed.Global sense pattern) x m go answers g = refl
 global-step _ x m go answers g = absurd cc
 
 -- of a list that fits something is known of each command
-pub inner-sized : (global : Bool) (list : List Command) (l : Looped) → fits_list global list (Some l) ≡ true → length l.inner ≡ length list
+pub inner-sized : (global : Bool) (list : List Command) (l : Looped) → fits_list global list (Some l) ≡ true →
+    length l.inner ≡ length list
 inner-sized global list l fit = eqb-true _ _ (and_parts global (length l.inner == length list) fit).1
 
-looped-goes-well : ListLaws → (w : Sight) (c : Certificate) (number : ℕ) (x : Step) (s : State) (looped : Option Looped) (coming : State) (later : List Check) (go : Further) → verbs.is_step x ≡ true →
-    is_global x.command.verb ≡ true → fits_list (is_global x.command.verb) x.list looped ≡ true → verdict_of (step_checks w number c.writes x (record { state = s; looped = looped }) coming later) ≡ Accepted →
+looped-goes-well : ListLaws → (w : Sight) (c : Certificate) (number : ℕ) (x : Step) (s : State) (looped : Option Looped)
+    (coming : State) (later : List Check) (go : Further) → verbs.is_step x ≡ true →
+    is_global x.command.verb ≡ true → fits_list (is_global x.command.verb) x.list looped ≡ true →
+    verdict_of (step_checks w number c.writes x (record { state = s; looped = looped }) coming later) ≡ Accepted →
     GoesWell c w (left_after w looped x s) go → GoesWell c w coming (λ m. step x m go)
 looped-goes-well k w c number x s None coming later go stands g fit h goes m st none answers =
     absurd (false≢true (sym (not-true (is_global x.command.verb) fit) ∙ g))
@@ -240,8 +280,10 @@ looped-goes-well k w c number x s (Some l) coming later go stands g fit h goes m
     let holds = global-holds w c number x s l coming later h in
     let listed = (and_parts (not x.command.listed && verbs.marks_by_letter x.command.verb) (list_all verbs.is_listed x.list) stands).1 in
     subst (λ (p : Progress). RunsWell c p) (sym (global-step x.command.verb x m go answers g))
-    (global-well k w c number x s l m (covers-stands k.single s coming m.state holds.comes st) none g later (inner-sized (is_global x.command.verb) x.list l fit) listed holds.met holds.paths holds.covered holds.turns go
+    (global-well k w c number x s l m (covers-stands k.single s coming m.state holds.comes st) none g later
+    (inner-sized (is_global x.command.verb) x.list l fit) listed holds.met holds.paths holds.covered holds.turns go
     goes answers)
 
 pub global-goes-well : ListLaws → GlobalGoesWell
-global-goes-well k w c number x n coming later go stands g fit h goes = looped-goes-well k w c number x n.state n.looped coming later go stands g fit h goes
+global-goes-well k w c number x n coming later go stands g fit h goes =
+    looped-goes-well k w c number x n.state n.looped coming later go stands g fit h goes

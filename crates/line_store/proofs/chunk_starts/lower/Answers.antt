@@ -9,7 +9,8 @@ overflow_sub-index_mut c =
     let now = c.loop-k.numbers.items in
     let k = c.loop-k.k in
     let within : k < length now = omega arith in
-    let read : c.index_mut.result.now ≡ get_or now k 0 = c.index_mut.ensures.value ∙ get_or_default now k c.index_mut.result.now 0 within in
+    let read : c.index_mut.result.now ≡ get_or now k 0 = c.index_mut.ensures.value
+    ∙ get_or_default now k c.index_mut.result.now 0 within in
     omega (arith, read, i.above k (omega arith), c.requires.some k (omega arith) (omega arith))
 
 pub returns-clause-lowered : goal.returns-clause-lowered

@@ -40,7 +40,8 @@ returns c =
     let found = c.in_ok-found.found in
     let old = c.in_ok-old.old in
     let has = c.in_ok-old_has.old_has in
-    let is : c.new-undo-2.result ≡ undo_with found (marked_value old) = c.new-undo-2.ensures.value ∙ ap (λ (o : Old). undo_with found o) c.new-was.ensures.value in
+    let is : c.new-undo-2.result ≡ undo_with found (marked_value old) = c.new-undo-2.ensures.value
+    ∙ ap (λ (o : Old). undo_with found o) c.new-was.ensures.value in
     record {
       exact = subst (λ (u : Undo). UndoIsFormed c.args.version (u, has)
           × Took (texts (undo_lines c.args.version (u, has))) c.args.cursor.now c.read_matched.new.cursor) (sym is)

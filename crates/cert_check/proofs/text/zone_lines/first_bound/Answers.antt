@@ -18,7 +18,8 @@ returns-then-eq c =
     let entry = c.new-entry.result in
     record {
       exact =
-          first-spoken c.args.text.now c.in-Some-bound_in.left.now x y c.in-Some-bound_in.number entry c.in-Some-bound_in.ensures.exact (omega arith) (omega arith)
+          first-spoken c.args.text.now c.in-Some-bound_in.left.now x y c.in-Some-bound_in.number entry c.in-Some-bound_in.ensures.exact
+          (omega arith) (omega arith)
           (ap (λ (b : PlacedBound). b.place) c.new-entry.ensures.value)
           (sym c.bound.ensures.value ∙ option_eq-true _ _ (sym c.if-eq.ensures)
           ∙ ap (λ (n : ℤ). Some n)
@@ -41,7 +42,8 @@ returns c = record {
   exact = λ b words s e.
       let number = c.in-Some-bound_in.number in
       let same = to_z-of_z w64 number (record { sfits = c.in-Some-bound_in.ensures.exact.signed }) in
-      let kept = first-kept c.args.text.now c.in-Some-bound_in.left.now c.in-Some.names.0 c.in-Some.names.1 number c.in-Some-bound_in.ensures.exact b words s e in
+      let kept = first-kept c.args.text.now c.in-Some-bound_in.left.now c.in-Some.names.0 c.in-Some.names.1 number
+      c.in-Some-bound_in.ensures.exact b words s e in
       let bound : c.bound.result ≡ Some number =
       c.bound.ensures.value ∙ ap (λ (d : PlacedBound). d.bound) c.new-entry.ensures.value ∙ ap (λ (n : ℤ). clip_bound (Some n)) same
       ∙ clip-is number number refl kept in

@@ -19,12 +19,14 @@ pub loop-place-preserved-in_default : goal.loop-place-preserved-in_default
 loop-place-preserved-in_default c =
     let before = c.loop-place.invariant in
     let place = c.loop-place.place in
-    let byte : c.byte.result ≡ 97 + place = letter-byte c.byte.result place (c.byte.ensures.value ∙ ap (λ (l : ℕ). Some l) c.at-letter.ensures.value) in
+    let byte : c.byte.result ≡ 97 + place =
+    letter-byte c.byte.result place (c.byte.ensures.value ∙ ap (λ (l : ℕ). Some l) c.at-letter.ensures.value) in
     record {
       size = before.size;
       read = before.read;
       unsure = λ k l. before.unsure k (omega arith);
-      other = λ m s e. letter-kept m place c.loop-place.left.now (omega arith) (λ later is. c.in_default.ensures.cases later (is ∙ ap (λ (b : ℕ). b ∷ later) (sym byte))) (before.other m s e);
+      other = λ m s e. letter-kept m place c.loop-place.left.now (omega arith)
+          (λ later is. c.in_default.ensures.cases later (is ∙ ap (λ (b : ℕ). b ∷ later) (sym byte))) (before.other m s e);
     }
 
 pub loop-place-preserved : goal.loop-place-preserved
@@ -33,9 +35,11 @@ loop-place-preserved c =
     let letter = c.loop-place.place in
     let marks = c.loop-place.marks in
     let later = c.in-Some.later.now in
-    let byte : c.byte.result ≡ 97 + letter = letter-byte c.byte.result letter (c.byte.ensures.value ∙ ap (λ (l : ℕ). Some l) c.at-letter.ensures.value) in
+    let byte : c.byte.result ≡ 97 + letter =
+    letter-byte c.byte.result letter (c.byte.ensures.value ∙ ap (λ (l : ℕ). Some l) c.at-letter.ensures.value) in
     let left : c.loop-place.left.now ≡ (97 + letter) ∷ later = c.in-Some.ensures.cases ∙ ap (λ (b : ℕ). b ∷ later) byte in
-    let is : c.add.new.self ≡ set marks letter true = c.add.ensures.value ∙ ap (λ (l : ℕ). set marks l true) c.at-letter.ensures.value in
+    let is : c.add.new.self ≡ set marks letter true = c.add.ensures.value
+    ∙ ap (λ (l : ℕ). set marks l true) c.at-letter.ensures.value in
     let added : sure_letters 97 c.add.new.self ≡ sure_letters 97 marks ++ (97 + letter) ∷ [] =
     ap (λ (m : List Bool). sure_letters 97 m) is ∙ letter-added 97 letter marks (omega arith) before.unsure in
     record {

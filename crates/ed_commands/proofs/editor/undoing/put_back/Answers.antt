@@ -19,7 +19,8 @@ overflow_sub-reached g c =
       c.len-last.ensures.value,
       c.len.ensures.value,
       ap length c.in_ok-removed.ensures.put,
-      length-exchanged c.min-from.result c.min-to.result (map plain_line c.in_ok-new.new) before order (omega (arith, c.len-last.ensures.value)),
+      length-exchanged c.min-from.result c.min-to.result (map plain_line c.in_ok-new.new) before order
+          (omega (arith, c.len-last.ensures.value)),
     )
 
 pub overflow_sub-entered : goal.overflow_sub-entered
@@ -31,7 +32,8 @@ overflow_sub-entered g c =
       c.len-last.ensures.value,
       c.len.ensures.value,
       ap length c.in_ok-removed.ensures.put,
-      length-exchanged c.min-from.result c.min-to.result (map plain_line c.in_ok-new.new) before order (omega (arith, c.len-last.ensures.value)),
+      length-exchanged c.min-from.result c.min-to.result (map plain_line c.in_ok-new.new) before order
+          (omega (arith, c.len-last.ensures.value)),
     )
 
 pub returns-clause-texts : goal.returns-clause-texts
@@ -60,5 +62,12 @@ returns-clause-again g c =
     let within : to ≤ length before = omega (arith, c.len-last.ensures.value) in
     let order : from ≤ to = omega (arith, c.saturating_add.ensures) in
     let counted : length new ≡ entered =
-    omega (arith, c.len-last.ensures.value, c.len.ensures.value, ap length c.in_ok-removed.ensures.put, length-exchanged from to new before order within) in
-    texts-back from to entered c.in_ok-removed.removed new after before order within counted c.in_ok-removed.ensures.taken c.in_ok-removed.ensures.put
+    omega (
+      arith,
+      c.len-last.ensures.value,
+      c.len.ensures.value,
+      ap length c.in_ok-removed.ensures.put,
+      length-exchanged from to new before order within,
+    ) in
+    texts-back from to entered c.in_ok-removed.removed new after before order within counted c.in_ok-removed.ensures.taken
+    c.in_ok-removed.ensures.put

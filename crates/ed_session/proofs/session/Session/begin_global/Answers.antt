@@ -14,7 +14,8 @@ pub returns-in-Ok-clause-given : goal.returns-in-Ok-clause-given
 returns-in-Ok-clause-given g c =
     let i = c.self.inside in
     let x = command_value c.next.result.now in
-    let b = beginning _ _ x c.self.view_is c.requires.prompted c.requires.outside c.requires.handed_out c.requires.global c.next.ensures.value in
+    let b = beginning _ _ x c.self.view_is c.requires.prompted c.requires.outside c.requires.handed_out c.requires.global
+    c.next.ensures.value in
     let live : is_over i.phase ≡ false = ap is_over b.at in
     let untold = false_from_ne_true i.told (λ h. let n = (c.self.invariant.ended h).0 in cc) in
     let begun = begun_is _ i.editor.state _ c.in-Ok.begun (c.in-Ok.ensures.exact (c.self.invariant.works live)) in
@@ -29,7 +30,8 @@ pub returns-in-Err-clause-given : goal.returns-in-Err-clause-given
 returns-in-Err-clause-given g c =
     let i = c.self.inside in
     let x = command_value c.next.result.now in
-    let b = beginning _ _ x c.self.view_is c.requires.prompted c.requires.outside c.requires.handed_out c.requires.global c.next.ensures.value in
+    let b = beginning _ _ x c.self.view_is c.requires.prompted c.requires.outside c.requires.handed_out c.requires.global
+    c.next.ensures.value in
     let live : is_over i.phase ≡ false = ap is_over b.at in
     let untold = false_from_ne_true i.told (λ h. let n = (c.self.invariant.ended h).0 in cc) in
     let fails : c.in-Err.fault ≢ Memory → command i.editor.state x None ≡ Err c.in-Err.fault =
@@ -40,7 +42,8 @@ returns-in-Err-clause-given g c =
 
 pub returns-in-Ok-clause-work : goal.returns-in-Ok-clause-work
 returns-in-Ok-clause-work g c =
-    let b = beginning _ _ (command_value c.next.result.now) c.self.view_is c.requires.prompted c.requires.outside c.requires.handed_out c.requires.global c.next.ensures.value in
+    let b = beginning _ _ (command_value c.next.result.now) c.self.view_is c.requires.prompted c.requires.outside c.requires.handed_out
+    c.requires.global c.next.ensures.value in
     let opens = c.open.ensures.value in
     works_less c.args.self.now _ _ _ (ap is_over c.requires.prompted) (ap (λ u. u.pending) b.same ∙ c.requires.handed_out)
     (subst (λ u. both_work c.open.new.self.running_list c.open.new.self.steps + 1 ≤ both_work u.running_list u.steps) b.same

@@ -21,7 +21,19 @@ invariant_of-self-in-Ok-Wants g c =
     record {
       works = λ h. rw works at c.in-Ok-Wants.ensures.failed;
       can_report = λ h. c.self.invariant.can_report live;
-      keeps = ((x, rw asks.1 (record { next = k.next; request = c.in-Ok-Wants.request; asks = asks.0; writes_it = c.bytes_of_write-self-inside.ensures.value })), k.none);
+      keeps = (
+        (
+          x,
+          rw asks.1
+              (record {
+                next = k.next;
+                request = c.in-Ok-Wants.request;
+                asks = asks.0;
+                writes_it = c.bytes_of_write-self-inside.ensures.value;
+              }),
+        ),
+        k.none,
+      );
       ended = λ h. absurd (let n = (c.self.invariant.ended h).0 in cc);
     }
 
@@ -38,8 +50,10 @@ returns-in-Ok-Done-clause-given g c =
     let passed = c.pass.ensures.value in
     rw c.output.ensures.value (advances_by c.args.self.now _ c.in-Ok-Done.written
     (as_goes c.args.self.now _ c.in-Ok-Done.written _ k.same
-    (passes_done _ x k.goes k.next k.none _ done.0 c.in-Ok-Done.written done.1 done.3 refl (ap (λ a. a.running_list) passed) (ap (λ a. a.steps) passed) refl
-    (turned_present x.verb i.silent i.editor.state done.0.state c.apply.new.self.state i.modes c.after-self-inside.result i.prompt done.2 turned.prompting turned.help) k.none))
+    (passes_done _ x k.goes k.next k.none _ done.0 c.in-Ok-Done.written done.1 done.3 refl (ap (λ a. a.running_list) passed)
+    (ap (λ a. a.steps) passed) refl
+    (turned_present x.verb i.silent i.editor.state done.0.state c.apply.new.self.state i.modes c.after-self-inside.result i.prompt done.2
+    turned.prompting turned.help) k.none))
     refl refl k.none untold)
 
 pub returns-in-Ok-Wants-clause-given : goal.returns-in-Ok-Wants-clause-given
@@ -52,7 +66,8 @@ returns-in-Ok-Wants-clause-given g c =
     let asks = wants_is _ _ _ c.in-Ok-Wants.request (exact (c.self.invariant.works live)) in
     rw c.asking.ensures.value (gives_request c.args.self.now _ c.in-Ok-Wants.request
     (as_awaits c.args.self.now _ c.in-Ok-Wants.request _ k.same
-    (passes_asking _ x k.goes k.next k.none _ c.in-Ok-Wants.request asks.0 refl refl refl refl (ap (λ s. holding i.silent s i.modes i.prompt) asks.1) k.none)))
+    (passes_asking _ x k.goes k.next k.none _ c.in-Ok-Wants.request asks.0 refl refl refl refl
+    (ap (λ s. holding i.silent s i.modes i.prompt) asks.1) k.none)))
 
 pub returns-in-Err-clause-given : goal.returns-in-Err-clause-given
 returns-in-Err-clause-given g c =

@@ -27,27 +27,45 @@ lower-requires-clause-within c =
 pub lower-requires-2-clause-order : goal.lower-requires-2-clause-order
 lower-requires-2-clause-order c =
     let e = c.self.inside in
-    omega (arith, c.requires.chunk, c.self.invariant.all, ap (λ v. length v.starts) c.self.view_is, length-groups e.groups.items e.within.items)
+    omega (
+      arith,
+      c.requires.chunk,
+      c.self.invariant.all,
+      ap (λ v. length v.starts) c.self.view_is,
+      length-groups e.groups.items e.within.items,
+    )
 
 pub lower-requires-clause-some : goal.lower-requires-clause-some
 lower-requires-clause-some c = λ m h l.
     let groups = c.self.inside.groups.items in
     let within = c.self.inside.within.items in
     let k = c.args.k in
-    let long : length within ≡ length c.args.self.now.starts = sym (length-groups groups within) ∙ ap (λ v. length v.starts) c.self.view_is in
+    let long : length within ≡ length c.args.self.now.starts = sym (length-groups groups within)
+    ∙ ap (λ v. length v.starts) c.self.view_is in
     let inside : m < length within = omega (arith, c.min.ensures) in
     some-within k (k + c.min.result) m groups within (omega (arith, c.min.ensures)) h l
-    (omega (arith, c.requires.more m (omega arith) (omega arith), ap (λ v. get_or v.starts m 0) c.self.view_is, ap (λ v. get_or v.starts k 0) c.self.view_is))
+    (omega (
+      arith,
+      c.requires.more m (omega arith) (omega arith),
+      ap (λ v. get_or v.starts m 0) c.self.view_is,
+      ap (λ v. get_or v.starts k 0) c.self.view_is,
+    ))
 
 pub lower-requires-2-clause-some : goal.lower-requires-2-clause-some
 lower-requires-2-clause-some c = λ g h l.
     let groups = c.self.inside.groups.items in
     let within = c.self.inside.within.items in
-    let long : length within ≡ length c.args.self.now.starts = sym (length-groups groups within) ∙ ap (λ v. length v.starts) c.self.view_is in
+    let long : length within ≡ length c.args.self.now.starts = sym (length-groups groups within)
+    ∙ ap (λ v. length v.starts) c.self.view_is in
     let inside : g < length groups = omega arith in
     let later : c.args.k < group * g = omega arith in
     let start : group * g < length within = omega (arith, c.self.invariant.used) in
-    omega (arith, c.requires.more (group * g) later (omega arith), ap (λ v. get_or v.starts (group * g) 0) c.self.view_is, get_or-first groups within g c.self.invariant inside)
+    omega (
+      arith,
+      c.requires.more (group * g) later (omega arith),
+      ap (λ v. get_or v.starts (group * g) 0) c.self.view_is,
+      get_or-first groups within g c.self.invariant inside,
+    )
 
 pub invariant_of-self : goal.invariant_of-self
 invariant_of-self c =

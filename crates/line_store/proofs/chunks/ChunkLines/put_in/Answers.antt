@@ -9,7 +9,8 @@ use Rattle.line_store.proofs.chunks.ChunkLines.put_in.Goals as goal
 pub raise-requires-clause-fits : goal.raise-requires-clause-fits
 raise-requires-clause-fits c = λ m a b.
     let e = c.self.inside in
-    start-fits m e.count e.starts e.chunks.items c.self.invariant b (omega (arith, c.requires.count, ap (λ v. length (joined v.chunks)) c.self.view_is))
+    start-fits m e.count e.starts e.chunks.items c.self.invariant b
+    (omega (arith, c.requires.count, ap (λ v. length (joined v.chunks)) c.self.view_is))
 
 pub invariant_of-self : goal.invariant_of-self
 invariant_of-self c =
@@ -18,7 +19,8 @@ invariant_of-self c =
     let k = c.args.k in
     let place = c.args.place in
     let within : k < length chunks = omega (arith, c.requires.chunk, ap (λ v. length v.chunks) c.self.view_is) in
-    let chunk : c.index_mut.result.now ≡ get_or chunks k [] = c.index_mut.ensures.value ∙ get_or_default chunks k c.index_mut.result.now [] within in
+    let chunk : c.index_mut.result.now ≡ get_or chunks k [] = c.index_mut.ensures.value
+    ∙ get_or_default chunks k c.index_mut.result.now [] within in
     let is = c.insert.ensures.inserted ∙ ap (λ t. insert t place c.args.line) chunk in
     let raised = c.raise.ensures.raised in
     let size : length c.insert.new.self ≡ length (get_or chunks k []) + 1 =

@@ -18,7 +18,13 @@ overflow_sub-self c =
     let chunks = e.chunks.items in
     let k = c.args.k in
     let within : k < length chunks = omega (arith, c.requires.chunk, ap (λ v. length v.chunks) c.self.view_is) in
-    omega (arith, c.requires.place, c.self.invariant.all, before-within k chunks within, ap (λ v. length (get_or v.chunks k [])) c.self.view_is)
+    omega (
+      arith,
+      c.requires.place,
+      c.self.invariant.all,
+      before-within k chunks within,
+      ap (λ v. length (get_or v.chunks k [])) c.self.view_is,
+    )
 
 pub invariant_of-self : goal.invariant_of-self
 invariant_of-self c =
@@ -27,8 +33,10 @@ invariant_of-self c =
     let k = c.args.k in
     let place = c.args.place in
     let within : k < length chunks = omega (arith, c.requires.chunk, ap (λ v. length v.chunks) c.self.view_is) in
-    let inner : place < length (get_or chunks k []) = omega (arith, c.requires.place, ap (λ v. length (get_or v.chunks k [])) c.self.view_is) in
-    let chunk : c.index_mut.result.now ≡ get_or chunks k [] = c.index_mut.ensures.value ∙ get_or_default chunks k c.index_mut.result.now [] within in
+    let inner : place < length (get_or chunks k []) =
+    omega (arith, c.requires.place, ap (λ v. length (get_or v.chunks k [])) c.self.view_is) in
+    let chunk : c.index_mut.result.now ≡ get_or chunks k [] = c.index_mut.ensures.value
+    ∙ get_or_default chunks k c.index_mut.result.now [] within in
     let is = c.remove-line.ensures.removed ∙ ap (λ t. remove t place) chunk in
     let lowered = c.lower.ensures.lowered in
     let size : length c.remove-line.new.self + 1 ≡ length (get_or chunks k []) =
