@@ -1,5 +1,5 @@
 -- How a certificate is read, one piece of its text after another.
-use Rattle.std.specs.Prelude.{◌≡◌, ℕ, suc, ◌+◌, Bool, true, false, ◌&&◌, ◌||◌, List, [], ◌∷◌, ◌++◌, length, map, codes, Option, Some, is_some, Result, Ok, Err, All}
+use Rattle.std.specs.Prelude.{◌≡◌, ℕ, suc, ◌+◌, Bool, true, false, ◌&&◌, ◌||◌, List, [], ◌∷◌, ◌++◌, length, map, codes, Option, is_some, Result, Ok, Err, All}
 use Rattle.std.specs.List.{flat_map}
 use Rattle.ed_base.specs.Lines.{newline, IsLine, bytes_of}
 use Rattle.ed_rules.specs.declared.state.Old.{Old}
