@@ -11,6 +11,8 @@ use Rattle.ed_syntax.specs.declared.command.Form.TheVariants as form
 use Rattle.ed_syntax.specs.declared.command.Verb.{Verb, Row_of-Command, end_of-Command, more_of-Command}
 use Rattle.ed_syntax.specs.declared.command.Verb.TheVariants as verb
 use Rattle.ed_syntax.specs.declared.command.Command.{Command, out-Command}
+use Rattle.ed_syntax.specs.declared.verbs.Alteration.{Alteration}
+use Rattle.ed_syntax.specs.declared.verbs.Alteration.TheVariants as alteration
 use Rattle.ed_syntax.specs.declared.verbs.DefaultAddresses.{DefaultAddresses}
 use Rattle.ed_syntax.specs.declared.verbs.DefaultAddresses.TheVariants as default
 use Rattle.ed_syntax.specs.declared.verbs.Takes.{Takes}
@@ -120,6 +122,19 @@ default_value default.Last = ed.One (ed.at_base ed.Last)
 default_value default.CurrentTwice = ed.Comma here here
 default_value default.CurrentAndNext = ed.Comma here next
 
+-- what a command does to the lines
+abbrev pub alteration_value : Alteration → verbs.Alteration
+alteration_value alteration.Never = verbs.Never
+alteration_value (alteration.Enters text) = verbs.Enters text.now
+alteration_value (alteration.Replaces text) = verbs.Replaces text.now
+alteration_value alteration.Deletes = verbs.Deletes
+alteration_value alteration.Joins = verbs.Joins
+alteration_value alteration.Carries = verbs.Carries
+alteration_value alteration.Rewrites = verbs.Rewrites
+alteration_value alteration.Reads = verbs.Reads
+alteration_value alteration.Loads = verbs.Loads
+alteration_value alteration.BringsBack = verbs.BringsBack
+
 -- what a command takes
 abbrev pub takes_value : Takes → verbs.Takes
 takes_value t = record {
@@ -127,10 +142,14 @@ takes_value t = record {
   taking = t.taking;
   text = t.text;
   target = option_map (λ target. address_value target.now) t.target;
+  pattern = option_map (λ pattern. pattern.now) t.pattern;
+  path = option_map (λ path. path.now) t.path;
   suffix = t.suffix;
   listed = t.listed;
   asks = t.asks;
   alters = t.alters;
+  lines = alteration_value t.lines;
+  exact = t.exact;
   ends = t.ends;
   global = t.global;
 }

@@ -40,4 +40,4 @@ pub use replacement::{MatchNumber, Part, Replacement, Which};
 pub use request::{Answer, Request};
 pub use script::Script;
 pub use spelling::scripts_are_read_as_spelled;
-pub use verbs::{DefaultAddresses, Ends, Takes, Taking};
+pub use verbs::{Alteration, DefaultAddresses, Ends, Takes, Taking};

@@ -1,10 +1,11 @@
 //! What each command takes: the table that the reader, the editor and the rules of the verifier ask.
-ghost use Rattle.std.specs.Prelude.{◌≡◌, true, false, None};
+ghost use Rattle.std.specs.Prelude.{◌≡◌};
 ghost use Rattle.ed_syntax.specs.Commands.{Last, at_base};
 ghost use Rattle.ed_syntax.specs.PublicTypes.{address_value, addresses_value, verb_value, default_value, takes_value};
 ghost use Rattle.ed_syntax.specs.meaning.Verbs.{here, next, row, takes};
 
-use crate::{Address, Addresses, Base, Verb};
+use crate::{Address, Addresses, Base, Pattern, Verb};
+use ed_base::{Bytes, Text};
 
 /// How many addresses a command takes, and what line 0 means to it (XCU ed, "Addresses in ed").
 #[derive(Clone, Copy, Debug, PartialEq, Eq)]
@@ -50,6 +51,31 @@ pub enum Ends {
     Anyway,
 }
 
+/// What a command does to the lines of the buffer, its list aside.
+#[derive(Clone, Copy, Debug)]
+pub enum Alteration<'a> {
+    /// Nothing: each line stays.
+    Never,
+    /// These lines are put in, and each other stays.
+    Enters(&'a Text),
+    /// These lines come in place of some.
+    Replaces(&'a Text),
+    /// Some lines are taken away.
+    Deletes,
+    /// Several lines become one.
+    Joins,
+    /// Some lines are moved, or copied: each line stays somewhere.
+    Carries,
+    /// Some lines are written anew.
+    Rewrites,
+    /// The lines of a file are put in, if it has any, and each other stays.
+    Reads,
+    /// The lines of a file come in place of all.
+    Loads,
+    /// The lines of before the last change come back.
+    BringsBack,
+}
+
 /// What a command takes, and what else is asked of it.
 #[derive(Clone, Copy, Debug)]
 pub struct Takes<'a> {
@@ -59,6 +85,10 @@ pub struct Takes<'a> {
     pub text: bool,
     /// The address after which lines are moved or copied.
     pub target: Option<&'a Address>,
+    /// The pattern that it is given.
+    pub pattern: Option<&'a Pattern>,
+    /// The path that it is given.
+    pub path: Option<&'a Bytes>,
     /// A suffix may follow.
     pub suffix: bool,
     /// It may stand in the list of a global command.
@@ -67,6 +97,10 @@ pub struct Takes<'a> {
     pub asks: bool,
     /// It may change the buffer; a global command may by its list.
     pub alters: bool,
+    /// What it does to the lines.
+    pub lines: Alteration<'a>,
+    /// It is exact: beside what its addresses ask, it looks at nothing of the buffer but how many lines there are.
+    pub exact: bool,
     /// How it ends the run, if it does.
     pub ends: Option<Ends>,
     /// It has a list of commands.
@@ -119,19 +153,24 @@ impl DefaultAddresses {
     }
 }
 
-/// What a command takes that changes nothing: no text and no target; a suffix may follow, and it may stand in a list.
+/// What a command takes that changes nothing: it is given no text, target, pattern or path, asks for no file, and is exact; a suffix may
+/// follow, it may stand in a list, and the run goes on.
 fn row<'a>(default: DefaultAddresses, taking: Taking) -> Takes<'a>
-    ensures value { takes_value result ≡ row (default_value default) taking false None true true false false None false }
+    ensures value { takes_value result ≡ row (default_value default) taking }
 {
     Takes {
         default,
         taking,
         text: false,
         target: None,
+        pattern: None,
+        path: None,
         suffix: true,
         listed: true,
         asks: false,
         alters: false,
+        lines: Alteration::Never,
+        exact: true,
         ends: None,
         global: false,
     }
@@ -143,78 +182,102 @@ impl Verb {
         ensures value { takes_value result ≡ takes (verb_value self.now) }
     {
         match self {
-            Verb::Append(_) => Takes {
+            Verb::Append(text) => Takes {
                 text: true,
                 alters: true,
+                lines: Alteration::Enters(text),
                 ..row(DefaultAddresses::Current, Taking::Place)
             },
-            Verb::Change(_) => Takes {
+            Verb::Change(text) => Takes {
                 text: true,
                 alters: true,
+                lines: Alteration::Replaces(text),
                 ..row(DefaultAddresses::CurrentTwice, Taking::Lines)
             },
-            Verb::Insert(_) => Takes {
+            Verb::Insert(text) => Takes {
                 text: true,
                 alters: true,
+                lines: Alteration::Enters(text),
                 ..row(DefaultAddresses::Current, Taking::FirstPlace)
             },
             Verb::Delete => Takes {
                 alters: true,
+                lines: Alteration::Deletes,
                 ..row(DefaultAddresses::CurrentTwice, Taking::Range)
             },
             Verb::Join => Takes {
                 alters: true,
+                lines: Alteration::Joins,
                 ..row(DefaultAddresses::CurrentAndNext, Taking::Range)
             },
             Verb::Move(to) | Verb::Copy(to) => Takes {
                 target: Some(to),
                 alters: true,
+                lines: Alteration::Carries,
                 ..row(DefaultAddresses::CurrentTwice, Taking::Range)
             },
-            Verb::Substitute { .. } => Takes {
+            Verb::Substitute { pattern, .. } => Takes {
+                pattern: pattern.as_ref(),
                 suffix: false,
+                exact: false,
                 alters: true,
+                lines: Alteration::Rewrites,
                 ..row(DefaultAddresses::CurrentTwice, Taking::Range)
             },
-            Verb::Mark(_) => row(DefaultAddresses::Current, Taking::OneLine),
+            Verb::Mark(_) => Takes {
+                exact: false,
+                ..row(DefaultAddresses::Current, Taking::OneLine)
+            },
             Verb::LineNumber => row(DefaultAddresses::Last, Taking::Place),
             Verb::Null => Takes {
                 suffix: false,
                 ..row(DefaultAddresses::Next, Taking::OneLine)
             },
             Verb::Write(_) => row(DefaultAddresses::CurrentTwice, Taking::Range),
-            Verb::ReadFile(_) => Takes {
+            Verb::ReadFile(path) => Takes {
+                path: path.as_ref(),
                 suffix: false,
                 asks: true,
+                exact: false,
                 alters: true,
+                lines: Alteration::Reads,
                 ..row(DefaultAddresses::Last, Taking::Place)
             },
-            Verb::WriteFile(_) => Takes {
+            Verb::WriteFile(path) => Takes {
+                path: path.as_ref(),
                 suffix: false,
                 asks: true,
                 ..row(DefaultAddresses::Without, Taking::Whole)
             },
-            Verb::Edit(_) | Verb::EditAnyway(_) => Takes {
+            Verb::Edit(path) | Verb::EditAnyway(path) => Takes {
+                path: path.as_ref(),
                 suffix: false,
                 listed: false,
                 asks: true,
+                exact: false,
                 alters: true,
+                lines: Alteration::Loads,
                 ..row(DefaultAddresses::Without, Taking::NoAddress)
             },
-            Verb::FileName(_) => Takes {
+            Verb::FileName(path) => Takes {
+                path: path.as_ref(),
                 suffix: false,
                 ..row(DefaultAddresses::Without, Taking::NoAddress)
             },
-            Verb::Global { .. } => Takes {
+            Verb::Global { pattern, .. } => Takes {
+                pattern: pattern.as_ref(),
                 suffix: false,
                 listed: false,
                 alters: true,
+                exact: false,
                 global: true,
                 ..row(DefaultAddresses::Without, Taking::Whole)
             },
             Verb::Undo => Takes {
                 listed: false,
+                exact: false,
                 alters: true,
+                lines: Alteration::BringsBack,
                 ..row(DefaultAddresses::Without, Taking::NoAddress)
             },
             Verb::Help | Verb::HelpMode | Verb::PromptMode => {

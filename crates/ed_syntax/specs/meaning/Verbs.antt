@@ -1,5 +1,5 @@
 -- What each command takes, and what else is asked of it: one table of all commands (XCU ed, "Commands in ed").
-use Rattle.std.specs.Prelude.{pos, Bool, true, false, not, ◌&&◌, ◌||◌, nat_lt, Option, Some, None, is_some}
+use Rattle.std.specs.Prelude.{ℕ, pos, List, Bool, true, false, not, ◌&&◌, ◌||◌, nat_lt, Option, Some, None, is_some}
 use Rattle.std.specs.List.{list_all, list_any}
 use Rattle.ed_syntax.specs.Commands as ed
 use Rattle.ed_syntax.specs.Commands.{Address, Addresses, Without, One, Comma, Semicolon, Verb, Command, Step, at_base}
@@ -18,108 +18,111 @@ here = at_base ed.Current
 abbrev pub next : Address
 next = record { base = ed.Current; offset = pos 1 }
 
+-- What a command does to the lines of the buffer, its list aside: nothing; it puts these lines in, and the others stay; it puts them in
+-- place of some lines; it takes some away; it makes one line of several; it moves or copies some; it writes some anew; it puts in the
+-- lines that a file has; it puts these in place of all lines; it brings back those of before the last change.
+pub data Alteration : Type 0 where
+  Never : Alteration
+  Enters : (text : List (List ℕ)) → Alteration
+  Replaces : (text : List (List ℕ)) → Alteration
+  Deletes : Alteration
+  Joins : Alteration
+  Carries : Alteration
+  Rewrites : Alteration
+  Reads : Alteration
+  Loads : Alteration
+  BringsBack : Alteration
+
 -- What a command takes, and what else is asked of it: the addresses that it has where none are given; how many it takes, and what line 0
--- means to it; whether the lines of a text follow it; the address that is its target; whether a suffix may follow; whether it may stand in
--- the list of a global command (that `e`, `E`, `q`, `Q` and `u` may not is our choice); whether it asks for a file; whether it may change
--- the buffer, `g` and `v` by their list; how it ends the run; whether it has a list. Without addresses `g`, `v` and `w` take all lines.
+-- means to it; whether the lines of a text follow it; the address that is its target; the pattern and the path that it is given; whether a
+-- suffix may follow; whether it may stand in the list of a global command (that `e`, `E`, `q`, `Q` and `u` may not is our choice); whether
+-- it asks for a file; whether it may change the buffer, `g` and `v` by their list; what it does to the lines; whether it is exact: whether
+-- all that it looks at of the buffer, beside what its addresses ask, is how many lines there are; how it ends the run; whether it has a
+-- list. Without addresses `g`, `v` and `w` take all lines.
 pub record Takes : Type 0 where
   pub default : Addresses
   pub taking : Taking
   pub text : Bool
   pub target : Option Address
+  pub pattern : Option (List ℕ)
+  pub path : Option (List ℕ)
   pub suffix : Bool
   pub listed : Bool
   pub asks : Bool
   pub alters : Bool
+  pub lines : Alteration
+  pub exact : Bool
   pub ends : Option Ends
   pub global : Bool
 
--- a row of the table, by its columns
-abbrev pub row : Addresses → Taking → (text : Bool) → Option Address → (suffix listed asks alters : Bool) → Option Ends → (global : Bool) → Takes
-row default taking text target suffix listed asks alters ends global = record {
+-- The row of a command that changes nothing: no text follows it, it has no target, pattern, path or list, asks for no file, and is exact; a
+-- suffix may follow it, it may stand in a list, and the run goes on. The rows of the table say what is otherwise.
+abbrev pub row : Addresses → Taking → Takes
+row default taking = record {
   default = default;
   taking = taking;
-  text = text;
-  target = target;
-  suffix = suffix;
-  listed = listed;
-  asks = asks;
-  alters = alters;
-  ends = ends;
-  global = global;
+  text = false;
+  target = None;
+  pattern = None;
+  path = None;
+  suffix = true;
+  listed = true;
+  asks = false;
+  alters = false;
+  lines = Never;
+  exact = true;
+  ends = None;
+  global = false;
 }
 
--- The words of the columns: the lines of a text follow, or none; no target; a suffix may follow, or none; it may stand in a list, or not; it
--- asks for a file, or for none; it may change the buffer, or keeps it; the run goes on; it has a list, or none.
-abbrev pub text_follows : Bool
-text_follows = true
-
-abbrev pub no_text : Bool
-no_text = false
-
-abbrev pub no_target : Option Address
-no_target = None
-
-abbrev pub suffix_may_follow : Bool
-suffix_may_follow = true
-
-abbrev pub no_suffix : Bool
-no_suffix = false
-
-abbrev pub in_lists : Bool
-in_lists = true
-
-abbrev pub not_in_lists : Bool
-not_in_lists = false
-
-abbrev pub wants_file : Bool
-wants_file = true
-
-abbrev pub no_file : Bool
-no_file = false
-
-abbrev pub alters : Bool
-alters = true
-
-abbrev pub keeps_buffer : Bool
-keeps_buffer = false
-
-abbrev pub goes_on : Option Ends
-goes_on = None
-
-abbrev pub has_list : Bool
-has_list = true
-
-abbrev pub no_list : Bool
-no_list = false
+-- that of `e` and `E`, with this path
+abbrev pub loading : Option (List ℕ) → Takes
+loading path = record (row Without many.NoAddress) {
+  path = path;
+  suffix = false;
+  listed = false;
+  asks = true;
+  alters = true;
+  lines = Loads;
+  exact = false;
+}
 
 -- what each command takes
 abbrev pub takes : Verb → Takes
-takes (ed.Append text) = row (One here) many.Place text_follows no_target suffix_may_follow in_lists no_file alters goes_on no_list
-takes (ed.Change text) = row (Comma here here) many.Lines text_follows no_target suffix_may_follow in_lists no_file alters goes_on no_list
-takes ed.Delete = row (Comma here here) many.Range no_text no_target suffix_may_follow in_lists no_file alters goes_on no_list
-takes (ed.Insert text) = row (One here) many.FirstPlace text_follows no_target suffix_may_follow in_lists no_file alters goes_on no_list
-takes ed.Join = row (Comma here next) many.Range no_text no_target suffix_may_follow in_lists no_file alters goes_on no_list
-takes (ed.Mark letter) = row (One here) many.OneLine no_text no_target suffix_may_follow in_lists no_file keeps_buffer goes_on no_list
-takes (ed.Move to) = row (Comma here here) many.Range no_text (Some to) suffix_may_follow in_lists no_file alters goes_on no_list
-takes (ed.Copy to) = row (Comma here here) many.Range no_text (Some to) suffix_may_follow in_lists no_file alters goes_on no_list
+takes (ed.Append text) = record (row (One here) many.Place) { text = true; alters = true; lines = Enters text }
+takes (ed.Change text) = record (row (Comma here here) many.Lines) { text = true; alters = true; lines = Replaces text }
+takes ed.Delete = record (row (Comma here here) many.Range) { alters = true; lines = Deletes }
+takes (ed.Insert text) = record (row (One here) many.FirstPlace) { text = true; alters = true; lines = Enters text }
+takes ed.Join = record (row (Comma here next) many.Range) { alters = true; lines = Joins }
+takes (ed.Mark letter) = record (row (One here) many.OneLine) { exact = false }
+takes (ed.Move to) = record (row (Comma here here) many.Range) { target = Some to; alters = true; lines = Carries }
+takes (ed.Copy to) = record (row (Comma here here) many.Range) { target = Some to; alters = true; lines = Carries }
 takes (ed.Substitute pattern replacement choice form) =
-    row (Comma here here) many.Range no_text no_target no_suffix in_lists no_file alters goes_on no_list
-takes ed.LineNumber = row (One (at_base ed.Last)) many.Place no_text no_target suffix_may_follow in_lists no_file keeps_buffer goes_on no_list
-takes ed.Null = row (One next) many.OneLine no_text no_target no_suffix in_lists no_file keeps_buffer goes_on no_list
-takes (ed.Write form) = row (Comma here here) many.Range no_text no_target suffix_may_follow in_lists no_file keeps_buffer goes_on no_list
-takes (ed.ReadFile path) = row (One (at_base ed.Last)) many.Place no_text no_target no_suffix in_lists wants_file alters goes_on no_list
-takes (ed.WriteFile path) = row Without many.Whole no_text no_target no_suffix in_lists wants_file keeps_buffer goes_on no_list
-takes (ed.Edit path) = row Without many.NoAddress no_text no_target no_suffix not_in_lists wants_file alters goes_on no_list
-takes (ed.EditAnyway path) = row Without many.NoAddress no_text no_target no_suffix not_in_lists wants_file alters goes_on no_list
-takes (ed.FileName path) = row Without many.NoAddress no_text no_target no_suffix in_lists no_file keeps_buffer goes_on no_list
-takes (ed.Global sense pattern) = row Without many.Whole no_text no_target no_suffix not_in_lists no_file alters goes_on has_list
-takes ed.Undo = row Without many.NoAddress no_text no_target suffix_may_follow not_in_lists no_file alters goes_on no_list
-takes ed.Help = row Without many.NoAddress no_text no_target suffix_may_follow in_lists no_file keeps_buffer goes_on no_list
-takes ed.HelpMode = row Without many.NoAddress no_text no_target suffix_may_follow in_lists no_file keeps_buffer goes_on no_list
-takes ed.PromptMode = row Without many.NoAddress no_text no_target suffix_may_follow in_lists no_file keeps_buffer goes_on no_list
-takes ed.Quit = row Without many.NoAddress no_text no_target no_suffix not_in_lists no_file keeps_buffer (Some ends.AsScript) no_list
-takes ed.QuitAnyway = row Without many.NoAddress no_text no_target no_suffix not_in_lists no_file keeps_buffer (Some ends.Anyway) no_list
+    record (row (Comma here here) many.Range) { pattern = pattern; suffix = false; alters = true; lines = Rewrites; exact = false }
+takes ed.LineNumber = row (One (at_base ed.Last)) many.Place
+takes ed.Null = record (row (One next) many.OneLine) { suffix = false }
+takes (ed.Write form) = row (Comma here here) many.Range
+takes (ed.ReadFile path) =
+    record (row (One (at_base ed.Last)) many.Place) {
+      path = path;
+      suffix = false;
+      asks = true;
+      alters = true;
+      lines = Reads;
+      exact = false;
+    }
+takes (ed.WriteFile path) = record (row Without many.Whole) { path = path; suffix = false; asks = true }
+takes (ed.Edit path) = loading path
+takes (ed.EditAnyway path) = loading path
+takes (ed.FileName path) = record (row Without many.NoAddress) { path = path; suffix = false }
+takes (ed.Global sense pattern) =
+    record (row Without many.Whole) { pattern = pattern; suffix = false; listed = false; alters = true; exact = false; global = true }
+takes ed.Undo = record (row Without many.NoAddress) { listed = false; alters = true; lines = BringsBack; exact = false }
+takes ed.Help = row Without many.NoAddress
+takes ed.HelpMode = row Without many.NoAddress
+takes ed.PromptMode = row Without many.NoAddress
+takes ed.Quit = record (row Without many.NoAddress) { suffix = false; listed = false; ends = Some ends.AsScript }
+takes ed.QuitAnyway = record (row Without many.NoAddress) { suffix = false; listed = false; ends = Some ends.Anyway }
 
 -- the given addresses, or the command's own where there are none
 abbrev pub given_or : Addresses → Addresses → Addresses
