@@ -1,8 +1,9 @@
 -- Exact scripts: all that they look at in the buffer is its number of lines, so the rules can know whatever they need.
-use Rattle.std.specs.Prelude.{Bool, true, false, ◌&&◌, List, Some, None}
+use Rattle.std.specs.Prelude.{Bool, true, false, ◌&&◌, List, Option, Some, None}
 use Rattle.std.specs.List.{list_all}
 use Rattle.ed_syntax.specs.Commands as ed
-use Rattle.ed_syntax.specs.Commands.{Base, Addresses, Without, One, Comma, Semicolon, Verb, Command, Step}
+use Rattle.ed_syntax.specs.Commands.{Base, Address, Addresses, Without, One, Comma, Semicolon, Verb, Command, Step}
+use Rattle.ed_syntax.specs.meaning.Verbs.{takes}
 use Rattle.ed_syntax.specs.spelling.Readable.{is_readable}
 
 -- an address by number begins with a line number, the current line or the last line: with neither a mark nor a search
@@ -20,18 +21,13 @@ are_by_number (Comma a b) = is_by_number a.base && is_by_number b.base
 are_by_number (Semicolon a None) = is_by_number a.base
 are_by_number (Semicolon a (Some b)) = is_by_number a.base && is_by_number b.base
 
--- the verb is none of `k`, `s`, `r`, `e`, `E`, `g`, `v` and `u`, and the target of `m` and `t` is by number
+abbrev pub is_target_by_number : Option Address → Bool
+is_target_by_number None = true
+is_target_by_number (Some a) = is_by_number a.base
+
+-- the verb is exact by its row, which those of `k`, `s`, `r`, `e`, `E`, `g`, `v` and `u` aren't, and the target of `m` and `t` is by number
 abbrev pub is_exact_verb : Verb → Bool
-is_exact_verb (ed.Mark letter) = false
-is_exact_verb (ed.Substitute pattern replacement which form) = false
-is_exact_verb (ed.ReadFile path) = false
-is_exact_verb (ed.Edit path) = false
-is_exact_verb (ed.EditAnyway path) = false
-is_exact_verb (ed.Global sense pattern) = false
-is_exact_verb ed.Undo = false
-is_exact_verb (ed.Move to) = is_by_number to.base
-is_exact_verb (ed.Copy to) = is_by_number to.base
-is_exact_verb _ = true
+is_exact_verb verb = (takes verb).exact && is_target_by_number (takes verb).target
 
 -- an exact command has such addresses and such a verb, and is one that can be read
 abbrev pub is_exact : Command → Bool

@@ -6,7 +6,8 @@ use Rattle.zones.specs.Name.{last_line}
 use Rattle.zones.specs.Zone.{Bounds, bound}
 use Rattle.zones.specs.Limits.{IsZone, IsAtMostZero, HasLowDiagonal}
 use Rattle.ed_syntax.specs.Commands as ed
-use Rattle.ed_syntax.specs.Commands.{Base, Addresses, Without, One, Comma, Semicolon, Verb, Command}
+use Rattle.ed_syntax.specs.Commands.{Base, Address, Addresses, Without, One, Comma, Semicolon, Verb, Command}
+use Rattle.ed_syntax.specs.meaning.Verbs.{takes}
 use Rattle.ed_rules.specs.declared.state.Old.{Old}
 use Rattle.ed_rules.specs.declared.state.State.{State}
 use Rattle.ed_rules.specs.Choices.{Choice}
@@ -111,18 +112,13 @@ AddressesAreBytes (Comma a b) = BaseIsBytes a.base × BaseIsBytes b.base
 AddressesAreBytes (Semicolon a None) = BaseIsBytes a.base
 AddressesAreBytes (Semicolon a (Some b)) = BaseIsBytes a.base × BaseIsBytes b.base
 
+abbrev pub TargetIsBytes : Option Address → Type 0
+TargetIsBytes None = Unit {0}
+TargetIsBytes (Some a) = BaseIsBytes a.base
+
 -- the patterns and paths of a command's parameters are bytes
 abbrev pub VerbIsBytes : Verb → Type 0
-VerbIsBytes (ed.Move target) = BaseIsBytes target.base
-VerbIsBytes (ed.Copy target) = BaseIsBytes target.base
-VerbIsBytes (ed.Substitute pattern replacement which form) = ChoiceIsBytes pattern
-VerbIsBytes (ed.ReadFile path) = ChoiceIsBytes path
-VerbIsBytes (ed.WriteFile path) = ChoiceIsBytes path
-VerbIsBytes (ed.Edit path) = ChoiceIsBytes path
-VerbIsBytes (ed.EditAnyway path) = ChoiceIsBytes path
-VerbIsBytes (ed.FileName path) = ChoiceIsBytes path
-VerbIsBytes (ed.Global sense pattern) = ChoiceIsBytes pattern
-VerbIsBytes _ = Unit {0}
+VerbIsBytes verb = TargetIsBytes (takes verb).target × ChoiceIsBytes (takes verb).pattern × ChoiceIsBytes (takes verb).path
 
 -- the patterns and paths that a command may make an editor remember are bytes
 abbrev pub TextsAreBytes : Command → Type 0

@@ -4,48 +4,46 @@ use Rattle.std.specs.Prelude.{ℕ, Bool, true, false, List, [], ◌∷◌, Some,
 use Rattle.zones.specs.Name.{first_address, second_address}
 use Rattle.zones.specs.Zone.{Bounds}
 use Rattle.zones.specs.Known.{known}
-use Rattle.ed_syntax.specs.Commands as ed
-use Rattle.ed_syntax.specs.Commands.{Addresses, Without, One, Comma, Semicolon, Verb}
-use Rattle.ed_rules.specs.declared.matching.Alteration.{Alteration}
-use Rattle.ed_rules.specs.declared.matching.Alteration.TheVariants.{Never, Maybe, Surely}
+use Rattle.ed_syntax.specs.Commands.{Addresses, Without, One, Comma, Semicolon}
+use Rattle.ed_syntax.specs.meaning.Verbs.{Alteration, Enters, Replaces, Deletes, Joins, Carries, Rewrites, Reads, Loads, BringsBack}
+use Rattle.ed_rules.specs.declared.matching.Certainty.{Certainty}
+use Rattle.ed_rules.specs.declared.matching.Certainty.TheVariants.{Never, Maybe, Surely}
 use Rattle.ed_rules.specs.declared.state.State.{State}
 use Rattle.ed_rules.specs.Texts.{both_texts, with_texts}
 use Rattle.ed_rules.specs.Matched.{gained}
 use Rattle.ed_rules.specs.Order.{old_has_of_both}
 
-abbrev pub entering : (text : List (List ℕ)) → Alteration
+abbrev pub entering : (text : List (List ℕ)) → Certainty
 entering [] = Never
 entering (line ∷ text) = Surely
 
 -- `j` of two addresses
-abbrev pub joining : Bounds → Alteration
+abbrev pub joining : Bounds → Certainty
 joining zone =
     if known zone second_address first_address (pos 0) then Never
     else if known zone first_address second_address (negsuc 0) then Surely
     else Maybe
 
 -- with one address nothing is joined
-abbrev pub joining_given : (given : Addresses) → Bounds → Alteration
+abbrev pub joining_given : (given : Addresses) → Bounds → Certainty
 joining_given Without zone = joining zone
 joining_given (One a) zone = Never
 joining_given (Comma a b) zone = joining zone
 joining_given (Semicolon a b) zone = joining zone
 
 -- Outside lists: there `s` is vouched for only where it surely matches. Of `u`, `e` and `E` nothing is said.
-abbrev pub altering : (given : Addresses) → Verb → Bounds → Alteration
-altering given (ed.Append text) zone = entering text
-altering given (ed.Insert text) zone = entering text
-altering given (ed.Change text) zone = Surely
-altering given ed.Delete zone = Surely
-altering given ed.Join zone = joining_given given zone
-altering given (ed.Move to) zone = Surely
-altering given (ed.Copy to) zone = Surely
-altering given (ed.Substitute pattern replacement which form) zone = Surely
-altering given (ed.ReadFile path) zone = Maybe
-altering given _ zone = Never
+abbrev pub how_surely : (given : Addresses) → Alteration → Bounds → Certainty
+how_surely given (Enters text) zone = entering text
+how_surely given (Replaces text) zone = Surely
+how_surely given Deletes zone = Surely
+how_surely given Joins zone = joining_given given zone
+how_surely given Carries zone = Surely
+how_surely given Rewrites zone = Surely
+how_surely given Reads zone = Maybe
+how_surely given _ zone = Never
 
 -- patterns stay known where the lines that match them surely do
-abbrev pub kept_unless : Alteration → List (List ℕ) → List (List ℕ)
+abbrev pub kept_unless : Certainty → List (List ℕ) → List (List ℕ)
 kept_unless Never has = has
 kept_unless _ has = []
 
@@ -55,40 +53,45 @@ matched_by_undo same false has old_has = has
 matched_by_undo true true has old_has = both_texts has old_has
 matched_by_undo false true has old_has = old_has
 
--- what some line matches after a command, by the state `s` with its lines taken
-abbrev pub matched_after : (watched : List (List ℕ)) → (given : Addresses) → Verb → (s : State) → List (List ℕ)
-matched_after watched given (ed.Append text) s = with_texts (gained watched text) s.has
-matched_after watched given (ed.Insert text) s = with_texts (gained watched text) s.has
-matched_after watched given (ed.Change text) s = gained watched text
-matched_after watched given ed.Delete s = []
-matched_after watched given ed.Join s = kept_unless (joining_given given s.zone) s.has
-matched_after watched given (ed.Substitute pattern replacement which form) s = []
-matched_after watched given (ed.Edit path) s = []
-matched_after watched given (ed.EditAnyway path) s = []
-matched_after watched given ed.Undo s = matched_by_undo s.undo.same (is_some s.undo.was) s.has s.old_has
+-- what some line matches after a command that does this to the lines, by the state `s` with its lines taken
+abbrev pub matched_after : (watched : List (List ℕ)) → (given : Addresses) → Alteration → (s : State) → List (List ℕ)
+matched_after watched given (Enters text) s = with_texts (gained watched text) s.has
+matched_after watched given (Replaces text) s = gained watched text
+matched_after watched given Deletes s = []
+matched_after watched given Joins s = kept_unless (joining_given given s.zone) s.has
+matched_after watched given Rewrites s = []
+matched_after watched given Loads s = []
+matched_after watched given BringsBack s = matched_by_undo s.undo.same (is_some s.undo.was) s.has s.old_has
 matched_after watched given _ s = s.has
 
 -- what a line of those that undo would bring back matches, where the command began in the state `start`
-abbrev pub old_matched_by : Alteration → (start s : State) → List (List ℕ)
+abbrev pub old_matched_by : Certainty → (start s : State) → List (List ℕ)
 old_matched_by Never start s = s.old_has
 old_matched_by Maybe start s = old_has_of_both s.undo.was (Some start.zone) s.old_has start.has
 old_matched_by Surely start s = start.has
 
 -- in a list undo stays as it is
-abbrev pub old_matched_unless : (listed : Bool) → Alteration → (start s : State) → List (List ℕ)
-old_matched_unless true altering start s = s.old_has
-old_matched_unless false altering start s = old_matched_by altering start s
+abbrev pub old_matched_unless : (listed : Bool) → Certainty → (start s : State) → List (List ℕ)
+old_matched_unless true altered start s = s.old_has
+old_matched_unless false altered start s = old_matched_by altered start s
 
-abbrev pub old_matched_after : (listed : Bool) → (given : Addresses) → Verb → (start s : State) → List (List ℕ)
-old_matched_after listed given (ed.Edit path) start s = []
-old_matched_after listed given (ed.EditAnyway path) start s = []
-old_matched_after listed given ed.Undo start s = matched_by_undo s.undo.same (is_some s.undo.was) s.old_has s.has
-old_matched_after listed given verb start s = old_matched_unless listed (altering given verb s.zone) start s
+abbrev pub old_matched_after : (listed : Bool) → (given : Addresses) → Alteration → (start s : State) → List (List ℕ)
+old_matched_after listed given Loads start s = []
+old_matched_after listed given BringsBack start s = matched_by_undo s.undo.same (is_some s.undo.was) s.old_has s.has
+old_matched_after listed given lines start s = old_matched_unless listed (how_surely given lines s.zone) start s
 
--- The state after a command with what is known of matches; it began in the state `start`, `s` has its lines taken, and `after` is what it
--- makes of all the rest.
-abbrev pub with_matches : (watched : List (List ℕ)) → (listed : Bool) → (given : Addresses) → Verb → (start s after : State) → State
-with_matches watched listed given verb start s after = record after {
-  has = matched_after watched given verb s;
-  old_has = old_matched_after listed given verb start s;
+-- what a state says of matches: of the lines that are there, and of those that undo would bring back
+pub record Matches : Type 0 where
+  pub has : List (List ℕ)
+  pub old_has : List (List ℕ)
+
+-- a state that says this of matches, and of all else the same
+abbrev pub saying : Matches → State → State
+saying m s = record s { has = m.has; old_has = m.old_has }
+
+-- what is known of matches after a command that does this to the lines and began in the state `start`, by the state `s` with its lines taken
+abbrev pub matches_after : (watched : List (List ℕ)) → (listed : Bool) → (given : Addresses) → Alteration → (start s : State) → Matches
+matches_after watched listed given lines start s = record {
+  has = matched_after watched given lines s;
+  old_has = old_matched_after listed given lines start s;
 }

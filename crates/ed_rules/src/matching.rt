@@ -1,76 +1,76 @@
 //! The rules of what some line matches.
 
 ghost use Rattle.std.specs.Prelude.{◌≡◌, Some, is_some, IfOk};
-ghost use Rattle.ed_syntax.specs.PublicTypes.{addresses_value, verb_value};
-ghost use Rattle.ed_rules.specs.Matching.{entering, joining, joining_given, altering, kept_unless, matched_by_undo, matched_after, old_matched_by, old_matched_unless, old_matched_after};
+ghost use Rattle.ed_syntax.specs.PublicTypes.{addresses_value, alteration_value};
+ghost use Rattle.ed_rules.specs.Matching.{entering, joining, joining_given, how_surely, kept_unless, matched_by_undo, matched_after, old_matched_by, old_matched_unless, old_matched_after};
 ghost use Rattle.ed_rules.specs.Order.{old_has_of_both};
 
 use crate::state::{State, Undo};
 use crate::texts::Texts;
 use crate::watch::Watch;
 use ed_base::Text;
-use ed_syntax::{Addresses, Verb};
+use ed_syntax::{Addresses, Alteration};
 use std::alloc::AllocError;
 use zones::{Name, Zone};
 
 /// Whether a command surely leaves the lines as they are, may change them, or surely does.
 #[derive(Clone, Copy)]
-pub(crate) enum Alteration {
+pub(crate) enum Certainty {
     Never,
     Maybe,
     Surely,
 }
 
-fn entering(text: &Text) -> Alteration
+fn entering(text: &Text) -> Certainty
     ensures value { result ≡ entering text.now }
 {
     if text.is_empty() {
-        Alteration::Never
+        Certainty::Never
     } else {
-        Alteration::Surely
+        Certainty::Surely
     }
 }
 
-fn joining(zone: &Zone) -> Alteration
+fn joining(zone: &Zone) -> Certainty
     ensures value { result ≡ joining zone.now }
 {
     if zone.is_known(Name::SECOND_ADDRESS, Name::FIRST_ADDRESS, 0) {
-        Alteration::Never
+        Certainty::Never
     } else if zone.is_known(Name::FIRST_ADDRESS, Name::SECOND_ADDRESS, -1) {
-        Alteration::Surely
+        Certainty::Surely
     } else {
-        Alteration::Maybe
+        Certainty::Maybe
     }
 }
 
-fn joining_given(given: &Addresses, zone: &Zone) -> Alteration
+fn joining_given(given: &Addresses, zone: &Zone) -> Certainty
     ensures value { result ≡ joining_given (addresses_value given.now) zone.now }
 {
     match given {
-        Addresses::One(_) => Alteration::Never,
+        Addresses::One(_) => Certainty::Never,
         _ => joining(zone),
     }
 }
 
 /// Outside lists, and not of `u`, `e` and `E`.
-fn altering(given: &Addresses, verb: &Verb, zone: &Zone) -> Alteration
-    ensures value { result ≡ altering (addresses_value given.now) (verb_value verb.now) zone.now }
+fn how_surely(given: &Addresses, lines: Alteration<'_>, zone: &Zone) -> Certainty
+    ensures value { result ≡ how_surely (addresses_value given.now) (alteration_value lines.entry) zone.now }
 {
-    match verb {
-        Verb::Append(text) | Verb::Insert(text) => entering(text),
-        Verb::Change(_) | Verb::Delete | Verb::Move(_) | Verb::Copy(_) => Alteration::Surely,
-        Verb::Join => joining_given(given, zone),
-        Verb::Substitute { .. } => Alteration::Surely,
-        Verb::ReadFile(_) => Alteration::Maybe,
-        _ => Alteration::Never,
+    match lines {
+        Alteration::Enters(text) => entering(text),
+        Alteration::Joins => joining_given(given, zone),
+        Alteration::Reads => Certainty::Maybe,
+        Alteration::Replaces(_) | Alteration::Deletes => Certainty::Surely,
+        Alteration::Carries | Alteration::Rewrites => Certainty::Surely,
+        Alteration::Never | Alteration::Loads | Alteration::BringsBack => Certainty::Never,
     }
 }
 
-fn kept_unless(altering: Alteration, has: &Texts) -> Result<Texts, AllocError>
-    ensures value { IfOk result (λ kept. kept ≡ kept_unless altering has.now) }
+fn kept_unless(altered: Certainty, has: &Texts) -> Result<Texts, AllocError>
+    ensures value { IfOk result (λ kept. kept ≡ kept_unless altered has.now) }
 {
-    match altering {
-        Alteration::Never => has.try_copy(),
+    match altered {
+        Certainty::Never => has.try_copy(),
         _ => Ok(Texts::none(has.allocator())),
     }
 }
@@ -89,36 +89,35 @@ fn matched_by_undo(undo: &Undo, has: &Texts, old_has: &Texts) -> Result<Texts, A
 }
 
 impl State {
-    /// What some line matches after a command whose lines are taken.
+    /// What some line matches after a command whose lines are taken, and which does this to the lines of the buffer.
     pub(crate) fn matched_after(
         &self,
         watch: &Watch,
         given: &Addresses,
-        verb: &Verb,
+        lines: Alteration<'_>,
     ) -> Result<Texts, AllocError>
         ensures value { IfOk result (λ known. known ≡
-            matched_after watch.now (addresses_value given.now) (verb_value verb.now) self.now) }
+            matched_after watch.now (addresses_value given.now) (alteration_value lines.entry) self.now) }
     {
-        match verb {
-            Verb::Append(text) => self.has.with_all(&watch.gained(text)?),
-            Verb::Insert(text) => self.has.with_all(&watch.gained(text)?),
-            Verb::Change(text) => watch.gained(text),
-            Verb::Delete | Verb::Substitute { .. } | Verb::Edit(_) | Verb::EditAnyway(_) => {
+        match lines {
+            Alteration::Enters(text) => self.has.with_all(&watch.gained(text)?),
+            Alteration::Replaces(text) => watch.gained(text),
+            Alteration::Deletes | Alteration::Rewrites | Alteration::Loads => {
                 Ok(Texts::none(self.has.allocator()))
             }
-            Verb::Join => kept_unless(joining_given(given, &self.zone), &self.has),
-            Verb::Undo => matched_by_undo(&self.undo, &self.has, &self.old_has),
-            _ => self.has.try_copy(),
+            Alteration::Joins => kept_unless(joining_given(given, &self.zone), &self.has),
+            Alteration::BringsBack => matched_by_undo(&self.undo, &self.has, &self.old_has),
+            Alteration::Never | Alteration::Carries | Alteration::Reads => self.has.try_copy(),
         }
     }
 
-    fn old_matched_by(&self, altering: Alteration, start: &State) -> Result<Texts, AllocError>
-        ensures value { IfOk result (λ known. known ≡ old_matched_by altering start.now self.now) }
+    fn old_matched_by(&self, altered: Certainty, start: &State) -> Result<Texts, AllocError>
+        ensures value { IfOk result (λ known. known ≡ old_matched_by altered start.now self.now) }
     {
-        match altering {
-            Alteration::Never => self.old_has.try_copy(),
-            Alteration::Surely => start.has.try_copy(),
-            Alteration::Maybe => {
+        match altered {
+            Certainty::Never => self.old_has.try_copy(),
+            Certainty::Surely => start.has.try_copy(),
+            Certainty::Maybe => {
                 if self.undo.was.is_some() {
                     self.old_has.both(&start.has)
                 } else {
@@ -133,17 +132,17 @@ impl State {
         &self,
         listed: bool,
         given: &Addresses,
-        verb: &Verb,
+        lines: Alteration<'_>,
         start: &State,
     ) -> Result<Texts, AllocError>
         ensures value { IfOk result (λ known. known ≡
-            old_matched_after listed (addresses_value given.now) (verb_value verb.now) start.now self.now) }
+            old_matched_after listed (addresses_value given.now) (alteration_value lines.entry) start.now self.now) }
     {
-        match verb {
-            Verb::Edit(_) | Verb::EditAnyway(_) => Ok(Texts::none(self.has.allocator())),
-            Verb::Undo => matched_by_undo(&self.undo, &self.old_has, &self.has),
+        match lines {
+            Alteration::Loads => Ok(Texts::none(self.has.allocator())),
+            Alteration::BringsBack => matched_by_undo(&self.undo, &self.old_has, &self.has),
             _ if listed => self.old_has.try_copy(),
-            _ => self.old_matched_by(altering(given, verb, &self.zone), start),
+            _ => self.old_matched_by(how_surely(given, lines, &self.zone), start),
         }
     }
 }

@@ -162,11 +162,11 @@ impl State {
         self.evaluate_all(addresses)?;
         self.evaluate_target(takes.target)?;
         self.take(takes.taking, &command.addresses, addresses)?;
-        let has = self.matched_after(watch, &command.addresses, &command.verb)?;
+        let has = self.matched_after(watch, &command.addresses, takes.lines)?;
         let old_has = self.old_matched_after(
             command.listed,
             &command.addresses,
-            &command.verb,
+            takes.lines,
             before,
         )?;
         self.act(command.listed, &command.addresses, &command.verb, before)?;

@@ -3,11 +3,10 @@ use Rattle.std.proofs.Common.{ℕ, List, [], Option, None, Some}
 use Rattle.std.specs.Prelude.{All, IfSome}
 use Rattle.std.proofs.lemmas.List.Elements.{All-nil, All-cons, All-append}
 use Rattle.ed_syntax.specs.Commands as ed
-use Rattle.ed_syntax.specs.Commands.{Base, Addresses, Without, One, Comma, Semicolon, Verb, Command}
+use Rattle.ed_syntax.specs.Commands.{Base, Address, Addresses, Without, One, Comma, Semicolon, Verb, Command}
 use Rattle.ed_syntax.specs.meaning.Verbs.{takes}
 use Rattle.ed_rules.specs.Matched.{sought_at, sought_by, sought_at_target, sought}
-use Rattle.ed_rules.specs.Formed.{ChoiceIsBytes, BaseIsBytes, AddressesAreBytes, VerbIsBytes, TextsAreBytes}
-use Rattle.ed_rules.proofs.through.Effects.{pattern_of, path_of}
+use Rattle.ed_rules.specs.Formed.{ChoiceIsBytes, BaseIsBytes, AddressesAreBytes, TargetIsBytes, VerbIsBytes, TextsAreBytes}
 
 abbrev pub TextIsBytes : List ℕ → Type 0
 TextIsBytes text = ChoiceIsBytes (Some text)
@@ -27,29 +26,21 @@ addresses-bytes (Semicolon a None) h = base-bytes a.base h
 addresses-bytes (Semicolon a (Some b)) h =
     All-append TextIsBytes (sought_at a.base) (sought_at b.base) (base-bytes a.base h.0) (base-bytes b.base h.1)
 
-sought_target-bytes : (verb : Verb) → VerbIsBytes verb → All TextIsBytes (sought_at_target (takes verb).target)
-sought_target-bytes (ed.Move to) h = base-bytes to.base h
-sought_target-bytes (ed.Copy to) h = base-bytes to.base h
-sought_target-bytes _ h = All-nil TextIsBytes
+sought_target-bytes : (target : Option Address) → TargetIsBytes target → All TextIsBytes (sought_at_target target)
+sought_target-bytes None h = All-nil TextIsBytes
+sought_target-bytes (Some a) h = base-bytes a.base h
 
 pub sought-bytes : (c : Command) → TextsAreBytes c → All TextIsBytes (sought c)
 sought-bytes c h =
     All-append TextIsBytes (sought_by c.addresses) (sought_at_target (takes c.verb).target) (addresses-bytes c.addresses h.0)
-    (sought_target-bytes c.verb h.1)
+    (sought_target-bytes (takes c.verb).target h.1.0)
 
 given-bytes : (text : Option (List ℕ)) → ChoiceIsBytes text → IfSome text TextIsBytes
 given-bytes None h = tt
 given-bytes (Some text) h = h
 
-pub pattern-bytes : (v : Verb) → VerbIsBytes v → IfSome (pattern_of v) TextIsBytes
-pattern-bytes (ed.Substitute pattern replacement choice form) h = given-bytes pattern h
-pattern-bytes (ed.Global sense pattern) h = given-bytes pattern h
-pattern-bytes _ h = tt
+pub pattern-bytes : (v : Verb) → VerbIsBytes v → IfSome (takes v).pattern TextIsBytes
+pattern-bytes v h = given-bytes (takes v).pattern h.1
 
-pub path-bytes : (v : Verb) → VerbIsBytes v → IfSome (path_of v) TextIsBytes
-path-bytes (ed.ReadFile path) h = given-bytes path h
-path-bytes (ed.WriteFile path) h = given-bytes path h
-path-bytes (ed.Edit path) h = given-bytes path h
-path-bytes (ed.EditAnyway path) h = given-bytes path h
-path-bytes (ed.FileName path) h = given-bytes path h
-path-bytes _ h = tt
+pub path-bytes : (v : Verb) → VerbIsBytes v → IfSome (takes v).path TextIsBytes
+path-bytes v h = given-bytes (takes v).path h.2

@@ -2,6 +2,7 @@
 use Rattle.std.proofs.Common.{ℕ, pos, neg_ℤ, Bool, true, false, List, Option, None, refl}
 use Rattle.std.specs.Prelude.{IfOk}
 use Rattle.ed_syntax.specs.Commands.{Verb, Command, Step}
+use Rattle.ed_syntax.specs.meaning.Verbs.{takes}
 use Rattle.ed_rules.specs.declared.state.Undo.{Undo}
 use Rattle.ed_rules.specs.declared.state.State.{State}
 use Rattle.ed_rules.specs.Choices.{Choice}
@@ -12,7 +13,7 @@ use Rattle.ed_rules.specs.Order.{join, widen}
 use Rattle.ed_rules.specs.Pieces.{with_zone}
 use Rattle.ed_rules.specs.Rules.{effect, step}
 use Rattle.ed_rules.specs.Globals.{taken_matches, old_has_if, finished, line_taken, body_entry, list_may_alter, old_if, undo_of_global, loop_end}
-use Rattle.ed_rules.specs.Matching.{matched_after, old_matched_after}
+use Rattle.ed_rules.specs.Matching.{Matches, saying, matches_after}
 use Rattle.ed_rules.proofs.formed.SpeakingPieces.{Speaks-start, Inner-line_taken}
 use Rattle.ed_rules.proofs.formed.RisingChoices.{SetIsFormed-only}
 use Rattle.ed_rules.proofs.formed.CountedLines.{start-counted}
@@ -39,8 +40,8 @@ start-formed path min max has b =
 
 -- what is known of matches is said beside
 
-matching-ended : (s : State) (has old_has : List (List ℕ)) → AtEnd s → AtEnd (record s { has = has; old_has = old_has })
-matching-ended s has old_has h = (record { letters = h.0.letters; zone = h.0.zone; aside = h.0.aside }, h.1)
+matching-ended : (s : State) (m : Matches) → AtEnd s → AtEnd (saying m s)
+matching-ended s m h = (record { letters = h.0.letters; zone = h.0.zone; aside = h.0.aside }, h.1)
 
 matching-forming : (s : State) (has old_has : List (List ℕ)) → Forming s → Forming (record s { has = has; old_has = old_has })
 matching-forming s has old_has h = record { letters = h.letters; zone = h.zone; aside = h.aside }
@@ -83,7 +84,7 @@ command-formed watched c s b h =
     IfOk-weaker (step watched c s) AtEnd IsEnded AtEnd-ended
     (rule-through Forming TextIsBytes forming-at AtEnd watched c s (sought-bytes c b) (Closed-forming s closed)
     (λ u k. IfOk-weaker (effect c.listed c.addresses c.verb s u) Forming _
-    (λ r q. matching-ended (finished r) (matched_after watched c.addresses c.verb u) (old_matched_after c.listed c.addresses c.verb s u)
+    (λ r q. matching-ended (finished r) (matches_after watched c.listed c.addresses (takes c.verb).lines s u)
     (finished-AtEnd r q))
     (effect-through Forming TextIsBytes TextIsBytes (Unit {0}) s (forming-kept s closed) c.listed c.addresses c.verb u
     (pattern-bytes c.verb b.1) (path-bytes c.verb b.1) (λ _. tt) k)))

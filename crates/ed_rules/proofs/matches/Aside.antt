@@ -10,7 +10,7 @@ use Rattle.ed_syntax.specs.spelling.Readable.{enters_lines}
 use Rattle.ed_rules.specs.declared.state.State.{State}
 use Rattle.ed_rules.specs.Pieces.{needing, with_zone, ended}
 use Rattle.ed_rules.specs.Addresses.{addressed, standing, targeted}
-use Rattle.ed_rules.specs.Matching.{matched_after, old_matched_after}
+use Rattle.ed_rules.specs.Matching.{Matches, saying, matches_after}
 use Rattle.ed_rules.specs.Rules.{taken, effect, suffixed, step_at, step, fault_of}
 
 -- the phases of a command, what is known of matches left aside
@@ -24,7 +24,7 @@ step_aside a c s =
 
 -- the same fault, or the same state but for what is known of matches
 abbrev pub Beside : Result State Fault → Result State Fault → Type 0
-Beside (Ok t) (Ok u) = (has : List (List ℕ)) × (old_has : List (List ℕ)) × (u ≡ record t { has = has; old_has = old_has })
+Beside (Ok t) (Ok u) = (m : Matches) × (u ≡ saying m t)
 Beside (Err f) (Err g) = f ≡ g
 Beside (Ok t) (Err g) = ⊥
 Beside (Err f) (Ok u) = ⊥
@@ -33,12 +33,11 @@ beside-bind : {A : Type 0} (x : Result A Fault) (f g : A → Result State Fault)
 beside-bind (Ok a) f g h = h a
 beside-bind (Err e) f g h = refl
 
-suffixed-beside : (suffix : Option Form) (t : State) (has old_has : List (List ℕ)) →
-    Beside (suffixed suffix t) (suffixed suffix (record t { has = has; old_has = old_has }))
-suffixed-beside None t has old_has = (has, old_has, refl)
-suffixed-beside (Some form) t has old_has =
-    elim (known t.zone 0 1 (negsuc 0)) as (λ b. Beside (needing b fault.Address t) (needing b fault.Address (record t { has = has; old_has = old_has }))) [
-      | true ↦ (has, old_has, refl)
+suffixed-beside : (suffix : Option Form) (t : State) (m : Matches) → Beside (suffixed suffix t) (suffixed suffix (saying m t))
+suffixed-beside None t m = (m, refl)
+suffixed-beside (Some form) t m =
+    elim (known t.zone 0 1 (negsuc 0)) as (λ b. Beside (needing b fault.Address t) (needing b fault.Address (saying m t))) [
+      | true ↦ (m, refl)
       | false ↦ refl
     ]
 
@@ -48,8 +47,8 @@ step_at-beside watched a c s =
     (λ t. beside-bind (targeted (takes c.verb).target t) _ _
     (λ p. beside-bind (taken (takes c.verb).taking c.addresses a p) _ _
     (λ u. beside-bind (effect c.listed c.addresses c.verb s u) _ _
-    (λ r. suffixed-beside c.suffix (with_zone (ended r.marks r.zone) r) (matched_after watched c.addresses c.verb u)
-    (old_matched_after c.listed c.addresses c.verb s u)))))
+    (λ r. suffixed-beside c.suffix (with_zone (ended r.marks r.zone) r)
+    (matches_after watched c.listed c.addresses (takes c.verb).lines s u)))))
 
 -- so what is watched makes no difference to the needs
 

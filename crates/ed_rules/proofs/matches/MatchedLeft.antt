@@ -16,6 +16,8 @@ use Rattle.ed_syntax.specs.declared.request.Answer.TheVariants as file_answer
 use Rattle.ed_syntax.specs.declared.command.Sense.{Sense}
 use Rattle.ed_syntax.specs.Commands as ed
 use Rattle.ed_syntax.specs.Commands.{Addresses, Without, One, Comma, Semicolon, Form, Verb, Command}
+use Rattle.ed_syntax.specs.meaning.Verbs as verbs
+use Rattle.ed_syntax.specs.meaning.Verbs.{takes}
 use Rattle.ed_syntax.specs.meaning.States as editor
 use Rattle.ed_syntax.specs.meaning.States.{Past, Nothing, Same, Was, Kept, kept, unflagged}
 use Rattle.ed_syntax.specs.meaning.Values.{◌>>◌, matches, used_pattern}
@@ -34,8 +36,8 @@ use Rattle.ed_rules.specs.Texts.{with_texts}
 use Rattle.ed_rules.specs.Matched.{is_matched, AreMatched, gained}
 use Rattle.ed_rules.specs.Order.{old_has_of_both}
 use Rattle.ed_rules.specs.StandsFor.{AllowsKept, AllowsPast, KeepsMatched}
-use Rattle.ed_rules.specs.declared.matching.Alteration.{Alteration}
-use Rattle.ed_rules.specs.declared.matching.Alteration.TheVariants.{Never, Maybe, Surely}
+use Rattle.ed_rules.specs.declared.matching.Certainty.{Certainty}
+use Rattle.ed_rules.specs.declared.matching.Certainty.TheVariants.{Never, Maybe, Surely}
 use Rattle.ed_rules.specs.Matching.{joining_given, kept_unless, matched_by_undo, matched_after, old_matched_unless, old_matched_after}
 use Rattle.ed_syntax.proofs.meaning.ResultLemmas.{IfOk-bind}
 use Rattle.ed_rules.proofs.sound.Flags.{Alike, alike-taken}
@@ -158,7 +160,7 @@ abbrev pub MatchedIn : (has old_has : List (List ℕ)) → editor.State → Type
 MatchedIn has old_has e = AreMatched has e.lines × KeepsMatched old_has e.past
 
 -- `j`, where it is known whether lines are joined
-abbrev pub Joins : Alteration → Span → Type 0
+abbrev pub Joins : Certainty → Span → Type 0
 Joins Never x = nat_lt x.first x.last ≡ false
 Joins Maybe x = Unit {0}
 Joins Surely x = nat_lt x.first x.last ≡ true
@@ -212,15 +214,15 @@ module _ (watched : List (List ℕ)) (listed : Bool) (given : Addresses) (s u : 
   inserted-left : (place : ℕ) (new : List Line) → AreMatched u.has (parts.inserted place new q.lines)
   inserted-left place new = matched-more u.has q.lines (parts.inserted place new q.lines) (λ text h. any-inserted (λ line. matches text line.bytes) place new q.lines h) now
 
-  append-left : (ts : List (List ℕ)) (x : Span) → Left (matched_after watched given (ed.Append ts) u) (old_matched_after listed given (ed.Append ts) s u) (effects.append ts x q)
+  append-left : (ts : List (List ℕ)) (x : Span) → Left (matched_after watched given (verbs.Enters ts) u) (old_matched_after listed given (verbs.Enters ts) s u) (effects.append ts x q)
   append-left [] x = (gained-none, never-kept)
   append-left (t ∷ ts) x = (gained-left x.first (t ∷ ts), surely-kept)
 
-  insert-left : (ts : List (List ℕ)) (x : Span) → Left (matched_after watched given (ed.Insert ts) u) (old_matched_after listed given (ed.Insert ts) s u) (effects.insert ts x q)
+  insert-left : (ts : List (List ℕ)) (x : Span) → Left (matched_after watched given (verbs.Enters ts) u) (old_matched_after listed given (verbs.Enters ts) s u) (effects.insert ts x q)
   insert-left [] x = (gained-none, never-kept)
   insert-left (t ∷ ts) x = (gained-left (x.first - 1) (t ∷ ts), surely-kept)
 
-  change-left : (ts : List (List ℕ)) (x : Span) → Left (matched_after watched given (ed.Change ts) u) (old_matched_after listed given (ed.Change ts) s u) (effects.change ts x q)
+  change-left : (ts : List (List ℕ)) (x : Span) → Left (matched_after watched given (verbs.Replaces ts) u) (old_matched_after listed given (verbs.Replaces ts) s u) (effects.change ts x q)
   change-left [] x = (none-gained watched (parts.replaced x.first x.last [] q.lines), surely-kept)
   change-left (t ∷ ts) x = (gained-matched watched (t ∷ ts) (x.first - 1) x.last q.lines, surely-kept)
 
@@ -231,7 +233,7 @@ module _ (watched : List (List ℕ)) (listed : Bool) (given : Addresses) (s u : 
     | false ↦ effects.only q []
   ]
 
-  join-by : (a : Alteration) (x : Span) → Joins a x → Left (kept_unless a u.has) (old_matched_unless listed a s u) (effects.join x q)
+  join-by : (a : Certainty) (x : Span) → Joins a x → Left (kept_unless a u.has) (old_matched_unless listed a s u) (effects.join x q)
   join-by Never x h = subst (λ (b : Bool). Left u.has (old_matched_unless listed Never s u) (join-where b x)) (sym h) (now, never-kept)
   join-by Maybe x h =
       elim (nat_lt x.first x.last) as (λ b. Left [] (old_matched_unless listed Maybe s u) (join-where b x)) [
@@ -363,13 +365,13 @@ module _ (watched : List (List ℕ)) (listed : Bool) (given : Addresses) (s u : 
   was-left false (Some old) before a k = (k, are-matched-kept u.has q.lines now)
 
   undo-by : (past : Past) → AllowsPast u.undo past → KeepsMatched u.old_has past → q.past ≡ past →
-      OnMade (Left (matched_after watched given ed.Undo u) (old_matched_after listed given ed.Undo s u)) (making (effects.undo past q))
+      OnMade (Left (matched_after watched given verbs.BringsBack u) (old_matched_after listed given verbs.BringsBack s u)) (making (effects.undo past q))
   undo-by Nothing a k is = tt
-  undo-by Same a k is = (same-left u.undo.same u.undo.was a, subst (λ (p : Past). KeepsMatched (old_matched_after listed given ed.Undo s u) p) (sym is) tt)
+  undo-by Same a k is = (same-left u.undo.same u.undo.was a, subst (λ (p : Past). KeepsMatched (old_matched_after listed given verbs.BringsBack s u) p) (sym is) tt)
   undo-by (Was before) a k is = was-left u.undo.same u.undo.was before a k
 
   pub effect-left : (verb : Verb) (x : Span) (target : ℕ) (answer : Option Answer) → x.first ≤ x.last + 1 → Suiting given u.zone q.lines verb x →
-      OnMade (Left (matched_after watched given verb u) (old_matched_after listed given verb s u)) (effect_of verb listed x target q answer)
+      OnMade (Left (matched_after watched given (takes verb).lines u) (old_matched_after listed given (takes verb).lines s u)) (effect_of verb listed x target q answer)
   effect-left (ed.Append text) x target answer le k = append-left text x
   effect-left (ed.Change text) x target answer le k = change-left text x
   effect-left ed.Delete x target answer le k = (refl, surely-kept)

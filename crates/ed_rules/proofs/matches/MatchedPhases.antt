@@ -31,8 +31,8 @@ use Rattle.ed_rules.specs.Matched.{AreMatched, sought_by, sought_at_target}
 use Rattle.ed_rules.specs.Pieces.{needing, with_zone, ended}
 use Rattle.std.proofs.Common.{cond, take}
 use Rattle.ed_rules.specs.Addresses.{evaluated, addressed, standing, targeted, ranged}
-use Rattle.ed_rules.specs.declared.matching.Alteration.TheVariants.{Never, Maybe, Surely}
-use Rattle.ed_rules.specs.Matching.{joining, joining_given, matched_after, old_matched_after, with_matches}
+use Rattle.ed_rules.specs.declared.matching.Certainty.TheVariants.{Never, Maybe, Surely}
+use Rattle.ed_rules.specs.Matching.{joining, joining_given, matched_after, old_matched_after, saying, matches_after}
 use Rattle.ed_rules.specs.Rules.{taken, effect, suffixed, step_at, step}
 use Rattle.ed_syntax.specs.spelling.Readable.{enters_lines}
 use Rattle.ed_rules.proofs.Basics.{Agrees, Agrees-weaker}
@@ -158,11 +158,11 @@ suits-all given zone lines _ x h = tt
 module _ (watched : List (List ℕ)) (c : Command) (answer : Option Answer) (s : State) (e : editor.State) (st : StandsFor s e) where
   -- the last ones
   acted : (u : State) (q : editor.State) (x : Span) (target : ℕ) → SameMatches s u → SameBuffer e q → InOrder x → Suiting c.addresses u.zone q.lines c.verb x →
-      Tells Holds (effect c.listed c.addresses c.verb s u >> λ r. suffixed c.suffix (with_matches watched c.listed c.addresses c.verb s u (with_zone (ended r.marks r.zone) r)))
+      Tells Holds (effect c.listed c.addresses c.verb s u >> λ r. suffixed c.suffix (saying (matches_after watched c.listed c.addresses (takes c.verb).lines s u) (with_zone (ended r.marks r.zone) r)))
       (effect_of c.verb c.listed x target q answer >> completed c e)
   acted u q x target same buffer order k =
-      let has : List (List ℕ) = matched_after watched c.addresses c.verb u in
-      let old_has : List (List ℕ) = old_matched_after c.listed c.addresses c.verb s u in
+      let has : List (List ℕ) = matched_after watched c.addresses (takes c.verb).lines u in
+      let old_has : List (List ℕ) = old_matched_after c.listed c.addresses (takes c.verb).lines s u in
       let now : AreMatched u.has q.lines =
       subst (λ (l : List (List ℕ)). AreMatched l q.lines) (sym same.0) (subst (λ (ls : List Line). AreMatched s.has ls) (sym buffer.0) st.matched) in
       let kept_now : KeepsMatched u.old_has q.past =
@@ -172,7 +172,7 @@ module _ (watched : List (List ℕ)) (c : Command) (answer : Option Answer) (s :
       let P : State → Type 0 = λ (t : State). (t.has ≡ has) × (t.old_has ≡ old_has) in
       tells-so has old_has _ _
       (IfOk-bind (λ (_ : State). Unit {0}) P (effect c.listed c.addresses c.verb s u) _ (always (effect c.listed c.addresses c.verb s u))
-      (λ r _. suffixed-through P c.suffix (with_matches watched c.listed c.addresses c.verb s u (with_zone (ended r.marks r.zone) r))
+      (λ r _. suffixed-through P c.suffix (saying (matches_after watched c.listed c.addresses (takes c.verb).lines s u) (with_zone (ended r.marks r.zone) r))
       (refl, refl)))
       (completed-left watched c.listed c.addresses s u e q st.matched now kept_now may c refl has old_has (effect_of c.verb c.listed x target q answer)
       (effect-left watched c.listed c.addresses s u e q st.matched now kept_now may c.verb x target answer order k))

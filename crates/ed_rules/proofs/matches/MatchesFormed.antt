@@ -7,6 +7,7 @@ use Rattle.std.proofs.lemmas.List.Elements.{All-nil, All-head, All-tail, All-app
 use Rattle.std.proofs.lemmas.Result.{IfOk-weaker}
 use Rattle.ed_syntax.specs.Commands as ed
 use Rattle.ed_syntax.specs.Commands.{Verb, Command, Step, Script}
+use Rattle.ed_syntax.specs.meaning.Verbs.{takes}
 use Rattle.ed_syntax.specs.declared.command.Sense.TheVariants as sense
 use Rattle.ed_rules.specs.declared.state.State.{State}
 use Rattle.ed_rules.specs.Choices.{Choice}
@@ -43,8 +44,8 @@ command-matches watched c s w h =
     ((h.has, h.old_has), h.of_lines)
     (λ u k. IfOk-weaker (effect c.listed c.addresses c.verb s u) _ _
     (λ r old. record {
-      has = says-after TextsAreFormed formed-sets watched c.addresses c.verb u w k.0;
-      old_has = says-old TextsAreFormed formed-sets c.listed c.addresses c.verb s u (says-of s h) k.0;
+      has = says-after TextsAreFormed formed-sets watched c.addresses (takes c.verb).lines u w k.0;
+      old_has = says-old TextsAreFormed formed-sets c.listed c.addresses (takes c.verb).lines s u (says-of s h) k.0;
       of_lines = old;
     }) (effect-of_lines c.addresses s u k.1 c.listed c.verb))
 
@@ -67,7 +68,7 @@ widen-matches old new h k =
 -- THE LIST OF A GLOBAL COMMAND
 
 taken-formed : (verb : Verb) → VerbIsBytes verb → TextsAreFormed (taken_matches verb [])
-taken-formed (ed.Global sense.Matching (Some text)) b = with_text-formed text [] b none-formed
+taken-formed (ed.Global sense.Matching (Some text)) b = with_text-formed text [] b.1 none-formed
 taken-formed (ed.Global sense.Matching None) b = none-formed
 taken-formed (ed.Global sense.Others pattern) b = none-formed
 taken-formed verb b = none-formed

@@ -1,6 +1,6 @@
 -- Where undo has no earlier lines, nothing is said of what they match.
-use Rattle.std.proofs.Common.{◌≡◌, ℕ, pos, negsuc, Bool, true, false, not, cond, List, [], ◌∷◌, Option, None, Some, is_some}
-use Rattle.std.proofs.Common.{IfOk, refl, ◌∙◌, sym, subst}
+use Rattle.std.proofs.Common.{◌≡◌, ◌≢◌, ℕ, pos, negsuc, Bool, true, false, not, cond, List, [], ◌∷◌, Option, None, Some, is_some}
+use Rattle.std.proofs.Common.{IfOk, refl, ◌∙◌, sym, ap, subst}
 use Rattle.std.proofs.lemmas.Result.{IfOk-weaker}
 use Rattle.ed_base.specs.declared.fault.Fault.TheVariants as fault
 use Rattle.zones.specs.Steps.{after_guard}
@@ -8,8 +8,11 @@ use Rattle.zones.specs.Known.{known}
 use Rattle.ed_syntax.specs.Commands as ed
 use Rattle.ed_syntax.specs.Commands.{Addresses, Without, One, Comma, Semicolon, Verb}
 use Rattle.ed_syntax.specs.meaning.Values.{◌>>◌}
+use Rattle.ed_syntax.specs.meaning.Verbs as verbs
+use Rattle.ed_syntax.specs.meaning.Verbs.{Alteration, takes}
 use Rattle.ed_syntax.proofs.meaning.ResultLemmas.{IfOk-after}
-use Rattle.ed_rules.specs.declared.matching.Alteration.TheVariants.{Never, Maybe, Surely}
+use Rattle.ed_rules.specs.declared.matching.Certainty.{Certainty}
+use Rattle.ed_rules.specs.declared.matching.Certainty.TheVariants.{Never, Maybe, Surely}
 use Rattle.ed_rules.specs.declared.state.Old.{Old}
 use Rattle.ed_rules.specs.declared.state.State.{State}
 use Rattle.ed_rules.specs.Formed.{IsOfLines}
@@ -19,13 +22,13 @@ use Rattle.ed_rules.specs.Pieces.{with_zone, mark_lost, replaced, modified}
 use Rattle.ed_rules.specs.Lines.{joined, joined_given}
 use Rattle.ed_rules.specs.Move.{moved_zone}
 use Rattle.ed_rules.specs.Substituting.{replacement_used, pattern_used, is_sure_to_match, surely_substituted, substituted_if}
-use Rattle.ed_rules.specs.Files.{named, named_first, maybe_modified, edited, edited_anyway}
+use Rattle.ed_rules.specs.Files.{named, named_first, maybe_modified}
 use Rattle.ed_rules.specs.Undoing.{present_of, undone_by}
-use Rattle.ed_rules.specs.Matching.{joining, joining_given, matched_by_undo, old_matched_by, old_matched_after}
+use Rattle.ed_rules.specs.Matching.{joining, joining_given, how_surely, matched_by_undo, old_matched_by, old_matched_unless, old_matched_after}
 use Rattle.ed_rules.specs.Rules.{effect}
 use Rattle.ed_rules.proofs.through.Needs.{needed, anyway, Any, some-any}
 use Rattle.ed_rules.proofs.through.Addresses.{Property, Of, beside}
-use Rattle.ed_rules.proofs.through.Effects.{Kept, loads, pattern_of, path_of, effect-through}
+use Rattle.ed_rules.proofs.through.Effects.{Kept, is_loading, loads, pattern_of, path_of, effect-through}
 
 -- TWO SIDES
 
@@ -88,13 +91,62 @@ lasts start s = record {
   loads = λ never t h. absurd never;
 }
 
--- COMMAND BY COMMAND
+-- WHERE A COMMAND MAY CHANGE LINES
 
 -- `s` outside lists
-surely-of_lines : (sure : Bool) (start t : State) → IfOk (substituted_if sure false start t) (λ r. IsOfLines r.undo.was start.has)
+surely-some : (sure : Bool) (start t : State) → IfOk (substituted_if sure false start t) (λ r. is_some r.undo.was ≡ true)
 unfolding surely_substituted
-surely-of_lines true start t = tt
-surely-of_lines false start t = tt
+surely-some true start t = refl
+surely-some false start t = tt
+
+module _ (given : Addresses) (start s : State) where
+  -- `j` outside lists
+  joined-some : joining s.zone ≢ Never → is_some (joined false start s).undo.was ≡ true
+  unfolding join
+  joined-some =
+      elim (known s.zone 4 3 (pos 0)) as
+      (λ b. cond b Never (cond (known s.zone 3 4 (negsuc 0)) Surely Maybe) ≢ Never →
+      is_some (cond b s (cond (known s.zone 3 4 (negsuc 0)) (modified false start (replaced 1 s))
+      (join (modified false start (replaced 1 (with_zone (after_guard s.zone 3 4 (negsuc 0)) s)))
+      (with_zone (after_guard s.zone 4 3 (pos 0)) s)))).undo.was ≡ true) [
+        | true ↦ λ h. absurd (h refl)
+        | false ↦ λ h.
+            elim (known s.zone 3 4 (negsuc 0)) as (λ b. is_some (cond b (modified false start (replaced 1 s))
+            (join (modified false start (replaced 1 (with_zone (after_guard s.zone 3 4 (negsuc 0)) s)))
+            (with_zone (after_guard s.zone 4 3 (pos 0)) s))).undo.was ≡ true) [
+              | true ↦ refl
+              | false ↦ some-one (old_of start) s.undo.was
+            ]
+      ]
+
+  given-some : (own : Addresses) → joining_given own s.zone ≢ Never → is_some (joined_given own false start s).undo.was ≡ true
+  given-some Without h = joined-some h
+  given-some (One a) h = absurd (h refl)
+  given-some (Comma a b) h = joined-some h
+  given-some (Semicolon a b) h = joined-some h
+
+  -- outside lists undo then has earlier lines
+  altered-some : (verb : Verb) → how_surely given (takes verb).lines s.zone ≢ Never →
+      IfOk (effect false given verb start s) (λ r. is_some r.undo.was ≡ true)
+  altered-some (ed.Append []) h = absurd (h refl)
+  altered-some (ed.Append (line ∷ text)) h = refl
+  altered-some (ed.Insert []) h = absurd (h refl)
+  altered-some (ed.Insert (line ∷ text)) h = refl
+  altered-some (ed.Change text) h = refl
+  altered-some ed.Delete h = refl
+  altered-some ed.Join h = given-some given h
+  altered-some (ed.Move to) h =
+      IfOk-after (λ (r : State). is_some r.undo.was ≡ true) (moved_zone s.marks s.zone) _ (λ zone. refl)
+  altered-some (ed.Copy to) h = refl
+  altered-some (ed.Substitute pattern replacement choice form) h =
+      IfOk-after (λ (r : State). is_some r.undo.was ≡ true) (replacement_used false replacement s >> pattern_used pattern) _
+      (λ t. surely-some (is_sure_to_match t.patterns choice) start t)
+  altered-some (ed.ReadFile path) h =
+      IfOk-after (λ (r : State). is_some r.undo.was ≡ true) (named path s) _
+      (λ t. some-other (named_first path t).undo.was (old_of start))
+  altered-some _ h = absurd (h refl)
+
+-- BY WHAT A COMMAND DOES TO THE LINES
 
 -- `u`
 undone_by-of_lines : (same : Bool) (was : Option Old) (s : State) → s.undo.was ≡ was → IsOfLines s.undo.was s.old_has →
@@ -111,33 +163,6 @@ none-said None = refl
 none-said (Some old) = tt
 
 module _ (given : Addresses) (start s : State) (old : IsOfLines s.undo.was s.old_has) where
-  -- `j` outside lists
-  joined-of_lines : IsOfLines (joined false start s).undo.was (old_matched_by (joining s.zone) start s)
-  unfolding join
-  joined-of_lines =
-      elim (known s.zone 4 3 (pos 0)) as
-      (λ b. IsOfLines (cond b s (cond (known s.zone 3 4 (negsuc 0)) (modified false start (replaced 1 s))
-      (join (modified false start (replaced 1 (with_zone (after_guard s.zone 3 4 (negsuc 0)) s)))
-      (with_zone (after_guard s.zone 4 3 (pos 0)) s)))).undo.was
-      (old_matched_by (cond b Never (cond (known s.zone 3 4 (negsuc 0)) Surely Maybe)) start s)) [
-        | true ↦ old
-        | false ↦
-            elim (known s.zone 3 4 (negsuc 0)) as (λ b. IsOfLines (cond b (modified false start (replaced 1 s))
-            (join (modified false start (replaced 1 (with_zone (after_guard s.zone 3 4 (negsuc 0)) s)))
-            (with_zone (after_guard s.zone 4 3 (pos 0)) s))).undo.was
-            (old_matched_by (cond b Surely Maybe) start s)) [
-              | true ↦ tt
-              | false ↦ of-some (old_of_both (Some (old_of start)) s.undo.was) _ (some-one (old_of start) s.undo.was)
-            ]
-      ]
-
-  given-of_lines : (own : Addresses) →
-      IsOfLines (joined_given own false start s).undo.was (old_matched_by (joining_given own s.zone) start s)
-  given-of_lines Without = joined-of_lines
-  given-of_lines (One a) = old
-  given-of_lines (Comma a b) = joined-of_lines
-  given-of_lines (Semicolon a b) = joined-of_lines
-
   -- in a list, and where nothing is altered
   lasting : (listed : Bool) (verb : Verb) → loads verb ≡ false →
       IfOk (effect listed given verb start s) (λ r. IsOfLines r.undo.was s.old_has)
@@ -147,30 +172,33 @@ module _ (given : Addresses) (start s : State) (old : IsOfLines s.undo.was s.old
       (effect-through (Of (Lasts s)) Any Any ⊥ start (lasts start s) listed given verb s (some-any (pattern_of verb))
       (some-any (path_of verb)) (λ e. let never = sym h ∙ e in absurd cc) (λ e. e))
 
+  altered-of_lines : (verb : Verb) → how_surely given (takes verb).lines s.zone ≢ Never → (old_has : List (List ℕ)) →
+      IfOk (effect false given verb start s) (λ r. IsOfLines r.undo.was old_has)
+  altered-of_lines verb h old_has =
+      IfOk-weaker (effect false given verb start s) (λ r. is_some r.undo.was ≡ true) (λ r. IsOfLines r.undo.was old_has)
+      (λ r k. of-some r.undo.was old_has k) (altered-some given start s verb h)
+
+  certainly : (listed : Bool) (verb : Verb) (altered : Certainty) → how_surely given (takes verb).lines s.zone ≡ altered →
+      loads verb ≡ false → IfOk (effect listed given verb start s) (λ r. IsOfLines r.undo.was (old_matched_unless listed altered start s))
+  certainly true verb altered is keeps = lasting true verb keeps
+  certainly false verb Never is keeps = lasting false verb keeps
+  certainly false verb Maybe is keeps =
+      altered-of_lines verb (λ (e : how_surely given (takes verb).lines s.zone ≡ Never). let both = sym is ∙ e in absurd cc)
+      (old_matched_by Maybe start s)
+  certainly false verb Surely is keeps =
+      altered-of_lines verb (λ (e : how_surely given (takes verb).lines s.zone ≡ Never). let both = sym is ∙ e in absurd cc) start.has
+
+  by_lines : (listed : Bool) (verb : Verb) (lines : Alteration) → (takes verb).lines ≡ lines → lines ≢ verbs.BringsBack →
+      IfOk (effect listed given verb start s) (λ r. IsOfLines r.undo.was (old_matched_after listed given lines start s))
+  by_lines listed verb verbs.Loads is keeps = anyway _ (effect listed given verb start s) (λ r. none-said r.undo.was)
+  by_lines listed verb verbs.BringsBack is keeps = absurd (keeps refl)
+  by_lines listed verb lines is keeps =
+      certainly listed verb (how_surely given lines s.zone) (ap (λ (a : Alteration). how_surely given a s.zone) is) (ap is_loading is)
+
   pub effect-of_lines : (listed : Bool) (verb : Verb) →
-      IfOk (effect listed given verb start s) (λ r. IsOfLines r.undo.was (old_matched_after listed given verb start s))
-  effect-of_lines listed (ed.Edit path) = anyway _ (edited path s) (λ r. none-said r.undo.was)
-  effect-of_lines listed (ed.EditAnyway path) = anyway _ (edited_anyway path s) (λ r. none-said r.undo.was)
+      IfOk (effect listed given verb start s) (λ r. IsOfLines r.undo.was (old_matched_after listed given (takes verb).lines start s))
   effect-of_lines listed ed.Undo =
-      needed (λ (r : State). IsOfLines r.undo.was (old_matched_after listed given ed.Undo start s)) (not s.undo.nothing) fault.Undo
+      needed (λ (r : State). IsOfLines r.undo.was (old_matched_after listed given verbs.BringsBack start s)) (not s.undo.nothing) fault.Undo
       (undone_by s.undo.same s.undo.was s)
       (undone_by-of_lines s.undo.same s.undo.was s refl old)
-  effect-of_lines true verb = lasting true verb refl
-  effect-of_lines false (ed.Append []) = lasting false (ed.Append []) refl
-  effect-of_lines false (ed.Append (line ∷ text)) = tt
-  effect-of_lines false (ed.Insert []) = lasting false (ed.Insert []) refl
-  effect-of_lines false (ed.Insert (line ∷ text)) = tt
-  effect-of_lines false (ed.Change text) = tt
-  effect-of_lines false ed.Delete = tt
-  effect-of_lines false ed.Join = given-of_lines given
-  effect-of_lines false (ed.Move to) =
-      IfOk-after (λ (r : State). IsOfLines r.undo.was start.has) (moved_zone s.marks s.zone) _ (λ zone. tt)
-  effect-of_lines false (ed.Copy to) = tt
-  effect-of_lines false (ed.Substitute pattern replacement choice form) =
-      IfOk-after (λ (r : State). IsOfLines r.undo.was start.has) (replacement_used false replacement s >> pattern_used pattern) _
-      (λ t. surely-of_lines (is_sure_to_match t.patterns choice) start t)
-  effect-of_lines false (ed.ReadFile path) =
-      IfOk-after (λ (r : State). IsOfLines r.undo.was (old_matched_by Maybe start s)) (named path s) _
-      (λ t. of-some (old_of_both (named_first path t).undo.was (Some (old_of start))) _
-      (some-other (named_first path t).undo.was (old_of start)))
-  effect-of_lines false verb = lasting false verb refl
+  effect-of_lines listed verb = by_lines listed verb (takes verb).lines refl (λ e. absurd cc)

@@ -6,13 +6,15 @@ use Rattle.ed_syntax.specs.declared.command.Sense.TheVariants as sense
 use Rattle.ed_syntax.specs.Commands as ed
 use Rattle.ed_syntax.specs.Commands.{Addresses, Verb, Command}
 use Rattle.ed_syntax.specs.meaning.Values.{matches}
-use Rattle.ed_rules.specs.declared.matching.Alteration.{Alteration}
-use Rattle.ed_rules.specs.declared.matching.Alteration.TheVariants.{Never, Maybe, Surely}
+use Rattle.ed_syntax.specs.meaning.Verbs as verbs
+use Rattle.ed_syntax.specs.meaning.Verbs.{Alteration, takes}
+use Rattle.ed_rules.specs.declared.matching.Certainty.{Certainty}
+use Rattle.ed_rules.specs.declared.matching.Certainty.TheVariants.{Never, Maybe, Surely}
 use Rattle.ed_rules.specs.declared.state.State.{State}
 use Rattle.ed_rules.specs.Texts.{is_member, both_texts, with_texts}
 use Rattle.ed_rules.specs.Matched.{gained, sought}
 use Rattle.ed_rules.specs.Order.{join, widen, old_has_of_both}
-use Rattle.ed_rules.specs.Matching.{joining_given, kept_unless, altering, matched_by_undo, matched_after, old_matched_by}
+use Rattle.ed_rules.specs.Matching.{joining_given, kept_unless, how_surely, matched_by_undo, matched_after, old_matched_by}
 use Rattle.ed_rules.specs.Matching.{old_matched_unless, old_matched_after}
 use Rattle.ed_rules.specs.Rules.{effect, step}
 use Rattle.ed_rules.specs.Globals.{taken_matches, body_entry}
@@ -35,7 +37,7 @@ module _ (S : List (List ℕ) → Type 0) (sets : OfSets S) where
   says-more : (watched entered has : List (List ℕ)) → S watched → S has → S (with_texts (gained watched entered) has)
   says-more watched entered has w h = sets.more (gained watched entered) has (says-gained watched entered w) h
 
-  says-unless : (a : Alteration) (has : List (List ℕ)) → S has → S (kept_unless a has)
+  says-unless : (a : Certainty) (has : List (List ℕ)) → S has → S (kept_unless a has)
   says-unless Never has h = h
   says-unless Maybe has h = sets.none
   says-unless Surely has h = sets.none
@@ -48,18 +50,16 @@ module _ (S : List (List ℕ) → Type 0) (sets : OfSets S) where
   says-undo true true has old_has h k = says-both has old_has h
   says-undo false true has old_has h k = k
 
-  pub says-after : (watched : List (List ℕ)) (given : Addresses) (verb : Verb) (s : State) → S watched → Says S s →
-      S (matched_after watched given verb s)
-  says-after watched given (ed.Append text) s w h = says-more watched text s.has w h.0
-  says-after watched given (ed.Insert text) s w h = says-more watched text s.has w h.0
-  says-after watched given (ed.Change text) s w h = says-gained watched text w
-  says-after watched given ed.Delete s w h = sets.none
-  says-after watched given ed.Join s w h = says-unless (joining_given given s.zone) s.has h.0
-  says-after watched given (ed.Substitute pattern replacement which form) s w h = sets.none
-  says-after watched given (ed.Edit path) s w h = sets.none
-  says-after watched given (ed.EditAnyway path) s w h = sets.none
-  says-after watched given ed.Undo s w h = says-undo s.undo.same (is_some s.undo.was) s.has s.old_has h.0 h.1
-  says-after watched given verb s w h = h.0
+  pub says-after : (watched : List (List ℕ)) (given : Addresses) (lines : Alteration) (s : State) → S watched → Says S s →
+      S (matched_after watched given lines s)
+  says-after watched given (verbs.Enters text) s w h = says-more watched text s.has w h.0
+  says-after watched given (verbs.Replaces text) s w h = says-gained watched text w
+  says-after watched given verbs.Deletes s w h = sets.none
+  says-after watched given verbs.Joins s w h = says-unless (joining_given given s.zone) s.has h.0
+  says-after watched given verbs.Rewrites s w h = sets.none
+  says-after watched given verbs.Loads s w h = sets.none
+  says-after watched given verbs.BringsBack s w h = says-undo s.undo.same (is_some s.undo.was) s.has s.old_has h.0 h.1
+  says-after watched given _ s w h = h.0
 
   says-of_both : {A B : Type 0} (one : Option A) (other : Option B) (has old : List (List ℕ)) → S has → S old →
       S (old_has_of_both one other has old)
@@ -67,28 +67,27 @@ module _ (S : List (List ℕ) → Type 0) (sets : OfSets S) where
   says-of_both (Some a) None has old h k = h
   says-of_both (Some a) (Some b) has old h k = says-both has old h
 
-  says-by : (a : Alteration) (start s : State) → Says S start → Says S s → S (old_matched_by a start s)
+  says-by : (a : Certainty) (start s : State) → Says S start → Says S s → S (old_matched_by a start s)
   says-by Never start s h k = k.1
   says-by Maybe start s h k = says-of_both s.undo.was (Some start.zone) s.old_has start.has k.1 h.0
   says-by Surely start s h k = h.0
 
-  says-if : (listed : Bool) (a : Alteration) (start s : State) → Says S start → Says S s → S (old_matched_unless listed a start s)
+  says-if : (listed : Bool) (a : Certainty) (start s : State) → Says S start → Says S s → S (old_matched_unless listed a start s)
   says-if true a start s h k = k.1
   says-if false a start s h k = says-by a start s h k
 
-  pub says-old : (listed : Bool) (given : Addresses) (verb : Verb) (start s : State) → Says S start → Says S s →
-      S (old_matched_after listed given verb start s)
-  says-old listed given (ed.Edit path) start s h k = sets.none
-  says-old listed given (ed.EditAnyway path) start s h k = sets.none
-  says-old listed given ed.Undo start s h k = says-undo s.undo.same (is_some s.undo.was) s.old_has s.has k.1 k.0
-  says-old listed given verb start s h k = says-if listed (altering given verb s.zone) start s h k
+  pub says-old : (listed : Bool) (given : Addresses) (lines : Alteration) (start s : State) → Says S start → Says S s →
+      S (old_matched_after listed given lines start s)
+  says-old listed given verbs.Loads start s h k = sets.none
+  says-old listed given verbs.BringsBack start s h k = says-undo s.undo.same (is_some s.undo.was) s.old_has s.has k.1 k.0
+  says-old listed given lines start s h k = says-if listed (how_surely given lines s.zone) start s h k
 
   pub says-step : (watched : List (List ℕ)) (c : Command) (s : State) → S watched → Says S s → IfOk (step watched c s) (Says S)
   says-step watched c s w h =
       rule-through (Says S) Any (beside (λ _ _ _ has old_has. S has × S old_has) Any (λ t text _ q. q)) (Says S) watched c s
       (all-any (sought c)) h
       (λ u k. anyway _ (effect c.listed c.addresses c.verb s u)
-      (λ r. (says-after watched c.addresses c.verb u w k, says-old c.listed c.addresses c.verb s u h k)))
+      (λ r. (says-after watched c.addresses (takes c.verb).lines u w k, says-old c.listed c.addresses (takes c.verb).lines s u h k)))
 
   pub says-join : (one other : State) → Says S one → Says S other → Says S (join one other)
   unfolding join

@@ -16,6 +16,7 @@ use Rattle.ed_rules.specs.Addresses.{standing}
 use Rattle.ed_syntax.specs.spelling.Readable.{enters_lines}
 use Rattle.ed_rules.specs.Rules.{step_at, step, fault_of}
 use Rattle.ed_rules.specs.Soundness.{IsUnserved, IsDone, CommandIsSound}
+use Rattle.ed_rules.specs.Matching.{Matches, saying}
 use Rattle.ed_rules.specs.StandsFor.{StandsFor}
 use Rattle.ed_rules.proofs.sound.Answering.{Does, Comes}
 use Rattle.ed_rules.proofs.sound.Standing.{Stands-matching}
@@ -38,14 +39,14 @@ abbrev Entered : Command → Type 0
 Entered c = enters_lines c.verb ≡ true
 
 -- what is known of matches makes no difference to what a command does
-matching-does : (given : Option Answer) (t : State) (has old_has : List (List ℕ)) (y : Result Effect Fault) → Does Comes given (Ok t) y →
-    Does Comes given (Ok (record t { has = has; old_has = old_has })) y
-matching-does given t has old_has (Ok (Makes o)) h = Stands-matching t o.state has old_has h
-matching-does given t has old_has (Ok (Asks r)) h = tt
-matching-does given t has old_has (Err f) h = h
+matching-does : (given : Option Answer) (t : State) (m : Matches) (y : Result Effect Fault) → Does Comes given (Ok t) y →
+    Does Comes given (Ok (saying m t)) y
+matching-does given t m (Ok (Makes o)) h = Stands-matching t o.state m h
+matching-does given t m (Ok (Asks r)) h = tt
+matching-does given t m (Err f) h = h
 
 does-beside : (given : Option Answer) (x y : Result State Fault) (z : Result Effect Fault) → Beside x y → Does Comes given x z → Does Comes given y z
-does-beside given (Ok t) (Ok u) z b h = subst (λ (v : State). Does Comes given (Ok v) z) (sym b.2) (matching-does given t b.0 b.1 z h)
+does-beside given (Ok t) (Ok u) z b h = subst (λ (v : State). Does Comes given (Ok v) z) (sym b.1) (matching-does given t b.0 z h)
 does-beside given (Ok t) (Err g) z b h = absurd b
 does-beside given (Err f) (Ok u) z b h = absurd b
 does-beside given (Err f) (Err g) z b h = tt

@@ -7,6 +7,7 @@ use Rattle.zones.proofs.Soundness.{Holds-after_set, Holds-after_guard}
 use Rattle.ed_syntax.specs.meaning.States as editor
 use Rattle.ed_rules.specs.declared.state.State.{State}
 use Rattle.ed_rules.specs.Choices.{Choice, has_choice}
+use Rattle.ed_rules.specs.Matching.{Matches, saying}
 use Rattle.ed_rules.specs.StandsFor.{Reads, StandsBy}
 use Rattle.ed_rules.specs.Pieces.{with_zone}
 use Rattle.zones.proofs.Known.{updated-same, updated-other}
@@ -84,8 +85,8 @@ StandsBy-guarded s e v x y c hx hy h st = record {
 }
 
 -- what is known of matches is said beside
-pub Stands-matching : (s : State) (e : editor.State) (has old_has : List (List ℕ)) → Stands s e → Stands (record s { has = has; old_has = old_has }) e
-Stands-matching s e has old_has st =
+pub Stands-matching : (s : State) (e : editor.State) (m : Matches) → Stands s e → Stands (saying m s) e
+Stands-matching s e m st =
     (st.0, record { buffer = st.1.buffer; remembered = st.1.remembered; changed = st.1.changed; past = st.1.past })
 
 pub StandsBy-has : (s : State) (e : editor.State) (v : Numbers) (has : List (List ℕ)) → StandsBy s e v → StandsBy (record s { has = has }) e v

@@ -16,6 +16,8 @@ use Rattle.ed_syntax.specs.declared.replacement.Part.{Part}
 use Rattle.ed_syntax.specs.declared.replacement.Which.{Which}
 use Rattle.ed_syntax.specs.Commands as ed
 use Rattle.ed_syntax.specs.Commands.{Addresses, Without, One, Comma, Semicolon, Verb}
+use Rattle.ed_syntax.specs.meaning.Verbs as lines
+use Rattle.ed_syntax.specs.meaning.Verbs.{Alteration, takes}
 use Rattle.ed_syntax.proofs.meaning.ResultLemmas.{IfOk-bind}
 use Rattle.ed_rules.specs.declared.state.Old.{Old}
 use Rattle.ed_rules.specs.declared.state.Changed.{Changed}
@@ -43,25 +45,20 @@ use Rattle.ed_rules.proofs.formed.SpeakingPieces.{Inner-moved_down, Inner-curren
 use Rattle.ed_rules.proofs.through.Needs.{needed, IfOk-needing}
 use Rattle.ed_rules.proofs.through.Addresses.{KeptAt, possible-through}
 
--- the pattern that `s`, `g` or `v` is given, and the path of a command on files
+-- the pattern that a command is given, and its path
 abbrev pub pattern_of : Verb → Option (List ℕ)
-pattern_of (ed.Substitute pattern replacement choice form) = pattern
-pattern_of (ed.Global sense pattern) = pattern
-pattern_of _ = None
+pattern_of verb = (takes verb).pattern
 
 abbrev pub path_of : Verb → Option (List ℕ)
-path_of (ed.ReadFile path) = path
-path_of (ed.WriteFile path) = path
-path_of (ed.Edit path) = path
-path_of (ed.EditAnyway path) = path
-path_of (ed.FileName path) = path
-path_of _ = None
+path_of verb = (takes verb).path
 
 -- a file's lines come in place of all
+abbrev pub is_loading : Alteration → Bool
+is_loading lines.Loads = true
+is_loading _ = false
+
 abbrev pub loads : Verb → Bool
-loads (ed.Edit path) = true
-loads (ed.EditAnyway path) = true
-loads _ = false
+loads verb = is_loading (takes verb).lines
 
 -- it is kept by each piece of a rule of a command that began in the state `start`, where these patterns and paths may be given, and
 -- where, as `Loads` says, a file's lines may come in place of all
