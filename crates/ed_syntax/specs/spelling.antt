@@ -4,6 +4,7 @@ pub mod Letters
 pub mod Quoting
 pub mod Addressing
 pub mod Parameters
+pub mod CommandLetters
 pub mod Spellings
 -- what the laws on all scripts say
 pub mod Readable

@@ -2,7 +2,8 @@
 ghost use Rattle.std.specs.Prelude.{◌≡◌, ◌+◌, ◌≤◌, length, Option, Some, None, option_map, IfOk, MatchOption};
 ghost use Rattle.ed_syntax.specs.meaning.Verbs.{may_have, may_stand};
 ghost use Rattle.ed_syntax.specs.reading.ReadParameters.{place};
-ghost use Rattle.ed_syntax.specs.reading.ReadVerbs.{beside_letter, plain_verbs, file_verbs, file_verb, target, verb_at};
+ghost use Rattle.ed_syntax.specs.spelling.CommandLetters.{plain_verbs, file_verbs};
+ghost use Rattle.ed_syntax.specs.reading.ReadVerbs.{beside_letter, file_verb, target, verb_at};
 ghost use Rattle.ed_syntax.specs.reading.ReadCommands.{verb_from, suffix_at, is_over, headed, suffix_with, heading_with, heading_after_addresses};
 ghost use Rattle.ed_syntax.specs.PublicTypes.{address_value, addresses_value, suffix_value, verb_value};
 ghost use Rattle.ed_syntax.specs.reading.ReadParts.{optional_verb, heading_before};

@@ -3,7 +3,8 @@
 //! What could be one function is several: where a function that holds a `Verb` exits early, the `Verb` is dropped, and the proof of each
 //! such exit takes some 250 steps.
 ghost use Rattle.std.specs.Prelude.{◌≡◌, ◌+◌, ◌≤◌, length, IfOk};
-ghost use Rattle.ed_syntax.specs.reading.ReadCommands.{text, entering, with_text, command_after_addresses, command_at};
+ghost use Rattle.ed_syntax.specs.spelling.CommandLetters.{entering};
+ghost use Rattle.ed_syntax.specs.reading.ReadCommands.{text, with_text, command_after_addresses, command_at};
 ghost use Rattle.ed_syntax.specs.PublicTypes.{addresses_value, verb_value};
 ghost use Rattle.ed_syntax.specs.reading.ReadParts.{command_before, order_before};
 

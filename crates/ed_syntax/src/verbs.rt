@@ -153,8 +153,7 @@ impl DefaultAddresses {
     }
 }
 
-/// What a command takes that changes nothing: it is given no text, target, pattern or path, asks for no file, and is exact; a suffix may
-/// follow, it may stand in a list, and the run goes on.
+/// What a command takes that changes nothing, is exact, and is given nothing but addresses and a suffix.
 fn row<'a>(default: DefaultAddresses, taking: Taking) -> Takes<'a>
     ensures value { takes_value result ≡ row (default_value default) taking }
 {

@@ -168,16 +168,16 @@ spanned-two many.Range n last any from upto = ordered-here n from
 spanned-two many.Whole n last any from upto = ordered-here n from
 
 work-takes : (verb : Verb) → works verb ≡ true → takes_any (takes verb).taking ≡ true
-work-takes ed.Undo at_work = absurd (false≢true at_work)
-work-takes ed.Help at_work = absurd (false≢true at_work)
-work-takes ed.HelpMode at_work = absurd (false≢true at_work)
-work-takes ed.PromptMode at_work = absurd (false≢true at_work)
-work-takes ed.Quit at_work = absurd (false≢true at_work)
-work-takes ed.QuitAnyway at_work = absurd (false≢true at_work)
-work-takes (ed.Edit path) at_work = absurd (false≢true at_work)
-work-takes (ed.EditAnyway path) at_work = absurd (false≢true at_work)
-work-takes (ed.FileName path) at_work = absurd (false≢true at_work)
-work-takes _ at_work = refl
+work-takes (ed.Append text) at_work = refl
+work-takes (ed.Insert text) at_work = refl
+work-takes (ed.Change text) at_work = refl
+work-takes ed.Delete at_work = refl
+work-takes (ed.Move to) at_work = refl
+work-takes (ed.Copy to) at_work = refl
+work-takes (ed.Substitute pattern replacement which form) at_work = refl
+work-takes ed.Null at_work = refl
+work-takes (ed.Write form) at_work = refl
+work-takes _ at_work = absurd (false≢true at_work)
 
 -- PLACES
 

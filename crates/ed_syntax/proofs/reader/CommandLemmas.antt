@@ -1,25 +1,27 @@
 -- Commands without a list: what is read is spelled so, and what is spelled so is read.
-use Rattle.std.proofs.Common.{◌≡◌, ℕ, ◌+◌, Bool, true, List, [], ◌∷◌, ◌++◌, length, Option, Some, None, refl, sym, ap, ◌∙◌, subst, arith, append_assoc, append-nil}
+use Rattle.std.proofs.Common.{◌≡◌, ℕ, ◌+◌, Bool, true, false, List, [], ◌∷◌, ◌++◌, length, Option, Some, None, refl, sym, ap, ◌∙◌, subst, arith, append_assoc, append-nil}
+use Rattle.std.specs.Prelude.{Contains}
+use Rattle.std.proofs.lemmas.Bool.{false≢true}
 use Rattle.std.proofs.lemmas.List.{length-append}
 use Rattle.ed_base.specs.Lines.{newline, IsLine, AreLines, lines_of, bytes_of}
 use Rattle.ed_base.proofs.LineLemmas.{lines_of-whole, bytes_of-append}
 use Rattle.std.proofs.lemmas.List.Elements.{All-cons, All-head, All-tail}
 use Rattle.ed_syntax.specs.Commands as ed
-use Rattle.ed_syntax.specs.spelling.Characters.{equals_sign}
-use Rattle.ed_syntax.specs.spelling.Letters.{capital_e, capital_h, capital_p, capital_q, letter_a, letter_c, letter_d, letter_e, letter_f, letter_h, letter_i, letter_j, letter_m, letter_q, letter_r, letter_s, letter_t, letter_u, letter_w}
+use Rattle.ed_syntax.specs.spelling.CommandLetters.{plain_verbs, file_verbs, entering}
+use Rattle.ed_syntax.specs.spelling.Letters.{letter_m, letter_s, letter_t}
 use Rattle.ed_syntax.specs.Commands.{Addresses, Form, Verb, Command}
 use Rattle.ed_syntax.specs.meaning.Verbs.{takes, may_have, may_stand}
-use Rattle.ed_syntax.specs.spelling.Parameters.{SpellsText, SpellsForm, SpellsPath}
+use Rattle.ed_syntax.specs.spelling.Parameters.{SpellsText, SpellsPath}
 use Rattle.ed_syntax.specs.spelling.Spellings.{SpellsVerb, SpellsCommand}
 use Rattle.ed_syntax.specs.spelling.Addressing.{SpellsAddresses}
 use Rattle.ed_syntax.specs.reading.Tokens.{Parsed, ◌>>=◌, addresses}
 use Rattle.ed_syntax.specs.reading.ReadCommands.{Heading, Headed, text, with_text, heading_after_addresses, finished, Taken, command_after_addresses, command_at}
 use Rattle.ed_syntax.specs.reading.ReadGlobals.{sense_at}
-use Rattle.ed_syntax.proofs.meaning.StepLemmas.{Some-same, bind-some}
+use Rattle.ed_syntax.proofs.meaning.StepLemmas.{Some-same, bind-some, either}
 use Rattle.ed_syntax.proofs.reader.LineParts.{same_lines, taken-length}
 use Rattle.ed_syntax.proofs.reader.AddressesLemmas.{addresses-sound, addresses-complete}
 use Rattle.ed_syntax.proofs.reader.LetterLemmas.{text-keeps}
-use Rattle.ed_syntax.proofs.reader.VerbLemmas.{PlainVerb, FileVerb, SpellsLetter}
+use Rattle.ed_syntax.proofs.reader.VerbLemmas.{SpellsLetter, file-text, plain-unsensed, file-unsensed}
 use Rattle.ed_syntax.proofs.reader.SubstitutionLemmas.{SpellsSubstitution, substitution-left}
 use Rattle.ed_syntax.proofs.reader.HeadLemmas.{SpellsHead}
 use Rattle.ed_syntax.proofs.reader.SuffixLemmas.{suffix-same}
@@ -46,38 +48,41 @@ verb_entered own more of lines are spells =
     let read = text-sound lines are in
     record { bytes = read.bytes; split = read.split; spells = spells read.bytes (bytes_of (text lines).1) (text lines).0 read.spells; counted = read.counted; are = read.are }
 
+-- a text is read where the verb has one
+text-none : (verb : Verb) (lines : List (List ℕ)) → (takes verb).text ≡ false → with_text verb lines ≡ (verb, lines)
+text-none verb lines none =
+    either (λ (r : Verb × List (List ℕ)). r ≡ (verb, lines)) (takes verb).text (entering (text lines).0 verb, (text lines).1) (verb, lines)
+    (λ some. absurd (false≢true (sym none ∙ some))) (λ _. refl)
+
+text-some : (verb : Verb) (lines : List (List ℕ)) → (takes verb).text ≡ true → with_text verb lines ≡ (entering (text lines).0 verb, (text lines).1)
+text-some verb lines some =
+    either (λ (r : Verb × List (List ℕ)). r ≡ (entering (text lines).0 verb, (text lines).1)) (takes verb).text
+    (entering (text lines).0 verb, (text lines).1) (verb, lines) (λ _. refl) (λ none. absurd (false≢true (sym none ∙ some)))
+
 -- a letter without parameters that is read with its text is spelled so
-plain-sound : {b : ℕ} {verb : Verb} → PlainVerb b verb → (more : List ℕ) (lines : List (List ℕ)) → AreLines lines → ReadsVerb (b ∷ more) more lines (with_text verb lines)
-plain-sound {b} PlainVerb.append more lines are = verb_entered (b ∷ more) more ed.Append lines are (SpellsVerb.append more)
-plain-sound {b} PlainVerb.change more lines are = verb_entered (b ∷ more) more ed.Change lines are (SpellsVerb.change more)
-plain-sound {b} PlainVerb.insert more lines are = verb_entered (b ∷ more) more ed.Insert lines are (SpellsVerb.insert more)
-plain-sound {b} PlainVerb.delete more lines are = verb_alone (b ∷ more) more ed.Delete lines are (SpellsVerb.delete more (bytes_of lines))
-plain-sound {b} PlainVerb.join more lines are = verb_alone (b ∷ more) more ed.Join lines are (SpellsVerb.join more (bytes_of lines))
-plain-sound {b} PlainVerb.line_number more lines are = verb_alone (b ∷ more) more ed.LineNumber lines are (SpellsVerb.line_number more (bytes_of lines))
-plain-sound (PlainVerb.write b form is) more lines are = verb_alone (b ∷ more) more (ed.Write form) lines are (SpellsVerb.write b more (bytes_of lines) form is)
-plain-sound {b} PlainVerb.undo more lines are = verb_alone (b ∷ more) more ed.Undo lines are (SpellsVerb.undo more (bytes_of lines))
-plain-sound {b} PlainVerb.help more lines are = verb_alone (b ∷ more) more ed.Help lines are (SpellsVerb.help more (bytes_of lines))
-plain-sound {b} PlainVerb.help_mode more lines are = verb_alone (b ∷ more) more ed.HelpMode lines are (SpellsVerb.help_mode more (bytes_of lines))
-plain-sound {b} PlainVerb.prompt_mode more lines are = verb_alone (b ∷ more) more ed.PromptMode lines are (SpellsVerb.prompt_mode more (bytes_of lines))
-plain-sound {b} PlainVerb.quit more lines are = verb_alone (b ∷ more) more ed.Quit lines are (SpellsVerb.quit more (bytes_of lines))
-plain-sound {b} PlainVerb.quit_anyway more lines are = verb_alone (b ∷ more) more ed.QuitAnyway lines are (SpellsVerb.quit_anyway more (bytes_of lines))
+plain-sound : (b : ℕ) (verb : Verb) → Contains plain_verbs (b, verb) → (more : List ℕ) (lines : List (List ℕ)) → AreLines lines →
+    ReadsVerb (b ∷ more) more lines (with_text verb lines)
+plain-sound b verb is more lines are =
+    either (ReadsVerb (b ∷ more) more lines) (takes verb).text (entering (text lines).0 verb, (text lines).1) (verb, lines)
+    (λ some. verb_entered (b ∷ more) more (λ entered. entering entered verb) lines are
+    (λ bytes rest entered spells. SpellsVerb.entered b more bytes rest verb entered is some spells))
+    (λ none. verb_alone (b ∷ more) more verb lines are (SpellsVerb.plain b more (bytes_of lines) verb is none))
 
 -- a letter with a path is spelled so
-file-sound : {path : Option (List ℕ)} {b : ℕ} {verb : Verb} → FileVerb path b verb → (own : List ℕ) → SpellsPath own path → (lines : List (List ℕ)) → AreLines lines → ReadsVerb (b ∷ own) [] lines (with_text verb lines)
-file-sound {path} {b} FileVerb.read_file own spells lines are = verb_alone (b ∷ own) [] (ed.ReadFile path) lines are (SpellsVerb.read_file own (bytes_of lines) path spells)
-file-sound {path} {b} FileVerb.write_file own spells lines are = verb_alone (b ∷ own) [] (ed.WriteFile path) lines are (SpellsVerb.write_file own (bytes_of lines) path spells)
-file-sound {path} {b} FileVerb.edit own spells lines are = verb_alone (b ∷ own) [] (ed.Edit path) lines are (SpellsVerb.edit own (bytes_of lines) path spells)
-file-sound {path} {b} FileVerb.edit_anyway own spells lines are = verb_alone (b ∷ own) [] (ed.EditAnyway path) lines are (SpellsVerb.edit_anyway own (bytes_of lines) path spells)
-file-sound {path} {b} FileVerb.file_name own spells lines are = verb_alone (b ∷ own) [] (ed.FileName path) lines are (SpellsVerb.file_name own (bytes_of lines) path spells)
+file-sound : (path : Option (List ℕ)) (b : ℕ) (verb : Verb) → Contains (file_verbs path) (b, verb) → (own : List ℕ) → SpellsPath own path →
+    (lines : List (List ℕ)) → AreLines lines → ReadsVerb (b ∷ own) [] lines (with_text verb lines)
+file-sound path b verb is own spells lines are =
+    subst (ReadsVerb (b ∷ own) [] lines) (sym (text-none verb lines (file-text path b verb is)))
+    (verb_alone (b ∷ own) [] verb lines are (SpellsVerb.on_file b own (bytes_of lines) path verb is spells))
 
 -- a verb that is read with its text is spelled so
 verb-sound : {own more : List ℕ} {verb : Verb} → SpellsLetter own more verb → (lines : List (List ℕ)) → AreLines lines → ReadsVerb own more lines (with_text verb lines)
 verb-sound SpellsLetter.null lines are = verb_alone [] [] ed.Null lines are (SpellsVerb.null (bytes_of lines))
-verb-sound (SpellsLetter.plain b more verb is) lines are = plain-sound is more lines are
+verb-sound (SpellsLetter.plain b more verb is) lines are = plain-sound b verb is more lines are
 verb-sound {own} (SpellsLetter.mark letter more small) lines are = verb_alone own more (ed.Mark letter) lines are (SpellsVerb.mark letter more (bytes_of lines) small)
 verb-sound (SpellsLetter.move own more target is) lines are = verb_alone (letter_m ∷ own) more (ed.Move target) lines are (SpellsVerb.move own more (bytes_of lines) target is)
 verb-sound (SpellsLetter.copy own more target is) lines are = verb_alone (letter_t ∷ own) more (ed.Copy target) lines are (SpellsVerb.copy own more (bytes_of lines) target is)
-verb-sound (SpellsLetter.file b own path verb is spells) lines are = file-sound is own spells lines are
+verb-sound (SpellsLetter.file b own path verb is spells) lines are = file-sound path b verb is own spells lines are
 
 -- a letter with its parameters and its text, read from the lines after the parameters
 pub record ReadsHead (own more before : List ℕ) (lines : List (List ℕ)) (r : Verb × List (List ℕ)) : Type 0 where
@@ -126,29 +131,20 @@ alone_read own more verb lines rest are same is read = record {
   read = read;
 }
 
--- the same of one without parameters
-plain_read : (b : ℕ) (more : List ℕ) (verb : Verb) (lines : List (List ℕ)) (rest : List ℕ) → AreLines lines → rest ≡ bytes_of lines → PlainVerb b verb → with_text verb lines ≡ (verb, lines) →
-    VerbRead (b ∷ more) more verb lines rest
-plain_read b more verb lines rest are same is read = alone_read (b ∷ more) more verb lines rest are same (SpellsLetter.plain b more verb is) read
-
--- the same of one with a path
-file_read : (b : ℕ) (own : List ℕ) (path : Option (List ℕ)) (verb : Verb) (lines : List (List ℕ)) (rest : List ℕ) → AreLines lines → rest ≡ bytes_of lines → FileVerb path b verb → SpellsPath own path →
-    with_text verb lines ≡ (verb, lines) → VerbRead (b ∷ own) [] verb lines rest
-file_read b own path verb lines rest are same is spells read = alone_read (b ∷ own) [] verb lines rest are same (SpellsLetter.file b own path verb is spells) read
-
 -- the verb of a letter that a text follows
-entered_read : (b : ℕ) (more : List ℕ) (of : List (List ℕ) → Verb) (bytes rest : List ℕ) (entered lines : List (List ℕ)) → SpellsText bytes rest entered → AreLines lines → bytes ++ rest ≡ bytes_of lines →
-    PlainVerb b (of []) → with_text (of []) lines ≡ (of (text lines).0, (text lines).1) → VerbRead (b ∷ more) more (of entered) lines rest
-entered_read b more of bytes rest entered lines is are same plain with_text_is =
-    let read = text-complete is lines are same in record {
-      entered = of [];
+entered_read : (b : ℕ) (more : List ℕ) (verb : Verb) (bytes rest : List ℕ) (entered lines : List (List ℕ)) → SpellsText bytes rest entered →
+    AreLines lines → bytes ++ rest ≡ bytes_of lines → Contains plain_verbs (b, verb) → (takes verb).text ≡ true →
+    VerbRead (b ∷ more) more (entering entered verb) lines rest
+entered_read b more verb bytes rest entered lines spells are same is some =
+    let read = text-complete spells lines are same in record {
+      entered = verb;
       before = [];
-      head = SpellsHead.plain (b ∷ more) more (of []) (SpellsLetter.plain b more (of []) plain);
+      head = SpellsHead.plain (b ∷ more) more verb (SpellsLetter.plain b more verb is);
       after = lines;
       after_are = are;
       split = refl;
       left = read.0;
-      read = with_text_is ∙ ap (λ r. (of r.0, r.1)) read.1;
+      read = text-some verb lines some ∙ ap (λ r. (entering r.0 verb, r.1)) read.1;
     }
 
 -- `s` that is spelled so
@@ -167,30 +163,25 @@ substitute_read {own} {more} {before} {rest} {verb} is lines are same unchanged 
     }
 
 verb-complete : {own more bytes rest : List ℕ} {verb : Verb} → SpellsVerb own more bytes rest verb → (lines : List (List ℕ)) → AreLines lines → bytes ++ rest ≡ bytes_of lines → VerbRead own more verb lines rest
-verb-complete (SpellsVerb.append more bytes rest entered is) lines are same = entered_read letter_a more ed.Append bytes rest entered lines is are same PlainVerb.append refl
-verb-complete (SpellsVerb.change more bytes rest entered is) lines are same = entered_read letter_c more ed.Change bytes rest entered lines is are same PlainVerb.change refl
-verb-complete (SpellsVerb.insert more bytes rest entered is) lines are same = entered_read letter_i more ed.Insert bytes rest entered lines is are same PlainVerb.insert refl
-verb-complete (SpellsVerb.delete more rest) lines are same = plain_read letter_d more ed.Delete lines rest are same PlainVerb.delete refl
-verb-complete {own} (SpellsVerb.mark letter more rest small) lines are same = alone_read own more (ed.Mark letter) lines rest are same (SpellsLetter.mark letter more small) refl
-verb-complete (SpellsVerb.join more rest) lines are same = plain_read letter_j more ed.Join lines rest are same PlainVerb.join refl
-verb-complete (SpellsVerb.move own more rest target is) lines are same = alone_read (letter_m ∷ own) more (ed.Move target) lines rest are same (SpellsLetter.move own more target is) refl
-verb-complete (SpellsVerb.copy own more rest target is) lines are same = alone_read (letter_t ∷ own) more (ed.Copy target) lines rest are same (SpellsLetter.copy own more target is) refl
-verb-complete (SpellsVerb.substitute delimiter own after_pattern after_replacement more text rest pattern replacement which form good quoted replaced end) lines are same =
-    substitute_read (SpellsSubstitution.parameters delimiter own after_pattern after_replacement more text pattern replacement which form good quoted replaced end) lines are same (λ later. refl)
-verb-complete (SpellsVerb.line_number more rest) lines are same = plain_read equals_sign more ed.LineNumber lines rest are same PlainVerb.line_number refl
 verb-complete (SpellsVerb.null rest) lines are same = alone_read [] [] ed.Null lines rest are same SpellsLetter.null refl
-verb-complete (SpellsVerb.write letter more rest form is) lines are same = plain_read letter more (ed.Write form) lines rest are same (PlainVerb.write letter form is) refl
-verb-complete (SpellsVerb.read_file own rest path is) lines are same = file_read letter_r own path (ed.ReadFile path) lines rest are same FileVerb.read_file is refl
-verb-complete (SpellsVerb.write_file own rest path is) lines are same = file_read letter_w own path (ed.WriteFile path) lines rest are same FileVerb.write_file is refl
-verb-complete (SpellsVerb.edit own rest path is) lines are same = file_read letter_e own path (ed.Edit path) lines rest are same FileVerb.edit is refl
-verb-complete (SpellsVerb.edit_anyway own rest path is) lines are same = file_read capital_e own path (ed.EditAnyway path) lines rest are same FileVerb.edit_anyway is refl
-verb-complete (SpellsVerb.file_name own rest path is) lines are same = file_read letter_f own path (ed.FileName path) lines rest are same FileVerb.file_name is refl
-verb-complete (SpellsVerb.undo more rest) lines are same = plain_read letter_u more ed.Undo lines rest are same PlainVerb.undo refl
-verb-complete (SpellsVerb.help more rest) lines are same = plain_read letter_h more ed.Help lines rest are same PlainVerb.help refl
-verb-complete (SpellsVerb.help_mode more rest) lines are same = plain_read capital_h more ed.HelpMode lines rest are same PlainVerb.help_mode refl
-verb-complete (SpellsVerb.prompt_mode more rest) lines are same = plain_read capital_p more ed.PromptMode lines rest are same PlainVerb.prompt_mode refl
-verb-complete (SpellsVerb.quit more rest) lines are same = plain_read letter_q more ed.Quit lines rest are same PlainVerb.quit refl
-verb-complete (SpellsVerb.quit_anyway more rest) lines are same = plain_read capital_q more ed.QuitAnyway lines rest are same PlainVerb.quit_anyway refl
+verb-complete (SpellsVerb.plain b more rest verb is none) lines are same =
+    alone_read (b ∷ more) more verb lines rest are same (SpellsLetter.plain b more verb is) (text-none verb lines none)
+verb-complete (SpellsVerb.entered b more bytes rest verb entered is some spells) lines are same =
+    entered_read b more verb bytes rest entered lines spells are same is some
+verb-complete (SpellsVerb.on_file b own rest path verb is spells) lines are same =
+    alone_read (b ∷ own) [] verb lines rest are same (SpellsLetter.file b own path verb is spells)
+    (text-none verb lines (file-text path b verb is))
+verb-complete {own} (SpellsVerb.mark letter more rest small) lines are same =
+    alone_read own more (ed.Mark letter) lines rest are same (SpellsLetter.mark letter more small) refl
+verb-complete (SpellsVerb.move own more rest target is) lines are same =
+    alone_read (letter_m ∷ own) more (ed.Move target) lines rest are same (SpellsLetter.move own more target is) refl
+verb-complete (SpellsVerb.copy own more rest target is) lines are same =
+    alone_read (letter_t ∷ own) more (ed.Copy target) lines rest are same (SpellsLetter.copy own more target is) refl
+verb-complete (SpellsVerb.substitute delimiter own after_pattern after_replacement more text rest pattern replacement which form good quoted replaced end)
+    lines are same =
+    substitute_read
+    (SpellsSubstitution.parameters delimiter own after_pattern after_replacement more text pattern replacement which form good quoted replaced end)
+    lines are same (λ later. refl)
 
 -- a text changes nothing of what its command takes and where it may stand
 may_have-text : (given : Addresses) (verb : Verb) (later : List (List ℕ)) → may_have given (with_text verb later).0 ≡ may_have given verb
@@ -271,35 +262,17 @@ pub record CommandRead (listed : Bool) (lines : List (List ℕ)) (rest : List �
   pub read : command_after_addresses listed given own later ≡ Some (c, left.lines)
 
 -- no letter but `g` and `v` is that of a global command
-form-unsensed : {letter : ℕ} {form : Form} (more : List ℕ) → SpellsForm letter form → sense_at (letter ∷ more) ≡ None
-form-unsensed more SpellsForm.plain = refl
-form-unsensed more SpellsForm.numbered = refl
-form-unsensed more SpellsForm.unambiguous = refl
-
 verb-unsensed : {own more text rest : List ℕ} {verb : Verb} → SpellsVerb own more text rest verb → sense_at own ≡ None
-verb-unsensed (SpellsVerb.write letter more rest form is) = form-unsensed more is
-verb-unsensed (SpellsVerb.append more text rest entered is) = refl
-verb-unsensed (SpellsVerb.change more text rest entered is) = refl
-verb-unsensed (SpellsVerb.insert more text rest entered is) = refl
-verb-unsensed (SpellsVerb.delete more rest) = refl
+verb-unsensed (SpellsVerb.null rest) = refl
+verb-unsensed (SpellsVerb.plain letter more rest verb is none) = plain-unsensed letter verb is more
+verb-unsensed (SpellsVerb.entered letter more text rest verb lines is some spells) = plain-unsensed letter verb is more
+verb-unsensed (SpellsVerb.on_file letter own rest path verb is spells) = file-unsensed path letter verb is own
 verb-unsensed (SpellsVerb.mark letter more rest small) = refl
-verb-unsensed (SpellsVerb.join more rest) = refl
 verb-unsensed (SpellsVerb.move own more rest target is) = refl
 verb-unsensed (SpellsVerb.copy own more rest target is) = refl
-verb-unsensed (SpellsVerb.substitute delimiter own after_pattern after_replacement more text rest pattern replacement which form good quoted replaced end) = refl
-verb-unsensed (SpellsVerb.line_number more rest) = refl
-verb-unsensed (SpellsVerb.null rest) = refl
-verb-unsensed (SpellsVerb.read_file own rest path is) = refl
-verb-unsensed (SpellsVerb.write_file own rest path is) = refl
-verb-unsensed (SpellsVerb.edit own rest path is) = refl
-verb-unsensed (SpellsVerb.edit_anyway own rest path is) = refl
-verb-unsensed (SpellsVerb.file_name own rest path is) = refl
-verb-unsensed (SpellsVerb.undo more rest) = refl
-verb-unsensed (SpellsVerb.help more rest) = refl
-verb-unsensed (SpellsVerb.help_mode more rest) = refl
-verb-unsensed (SpellsVerb.prompt_mode more rest) = refl
-verb-unsensed (SpellsVerb.quit more rest) = refl
-verb-unsensed (SpellsVerb.quit_anyway more rest) = refl
+verb-unsensed
+    (SpellsVerb.substitute delimiter own after_pattern after_replacement more text rest pattern replacement which form good quoted replaced end) =
+    refl
 
 abbrev command_with : Bool → Addresses → Option Form → Verb × List (List ℕ) → Command × List (List ℕ)
 command_with listed given suffix r = (record { addresses = given; verb = r.0; suffix = suffix; listed = listed }, r.1)

@@ -1,12 +1,13 @@
 -- The verb of a letter with its parameters has no list and no split, and a letter for its mark; a text changes nothing of that.
-use Rattle.std.proofs.Common.{◌≡◌, ℕ, Bool, true, false, not, ◌&&◌, List, Option, refl}
-use Rattle.std.proofs.lemmas.Bool.{lt-ltb}
+use Rattle.std.proofs.Common.{◌≡◌, ℕ, Bool, true, false, not, ◌&&◌, List, refl}
+use Rattle.std.proofs.lemmas.Bool.{and_parts, lt-ltb, not-true}
 use Rattle.ed_syntax.specs.Commands as ed
 use Rattle.ed_syntax.specs.Commands.{Verb}
 use Rattle.ed_syntax.specs.meaning.Verbs.{takes, marks_by_letter, has_split}
-use Rattle.ed_syntax.specs.reading.ReadCommands.{text, entering, with_text}
+use Rattle.ed_syntax.specs.reading.ReadCommands.{text, with_text}
+use Rattle.ed_syntax.specs.spelling.CommandLetters.{plain_verbs, file_verbs, entering}
 use Rattle.ed_syntax.proofs.meaning.StepLemmas.{either}
-use Rattle.ed_syntax.proofs.reader.VerbLemmas.{PlainVerb, FileVerb, SpellsLetter}
+use Rattle.ed_syntax.proofs.reader.VerbLemmas.{SpellsLetter, of-entry}
 
 -- a command that has a list
 abbrev pub is_global : Verb → Bool
@@ -22,18 +23,17 @@ pub record IsSimple (verb : Verb) : Type 0 where
   pub stands : stands verb ≡ true
   pub whole : has_split verb ≡ false
 
-plain-simple : {b : ℕ} {verb : Verb} → PlainVerb b verb → IsSimple verb
-plain-simple PlainVerb.append = record { stands = refl; whole = refl }
-plain-simple _ = record { stands = refl; whole = refl }
+-- so is each verb of a table that a test finds to be
+abbrev is_simple : Verb → Bool
+is_simple verb = stands verb && not (has_split verb)
 
-file-simple : {path : Option (List ℕ)} {b : ℕ} {verb : Verb} → FileVerb path b verb → IsSimple verb
-file-simple FileVerb.read_file = record { stands = refl; whole = refl }
-file-simple _ = record { stands = refl; whole = refl }
+simple : (verb : Verb) → is_simple verb ≡ true → IsSimple verb
+simple verb h = let both = and_parts (stands verb) (not (has_split verb)) h in record { stands = both.0; whole = not-true (has_split verb) both.1 }
 
 pub letter-simple : {own more : List ℕ} {verb : Verb} → SpellsLetter own more verb → IsSimple verb
-letter-simple (SpellsLetter.plain b more verb is) = plain-simple is
+letter-simple (SpellsLetter.plain b more verb is) = simple verb (of-entry (λ (e : ℕ × Verb). is_simple e.1) plain_verbs (b, verb) refl is)
 letter-simple (SpellsLetter.mark letter more small) = record { stands = lt-ltb letter 26 small; whole = refl }
-letter-simple (SpellsLetter.file b own path verb is spells) = file-simple is
+letter-simple (SpellsLetter.file b own path verb is spells) = simple verb (of-entry (λ (e : ℕ × Verb). is_simple e.1) (file_verbs path) (b, verb) refl is)
 letter-simple _ = record { stands = refl; whole = refl }
 
 -- it is the same of a verb whatever its text

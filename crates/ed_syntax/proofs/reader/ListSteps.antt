@@ -12,7 +12,8 @@ use Rattle.ed_syntax.specs.meaning.Verbs.{marks_by_letter, may_be_listed, has_sp
 use Rattle.ed_syntax.specs.spelling.Spellings as spelled
 use Rattle.ed_syntax.specs.spelling.Spellings.{SpellsCommand, SpellsEach, SpellsList, print}
 use Rattle.ed_syntax.specs.reading.Tokens.{◌>>=◌, addresses}
-use Rattle.ed_syntax.specs.reading.ReadCommands.{is_dot, text, entering, with_text, heading_after_addresses, finished, Taken, command_after_addresses, command_at}
+use Rattle.ed_syntax.specs.spelling.CommandLetters.{entering}
+use Rattle.ed_syntax.specs.reading.ReadCommands.{is_dot, text, with_text, heading_after_addresses, finished, Taken, command_after_addresses, command_at}
 use Rattle.ed_syntax.specs.reading.ReadGlobals.{commands, all_commands, is_newline, list_of}
 use Rattle.ed_syntax.specs.meaning.Verbs.{takes}
 use Rattle.ed_syntax.proofs.meaning.StepLemmas.{Some-same, bind-some, chosen, either}

@@ -6,7 +6,8 @@ use Rattle.ed_syntax.specs.Commands.{Addresses, Verb, Command, Step, Script, alo
 use Rattle.ed_syntax.specs.spelling.Spellings.{global_of}
 use Rattle.ed_syntax.specs.reading.Tokens.{pattern_at, addresses}
 use Rattle.ed_syntax.specs.meaning.Verbs.{takes}
-use Rattle.ed_syntax.specs.reading.ReadCommands.{is_dot, text, entering, with_text, heading_after_addresses, finished, Taken, command_after_addresses, command_at}
+use Rattle.ed_syntax.specs.spelling.CommandLetters.{entering}
+use Rattle.ed_syntax.specs.reading.ReadCommands.{is_dot, text, with_text, heading_after_addresses, finished, Taken, command_after_addresses, command_at}
 use Rattle.ed_syntax.specs.reading.ReadGlobals.{joined, list_of, with_list, global_by, global_after_addresses, sense_at}
 use Rattle.ed_syntax.specs.reading.Reading.{step_by, step_after_addresses, step_at, script, followed}
 use Rattle.ed_syntax.proofs.meaning.StepLemmas.{Some-same, none_some, bind-some, either}

@@ -6,12 +6,15 @@ use Rattle.std.proofs.lemmas.Bool.{and_from, and_parts, ne_eqb, eq-eqb}
 use Rattle.std.proofs.lemmas.List.Elements.{All-nil, All-cons, All-head, All-tail}
 use Rattle.ed_base.specs.Lines.{newline, IsLine, AreLines}
 use Rattle.ed_syntax.specs.declared.command.Sense.{Sense}
+use Rattle.ed_syntax.specs.Commands as ed
 use Rattle.ed_syntax.specs.Commands.{Addresses, Without, One, Comma, Semicolon, Form, Verb, Command, Step, Script}
 use Rattle.ed_syntax.specs.meaning.Verbs.{takes, may_have}
+use Rattle.ed_syntax.specs.spelling.CommandLetters.{entering}
 use Rattle.ed_syntax.specs.spelling.Parameters.{SpellsText}
 use Rattle.ed_syntax.specs.spelling.Spellings as spells
 use Rattle.ed_syntax.specs.spelling.Spellings.{SpellsSuffix, SpellsVerb, SpellsCommand, SpellsEach, SpellsList, Spells, SpellsSteps}
 use Rattle.ed_syntax.specs.spelling.Readable.{are_lines, enters_lines, is_readable, is_readable_step, SpelledIsReadable}
+use Rattle.ed_syntax.proofs.reader.VerbLemmas.{file-text}
 
 is-line : (line : List ℕ) → IsLine line → list_all (λ byte. not (nat_eq byte newline)) line ≡ true
 is-line [] h = refl
@@ -47,10 +50,23 @@ spelled-lines _ _ _ (SpellsText.dot rest) = All-nil IsLine
 spelled-lines _ _ _ (SpellsText.line line bytes rest lines whole other more) =
     All-cons IsLine line lines whole (spelled-lines bytes rest lines more)
 
+enters-entering : (lines : List (List ℕ)) (verb : Verb) → are_lines lines ≡ true → enters_lines (entering lines verb) ≡ true
+enters-entering lines (ed.Append text) h = h
+enters-entering lines (ed.Change text) h = h
+enters-entering lines (ed.Insert text) h = h
+enters-entering lines _ h = refl
+
+enters-none : (verb : Verb) → (takes verb).text ≡ false → enters_lines verb ≡ true
+enters-none (ed.Append text) h = absurd cc
+enters-none (ed.Change text) h = absurd cc
+enters-none (ed.Insert text) h = absurd cc
+enters-none _ h = refl
+
 spelled-enters : (own more text rest : List ℕ) (verb : Verb) → SpellsVerb own more text rest verb → enters_lines verb ≡ true
-spelled-enters _ _ _ _ _ (SpellsVerb.append more text rest entered h) = are-lines entered (spelled-lines text rest entered h)
-spelled-enters _ _ _ _ _ (SpellsVerb.change more text rest entered h) = are-lines entered (spelled-lines text rest entered h)
-spelled-enters _ _ _ _ _ (SpellsVerb.insert more text rest entered h) = are-lines entered (spelled-lines text rest entered h)
+spelled-enters _ _ _ _ _ (SpellsVerb.plain letter more rest verb is none) = enters-none verb none
+spelled-enters _ _ _ _ _ (SpellsVerb.entered letter more text rest verb lines is some h) =
+    enters-entering lines verb (are-lines lines (spelled-lines text rest lines h))
+spelled-enters _ _ _ _ _ (SpellsVerb.on_file letter own rest path verb is h) = enters-none verb (file-text path letter verb is)
 spelled-enters _ _ _ _ _ _ = refl
 
 spelled-suffix : (verb : Verb) (more : List ℕ) (suffix : Option Form) → SpellsSuffix verb more suffix →

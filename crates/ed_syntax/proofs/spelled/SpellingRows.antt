@@ -15,7 +15,7 @@ text_in_a_list : SpellsCommand true (codes "a\nx\n") [] (record { addresses = Wi
 text_in_a_list =
     spelt.command (codes "a") (codes "a") [] (codes "x\n") [] _ _ _ (search rules)
     (addressing.single (codes "a") (codes "a") None (addressing.none _ (search rules)) (search rules))
-    (spelt.append [] (codes "x\n") [] _ (parameter.line (codes "x") [] [] [] (search rules) (search rules) parameter.over))
+    (spelt.entered 97 [] (codes "x\n") [] (ed.Append []) (codes "x" ∷ []) (0, search rules, refl) refl (parameter.line (codes "x") [] [] [] (search rules) (search rules) parameter.over))
     (search rules) (search rules) (spelt.none [] (search rules))
 
 -- a global with a list on two lines, the second of which is a text

@@ -4,6 +4,7 @@ use Rattle.std.specs.List.{list_all}
 use Rattle.ed_syntax.specs.Commands as ed
 use Rattle.ed_syntax.specs.Commands.{Addresses, Form, Verb, Command}
 use Rattle.ed_syntax.specs.meaning.Verbs.{may_have, may_stand, takes}
+use Rattle.ed_syntax.specs.spelling.CommandLetters.{entering}
 use Rattle.ed_syntax.specs.spelling.Characters.{is_blank}
 use Rattle.ed_syntax.specs.spelling.Letters.{letter_s}
 use Rattle.ed_syntax.specs.reading.Tokens.{◌>>=◌, addresses}
@@ -73,13 +74,6 @@ is_dot (b ∷ c ∷ bs) = false
 abbrev pub text : List (List ℕ) → List (List ℕ) × List (List ℕ)
 text [] = ([], [])
 text (line ∷ lines) = elim (is_dot line) [ true ↦ ([], lines) | false ↦ let r = text lines in (line ∷ r.0, r.1) ]
-
--- the verb with this text
-abbrev pub entering : List (List ℕ) → Verb → Verb
-entering text (ed.Append _) = ed.Append text
-entering text (ed.Change _) = ed.Change text
-entering text (ed.Insert _) = ed.Insert text
-entering text verb = verb
 
 -- a verb with its text, if it takes one, from the lines after its own, and the lines after that
 abbrev pub with_text : Verb → List (List ℕ) → Verb × List (List ℕ)

@@ -1,45 +1,16 @@
 -- How the reader takes a command's letter apart, with parameters on its own line (XCU ed, "Commands in ed").
 use Rattle.std.specs.Prelude.{ℕ, true, false, List, [], ◌∷◌, Option, Some, None, nat_eq}
 use Rattle.ed_syntax.specs.Commands as ed
-use Rattle.ed_syntax.specs.Commands.{Address, Form, Verb}
-use Rattle.ed_syntax.specs.spelling.Characters.{exclamation_mark, equals_sign, is_blank, after_blanks}
-use Rattle.ed_syntax.specs.spelling.Letters.{capital_e, capital_h, capital_p, capital_q, letter_a, letter_c, letter_d, letter_e, letter_f, letter_h, letter_i, letter_j, letter_k, letter_l, letter_m, letter_n, letter_p, letter_q, letter_r, letter_t, letter_u, letter_w}
+use Rattle.ed_syntax.specs.Commands.{Address, Verb}
+use Rattle.ed_syntax.specs.spelling.Characters.{exclamation_mark, is_blank, after_blanks}
+use Rattle.ed_syntax.specs.spelling.Letters.{letter_k, letter_m, letter_t}
+use Rattle.ed_syntax.specs.spelling.CommandLetters.{plain_verbs, file_verbs}
 use Rattle.ed_syntax.specs.reading.Tokens.{Parsed, ◌>>=◌, letter, address}
 
 -- the verb beside this letter
 abbrev pub beside_letter : ℕ → List (ℕ × Verb) → Option Verb
 beside_letter b [] = None
 beside_letter b (entry ∷ entries) = elim (nat_eq b entry.0) [ true ↦ Some entry.1 | false ↦ beside_letter b entries ]
-
--- the commands whose letter has no parameters on its line, before their texts are read
-abbrev pub plain_verbs : List (ℕ × Verb)
-plain_verbs =
-    (letter_a, ed.Append [])
-    ∷ (letter_c, ed.Change [])
-    ∷ (letter_d, ed.Delete)
-    ∷ (letter_i, ed.Insert [])
-    ∷ (letter_j, ed.Join)
-    ∷ (letter_l, ed.Write ed.Unambiguous)
-    ∷ (letter_n, ed.Write ed.Numbered)
-    ∷ (letter_p, ed.Write ed.Plain)
-    ∷ (equals_sign, ed.LineNumber)
-    ∷ (letter_u, ed.Undo)
-    ∷ (letter_h, ed.Help)
-    ∷ (capital_h, ed.HelpMode)
-    ∷ (capital_p, ed.PromptMode)
-    ∷ (letter_q, ed.Quit)
-    ∷ (capital_q, ed.QuitAnyway)
-    ∷ []
-
--- the commands on files, with this path
-abbrev pub file_verbs : Option (List ℕ) → List (ℕ × Verb)
-file_verbs path =
-    (letter_e, ed.Edit path)
-    ∷ (capital_e, ed.EditAnyway path)
-    ∷ (letter_f, ed.FileName path)
-    ∷ (letter_r, ed.ReadFile path)
-    ∷ (letter_w, ed.WriteFile path)
-    ∷ []
 
 -- a name, which doesn't begin with `!`; nothing is no name
 abbrev pub name_of : List ℕ → Option (Option (List ℕ))

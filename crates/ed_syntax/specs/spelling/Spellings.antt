@@ -1,14 +1,15 @@
 -- Which bytes spell a command, and which a script (XCU ed, "Commands in ed", "Global Command").
-use Rattle.std.specs.Prelude.{ℕ, ◌+◌, ◌-◌, ◌<◌, ◌≡◌, ◌≢◌, Bool, true, false, List, [], ◌∷◌, ◌++◌, length, Option, Some, None, IsTrue, IsFalse}
+use Rattle.std.specs.Prelude.{ℕ, ◌+◌, ◌-◌, ◌<◌, ◌≡◌, ◌≢◌, Bool, true, false, List, [], ◌∷◌, ◌++◌, length, Option, Some, None, IsTrue, IsFalse, Contains}
 use Rattle.ed_base.specs.Lines.{newline, IsLine, lines_of, bytes_of}
 use Rattle.ed_syntax.specs.declared.command.Sense.{Sense}
 use Rattle.ed_syntax.specs.declared.replacement.Part.{Part}
 use Rattle.ed_syntax.specs.declared.replacement.Which.{Which}
-use Rattle.ed_syntax.specs.spelling.Characters.{equals_sign, backslash, is_delimiter, goes_on, after_blanks}
-use Rattle.ed_syntax.specs.spelling.Letters.{capital_e, capital_h, capital_p, capital_q, letter_a, letter_c, letter_d, letter_e, letter_f, letter_h, letter_i, letter_j, letter_k, letter_m, letter_q, letter_r, letter_s, letter_t, letter_u, letter_w}
+use Rattle.ed_syntax.specs.spelling.Characters.{backslash, is_delimiter, goes_on, after_blanks}
+use Rattle.ed_syntax.specs.spelling.Letters.{letter_a, letter_k, letter_m, letter_s, letter_t}
 use Rattle.ed_syntax.specs.Commands as ed
 use Rattle.ed_syntax.specs.Commands.{Address, Addresses, Without, Form, Verb, Command, Step, Script, alone}
 use Rattle.ed_syntax.specs.meaning.Verbs.{may_have, may_stand, takes}
+use Rattle.ed_syntax.specs.spelling.CommandLetters.{plain_verbs, file_verbs, entering}
 use Rattle.ed_syntax.specs.spelling.Quoting.{SpellsPattern, SpellsClosing}
 use Rattle.ed_syntax.specs.spelling.Addressing.{Blanks, SpellsAddress, SpellsAddresses}
 use Rattle.ed_syntax.specs.spelling.Parameters.{SpellsText, SpellsForm, SpellsPath, SpellsReplacement, SpellsEnd, SpellsSense}
@@ -23,15 +24,14 @@ pub data SpellsSuffix (verb : Verb) : List ℕ → Option Form → Type 0 where
 -- then the whole lines after the command's own that belong to it, and what follows them. Where the replacement of `s` is split, what
 -- stands after the parameters is the end of the last of these lines.
 pub data SpellsVerb : (own more text rest : List ℕ) → Verb → Type 0 where
-  append : (more text rest : List ℕ) (entered : List (List ℕ)) → SpellsText text rest entered →
-      SpellsVerb (letter_a ∷ more) more text rest (ed.Append entered)
-  change : (more text rest : List ℕ) (entered : List (List ℕ)) → SpellsText text rest entered →
-      SpellsVerb (letter_c ∷ more) more text rest (ed.Change entered)
-  insert : (more text rest : List ℕ) (entered : List (List ℕ)) → SpellsText text rest entered →
-      SpellsVerb (letter_i ∷ more) more text rest (ed.Insert entered)
-  delete : (more rest : List ℕ) → SpellsVerb (letter_d ∷ more) more [] rest ed.Delete
+  null : (rest : List ℕ) → SpellsVerb [] [] [] rest ed.Null
+  plain : (letter : ℕ) (more rest : List ℕ) (verb : Verb) → Contains plain_verbs (letter, verb) → IsFalse (takes verb).text →
+      SpellsVerb (letter ∷ more) more [] rest verb
+  entered : (letter : ℕ) (more text rest : List ℕ) (verb : Verb) (lines : List (List ℕ)) → Contains plain_verbs (letter, verb) →
+      IsTrue (takes verb).text → SpellsText text rest lines → SpellsVerb (letter ∷ more) more text rest (entering lines verb)
+  on_file : (letter : ℕ) (own rest : List ℕ) (path : Option (List ℕ)) (verb : Verb) → Contains (file_verbs path) (letter, verb) →
+      SpellsPath own path → SpellsVerb (letter ∷ own) [] [] rest verb
   mark : (letter : ℕ) (more rest : List ℕ) → letter < 26 → SpellsVerb (letter_k ∷ (letter_a + letter) ∷ more) more [] rest (ed.Mark letter)
-  join : (more rest : List ℕ) → SpellsVerb (letter_j ∷ more) more [] rest ed.Join
   move : (own more rest : List ℕ) (target : Address) → SpellsAddress (after_blanks own) more (Some target) →
       SpellsVerb (letter_m ∷ own) more [] rest (ed.Move target)
   copy : (own more rest : List ℕ) (target : Address) → SpellsAddress (after_blanks own) more (Some target) →
@@ -41,20 +41,6 @@ pub data SpellsVerb : (own more text rest : List ℕ) → Verb → Type 0 where
       SpellsPattern delimiter own (delimiter ∷ after_pattern) pattern →
       SpellsReplacement delimiter after_pattern after_replacement text replacement → SpellsEnd delimiter after_replacement more which form →
       SpellsVerb (letter_s ∷ delimiter ∷ own) more text rest (ed.Substitute pattern replacement which form)
-  line_number : (more rest : List ℕ) → SpellsVerb (equals_sign ∷ more) more [] rest ed.LineNumber
-  null : (rest : List ℕ) → SpellsVerb [] [] [] rest ed.Null
-  write : (letter : ℕ) (more rest : List ℕ) (form : Form) → SpellsForm letter form → SpellsVerb (letter ∷ more) more [] rest (ed.Write form)
-  read_file : (own rest : List ℕ) (path : Option (List ℕ)) → SpellsPath own path → SpellsVerb (letter_r ∷ own) [] [] rest (ed.ReadFile path)
-  write_file : (own rest : List ℕ) (path : Option (List ℕ)) → SpellsPath own path → SpellsVerb (letter_w ∷ own) [] [] rest (ed.WriteFile path)
-  edit : (own rest : List ℕ) (path : Option (List ℕ)) → SpellsPath own path → SpellsVerb (letter_e ∷ own) [] [] rest (ed.Edit path)
-  edit_anyway : (own rest : List ℕ) (path : Option (List ℕ)) → SpellsPath own path → SpellsVerb (capital_e ∷ own) [] [] rest (ed.EditAnyway path)
-  file_name : (own rest : List ℕ) (path : Option (List ℕ)) → SpellsPath own path → SpellsVerb (letter_f ∷ own) [] [] rest (ed.FileName path)
-  undo : (more rest : List ℕ) → SpellsVerb (letter_u ∷ more) more [] rest ed.Undo
-  help : (more rest : List ℕ) → SpellsVerb (letter_h ∷ more) more [] rest ed.Help
-  help_mode : (more rest : List ℕ) → SpellsVerb (capital_h ∷ more) more [] rest ed.HelpMode
-  prompt_mode : (more rest : List ℕ) → SpellsVerb (capital_p ∷ more) more [] rest ed.PromptMode
-  quit : (more rest : List ℕ) → SpellsVerb (letter_q ∷ more) more [] rest ed.Quit
-  quit_anyway : (more rest : List ℕ) → SpellsVerb (capital_q ∷ more) more [] rest ed.QuitAnyway
 
 -- Whole lines that spell a command without a list, in a list or outside, and the lines that follow: a line with addresses, a letter
 -- and a suffix, and the lines that belong to it.
