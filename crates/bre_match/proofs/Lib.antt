@@ -13,6 +13,8 @@ pub mod Narrowing
 pub mod Turning
 pub mod MergedTurns
 pub mod Meeting
+pub mod Outlooks
+pub mod LeftTells
 pub mod Starts
 pub mod PartKinds
 pub mod Columns

@@ -150,7 +150,7 @@ abbrev ranked : Bounds → Bool → ℕ → ℕ
 ranked b c k = elim c [ true ↦ max b.least 1 | false ↦ k ]
 
 -- two turns of one rank are of the same number, or come after enough of them
-of_one_rank : (b : Bounds) (k l : ℕ) → rank b k ≡ rank b l → (k ≡ l) ⊎ ((b.unbounded ≡ true) × (b.least ≤ k) × (b.least ≤ l) × (0 < k) × (0 < l))
+pub of_one_rank : (b : Bounds) (k l : ℕ) → rank b k ≡ rank b l → (k ≡ l) ⊎ ((b.unbounded ≡ true) × (b.least ≤ k) × (b.least ≤ l) × (0 < k) × (0 < l))
 of_one_rank b k l e = by_cases b.unbounded refl (leb b.least k) refl (ltb 0 k) refl (leb b.least l) refl (ltb 0 l) refl e
   where
     by_cases : (u : Bool) → b.unbounded ≡ u → (x : Bool) → leb b.least k ≡ x → (y : Bool) → ltb 0 k ≡ y → (z : Bool) → leb b.least l ≡ z → (v : Bool) → ltb 0 l ≡ v

@@ -14,6 +14,7 @@ pub mod Keeping
 pub mod Order
 pub mod Turns
 pub mod Meeting
+pub mod Outlooks
 pub mod Starts
 pub mod Needs
 pub mod RowEnds

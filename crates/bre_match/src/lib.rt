@@ -24,6 +24,7 @@ mod learned;
 mod narrow;
 mod needed;
 mod order;
+mod outlook;
 mod pace;
 mod row;
 mod row_end;
@@ -45,6 +46,7 @@ use crate::asked::asked_groups;
 use crate::grouping::set_row;
 use crate::join::first_meeting_of_starts;
 use crate::needed::{first_start, lacks_needed};
+use crate::outlook::Outlook;
 use crate::row::{is_quick_row, is_told_in_order, is_too_wide};
 use crate::row_search::{RowMatch, row_match};
 use crate::seen::Seen;
@@ -206,10 +208,11 @@ fn searched_match(
     let met = first_meeting_of_starts(items, &asked, may_meet);
     let mut left = Vec::new(alloc);
     let mut seen = Seen::new(alloc);
+    let mut outlook = Outlook::new(alloc, items);
     let mut start = first_start(items, text, from);
     while start <= text.len() {
         seen.keep_at_most(MOST_SEEN);
-        match longest_from(&mut left, &mut seen, alloc, items, &asked, met, text, start)? {
+        match outlook.longest_from(&mut left, &mut seen, alloc, items, &asked, met, text, start)? {
             Some(way) => {
                 let end = way.0;
                 let groups = way.1;

@@ -87,13 +87,20 @@ impl Seen {
         }
     }
 
+    /// Forgets all.
+    pub(crate) fn clear(&mut self)
+        ensures value { self.new.marks.items ≡ [] }
+    {
+        self.marks.clear();
+        self.index.clear();
+    }
+
     /// Forgets all, where there are more than so many.
     pub(crate) fn keep_at_most(&mut self, most: usize)
         ensures value { (self.new.marks.items ≡ []) ⊎ (self.new.marks.items ≡ self.old.marks.items) }
     {
         if self.marks.len() > most {
-            self.marks.clear();
-            self.index.clear();
+            self.clear();
         }
     }
 
