@@ -13,8 +13,10 @@ pub mod Narrowing
 pub mod Turning
 pub mod MergedTurns
 pub mod Meeting
+pub mod Each
 pub mod Outlooks
 pub mod LeftTells
+pub mod Hopeless
 pub mod Starts
 pub mod PartKinds
 pub mod Columns

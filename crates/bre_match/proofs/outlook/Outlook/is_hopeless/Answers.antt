@@ -1,5 +1,5 @@
 use Rattle.bre_match.specs.Outlooks.{Before, Begun, NothingWithin}
-use Rattle.bre_match.proofs.LeftTells.{kept_at_most}
+use Rattle.bre_match.proofs.Hopeless.{kept_at_most}
 use Rattle.bre_match.proofs.outlook.Outlook.is_hopeless.Goals as goal
 
 pub nothing_comes-requires-clause-seen : goal.nothing_comes-requires-clause-seen

@@ -1,7 +1,7 @@
 use Rattle.std.proofs.Common.{[], ◌∷◌, ◌++◌, map, reverse, append-nil, refl, ap, sym, ◌∙◌, subst, arith}
 use Rattle.bre_match.specs.Outlooks.{LeftTells}
 use Rattle.bre_match.specs.Runs.{at_item, tasks, ways_of}
-use Rattle.bre_match.proofs.LeftTells.{first_tells, nothing_left, no_match, seen_come_to_nothing}
+use Rattle.bre_match.proofs.Hopeless.{first_tells, nothing_left, no_match, seen_come_to_nothing}
 use Rattle.bre_match.proofs.Tasks.{tasks_push}
 use Rattle.bre_match.proofs.Turning.{reverse_popped}
 use Rattle.bre_match.proofs.outlook.Outlook.nothing_comes.Goals as goal
