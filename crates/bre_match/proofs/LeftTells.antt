@@ -1,13 +1,10 @@
 -- What is left to take up tells what comes of the start, step by step of the search.
-use Rattle.std.proofs.Common.{◌≡◌, ◌⊎◌, inl, inr, ℕ, zero, suc, ◌+◌, ◌<◌, ◌≤◌, List, [], ◌∷◌, ◌++◌, map, flat_map, length, drop, get_or, reverse, Option, None, Bool, true, false, leb, ltb, eqb, refl, ap, sym, ◌∙◌, subst, arith}
-use Rattle.std.specs.Prelude.{◌&&◌}
+use Rattle.std.proofs.Common.{◌≡◌, ◌⊎◌, inl, inr, ℕ, zero, suc, ◌+◌, ◌<◌, ◌≤◌, List, [], ◌∷◌, ◌++◌, map, flat_map, length, drop, get_or, None, Bool, true, false, leb, eqb, refl, ap, sym, subst, arith}
 use Rattle.std.proofs.lemmas.Bool.Decides.{nat_tests}
-use Rattle.std.proofs.lemmas.List.{drop_more, length-drop}
 use Rattle.bre_parse.specs.declared.tree.Node.{Node}
-use Rattle.bre_parse.specs.Tree.{Tree, Empty, Then, Set, TextStart, TextEnd, BackReference, Group, Repeat, tree_of, sequence_of}
-use Rattle.bre_parse.specs.Groups.{Groups, cleared, no_groups}
-use Rattle.bre_parse.specs.Match.{first, longest_from}
-use Rattle.bre_parse.specs.Ways.{Way, Body, ways, turns, enough, fresh_turn, next_turn, after_turn, stopped_or_on, from_way, below, only_if, by_end}
+use Rattle.bre_parse.specs.Tree.{Tree, Repeat, tree_of, sequence_of}
+use Rattle.bre_parse.specs.Groups.{cleared, no_groups}
+use Rattle.bre_parse.specs.Ways.{Way, ways, turns, next_turn, below, by_end}
 use Rattle.bre_match.specs.declared.run.Ahead.{Ahead}
 use Rattle.bre_match.specs.declared.seen.Mark.{Mark}
 use Rattle.bre_match.specs.declared.seen.Seen.{Seen}
@@ -15,15 +12,14 @@ use Rattle.bre_match.specs.declared.turn.Bounds.{Bounds}
 use Rattle.bre_match.specs.declared.turn.Turn.{Turn}
 use Rattle.bre_match.specs.declared.turn.Turn.TheVariants as turn
 use Rattle.bre_match.specs.Alike.{RefersWithin, alike}
-use Rattle.bre_match.specs.Keeping.{KeepsFirsts}
-use Rattle.bre_match.specs.Meeting.{HasMet, MayMark, TakenAhead, mark_of, others_of, ways_through}
-use Rattle.bre_match.specs.Outlooks.{Stage, Before, Within, Begun, first_part, after_begun, ended_or_begun, next_stages, Each, IsRepeat, HasItem, NothingWithin}
-use Rattle.bre_match.specs.Runs.{groups_at, other_ways, ways_of, at_item, tasks}
-use Rattle.bre_match.specs.Turns.{turn_if, ended_or_next, after_way, rank, same_turn, HasTurn, TakenUp}
+use Rattle.bre_match.specs.Meeting.{TakenAhead, mark_of, others_of, ways_through}
+use Rattle.bre_match.specs.Outlooks.{Before, Within, Begun, first_part, after_begun, ended_or_begun, next_stages, Each, IsRepeat, NothingWithin}
+use Rattle.bre_match.specs.Runs.{groups_at, ways_of, at_item, tasks}
+use Rattle.bre_match.specs.Turns.{turn_if, after_way, rank, same_turn, HasTurn, TakenUp}
 use Rattle.bre_match.proofs.Likeness.{both_left, both_right}
 use Rattle.bre_match.proofs.MergedTurns.{of_one_rank}
-use Rattle.bre_match.proofs.Each.{each_map, each_append, each_head, each_rest, each_of_map, each_before_map, each_of_all, each_before_all, each_for_all, each_by_end, each_kept, each_turn}
-use Rattle.bre_match.proofs.Outlooks.{fewer, Kin, Same, SameLeft, Pairs, each_paired, one_after, nothing_same}
+use Rattle.bre_match.proofs.Each.{each_map, each_append, each_head, each_rest, each_of_map, each_before_map, each_of_all, each_before_all, each_kept, each_turn}
+use Rattle.bre_match.proofs.Outlooks.{fewer, Kin, SameLeft, each_paired, one_after, nothing_same}
 use Rattle.bre_match.proofs.Tasks.{items_left, first_and_others}
 
 abbrev pub NoWays : ℕ → List Node → ℕ → List ℕ → List (ℕ × Way) → Type 0

@@ -1,32 +1,21 @@
 -- A search that keeps no order: where nothing is left, nothing comes of the start, nor of what was taken up.
-use Rattle.std.proofs.Common.{◌≡◌, ◌⊎◌, inl, inr, ℕ, zero, suc, ◌+◌, ◌-◌, ◌<◌, ◌≤◌, max, List, [], ◌∷◌, ◌++◌, map, flat_map, length, drop, get_or, reverse, Option, None, Bool, true, false, cond, leb, ltb, eqb, refl, ap, sym, ◌∙◌, subst, arith}
+use Rattle.std.proofs.Common.{◌≡◌, ◌⊎◌, inl, inr, ℕ, zero, suc, ◌+◌, ◌<◌, ◌≤◌, List, [], ◌∷◌, ◌++◌, map, flat_map, length, drop, Option, None, Bool, true, false, leb, eqb, refl, ap, sym, ◌∙◌, subst, arith}
 use Rattle.std.specs.Prelude.{◌&&◌}
 use Rattle.std.proofs.lemmas.Bool.Decides.{nat_tests}
-use Rattle.std.proofs.lemmas.List.{drop_more, length-drop}
 use Rattle.bre_parse.specs.declared.tree.Node.{Node}
-use Rattle.bre_parse.specs.Tree.{Tree, Empty, Then, Set, TextStart, TextEnd, BackReference, Group, Repeat, tree_of, sequence_of}
-use Rattle.bre_parse.specs.Groups.{Groups, cleared, no_groups}
-use Rattle.bre_parse.specs.Match.{first, longest_from}
-use Rattle.bre_parse.specs.Ways.{Way, Body, ways, turns, enough, fresh_turn, next_turn, after_turn, stopped_or_on, from_way, below, only_if, by_end, insert_way}
-use Rattle.bre_match.specs.declared.run.Ahead.{Ahead}
+use Rattle.bre_parse.specs.Tree.{Tree, Empty, Then, Set, TextStart, TextEnd, BackReference, Group, Repeat, sequence_of}
+use Rattle.bre_parse.specs.Groups.{cleared}
+use Rattle.bre_parse.specs.Ways.{Way, ways, next_turn, below, by_end}
 use Rattle.bre_match.specs.declared.seen.Mark.{Mark}
-use Rattle.bre_match.specs.declared.seen.Seen.{Seen}
-use Rattle.bre_match.specs.declared.turn.Bounds.{Bounds}
 use Rattle.bre_match.specs.declared.turn.Turn.{Turn}
 use Rattle.bre_match.specs.declared.turn.Turn.TheVariants as turn
-use Rattle.bre_match.specs.Alike.{RefersWithin, same_asked, alike, HasAlike, AreAlike}
-use Rattle.bre_match.specs.Keeping.{KeepsFirsts}
-use Rattle.bre_match.specs.Meeting.{HasMet, MayMark, TakenAhead, mark_of}
+use Rattle.bre_match.specs.Alike.{RefersWithin, alike, AreAlike}
 use Rattle.bre_match.specs.Outlooks.{Stage, Before, Within, Begun, first_part, after_begun, ended_or_begun, next_stages, Each, HasItem, NothingWithin}
-use Rattle.bre_match.specs.Runs.{groups_at, other_ways, ways_of, at_item, tasks}
-use Rattle.bre_match.specs.Turns.{turn_if, ended_or_next, after_way, rank, same_turn, HasTurn, TakenUp}
+use Rattle.bre_match.specs.Turns.{turn_if, ended_or_next, after_way}
 use Rattle.bre_match.proofs.Asking.{rest_within}
-use Rattle.bre_match.proofs.Keeping.{covers_all}
-use Rattle.bre_match.proofs.Likeness.{both_left, both_right, alike_ends, alike_groups, alike_made, Covers}
-use Rattle.bre_match.proofs.MergedTurns.{of_one_rank}
+use Rattle.bre_match.proofs.Likeness.{alike_ends, alike_groups, alike_made}
 use Rattle.bre_match.proofs.SameWays.{even_at, even_next, even_ways, same_cleared}
-use Rattle.bre_match.proofs.Tasks.{items_left, first_and_others}
-use Rattle.bre_match.proofs.Each.{each_map, each_append, each_head, each_rest, each_of_map, each_before_map, each_of_all, each_before_all, each_for_all, each_by_end, each_kept, each_turn}
+use Rattle.bre_match.proofs.Each.{each_map}
 
 -- Within fewer steps nothing comes either
 

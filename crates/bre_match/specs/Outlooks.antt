@@ -1,5 +1,5 @@
 -- Ways and turns of which nothing comes: whatever is taken up after them, one step after another, no way meets all items.
-use Rattle.std.specs.Prelude.{◌≡◌, ℕ, zero, suc, ◌+◌, ◌<◌, Bool, true, false, List, [], ◌∷◌, ◌++◌, map, flat_map, length, drop, nat_eq, nat_le}
+use Rattle.std.specs.Prelude.{ℕ, zero, suc, ◌+◌, ◌<◌, true, false, List, [], ◌∷◌, map, flat_map, length, drop, nat_eq, nat_le}
 use Rattle.bre_parse.specs.declared.tree.Node.{Node}
 use Rattle.bre_parse.specs.Tree.{Tree, Empty, Repeat, tree_of}
 use Rattle.bre_parse.specs.Groups.{cleared, no_groups}
