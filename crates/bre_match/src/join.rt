@@ -16,8 +16,9 @@ fn sets_asked(part: &Node, asked: &Asked) -> bool {
     }
 }
 
+/// Whether a group that is asked for stands in one of some parts.
 #[cycle(sets)]
-fn any_sets_asked(items: &[Node], asked: &Asked) -> bool {
+pub(crate) fn any_sets_asked(items: &[Node], asked: &Asked) -> bool {
     for item in items {
         if sets_asked(item, asked) {
             return true;

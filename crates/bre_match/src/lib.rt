@@ -208,7 +208,7 @@ fn searched_match(
     let met = first_meeting_of_starts(items, &asked, may_meet);
     let mut left = Vec::new(alloc);
     let mut seen = Seen::new(alloc);
-    let mut outlook = Outlook::new(alloc, items);
+    let mut outlook = Outlook::new(alloc, items, &asked);
     let mut start = first_start(items, text, from);
     while start <= text.len() {
         seen.keep_at_most(MOST_SEEN);

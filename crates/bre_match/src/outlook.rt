@@ -11,7 +11,7 @@ ghost use Rattle.bre_match.specs.Runs.{at_item, tasks, ways_of};
 
 use crate::ahead::push_others;
 use crate::asked::Asked;
-use crate::join::may_meet;
+use crate::join::{any_sets_asked, may_meet};
 use crate::run::{Ahead, Run, Way, groups_at};
 use crate::search::{follow, push_turns};
 use crate::seen::Seen;
@@ -50,10 +50,14 @@ fn is_turned(part: &Node) -> bool {
     }
 }
 
-/// The place of the first item that is such a repeat, or their number.
-fn first_turned(items: &[Node]) -> usize {
+/// The place of the first item that is such a repeat, or their number where there is none, or where a group that is asked for stands before
+/// it, whose span tells the turns of each start from those of any other.
+fn first_turned(items: &[Node], asked: &Asked) -> usize {
     for at in 0..items.len() {
         if is_turned(&items[at]) {
+            if any_sets_asked(&items[..at], asked) {
+                return items.len();
+            }
             return at;
         }
     }
@@ -75,11 +79,11 @@ fn uncounted(least: u8, most: Option<u8>) -> Bounds
 }
 
 impl Outlook {
-    pub(crate) fn new(alloc: Global, items: &[Node]) -> Self
+    pub(crate) fn new(alloc: Global, items: &[Node], asked: &Asked) -> Self
         ensures seen { (text : List ℕ) → NothingComes items.now text result }
     {
         Outlook {
-            at: first_turned(items),
+            at: first_turned(items, asked),
             left: Vec::new(alloc),
             turns: Vec::new(alloc),
             met: Seen::new(alloc),
