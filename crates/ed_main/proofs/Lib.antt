@@ -1,14 +1,6 @@
-mod Checks
-mod Correctness
-mod Fitting
-mod Gathering
 mod GivenPatterns
-mod Joining
 mod Rehearsing
-mod Sayings
 mod Scripts
-mod StatedPatterns
-mod Steps
 mod SubcommandLemmas
 mod WordsLemmas
 mod Worked

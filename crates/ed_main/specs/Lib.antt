@@ -1,18 +1,5 @@
 -- what a reader has to believe
-pub mod Edit
-pub mod Headline
-pub mod Told
-pub mod Check
-pub mod Names
-pub mod Vouch
-pub mod Run
-pub mod Fits
-pub mod Rehearsed
 pub mod Subcommands
 pub mod Words
 pub mod Job
 pub mod Program
--- what serves clauses inside the crate
-pub mod Gathering
-pub mod RunOver
-pub mod StartTest

@@ -6,21 +6,21 @@ use Rattle.ed_base.specs.declared.fault.Fault.TheVariants as fault
 use Rattle.ed_syntax.specs.declared.options.Options.{Options}
 use Rattle.ed_session.specs.Drives.{Log}
 use Rattle.ed_session.specs.Sinks.{SinkChange}
-use Rattle.ed_main.specs.declared.job.Job.{Job}
-use Rattle.ed_main.specs.declared.job.Job.TheVariants as job
 use Rattle.sources.specs.declared.source.ReadFault.{ReadFault}
 use Rattle.sources.specs.declared.source.ReadFault.TheVariants as reading
+use Rattle.ed_calls.specs.Check.{Checks}
+use Rattle.ed_calls.specs.Edit.{Correct}
+use Rattle.ed_calls.specs.Fits.{Fits}
+use Rattle.ed_calls.specs.Headline.{MayFail}
+use Rattle.ed_calls.specs.Rehearsed.{Rehearsed}
+use Rattle.ed_calls.specs.Run.{Runs}
+use Rattle.ed_calls.specs.Told.{Says}
+use Rattle.ed_calls.specs.Vouch.{Vouches}
+use Rattle.ed_main.specs.declared.job.Job.{Job}
+use Rattle.ed_main.specs.declared.job.Job.TheVariants as job
 use Rattle.ed_main.specs.declared.words.WordsFault.{WordsFault}
 use Rattle.ed_main.specs.declared.words.WordsFault.TheVariants as words
-use Rattle.ed_main.specs.Check.{Checks}
-use Rattle.ed_main.specs.Edit.{Correct}
-use Rattle.ed_main.specs.Fits.{Fits}
-use Rattle.ed_main.specs.Headline.{MayFail}
 use Rattle.ed_main.specs.Job.{IsGiven}
-use Rattle.ed_main.specs.Rehearsed.{Rehearsed}
-use Rattle.ed_main.specs.Run.{Runs}
-use Rattle.ed_main.specs.Told.{Says}
-use Rattle.ed_main.specs.Vouch.{Vouches}
 
 -- how many bytes of standard input, and of a certificate, are read at most
 abbrev pub most_bytes : ℕ

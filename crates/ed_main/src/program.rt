@@ -1,30 +1,26 @@
 //! One run of the program: its words, its script, its files, and the status that it ends with.
 ghost use Rattle.std.specs.Prelude.{◌≡◌, ◌<◌, ◌≤◌, ◌+◌, ◌-◌, ◌^◌, ◌⊎◌, [], true, Ok, Err, IfOk, IsTrue, IsFalse};
 ghost use Rattle.ed_session.specs.Drives.{added};
-ghost use Rattle.ed_main.specs.Check.{Checks};
-ghost use Rattle.ed_main.specs.Edit.{Correct};
-ghost use Rattle.ed_main.specs.Fits.{Fits};
+ghost use Rattle.ed_calls.specs.Check.{Checks};
+ghost use Rattle.ed_calls.specs.Edit.{Correct};
+ghost use Rattle.ed_calls.specs.Fits.{Fits};
+ghost use Rattle.ed_calls.specs.Told.{Says};
+ghost use Rattle.ed_calls.specs.Vouch.{Vouches};
 ghost use Rattle.ed_main.specs.Job.{IsGiven};
 ghost use Rattle.ed_main.specs.Program.{Does, Edits, IsEnding, RunsOn, RunsWith, Somehow, most_bytes, status_of_unread, status_of_words, wants_script};
-ghost use Rattle.ed_main.specs.Told.{Says};
-ghost use Rattle.ed_main.specs.Vouch.{Vouches};
 ghost use Rattle.ed_main.specs.declared.job.Job.TheVariants as job;
 ghost use Rattle.sources.specs.Source.{HasMore, IsAll};
 
-use crate::check::check_text;
-use crate::edit::edit;
-use crate::fits::fit;
-use crate::held_writes::show_held;
 use crate::job::Job;
-use crate::run::run;
-use crate::stderr::aside::Aside;
 use crate::stderr::notes::{show_empty, show_terminal};
-use crate::stderr::refusals::{Explains, Watched, show_input, show_output, show_unread};
 use crate::stderr::usage::USAGE;
-use crate::vouch::vouch_text;
 use crate::words::{WordsFault, job_of_words};
 use analyser::Start;
 use ed_base::{Bytes, Fault};
+use ed_calls::{
+    Aside, Explains, Watched, check_text, edit, fit, run, show_held, show_input, show_output,
+    show_unread, vouch_text,
+};
 use ed_session::{DiskFiles, Out, Outside};
 use ed_syntax::Options;
 use rehearsal::Rehearsal;

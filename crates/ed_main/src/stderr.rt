@@ -1,12 +1,5 @@
-//! What is shown on standard error, for a person to read. No clause speaks of these lines.
-pub mod aside;
-mod command_line;
-pub mod file_name;
-pub mod hinted;
+//! What is shown on standard error of the words that the program is given, and of a script that is typed or empty. No clause speaks of
+//! these lines.
 pub mod notes;
 pub mod pattern;
-mod reasons;
-pub mod refusals;
-pub mod shown;
-mod stopped;
 pub mod usage;

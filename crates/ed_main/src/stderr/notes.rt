@@ -1,20 +1,8 @@
-//! What a person is told beside faults: a script that is typed, an empty one, and want of memory. No clause speaks of these lines.
+//! What a person is told of a script that is typed, and of an empty one. No clause speaks of these lines.
 
 use crate::job::Job;
-use crate::stderr::file_name::quoted_word;
-use crate::stderr::shown::shown_lines;
-use ed_base::Fault;
+use ed_calls::{is_named_as_script, quoted_word, shown_lines};
 use std::alloc::{AllocError, Global};
-
-/// What the name of a script ends in, by custom.
-const SCRIPT: &[u8] = b".ed";
-
-/// Shows in one line that memory ran out, if what was done ended with the status of that.
-pub fn show_memory(rt: &impl Eprint, status: u8) {
-    if status == Fault::Memory.status() {
-        let _ = rt.eprint("error: out of memory\n");
-    }
-}
 
 /// Shows that the script of a job comes from a terminal, where it wants one: else nobody would know what the program waits for.
 pub fn show_terminal(rt: &impl Eprint, job: &Job, is_terminal: bool) {
@@ -49,11 +37,6 @@ fn file_of(job: &Job) -> Option<&[u8]> {
         Some(path) => Some(path.as_slice()),
         None => None,
     }
-}
-
-/// Whether a file's name is like that of a script.
-pub fn is_named_as_script(path: &[u8]) -> bool {
-    path.ends_with(SCRIPT)
 }
 
 /// How the file of this name is given as the script of a job.

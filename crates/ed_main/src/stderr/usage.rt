@@ -2,9 +2,9 @@
 ghost use Rattle.std.specs.Prelude.{◌≡◌};
 ghost use Rattle.clap.specs.Words.{kind_of};
 
-use crate::stderr::shown::shown_lines;
 use crate::words::WordsFault;
 use clap::error::ErrorKind;
+use ed_calls::shown_lines;
 use std::alloc::{AllocError, Global};
 
 /// How the program is used.

@@ -1,6 +1,6 @@
 use Rattle.std.proofs.Common.{◌∙◌, ap, sym, subst}
 use Rattle.ed_session.specs.MemFiles.{log_of}
-use Rattle.ed_main.specs.Rehearsed.{Rehearsed}
+use Rattle.ed_calls.specs.Rehearsed.{Rehearsed}
 use Rattle.ed_main.proofs.Rehearsing.{rehearsed_of}
 use Rattle.ed_main.proofs.program.rehearse_edit.Goals as goal
 

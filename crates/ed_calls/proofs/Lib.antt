@@ -1,0 +1,8 @@
+mod Checks
+mod Correctness
+mod Gathering
+mod Joining
+mod Sayings
+mod StartTested
+mod StatedPatterns
+mod Steps

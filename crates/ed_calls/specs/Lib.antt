@@ -1,0 +1,14 @@
+-- what a reader has to believe
+pub mod Edit
+pub mod Headline
+pub mod Told
+pub mod Check
+pub mod Names
+pub mod Vouch
+pub mod Run
+pub mod Fits
+pub mod Rehearsed
+-- what serves clauses inside the crate
+pub mod Gathering
+pub mod RunOver
+pub mod StartTest

@@ -1,0 +1,40 @@
+-- What `vouch` tells of a script.
+use Rattle.std.specs.Prelude.{◌≡◌, ℕ, List, Some, None}
+use Rattle.ed_base.specs.declared.fault.Fault.TheVariants as fault
+use Rattle.ed_syntax.specs.Commands.{Script}
+use Rattle.ed_syntax.specs.reading.Reading.{script_of}
+use Rattle.ed_syntax.specs.spelling.Spellings.{SpellsScript}
+use Rattle.cert_check.specs.Certificates.{certificate_value}
+use Rattle.cert_check.specs.text.HasText.{IsText}
+use Rattle.analyser.specs.Analysis.{IsAnswer, IsValid}
+use Rattle.analyser.specs.Checked.{IsChecked}
+use Rattle.analyser.specs.Exactness.{IsExactAnswer}
+use Rattle.analyser.specs.declared.analysis.Start.{Start}
+use Rattle.analyser.specs.declared.analysis.Analysis.{Analysis}
+use Rattle.analyser.specs.declared.analysis.Analysis.TheVariants.{Vouched, Cannot}
+use Rattle.ed_calls.specs.declared.told.Told.{Told}
+use Rattle.ed_calls.specs.Told.{cannot_told}
+use Rattle.ed_calls.specs.Names.{first_unusable}
+
+-- the text of the certificate that vouches, or the need that fails
+abbrev pub IsToldOf : Analysis → Told → Type 0
+IsToldOf (Vouched c) told = IsText told.output (certificate_value c) × (told.status ≡ 0)
+IsToldOf (Cannot place why notes) told = told ≡ cannot_told place why
+
+-- The analyser's answer for the script that these bytes spell and this start. A certificate is one that the checker accepts; where a need
+-- fails, all checks at the places before it hold; and the answer foretells each run of an exact script.
+pub record IsAnswerFor (script : List ℕ) (start : Start) (answer : Analysis) : Type 0 where
+  pub read : Script
+  pub spelled : SpellsScript script read
+  pub exact : IsAnswer read start answer
+  pub valid : IsValid read answer
+  pub checked : IsChecked read start answer
+  pub foretold : IsExactAnswer read start answer
+
+-- A script that names no file by what isn't UTF-8 is told by the analyser's answer. Another one is refused at its first command with such a
+-- name, since a run would be refused that file.
+pub data Vouches (script : List ℕ) (start : Start) (told : Told) : Type 0 where
+  answered : (answer : Analysis) → first_unusable (script_of script) ≡ None → IsAnswerFor script start answer → IsToldOf answer told →
+      Vouches script start told
+  unusable : (number : ℕ) → first_unusable (script_of script) ≡ Some number →
+      told ≡ cannot_told (record { command = number; inner = None }) fault.File → Vouches script start told

@@ -1,0 +1,29 @@
+//! The program's calls: a script is run, vouched for, checked, or run by its certificate, over any files and any output; a start is tested.
+#![tactic(auto)]
+
+mod checking;
+mod editing;
+mod fitting;
+mod gathered;
+mod held_writes;
+mod laws;
+mod names;
+mod running;
+mod stated;
+mod stderr;
+mod told;
+mod vouching;
+
+pub use checking::check_text;
+pub use editing::edit;
+pub use fitting::fit;
+pub use held_writes::show_held;
+pub use laws::accepted_runs_end_well;
+pub use running::{Ran, run, run_checked};
+pub use stderr::aside::Aside;
+pub use stderr::command_line::quoted;
+pub use stderr::file_name::{is_named_as_script, quoted_word};
+pub use stderr::pattern::wrong_in_pattern;
+pub use stderr::refusals::{Explains, Watched, show_input, show_memory, show_output, show_unread};
+pub use stderr::shown::shown_lines;
+pub use vouching::vouch_text;

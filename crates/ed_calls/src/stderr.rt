@@ -1,0 +1,10 @@
+//! What is shown on standard error, for a person to read. No clause speaks of these lines.
+pub mod aside;
+pub mod command_line;
+pub mod file_name;
+pub mod hinted;
+pub mod pattern;
+mod reasons;
+pub mod refusals;
+pub mod shown;
+mod stopped;

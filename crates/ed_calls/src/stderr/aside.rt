@@ -1,0 +1,273 @@
+//! What a person is told of a job beside its output. No clause speaks of these lines.
+
+use crate::stderr::command_line::quoted;
+use crate::stderr::file_name::{
+    is_named_as_script, quoted_name, quoted_word, shell_option, shell_word, start_name,
+};
+use crate::stderr::shown::shown_lines;
+use crate::stderr::stopped::{listed_text, stopped_text};
+use cert_check::{CertFault, Certificate, Place, Verdict, Version, wanted};
+use ed_base::{Bytes, Fault, count_lines};
+use ed_session::Session;
+use ed_syntax::{Answer, Ending, read_script};
+use line_store::LineStore;
+use std::alloc::{AllocError, Global};
+
+/// The status of a fault of the script, and of a certificate that is none or is refused.
+const FAULT_STATUS: u8 = 1;
+
+/// The status of a start that the certificate doesn't allow.
+const OUTSIDE_STATUS: u8 = 4;
+
+/// What `vouch` writes begins so where it can't vouch.
+const CANNOT: &[u8] = b"cannot: ";
+
+/// Lines for a person, gathered while a job is done and shown after its output. A line for which there is no memory is left out.
+#[derive(Drop)]
+pub struct Aside<'a> {
+    alloc: Global,
+    script: &'a [u8],
+    // The name of the certificate's file, where the job has one.
+    certificate: &'a [u8],
+    lines: String,
+}
+
+impl<'a> Aside<'a> {
+    /// Nothing so far, of a job with this script and the certificate in the file of this name.
+    pub fn new(alloc: Global, script: &'a [u8], certificate: &'a [u8]) -> Self {
+        Aside {
+            alloc,
+            script,
+            certificate,
+            lines: String::new(alloc),
+        }
+    }
+
+    /// Shows the lines where the job ended with a status that they explain.
+    pub fn show(&self, rt: &impl Eprint, status: u8) {
+        if status == FAULT_STATUS || status == OUTSIDE_STATUS {
+            let _ = rt.eprint(self.lines.as_str());
+        }
+    }
+
+    fn add(&mut self, lines: Result<String, AllocError>) {
+        if let Ok(lines) = lines {
+            if let Ok(lines) = shown_lines(self.alloc, lines.as_str()) {
+                let _ = self.lines.push_str(lines.as_str());
+            }
+        }
+    }
+
+    /// How a run ended of a script that has so many commands: where it stopped, if the script is at fault.
+    pub fn ended<S: LineStore>(
+        &mut self,
+        commands: usize,
+        session: &Session<S>,
+        end: &Result<Ending, Fault>,
+    ) {
+        if let Err(fault) = end {
+            if fault.status() == FAULT_STATUS {
+                let left = commands.saturating_sub(session.left());
+                let lines = if session.in_list() {
+                    let left_in_list = session.left_in_list();
+                    listed_text(self.alloc, self.script, left, left_in_list, *fault)
+                } else {
+                    stopped_text(self.alloc, self.script, left.saturating_add(1), *fault)
+                };
+                self.add(lines);
+            }
+        }
+    }
+
+    /// These bytes are the text of no certificate.
+    pub fn unread(&mut self, bytes: &[u8], fault: CertFault) {
+        let lines = match fault {
+            CertFault::Version if bytes.starts_with(CANNOT) => answer_text(
+                self.alloc,
+                self.certificate,
+            ),
+            CertFault::Version => script_text(self.alloc, self.certificate, bytes),
+            CertFault::Line(_) => wanted_text(self.alloc, self.certificate, bytes),
+            _ => return,
+        };
+        self.add(lines);
+    }
+
+    /// What the checker says of a certificate.
+    pub fn verdict(&mut self, certificate: &Certificate, verdict: &Verdict) {
+        if let Verdict::Refused(place) = verdict {
+            let lines = refused_text(self.alloc, certificate, place);
+            self.add(lines);
+        }
+    }
+
+    /// The start has another path than the certificate's.
+    pub fn other_path(&mut self, certificate: &Certificate, path: &Option<Bytes>) {
+        let lines = path_text(self.alloc, certificate, path);
+        self.add(lines);
+    }
+
+    /// The start has a number of lines that the certificate doesn't allow.
+    pub fn other_size(&mut self, certificate: &Certificate, path: &Option<Bytes>, start: &Answer) {
+        let lines = size_text(self.alloc, certificate, path, start);
+        self.add(lines);
+    }
+
+    /// The start has no line that matches a pattern which the certificate states.
+    pub fn unmatched(&mut self, path: &Option<Bytes>, pattern: &Bytes) {
+        let lines = unmatched_text(self.alloc, path, pattern.as_slice());
+        self.add(lines);
+    }
+}
+
+/// The file of this name holds what `vouch` wrote instead of a certificate.
+fn answer_text(alloc: Global, path: &[u8]) -> Result<String, AllocError> {
+    let name = quoted_name(alloc, path)?;
+    let name = name.as_str();
+    Ok(format!(in alloc; "hint: {name} holds the answer of a vouch that could not\n")?)
+}
+
+/// The file of this name is a script, by its name or by how it begins.
+fn script_text(alloc: Global, path: &[u8], bytes: &[u8]) -> Result<String, AllocError> {
+    if !is_named_as_script(path) && !begins_as_script(alloc, bytes)? {
+        return Ok(String::new(alloc));
+    }
+    let name = quoted_name(alloc, path)?;
+    let word = quoted_word(alloc, path)?;
+    let (name, word) = (name.as_str(), word.as_str());
+    Ok(format!(in alloc;
+        "error: {name} isn't a certificate; to judge a script: ed_main vouch FILE <{word}\n"
+    )?)
+}
+
+/// Whether the first line of a file is a command, and not empty.
+fn begins_as_script(alloc: Global, bytes: &[u8]) -> Result<bool, AllocError> {
+    let mut lines = bytes.split(|byte| *byte == b'\n');
+    match lines.next() {
+        Some(line) if !line.is_empty() => Ok(read_script(alloc, line)?.fault.is_none()),
+        _ => Ok(false),
+    }
+}
+
+/// A line may not stand where it stands.
+fn wanted_text(alloc: Global, path: &[u8], bytes: &[u8]) -> Result<String, AllocError> {
+    match wanted(alloc, bytes)? {
+        Some(wanted) => {
+            let name = quoted_name(alloc, path)?;
+            let name = name.as_str();
+            let line = wanted.line;
+            let kind = str::from_utf8(wanted.kind.name()).unwrap_or("");
+            Ok(format!(in alloc; "error: {name}: line {line}: wanted: {kind}\n")?)
+        }
+        None => Ok(String::new(alloc)),
+    }
+}
+
+/// The certificate doesn't show that the script can't fail.
+fn refused_text(
+    alloc: Global,
+    certificate: &Certificate,
+    place: &Place,
+) -> Result<String, AllocError> {
+    let mut lines = String::new(alloc);
+    if place.command == 0 {
+        lines.push_str(
+            "error: the certificate is for another script: it has another number of commands\n",
+        )?;
+    }
+    lines.push_str(again_text(alloc, certificate)?.as_str())?;
+    Ok(lines)
+}
+
+/// How a certificate for the same starts is made.
+fn again_text(alloc: Global, certificate: &Certificate) -> Result<String, AllocError> {
+    let min = certificate.min;
+    let max = match certificate.max {
+        Some(max) => format!(in alloc; "{max}")?,
+        None => String::from_str(alloc, "any")?,
+    };
+    let max = max.as_str();
+    let patterns = pattern_words(alloc, certificate)?;
+    let patterns = patterns.as_str();
+    match &certificate.path {
+        Some(path) => {
+            let word = shell_word(alloc, path.as_slice())?;
+            let word = word.as_str();
+            Ok(format!(in alloc;
+                "hint: vouch again: ed_main vouch --min {min} --max {max}{patterns} {word}\n"
+            )?)
+        }
+        None => Ok(format!(in alloc;
+            "hint: vouch again: ed_main vouch --min {min} --max {max}{patterns}\n"
+        )?),
+    }
+}
+
+/// The words by which a certificate is made that states the same patterns, each after a blank.
+fn pattern_words(alloc: Global, certificate: &Certificate) -> Result<String, AllocError> {
+    let mut words = String::new(alloc);
+    if certificate.version == Version::Two {
+        let patterns = certificate.has.members();
+        if patterns.is_empty() {
+            words.push_str(" --patterns")?;
+        }
+        for pattern in patterns {
+            words.push_str(" --has")?;
+            words.push_str(shell_option(alloc, pattern.as_slice())?.as_str())?;
+        }
+    }
+    Ok(words)
+}
+
+fn path_text(
+    alloc: Global,
+    certificate: &Certificate,
+    path: &Option<Bytes>,
+) -> Result<String, AllocError> {
+    let wanted = start_name(alloc, &certificate.path)?;
+    let given = start_name(alloc, path)?;
+    let wanted = wanted.as_str();
+    let given = given.as_str();
+    Ok(format!(in alloc; "error: the certificate is for {wanted}, not {given}\n")?)
+}
+
+fn size_text(
+    alloc: Global,
+    certificate: &Certificate,
+    path: &Option<Bytes>,
+    start: &Answer,
+) -> Result<String, AllocError> {
+    let count = match start {
+        Answer::Bytes(bytes) => count_lines(bytes.as_slice()),
+        _ => 0,
+    };
+    let name = start_name(alloc, path)?;
+    let name = name.as_str();
+    let lines = if count == 1 { "line" } else { "lines" };
+    let allowed = allowed_text(alloc, certificate.min, certificate.max)?;
+    let allowed = allowed.as_str();
+    Ok(format!(in alloc; "error: {name} has {count} {lines}, and {allowed}\n")?)
+}
+
+fn unmatched_text(
+    alloc: Global,
+    path: &Option<Bytes>,
+    pattern: &[u8],
+) -> Result<String, AllocError> {
+    let name = start_name(alloc, path)?;
+    let name = name.as_str();
+    let pattern = quoted(alloc, pattern)?;
+    let pattern = pattern.as_str();
+    Ok(format!(in alloc; "error: {name}: no line matches {pattern}\n")?)
+}
+
+/// How many lines are allowed.
+fn allowed_text(alloc: Global, min: u64, max: Option<u64>) -> Result<String, AllocError> {
+    match max {
+        Some(max) if max != min => Ok(format!(in alloc; "{min} to {max} are allowed")?),
+        Some(1) => String::from_str(alloc, "1 is allowed"),
+        Some(_) => Ok(format!(in alloc; "{min} are allowed")?),
+        None if min == 1 => String::from_str(alloc, "at least 1 is allowed"),
+        None => Ok(format!(in alloc; "at least {min} are allowed")?),
+    }
+}
