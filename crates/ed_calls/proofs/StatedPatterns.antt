@@ -6,7 +6,6 @@ use Rattle.std.proofs.lemmas.Bool.{and_from, and_parts}
 use Rattle.ed_syntax.specs.meaning.Values.{matches}
 use Rattle.ed_rules.specs.LineBounds.{IsWithin}
 use Rattle.cert_check.specs.Certificates.{Certificate}
-use Rattle.cert_check.specs.checker.Opening.{Match}
 use Rattle.cert_check.specs.checker.Sound.{IsAllowed, stated}
 use Rattle.ed_calls.specs.Run.{LiesOutside}
 use Rattle.ed_calls.specs.StartTest.{unmatched_of}

@@ -18,6 +18,9 @@ use Rattle.ed_calls.specs.Told.{Says}
 use Rattle.ed_calls.specs.Vouch.{Vouches}
 use Rattle.ed_main.specs.declared.job.Job.{Job}
 use Rattle.ed_main.specs.declared.job.Job.TheVariants as job
+use Rattle.ed_main.specs.declared.task.Task.{Task}
+use Rattle.ed_main.specs.declared.task.Trust.{Trust}
+use Rattle.ed_main.specs.declared.task.Trust.TheVariants as trust
 use Rattle.ed_main.specs.declared.words.WordsFault.{WordsFault}
 use Rattle.ed_main.specs.declared.words.WordsFault.TheVariants as words
 use Rattle.ed_main.specs.Job.{IsGiven}
@@ -60,14 +63,20 @@ abbrev pub Edits : (script : List ℕ) → Options → (rehearsed : Bool) → Me
 Edits script options rehearsed met status =
     Correct script options met.log met.refusals_before met.refusals met.sink status × (IsTrue rehearsed → Rehearsed met.log)
 
--- what `run` came to with what it met, for a script and a certificate of these bytes
-abbrev pub RunsWith : (script certificate : List ℕ) → Options → Met → ℕ → Type 0
-RunsWith script certificate options met =
-    Runs script certificate options met.log (MayFail options.path met.log met.refusals_before met.refusals met.sink) met.sink
-
--- likewise, whether or not it was rehearsed
+-- what `run` came to with what it met, for a script and a certificate of these bytes; nothing is written where it was rehearsed
 abbrev pub RunsOn : (script certificate : List ℕ) → Options → (rehearsed : Bool) → Met → ℕ → Type 0
-RunsOn script certificate options rehearsed met status = RunsWith script certificate options met status × (IsTrue rehearsed → Rehearsed met.log)
+RunsOn script certificate options rehearsed met status =
+    Runs script certificate options met.log (MayFail options.path met.log met.refusals_before met.refusals met.sink) met.sink status
+    × (IsTrue rehearsed → Rehearsed met.log)
+
+-- what a script came to with what it met, by what its run rests on
+abbrev pub ComesBy : Trust → (script : List ℕ) → Options → (rehearsed : Bool) → Met → ℕ → Type 0
+ComesBy trust.Unchecked script = Edits script
+ComesBy (trust.Certified name certificate) script = RunsOn script certificate.now
+
+-- what a task came to with what it met
+abbrev pub Comes : Task → Met → ℕ → Type 0
+Comes task = ComesBy task.trust task.script.now task.options task.rehearsed
 
 -- a certificate was read and used so, or it wasn't read
 pub data WithCertificate (Used : List ℕ → ℕ → Type 0) (status : ℕ) : Type 0 where

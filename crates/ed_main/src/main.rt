@@ -6,6 +6,7 @@ mod patterns;
 mod program;
 mod stderr;
 mod subcommands;
+mod task;
 mod words;
 
 use ed_calls::show_memory;

@@ -1,29 +1,24 @@
 //! One run of the program: its words, its script, its files, and the status that it ends with.
-ghost use Rattle.std.specs.Prelude.{◌≡◌, ◌<◌, ◌≤◌, ◌+◌, ◌-◌, ◌^◌, ◌⊎◌, [], true, Ok, Err, IfOk, IsTrue, IsFalse};
-ghost use Rattle.ed_session.specs.Drives.{added};
+ghost use Rattle.std.specs.Prelude.{◌≡◌, ◌<◌, ◌≤◌, ◌+◌, ◌-◌, ◌^◌, ◌⊎◌, [], Ok, Err, IfOk, IsTrue, IsFalse};
 ghost use Rattle.ed_calls.specs.Check.{Checks};
-ghost use Rattle.ed_calls.specs.Edit.{Correct};
 ghost use Rattle.ed_calls.specs.Fits.{Fits};
 ghost use Rattle.ed_calls.specs.Told.{Says};
 ghost use Rattle.ed_calls.specs.Vouch.{Vouches};
 ghost use Rattle.ed_main.specs.Job.{IsGiven};
-ghost use Rattle.ed_main.specs.Program.{Does, Edits, IsEnding, RunsOn, RunsWith, Somehow, most_bytes, status_of_unread, status_of_words, wants_script};
+ghost use Rattle.ed_main.specs.Program.{Does, IsEnding, RunsOn, Somehow, WithCertificate, most_bytes, status_of_unread, status_of_words, wants_script};
 ghost use Rattle.ed_main.specs.declared.job.Job.TheVariants as job;
 ghost use Rattle.sources.specs.Source.{HasMore, IsAll};
 
 use crate::job::Job;
 use crate::stderr::notes::{show_empty, show_terminal};
 use crate::stderr::usage::USAGE;
+use crate::task::{Task, Trust, do_task, files_of};
 use crate::words::{WordsFault, job_of_words};
 use analyser::Start;
 use ed_base::{Bytes, Fault};
-use ed_calls::{
-    Aside, Explains, Watched, check_text, edit, fit, run, show_held, show_input, show_output,
-    show_unread, vouch_text,
-};
-use ed_session::{DiskFiles, Out, Outside};
+use ed_calls::{Aside, check_text, fit, show_input, show_output, show_unread, vouch_text};
+use ed_session::Out;
 use ed_syntax::Options;
-use rehearsal::Rehearsal;
 use sources::{In, ReadFault, Source, read_all};
 use std::alloc::Global;
 use std::fs::File;
@@ -144,27 +139,25 @@ where
     ensures did { Does script.now job result }
 {
     match job {
-        Job::Edit { options, rehearsed } => edit_file(rt, script, options, rehearsed),
+        Job::Edit { options, rehearsed } => do_task(
+            rt,
+            Task {
+                script,
+                options,
+                rehearsed,
+                trust: Trust::Unchecked,
+            },
+        ),
         Job::Vouch { start, all } => vouch_file(rt, script, start, all),
         Job::Check(path) => match certificate_at(rt, &path) {
             Ok(certificate) => check_file(rt, script, &path, certificate.as_slice()),
             Err(fault) => status_of_read(fault),
         },
         Job::Run {
-            certificate: path,
+            certificate: name,
             options,
             rehearsed,
-        } => match certificate_at(rt, &path) {
-            Ok(certificate) => run_file(
-                rt,
-                script,
-                &path,
-                certificate.as_slice(),
-                options,
-                rehearsed,
-            ),
-            Err(fault) => status_of_read(fault),
-        },
+        } => run_file(rt, script, &name, options, rehearsed),
         Job::Fits {
             certificate: path,
             path: start,
@@ -204,64 +197,6 @@ fn file_at<R: Files<File = File>>(rt: &R, path: &[u8]) -> Result<File, io::Error
     }
 }
 
-/// Runs the script's bytes over the system's files and the standard output, or rehearses that.
-fn edit_file<R>(rt: &R, script: &[u8], options: Options, rehearsed: bool) -> u8
-where
-    R: Files<File = File> + Print + Eprint + AllocGlobal,
-    ensures status { result ≤ 4 }
-    ensures came { Somehow (Edits script.now options rehearsed) result }
-{
-    if rehearsed {
-        return rehearse_edit(rt, script, options);
-    }
-    let mut files = files_of(rt, &options.path);
-    edit_over(rt, script, options, &mut files)
-}
-
-/// Runs the script's bytes over the system's files, of which none is written, and shows what would have been.
-fn rehearse_edit<R>(rt: &R, script: &[u8], options: Options) -> u8
-where
-    R: Files<File = File> + Print + Eprint + AllocGlobal,
-    ensures status { result ≤ 4 }
-    ensures came { Somehow (Edits script.now options true) result }
-{
-    let rehearsal = Rehearsal::new(rt.alloc(), DiskFiles::new(rt.alloc(), rt));
-    let mut files = Watched::new(rt.alloc(), rehearsal, options.path.is_some());
-    let status = edit_over(rt, script, options, &mut files);
-    let rehearsal = files.files();
-    rehearsal.real_files_are_only_read();
-    rehearsal.writes_are_done();
-    rehearsal.reads_show_what_was_written();
-    show_held(rt.alloc(), rt, rehearsal.writes());
-    status
-}
-
-/// Runs the script's bytes over these files and the standard output.
-fn edit_over<R, O>(rt: &R, script: &[u8], options: Options, files: &mut Watched<O>) -> u8
-where
-    R: Print + Eprint + AllocGlobal,
-    O: Outside + Explains + Drop,
-    ensures status { result ≤ 4 }
-    ensures came { Somehow (λ met status. (met.log ≡ added (O.log files.old.files) (O.log files.new.files))
-        × Correct script.now options met.log met.refusals_before met.refusals met.sink status) result }
-{
-    let mut output = Out::new(io::writer(rt));
-    let mut aside = Aside::new(rt.alloc(), script, b"");
-    let status = edit(rt.alloc(), script, options, files, &mut output, &mut aside);
-    files.show_refusal(rt, status);
-    aside.show(rt, status);
-    status
-}
-
-/// The system's files, watched for a run that starts with the file at this path, if there is one.
-fn files_of<'a, R>(rt: &'a R, path: &Option<Bytes>) -> Watched<DiskFiles<&'a R>>
-where
-    R: Files<File = File> + AllocGlobal,
-{
-    let files = DiskFiles::new(rt.alloc(), rt);
-    Watched::new(rt.alloc(), files, path.is_some())
-}
-
 /// Tells the standard output the certificate of the script's bytes, or why there is none. All that is to be mended is shown if `all` is true.
 fn vouch_file<R>(rt: &R, script: &[u8], start: Start, all: bool) -> u8
 where
@@ -291,75 +226,34 @@ where
     status
 }
 
-/// Runs the script's bytes as `edit_file`, where the certificate allows it, or rehearses that. The path is that of the certificate's file.
-fn run_file<R>(
+/// Runs a script where the certificate at a path allows it, or rehearses that.
+fn run_file<'a, R>(
     rt: &R,
-    script: &[u8],
-    path: &Bytes,
-    certificate: &[u8],
+    script: &'a [u8],
+    name: &'a Bytes,
     options: Options,
     rehearsed: bool,
 ) -> u8
 where
     R: Files<File = File> + Print + Eprint + AllocGlobal,
     ensures status { result ≤ 4 }
-    ensures came { Somehow (RunsOn script.now certificate.now options rehearsed) result }
+    ensures came { WithCertificate (λ certificate. Somehow (RunsOn script.now certificate options rehearsed)) result }
 {
-    if rehearsed {
-        return rehearse_run(rt, script, path, certificate, options);
+    match certificate_at(rt, name) {
+        Ok(certificate) => do_task(
+            rt,
+            Task {
+                script,
+                options,
+                rehearsed,
+                trust: Trust::Certified {
+                    name,
+                    certificate: certificate.as_slice(),
+                },
+            },
+        ),
+        Err(fault) => status_of_read(fault),
     }
-    let mut files = files_of(rt, &options.path);
-    run_over(rt, script, path, certificate, options, &mut files)
-}
-
-/// Runs the script's bytes as `rehearse_edit`, where the certificate allows it.
-fn rehearse_run<R>(rt: &R, script: &[u8], path: &Bytes, certificate: &[u8], options: Options) -> u8
-where
-    R: Files<File = File> + Print + Eprint + AllocGlobal,
-    ensures status { result ≤ 4 }
-    ensures came { Somehow (RunsOn script.now certificate.now options true) result }
-{
-    let rehearsal = Rehearsal::new(rt.alloc(), DiskFiles::new(rt.alloc(), rt));
-    let mut files = Watched::new(rt.alloc(), rehearsal, options.path.is_some());
-    let status = run_over(rt, script, path, certificate, options, &mut files);
-    let rehearsal = files.files();
-    rehearsal.real_files_are_only_read();
-    rehearsal.writes_are_done();
-    rehearsal.reads_show_what_was_written();
-    show_held(rt.alloc(), rt, rehearsal.writes());
-    status
-}
-
-/// Runs the script's bytes as `edit_over`, where the certificate allows it.
-fn run_over<R, O>(
-    rt: &R,
-    script: &[u8],
-    path: &Bytes,
-    certificate: &[u8],
-    options: Options,
-    files: &mut Watched<O>,
-) -> u8
-where
-    R: Print + Eprint + AllocGlobal,
-    O: Outside + Explains + Drop,
-    ensures status { result ≤ 4 }
-    ensures came { Somehow (λ met status. (met.log ≡ added (O.log files.old.files) (O.log files.new.files))
-        × RunsWith script.now certificate.now options met status) result }
-{
-    let mut output = Out::new(io::writer(rt));
-    let mut aside = Aside::new(rt.alloc(), script, path.as_slice());
-    let status = run(
-        rt.alloc(),
-        script,
-        certificate,
-        options,
-        files,
-        &mut output,
-        &mut aside,
-    );
-    files.show_refusal(rt, status);
-    aside.show(rt, status);
-    status
 }
 
 /// Tells the standard output where the file at a path isn't one that the certificate allows. The other path is that of the certificate's

@@ -1,7 +1,5 @@
 use Rattle.std.proofs.Common.{inl, inr, refl}
-use Rattle.std.proofs.Math.Seq.{drop-length}
 use Rattle.cert_check.specs.Certificates.{certificate_value}
-use Rattle.ed_calls.specs.Run as checked
 use Rattle.ed_calls.proofs.Checks.{added_is, none_added}
 use Rattle.ed_calls.proofs.StartTested.{on_err, read_inside, read_outside}
 use Rattle.ed_calls.proofs.fitting.allowed_start.Goals as goal

@@ -1,7 +1,8 @@
+use Rattle.ed_main.specs.Program as meaning
 use Rattle.ed_main.proofs.program.run_file.Goals as goal
 
-pub returns-then-rehearsed-clause-came : goal.returns-then-rehearsed-clause-came
-returns-then-rehearsed-clause-came g c = rw c.if-rehearsed.true c.rehearse_run.ensures.came
+pub returns-in-Ok-clause-came : goal.returns-in-Ok-clause-came
+returns-in-Ok-clause-came g c = meaning.read c.as_slice.result.now c.do_task.ensures.came
 
-pub returns-clause-came : goal.returns-clause-came
-returns-clause-came g c = let came = c.run_over.ensures.came in (came.0, (came.1.1, λ is. absurd (let no = c.if-rehearsed.false in cc)))
+pub returns-in-Err-clause-came : goal.returns-in-Err-clause-came
+returns-in-Err-clause-came g c = meaning.unread _ c.status_of_read.ensures.value

@@ -1,8 +1,8 @@
 -- The patterns that are given are the values of an argument, by the rows of what was found.
-use Rattle.std.proofs.Common.{◌≡◌, ◌≢◌, ℕ, true, false, List, [], Some, None, map, codes, subst}
+use Rattle.std.proofs.Common.{◌≡◌, ◌≢◌, true, false, Some, None, map, codes, subst}
 use Rattle.std.specs.Prelude.{IfOk, IfErr}
-use Rattle.clap.specs.Words.{found_of, rows_of}
-use Rattle.ed_main.specs.Words.{are_patterns, stated, texts_in}
+use Rattle.clap.specs.Words.{found_of}
+use Rattle.ed_main.specs.Words.{are_patterns, stated}
 use Rattle.ed_main.specs.declared.words.WordsFault.TheVariants as fault
 use Rattle.ed_main.proofs.WordsLemmas.{texts_found}
 use Rattle.ed_main.proofs.words.patterns_in.Goals as goal

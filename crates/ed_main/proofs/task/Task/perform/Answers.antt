@@ -1,0 +1,7 @@
+use Rattle.ed_main.proofs.task.Task.perform.Goals as goal
+
+pub returns-in-Unchecked-clause-came : goal.returns-in-Unchecked-clause-came
+returns-in-Unchecked-clause-came g c = λ rehearsed. rw c.in-Unchecked.is (c.edit.ensures.correct, rehearsed)
+
+pub returns-in-Certified-clause-came : goal.returns-in-Certified-clause-came
+returns-in-Certified-clause-came g c = λ rehearsed. rw c.in-Certified.is (c.run.ensures.came, rehearsed)

@@ -1,0 +1,4 @@
+use Rattle.ed_main.proofs.task.do_over.Goals as goal
+
+pub returns-clause-came : goal.returns-clause-came
+returns-clause-came g c = λ rehearsed. (record { log = _; refusals_before = _; refusals = _; sink = _ }, c.perform-status.ensures.came rehearsed)

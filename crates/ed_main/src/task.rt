@@ -1,0 +1,140 @@
+//! A script that is to be run, and its run over the system's files, or over a rehearsal of them.
+ghost use Rattle.std.specs.Prelude.{◌≡◌, ◌<◌, ◌≤◌, ◌-◌, ◌^◌, IsTrue};
+ghost use Rattle.ed_session.specs.Drives.{added};
+ghost use Rattle.ed_session.specs.Sinks.{change};
+ghost use Rattle.ed_calls.specs.Rehearsed.{Rehearsed};
+ghost use Rattle.ed_main.specs.Program.{Comes, Somehow};
+
+use ed_base::Bytes;
+use ed_calls::{Aside, Explains, Watched, edit, run, show_held};
+use ed_session::{DiskFiles, Out, Outside, Sink};
+use ed_syntax::Options;
+use rehearsal::Rehearsal;
+use std::alloc::Global;
+use std::fs::File;
+use std::io;
+use std::rt::Files;
+
+/// What the run of a script rests on.
+#[derive(Clone, Copy, Debug)]
+pub enum Trust<'a> {
+    /// Nothing: it is run as it is.
+    Unchecked,
+    /// The certificate whose text these bytes are, from the file of this name.
+    Certified {
+        name: &'a Bytes,
+        certificate: &'a [u8],
+    },
+}
+
+/// A script that is to be run, or whose run is to be rehearsed.
+#[derive(Debug, Drop)]
+pub struct Task<'a> {
+    pub script: &'a [u8],
+    pub options: Options,
+    pub rehearsed: bool,
+    pub trust: Trust<'a>,
+}
+
+impl<'a> Task<'a> {
+    /// Nothing that a person is told so far of this task.
+    fn aside(&self, alloc: Global) -> Aside<'a> {
+        match self.trust {
+            Trust::Unchecked => Aside::new(alloc, self.script, b""),
+            Trust::Certified { name, .. } => Aside::new(alloc, self.script, name.as_slice()),
+        }
+    }
+
+    /// Runs the script, where that is allowed, and gives the exit status.
+    fn perform<O: Outside, W: Sink>(
+        self,
+        alloc: Global,
+        outside: &mut O,
+        sink: &mut W,
+        aside: &mut Aside<'_>,
+    ) -> u8
+        requires count { (W.state sink.old).failures < 2 ^ 64 - 1 }
+        ensures status { result ≤ 4 }
+
+        // Whether it was rehearsed, the files tell.
+        ensures came { let log = added (O.log outside.old) (O.log outside.new) in
+            (IsTrue self.entry.rehearsed → Rehearsed log) → Comes self.entry
+            (record {
+              log = log;
+              refusals_before = O.failures outside.old;
+              refusals = O.failures outside.new;
+              sink = change (W.state sink.old) (W.state sink.new);
+            }) result }
+    {
+        let Task {
+            script,
+            options,
+            trust,
+            ..
+        } = self;
+        match trust {
+            Trust::Unchecked => edit(alloc, script, options, outside, sink, aside),
+            Trust::Certified { certificate, .. } => {
+                run(alloc, script, certificate, options, outside, sink, aside)
+            }
+        }
+    }
+}
+
+/// Does a task over the system's files and the standard output, or rehearses it.
+pub fn do_task<R>(rt: &R, task: Task<'_>) -> u8
+where
+    R: Files<File = File> + Print + Eprint + AllocGlobal,
+    ensures status { result ≤ 4 }
+    ensures came { Somehow (Comes task.entry) result }
+{
+    if task.rehearsed {
+        return rehearse(rt, task);
+    }
+    let mut files = files_of(rt, &task.options.path);
+    do_over(rt, task, &mut files)
+}
+
+/// Does a task over the system's files, of which none is written, and shows what would have been.
+fn rehearse<R>(rt: &R, task: Task<'_>) -> u8
+where
+    R: Files<File = File> + Print + Eprint + AllocGlobal,
+    ensures status { result ≤ 4 }
+    ensures came { Somehow (Comes task.entry) result }
+{
+    let rehearsal = Rehearsal::new(rt.alloc(), DiskFiles::new(rt.alloc(), rt));
+    let mut files = Watched::new(rt.alloc(), rehearsal, task.options.path.is_some());
+    let status = do_over(rt, task, &mut files);
+    let rehearsal = files.files();
+    rehearsal.real_files_are_only_read();
+    rehearsal.writes_are_done();
+    rehearsal.reads_show_what_was_written();
+    show_held(rt.alloc(), rt, rehearsal.writes());
+    status
+}
+
+/// Does a task over these files and the standard output.
+fn do_over<R, O>(rt: &R, task: Task<'_>, files: &mut Watched<O>) -> u8
+where
+    R: Print + Eprint + AllocGlobal,
+    O: Outside + Explains + Drop,
+    ensures status { result ≤ 4 }
+    ensures came { (IsTrue task.entry.rehearsed → Rehearsed (added (O.log files.old.files) (O.log files.new.files)))
+        → Somehow (Comes task.entry) result }
+{
+    let mut output = Out::new(io::writer(rt));
+    let mut aside = task.aside(rt.alloc());
+    let status = task.perform(rt.alloc(), files, &mut output, &mut aside);
+    files.show_refusal(rt, status);
+    aside.show(rt, status);
+    status
+}
+
+/// The system's files, watched for a run that starts with the file at this path, if there is one.
+pub fn files_of<'a, R>(rt: &'a R, path: &Option<Bytes>) -> Watched<DiskFiles<&'a R>>
+where
+    R: Files<File = File> + AllocGlobal,
+{
+    let files = DiskFiles::new(rt.alloc(), rt);
+    Watched::new(rt.alloc(), files, path.is_some())
+}
