@@ -3,6 +3,8 @@ mod Keeping
 mod Chains
 mod Asking
 mod LookedFor
+mod SearchedFor
+mod Enough
 mod Stated
 mod SoughtRows
 mod Worked

@@ -1,5 +1,8 @@
 -- what a reader has to believe, in the order of reading
 pub mod Passing
 pub mod Sought
+pub mod Widest
 -- what hints promise, over scripts as they are read from bytes (`script_of`)
 pub mod Hints
+-- what serves clauses inside the crate
+pub mod Narrowing

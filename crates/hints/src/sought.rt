@@ -22,7 +22,7 @@ use std::alloc::{AllocError, Global};
 use zones::Name;
 
 /// What an address searches for, where it is a search: a pattern, or the remembered one.
-fn searched_by(address: Option<&Address>) -> Option<Option<&Pattern>>
+pub(crate) fn searched_by(address: Option<&Address>) -> Option<Option<&Pattern>>
     ensures value { option_map option_copied result ≡ search_at (option_map (λ address. address_value address.now) address.entry) }
 {
     match &address?.base {
@@ -104,7 +104,7 @@ fn searches_of(
 }
 
 /// Whether every line matches a pattern.
-fn is_always(alloc: Global, text: &Bytes) -> Result<bool, AllocError>
+pub(crate) fn is_always(alloc: Global, text: &Bytes) -> Result<bool, AllocError>
     ensures value { IfOk result (λ yes. yes ≡ text_is_always text.now) }
 {
     match Bre::read(alloc, text.as_slice()) {

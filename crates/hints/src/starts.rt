@@ -13,7 +13,7 @@ use ed_rules::{LineBounds, Texts};
 use ed_syntax::{Script, read_script};
 use std::alloc::{AllocError, Global};
 
-fn copy_of_path(path: &Option<Bytes>) -> Result<Option<Bytes>, AllocError>
+pub(crate) fn copy_of_path(path: &Option<Bytes>) -> Result<Option<Bytes>, AllocError>
     ensures value { IfOk result (λ copy. copy ≡ path.now) }
 {
     match path {
@@ -22,7 +22,7 @@ fn copy_of_path(path: &Option<Bytes>) -> Result<Option<Bytes>, AllocError>
     }
 }
 
-fn copy_of_has(has: &Option<Texts>) -> Result<Option<Texts>, AllocError>
+pub(crate) fn copy_of_has(has: &Option<Texts>) -> Result<Option<Texts>, AllocError>
     ensures value { IfOk result (λ copy. copy ≡ has.now) }
 {
     match has {
@@ -51,7 +51,7 @@ pub fn copy_of(start: &Start) -> Result<Start, AllocError>
 }
 
 /// Whether a script is vouched for over a start with these bounds.
-fn is_vouched_within(
+pub(crate) fn is_vouched_within(
     script: &Script,
     start: &Start,
     min: u64,
@@ -66,7 +66,7 @@ fn is_vouched_within(
 }
 
 /// The most lines that a start of these bounds may have.
-fn top_of(max: Option<u64>) -> u64
+pub(crate) fn top_of(max: Option<u64>) -> u64
     requires high { IfSome max (λ most. most ≤ most_lines) }
     ensures value { result ≡ most_of max }
     ensures within { (result ≤ most_lines) × IsAtMost result max }
@@ -103,7 +103,7 @@ fn step_of(lower: u64, upper: u64, step: u64) -> u64
 
 /// The least number of lines under which a script is vouched for, between one where it isn't and one where it is. It is found by steps
 /// that double up to the first number under which the script is vouched for, and then by halving.
-fn least_between(
+pub(crate) fn least_between(
     script: &Script,
     start: &Start,
     refused: u64,

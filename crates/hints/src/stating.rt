@@ -21,7 +21,7 @@ use ed_rules::Texts;
 use std::alloc::{AllocError, Global};
 
 /// The patterns that are stated.
-fn stated_of(alloc: Global, has: &Option<Texts>) -> Result<Texts, AllocError>
+pub(crate) fn stated_of(alloc: Global, has: &Option<Texts>) -> Result<Texts, AllocError>
     ensures value { IfOk result (λ stated. stated ≡ stated_of has.now) }
 {
     match has {

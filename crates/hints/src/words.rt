@@ -11,9 +11,9 @@ use std::alloc::{AllocError, Global};
 /// How many bytes of a script, a pattern or a name are shown at most.
 const MOST_SHOWN: usize = 100;
 
-/// Bytes between backquotes, at most a hundred of them. Those that would end the line, or aren't text, are escaped; a tab isn't.
-pub(crate) fn quoted(alloc: Global, bytes: &[u8]) -> Result<String, AllocError> {
-    let mut word = String::from_str(alloc, "`")?;
+/// Bytes as a line shows them, at most a hundred of them. Those that would end the line, or aren't text, are escaped; a tab isn't.
+pub(crate) fn shown(alloc: Global, bytes: &[u8]) -> Result<String, AllocError> {
+    let mut word = String::new(alloc);
     match str::from_utf8(bytes) {
         Ok(text) if are_shown(text) => push_front(&mut word, text, "'")?,
         _ => {
@@ -22,8 +22,13 @@ pub(crate) fn quoted(alloc: Global, bytes: &[u8]) -> Result<String, AllocError> 
             push_front(&mut word, escaped.as_str(), "'")?;
         }
     }
-    word.push_str("`")?;
     Ok(word)
+}
+
+/// The same between backquotes.
+pub(crate) fn quoted(alloc: Global, bytes: &[u8]) -> Result<String, AllocError> {
+    let word = shown(alloc, bytes)?;
+    Ok(format!(in alloc; "`{}`", word.as_str())?)
 }
 
 /// Bytes as one word of a shell, at most a hundred of them. None where they aren't text, or hold what no line shows: then nobody could type

@@ -1,4 +1,4 @@
-//! Tests of the public calls of `ed_rules`, `cert_check` and `analyser`.
+//! Tests of the public calls of `ed_rules`, `cert_check` and `analyser`, and of the start that `hints` finds.
 #![tactic(auto)]
 
 #[cfg(test)]
@@ -27,3 +27,5 @@ mod text;
 mod versions;
 #[cfg(test)]
 mod walking;
+#[cfg(test)]
+mod widest;

@@ -88,7 +88,7 @@ fn put_in(
     Ok(())
 }
 
-fn texts_of(alloc: Global, members: &[&'static [u8]]) -> Result<Texts, Unreached> {
+pub(crate) fn texts_of(alloc: Global, members: &[&'static [u8]]) -> Result<Texts, Unreached> {
     let mut bytes = Vec::new(alloc);
     put_in(alloc, members, &mut bytes)?;
     match Texts::from_rising(bytes) {

@@ -1,0 +1,10 @@
+use Rattle.std.proofs.Common.{◌-◌, length}
+use Rattle.ed_syntax.specs.PublicScript.{script_value}
+use Rattle.hints.specs.Narrowing.{AreEnough}
+use Rattle.hints.proofs.narrowing.left_of.Given as goal
+
+abbrev pub invariant-places : goal.invariant-places
+invariant-places l = AreEnough (script_value l.script) l.given l.min l.left.items
+
+abbrev pub decreases-places : goal.decreases-places
+decreases-places l = length l.left.items - l.place

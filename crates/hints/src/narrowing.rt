@@ -1,0 +1,174 @@
+//! The patterns that a start states beside those that are given, and which of them are enough.
+
+ghost use Rattle.std.specs.Prelude.{◌≡◌, ◌↔◌, ◌<◌, ◌≤◌, ℕ, IfOk, IfSome, IfNone, IsTrue, filter, length, not, remove};
+ghost use Rattle.bre_parse.specs.Always.{text_is_always};
+ghost use Rattle.ed_syntax.specs.PublicScript.{script_value};
+ghost use Rattle.ed_rules.specs.LineBounds.{most_lines, IsAtMost};
+ghost use Rattle.hints.specs.Passing.{IsVouched};
+ghost use Rattle.hints.specs.Widest.{start_with, beside};
+ghost use Rattle.hints.specs.Narrowing.{AreEnough};
+
+use crate::given::Given;
+use crate::passing::is_vouched;
+use crate::sought::is_always;
+use crate::starts::{copy_of_has, copy_of_path};
+use crate::stating::stated_of;
+use analyser::Start;
+use ed_base::Bytes;
+use ed_rules::Texts;
+use ed_syntax::Script;
+use std::alloc::{AllocError, Global};
+
+/// The start that is given, with this least number of lines and these patterns.
+fn start_with(given: &Given, min: u64, has: Option<Texts>) -> Result<Start, AllocError>
+    ensures value { IfOk result (λ start. start ≡ start_with given.now min has) }
+{
+    Ok(Start {
+        path: copy_of_path(&given.path)?,
+        min,
+        max: given.max,
+        has,
+    })
+}
+
+/// The start with the patterns that are given alone.
+pub(crate) fn as_given(given: &Given, min: u64) -> Result<Start, AllocError>
+    ensures value { IfOk result (λ start. start ≡ start_with given.now min given.now.has) }
+{
+    start_with(given, min, copy_of_has(&given.has)?)
+}
+
+/// The start with these patterns beside those that are given.
+pub(crate) fn start_beside(
+    alloc: Global,
+    given: &Given,
+    min: u64,
+    added: &[Bytes],
+) -> Result<Start, AllocError>
+    ensures value { IfOk result (λ start. start ≡ start_with given.now min (beside given.now added.now)) }
+{
+    let mut all = stated_of(alloc, &given.has)?;
+    'added: for pattern in added {
+        all.add(pattern.as_slice())?;
+    }
+    start_with(given, min, Some(all))
+}
+
+/// Whether a script is vouched for with these patterns beside those that are given.
+pub(crate) fn is_vouched_beside(
+    alloc: Global,
+    script: &Script,
+    given: &Given,
+    min: u64,
+    added: &[Bytes],
+) -> Result<bool, AllocError>
+    requires ordered { IsAtMost min given.now.max }
+    requires low { min ≤ most_lines }
+    requires high { IfSome given.now.max (λ most. most ≤ most_lines) }
+    ensures exact { IfOk result (λ yes. IsTrue yes ↔ IsVouched (script_value script.now) (start_with given.now min (beside given.now added.now))) }
+{
+    is_vouched(script, start_beside(alloc, given, min, added)?)
+}
+
+/// Equal patterns.
+fn copies(alloc: Global, patterns: &[Bytes]) -> Result<Vec<Bytes>, AllocError>
+    ensures value { IfOk result (λ copies. copies.items ≡ patterns.now) }
+{
+    let mut copies = Vec::new(alloc);
+    'patterns: for pattern in patterns {
+        copies.push(pattern.try_copy()?)?;
+    }
+    Ok(copies)
+}
+
+/// All patterns but the one at a place.
+fn without(alloc: Global, patterns: &[Bytes], place: usize) -> Result<Vec<Bytes>, AllocError>
+    requires within { place < length patterns.now }
+    ensures value { IfOk result (λ others. others.items ≡ remove patterns.now place) }
+{
+    let mut others = copies(alloc, patterns)?;
+    others.remove(place);
+    Ok(others)
+}
+
+/// The patterns but those that every line matches.
+fn without_always(alloc: Global, patterns: &[Bytes]) -> Result<Vec<Bytes>, AllocError>
+    ensures value { IfOk result (λ others. others.items ≡ filter (λ text. not (text_is_always text)) patterns.now) }
+{
+    let mut others = Vec::new(alloc);
+    'patterns: for pattern in patterns {
+        if !is_always(alloc, pattern)? {
+            others.push(pattern.try_copy()?)?;
+        }
+    }
+    Ok(others)
+}
+
+/// None of some patterns that are enough, or those that not every line matches, where these are enough too; else all.
+pub(crate) fn fewer_at_once(
+    alloc: Global,
+    script: &Script,
+    given: &Given,
+    min: u64,
+    added: &[Bytes],
+) -> Result<Vec<Bytes>, AllocError>
+    requires enough { AreEnough (script_value script.now) given.now min added.now }
+    ensures enough { IfOk result (λ fewer. AreEnough (script_value script.now) given.now min fewer.items) }
+{
+    let none = Vec::new(alloc);
+    if is_vouched_beside(alloc, script, given, min, none.as_slice())? {
+        return Ok(none);
+    }
+    let some = without_always(alloc, added)?;
+    if is_vouched_beside(alloc, script, given, min, some.as_slice())? {
+        return Ok(some);
+    }
+    copies(alloc, added)
+}
+
+/// What is left of some patterns that are enough, after each without which the others are enough was left out in its turn.
+pub(crate) fn left_of(
+    alloc: Global,
+    script: &Script,
+    given: &Given,
+    min: u64,
+    added: Vec<Bytes>,
+) -> Result<Vec<Bytes>, AllocError>
+    requires enough { AreEnough (script_value script.now) given.now min added.items }
+    ensures enough { IfOk result (λ left. AreEnough (script_value script.now) given.now min left.items) }
+{
+    let mut left = added;
+    let mut place = 0;
+    'places: while place < left.len() {
+        let fewer = without(alloc, left.as_slice(), place)?;
+        if is_vouched_beside(alloc, script, given, min, fewer.as_slice())? {
+            left = fewer;
+        } else {
+            place += 1;
+        }
+    }
+    Ok(left)
+}
+
+/// Patterns that are enough, one fewer than some others that are; none where each of these is needed.
+pub(crate) fn one_fewer(
+    alloc: Global,
+    script: &Script,
+    given: &Given,
+    min: u64,
+    added: &[Bytes],
+) -> Result<Option<Vec<Bytes>>, AllocError>
+    requires enough { AreEnough (script_value script.now) given.now min added.now }
+    ensures enough { IfOk result (λ found. IfSome found (λ fewer. AreEnough (script_value script.now) given.now min fewer.items)) }
+    ensures fewer { IfOk result (λ found. IfSome found (λ fewer. length fewer.items < length added.now)) }
+    ensures needed { IfOk result (λ found. IfNone found ((place : ℕ) → place < length added.now →
+        ¬ IsVouched (script_value script.now) (start_with given.now min (beside given.now (remove added.now place))))) }
+{
+    for place in 0..added.len() {
+        let fewer = without(alloc, added, place)?;
+        if is_vouched_beside(alloc, script, given, min, fewer.as_slice())? {
+            return Ok(Some(fewer));
+        }
+    }
+    Ok(None)
+}
