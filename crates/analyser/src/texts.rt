@@ -1,8 +1,8 @@
 //! The texts of a script are bytes, since the types of a command in memory hold nothing else: so what is vouched for has a text.
 
-ghost use Rattle.std.specs.Prelude.{◌<◌, All, Some, map};
-ghost use Rattle.ed_syntax.specs.PublicTypes.{base_value, addresses_value, verb_value, command_value, step_value, steps_value};
-ghost use Rattle.ed_rules.specs.Formed.{ChoiceIsBytes, BaseIsBytes, AddressesAreBytes, VerbIsBytes, TextsAreBytes, TextsAreFormed};
+ghost use Rattle.std.specs.Prelude.{◌<◌, All, Some, map, option_map};
+ghost use Rattle.ed_syntax.specs.PublicTypes.{address_value, base_value, addresses_value, verb_value, command_value, step_value, steps_value};
+ghost use Rattle.ed_rules.specs.Formed.{ChoiceIsBytes, BaseIsBytes, TargetIsBytes, AddressesAreBytes, VerbIsBytes, TextsAreBytes, TextsAreFormed};
 ghost use Rattle.analyser.specs.Following.{stated_of};
 ghost use Rattle.analyser.specs.Walking.{StepIsBytes};
 
@@ -61,21 +61,37 @@ fn addresses_are_bytes(addresses: &Addresses)
     }
 }
 
+fn target_is_bytes(target: Option<&Address>)
+    ensures bytes { TargetIsBytes (option_map (λ target. address_value target.now) target.entry) }
+{
+    if let Some(target) = target {
+        base_is_bytes(&target.base);
+    }
+}
+
+fn own_pattern_is_bytes(pattern: Option<&Pattern>)
+    ensures bytes { ChoiceIsBytes (option_map (λ pattern. pattern.now) pattern.entry) }
+{
+    if let Some(pattern) = pattern {
+        are_bytes(pattern.text());
+    }
+}
+
+fn own_path_is_bytes(path: Option<&Bytes>)
+    ensures bytes { ChoiceIsBytes (option_map (λ path. path.now) path.entry) }
+{
+    if let Some(path) = path {
+        are_bytes(path.as_slice());
+    }
+}
+
 fn verb_is_bytes(verb: &Verb)
     ensures bytes { VerbIsBytes (verb_value verb.now) }
 {
-    match verb {
-        Verb::Move(target) => base_is_bytes(&target.base),
-        Verb::Copy(target) => base_is_bytes(&target.base),
-        Verb::Substitute { pattern, .. } => pattern_is_bytes(pattern),
-        Verb::Global { pattern, .. } => pattern_is_bytes(pattern),
-        Verb::ReadFile(path) => path_is_bytes(path),
-        Verb::WriteFile(path) => path_is_bytes(path),
-        Verb::Edit(path) => path_is_bytes(path),
-        Verb::EditAnyway(path) => path_is_bytes(path),
-        Verb::FileName(path) => path_is_bytes(path),
-        _ => {}
-    }
+    let takes = verb.takes();
+    target_is_bytes(takes.target);
+    own_pattern_is_bytes(takes.pattern);
+    own_path_is_bytes(takes.path);
 }
 
 fn command_is_bytes(command: &Command)

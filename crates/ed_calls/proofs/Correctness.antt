@@ -17,7 +17,9 @@ use Rattle.ed_session.specs.Sessions.{SessionValue, rest}
 use Rattle.ed_session.specs.Sinks.{SinkChange, SinkState, Took, Failed, change}
 use Rattle.ed_calls.specs.Edit as edit
 use Rattle.ed_calls.specs.Edit.{ComesTo, Correct, FileIsLost, after_start, status_at}
-use Rattle.ed_calls.proofs.Steps.{output_after, asked_after, stop_after, runs_out_after, some_more}
+use Rattle.ed_session.proofs.Leading.{asked_after, output_after, stop_after}
+use Rattle.ed_session.proofs.Taken.{some-more}
+use Rattle.ed_calls.proofs.Steps.{runs_out_after}
 
 -- A session was driven after some steps of the run, whose output was pending.
 module _ (cuts : CutsAfter) (from : SessionValue) (events : List Event) (whole : Progress) (log : Log) (sink : SinkChange) (result : Result Ending Fault)
@@ -51,7 +53,7 @@ module _ (cuts : CutsAfter) (from : SessionValue) (events : List Event) (whole :
               at ∙ ap (λ w. written events ++ (w ++ output_of b.left)) b.wrote ∙ sym (append_assoc (written events) c.output (output_of b.left))
                   ∙ ap (λ w. w ++ output_of b.left) front ∙ append_assoc c.part c.front.0 (output_of b.left),
             ))
-            (some_more c.front.0 (output_of b.left) c.front.2) c.took risen lost
+            (some-more c.front.0 (output_of b.left) c.front.2) c.took risen lost
         | inr r ↦
             edit.refused c.part c.front.0 (inr (subst (λ o. RunsOut whole o (heard events ++ requests log)) front (cut_after c.output r))) c.front.2 c.took risen lost
       ]

@@ -24,19 +24,14 @@ use Rattle.ed_calls.specs.Run.{reading}
 use Rattle.ed_calls.specs.RunOver as parts
 use Rattle.ed_calls.specs.RunOver.{RunsOver}
 use Rattle.ed_calls.proofs.Correctness.{comes_after}
-use Rattle.ed_calls.proofs.Steps.{stop_after, no_steps}
+use Rattle.ed_session.proofs.Leading.{over_is, rest_over, stop_after}
+use Rattle.ed_calls.proofs.Steps.{no_steps}
 
 -- what a start leads a session to
 starts_lead : (path : Option (List ℕ)) (from : SessionValue) (a : Answer) (now : SessionValue) → Starts path from a now →
     Leads from (answers (reading path a)) [] (requests (reading path a)) now
 starts_lead None from a now s = inl s
 starts_lead (Some path) from a now s = s
-
-rest_over : (v : SessionValue) (result : Result Ending Fault) (given : List Answer) → v.phase ≡ phases.Over result → rest v given ≡ Stops v.present.help (Ends result)
-rest_over v result given e = rw e refl
-
-over_is : (p : Phase) (result : Result Ending Fault) → p ≡ phases.Over result → is_over p ≡ true
-over_is p result e = rw e refl
 
 -- after memory ran out nothing is written or asked
 silent : (help : Bool) (asked : List Request) (output : List ℕ) → Begun (Stops help (Ends (Err Memory))) asked output ⊎ RunsOut (Stops help (Ends (Err Memory))) output asked

@@ -1,23 +1,9 @@
 -- What a run comes to after some of its steps.
-use Rattle.std.proofs.Common.{◌≡◌, ◌≢◌, ◌∙◌, ℕ, ◌+◌, Bool, List, [], ◌∷◌, ◌++◌, length, refl, sym, ap, append_assoc}
+use Rattle.std.proofs.Common.{◌≡◌, ◌∙◌, ℕ, ◌+◌, Bool, List, [], ◌∷◌, ◌++◌, length, refl, sym, ap}
 use Rattle.ed_syntax.specs.declared.request.Request.{Request}
 use Rattle.ed_syntax.specs.meaning.Progress.{Progress, Stops, Stop, Event, Wrote, Heard, after, asked_of, cut, output_of, stop_of, RunsOut, CutsAfter}
 use Rattle.ed_session.specs.Calls.{written, heard}
-
-pub output_after : (events : List Event) (p : Progress) → output_of (after events p) ≡ written events ++ output_of p
-output_after [] p = refl
-output_after (Wrote help output ∷ events) p = ap (λ w. output ++ w) (output_after events p) ∙ sym (append_assoc output (written events) (output_of p))
-output_after (Heard help r ∷ events) p = output_after events p
-
-pub asked_after : (events : List Event) (p : Progress) → asked_of (after events p) ≡ heard events ++ asked_of p
-asked_after [] p = refl
-asked_after (Wrote help output ∷ events) p = asked_after events p
-asked_after (Heard help r ∷ events) p = ap (λ h. r ∷ h) (asked_after events p)
-
-pub stop_after : (events : List Event) (p : Progress) → stop_of (after events p) ≡ stop_of p
-stop_after [] p = refl
-stop_after (Wrote help output ∷ events) p = stop_after events p
-stop_after (Heard help r ∷ events) p = stop_after events p
+use Rattle.ed_session.proofs.Leading.{asked_after, output_after, stop_after}
 
 -- it runs out of memory after some of its steps
 pub runs_out_after : CutsAfter → (events : List Event) (p : Progress) (output : List ℕ) (asked : List Request) → RunsOut p output asked
@@ -37,8 +23,3 @@ pub no_steps : (help : Bool) (s : Stop) (events : List Event) (p : Progress) →
 no_steps help s [] p e = refl
 no_steps help s (Wrote h output ∷ events) p e = cc
 no_steps help s (Heard h r ∷ events) p e = cc
-
--- a list that goes on after some bytes isn't at its end there
-pub some_more : (x y : List ℕ) → x ≢ [] → x ++ y ≢ []
-some_more [] y h = λ e. h refl
-some_more (b ∷ x) y h = λ e. cc

@@ -2,24 +2,15 @@
 use Rattle.std.specs.Prelude.{ℕ, suc, Bool, false, not, ◌||◌, List, [], ◌∷◌, Option, Some, None, if◌then◌else◌}
 use Rattle.std.specs.List.{list_any}
 use Rattle.std.specs.Str.{is_utf8}
-use Rattle.ed_syntax.specs.Commands as ed
-use Rattle.ed_syntax.specs.Commands.{Verb, Command, Step, Script}
-
--- the name of a file that a command has
-abbrev pub named : Verb → Option (List ℕ)
-named (ed.ReadFile path) = path
-named (ed.WriteFile path) = path
-named (ed.Edit path) = path
-named (ed.EditAnyway path) = path
-named (ed.FileName path) = path
-named _ = None
+use Rattle.ed_syntax.specs.Commands.{Command, Step, Script}
+use Rattle.ed_syntax.specs.meaning.Verbs.{takes}
 
 abbrev pub is_unusable : Option (List ℕ) → Bool
 is_unusable None = false
 is_unusable (Some path) = not (is_utf8 path)
 
 abbrev pub names_unusable : Command → Bool
-names_unusable c = is_unusable (named c.verb)
+names_unusable c = is_unusable (takes c.verb).path
 
 -- a command of the script, or one of its list, has such a name
 abbrev pub step_unusable : Step → Bool

@@ -3,7 +3,8 @@ ghost use Rattle.std.specs.Prelude.{◌≡◌, Some, map};
 ghost use Rattle.std.specs.List.{list_any};
 ghost use Rattle.ed_syntax.specs.PublicScript.{script_value};
 ghost use Rattle.ed_syntax.specs.PublicTypes.{verb_value, command_value, step_value};
-ghost use Rattle.ed_calls.specs.Names.{named, is_unusable, names_unusable, step_unusable, first_unusable};
+ghost use Rattle.ed_syntax.specs.meaning.Verbs.{takes};
+ghost use Rattle.ed_calls.specs.Names.{is_unusable, names_unusable, step_unusable, first_unusable};
 
 use ed_base::Bytes;
 use ed_syntax::{Command, Script, Verb};
@@ -17,15 +18,11 @@ fn is_unusable(path: &Bytes) -> bool
 
 /// Whether a command has such a name.
 fn names_unusable(verb: &Verb) -> bool
-    ensures value { result ≡ is_unusable (named (verb_value verb.now)) }
+    ensures value { result ≡ is_unusable (takes (verb_value verb.now)).path }
 {
-    match verb {
-        Verb::ReadFile(Some(path))
-        | Verb::WriteFile(Some(path))
-        | Verb::Edit(Some(path))
-        | Verb::EditAnyway(Some(path))
-        | Verb::FileName(Some(path)) => is_unusable(path),
-        _ => false,
+    match verb.takes().path {
+        Some(path) => is_unusable(path),
+        None => false,
     }
 }
 

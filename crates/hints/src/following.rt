@@ -2,7 +2,7 @@
 
 use crate::commands::{command_at, first_line, pair, span_of};
 use crate::words::quoted;
-use ed_syntax::{Address, Addresses, Base, Command, Script, Verb, read_script};
+use ed_syntax::{Address, Addresses, Alteration, Base, Command, Script, Verb, read_script};
 use std::alloc::{AllocError, Global};
 
 /// Whether an address is counted or searched from the current line.
@@ -38,14 +38,14 @@ pub(crate) fn uses_line(command: &Command) -> bool {
 
 /// Whether a command sets the current line, or ends the script.
 pub(crate) fn sets_line(command: &Command) -> bool {
-    match &command.verb {
+    let takes = command.verb.takes();
+    match takes.lines {
         // One line alone isn't joined.
-        Verb::Join => !matches!(&command.addresses, Addresses::One(_)),
-        Verb::Append(_) | Verb::Change(_) | Verb::Insert(_) | Verb::Delete => true,
-        Verb::Move(_) | Verb::Copy(_) | Verb::Substitute { .. } => true,
-        Verb::Null | Verb::Write(_) | Verb::ReadFile(_) => true,
-        Verb::Edit(_) | Verb::EditAnyway(_) | Verb::Quit | Verb::QuitAnyway => true,
-        _ => false,
+        Alteration::Joins => !matches!(&command.addresses, Addresses::One(_)),
+        Alteration::Never | Alteration::BringsBack => {
+            takes.ends.is_some() || matches!(&command.verb, Verb::Null | Verb::Write(_))
+        }
+        _ => true,
     }
 }
 
@@ -111,7 +111,6 @@ fn is_quiet(command: &Command, path: Option<&[u8]>) -> bool {
                 }
         }
         Verb::FileName(name) => name.is_none(),
-        Verb::Edit(_) | Verb::EditAnyway(_) => false,
         verb => !verb.takes().alters,
     }
 }
