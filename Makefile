@@ -3,6 +3,7 @@
 # Each does all set-up on a fresh machine that has the toolchain's command `rt`.
 
 PREFIX ?= /usr/local
+bindir ?= $(PREFIX)/bin
 ROOT = $(DESTDIR)$(PREFIX)
 PROGRAM = crates/ed_main/out/ed_main
 EXAMPLES = $(patsubst examples/%,%,$(wildcard examples/*/script.ed examples/*/before examples/*/after))
@@ -12,32 +13,37 @@ EXAMPLES = $(patsubst examples/%,%,$(wildcard examples/*/script.ed examples/*/be
 all: program
 	examples/run --show
 	@echo
-	@echo "The program is $(CURDIR)/$(PROGRAM). To copy it to PREFIX/bin: make install PREFIX=.."
+	@echo "The program is $(CURDIR)/out/edv. To copy it to PREFIX/bin: make install PREFIX=.."
 
-# `rt run` proves, compiles and links, and leaves the program in out/.
+# `rt run` proves, compiles and links, and leaves the program in its crate's out/.
 program:
-	mkdir -p crates/ed_main/out
+	mkdir -p crates/ed_main/out out
 	cd crates/ed_main && rt run -- edit -s data/F <stdin >out/first_run
+	ln -sf ../$(PROGRAM) out/edv
 
-# Copies what is built, and calls nothing of the toolchain: under `sudo` it makes no file in this tree.
+# Copies what is built, and calls nothing of the toolchain: under `sudo` it makes no file in this tree. The drop-in `ed` finds the program
+# by its own place.
 install:
 	@test -x $(PROGRAM) || { echo "make install: $(PROGRAM) isn't built; run make first" >&2; exit 1; }
-	install -D -m 755 $(PROGRAM) "$(ROOT)/bin/ed_main"
-	install -D -m 755 packaging/ed "$(ROOT)/libexec/ed_main/ed"
-	install -D -m 644 man/ed_main.1 "$(ROOT)/share/man/man1/ed_main.1"
-	install -D -m 644 docs/VERIFIER.md "$(ROOT)/share/doc/ed_main/VERIFIER.md"
-	install -D -m 644 docs/RECIPES.md "$(ROOT)/share/doc/ed_main/RECIPES.md"
+	install -D -m 755 $(PROGRAM) "$(DESTDIR)$(bindir)/edv"
+	ln -sf edv "$(DESTDIR)$(bindir)/ed_main"
+	install -d "$(ROOT)/libexec/edv"
+	sed "s|/\.\./\.\./bin\"|/$$(realpath -m --relative-to="$(PREFIX)/libexec/edv" "$(bindir)")\"|" packaging/ed >"$(ROOT)/libexec/edv/ed"
+	chmod 755 "$(ROOT)/libexec/edv/ed"
+	install -D -m 644 man/edv.1 "$(ROOT)/share/man/man1/edv.1"
+	install -D -m 644 docs/VERIFIER.md "$(ROOT)/share/doc/edv/VERIFIER.md"
+	install -D -m 644 docs/RECIPES.md "$(ROOT)/share/doc/edv/RECIPES.md"
 	for example in $(EXAMPLES); do \
-	  install -D -m 644 examples/$$example "$(ROOT)/share/doc/ed_main/examples/$$example" || exit 1; \
+	  install -D -m 644 examples/$$example "$(ROOT)/share/doc/edv/examples/$$example" || exit 1; \
 	done
-	install -D -m 644 packaging/completions/ed_main.bash "$(ROOT)/share/bash-completion/completions/ed_main"
-	install -D -m 644 packaging/completions/_ed_main "$(ROOT)/share/zsh/site-functions/_ed_main"
+	install -D -m 644 packaging/completions/edv.bash "$(ROOT)/share/bash-completion/completions/edv"
+	install -D -m 644 packaging/completions/_edv "$(ROOT)/share/zsh/site-functions/_edv"
 
 # Takes away what `make install` put there, and no folder that others may use.
 uninstall:
-	rm -f "$(ROOT)/bin/ed_main" "$(ROOT)/share/man/man1/ed_main.1" \
-	  "$(ROOT)/share/bash-completion/completions/ed_main" "$(ROOT)/share/zsh/site-functions/_ed_main"
-	rm -rf "$(ROOT)/libexec/ed_main" "$(ROOT)/share/doc/ed_main"
+	rm -f "$(DESTDIR)$(bindir)/edv" "$(DESTDIR)$(bindir)/ed_main" "$(ROOT)/share/man/man1/edv.1" \
+	  "$(ROOT)/share/bash-completion/completions/edv" "$(ROOT)/share/zsh/site-functions/_edv"
+	rm -rf "$(ROOT)/libexec/edv" "$(ROOT)/share/doc/edv"
 
 check:
 	tests/check

@@ -20,7 +20,7 @@ use Rattle.ed_main.specs.declared.words.WordsFault.{WordsFault}
 use Rattle.ed_main.specs.declared.words.WordsFault.TheVariants as fault
 use Rattle.ed_rules.specs.LineBounds.{is_few}
 use Rattle.ed_main.specs.Subcommands.{program}
-use Rattle.ed_main.specs.Words.{are_digits, lines_in, job_by_name, job_of, job_named, texts_in, unless_refused}
+use Rattle.ed_main.specs.Words.{IsRequest, MayAsk, OnlyAsk, are_digits, lines_in, job_by_name, job_of, job_named, texts_in, unless_refused}
 
 -- `clap` says of the program all that it says of simple commands
 simple : is_simple program ≡ true
@@ -60,6 +60,35 @@ pub refused_by : (a : App) (words : List Text) (k : ErrorKind) (f : WordsFault) 
     → (is_simple_and_free a ≡ true → (k ≡ kind.OutOfMemory) ⊎ IsAmong k (fault_of a words)) → (k ≡ kind.OutOfMemory → f ≡ fault.Memory) → f ≢ fault.Memory → job_of words ≡ None
 refused_by a words k f e has memory other =
     refused_for words k f (subst (λ (b : App). (k ≡ kind.OutOfMemory) ⊎ IsAmong k (fault_of b words)) e (has (ap is_simple_and_free e ∙ simple_and_free))) memory other
+
+-- what was asked for is among what `clap` found
+asked_for : (words : List Text) (k : ErrorKind) → (k ≡ kind.OutOfMemory) ⊎ IsAmong k (fault_of program words) → IsRequest k → MayAsk words
+asked_for words k (inl e) (inl h) = cc
+asked_for words k (inl e) (inr v) = cc
+asked_for words k (inr among) (inl h) = inl (subst (λ x. IsAmong x (fault_of program words)) h among)
+asked_for words k (inr among) (inr v) = inr (subst (λ x. IsAmong x (fault_of program words)) v among)
+
+pub asked_by : (a : App) (words : List Text) (k : ErrorKind) → a ≡ program
+    → (is_simple_and_free a ≡ true → (k ≡ kind.OutOfMemory) ⊎ IsAmong k (fault_of a words)) → IsRequest k → MayAsk words
+asked_by a words k e has is =
+    asked_for words k (subst (λ (b : App). (k ≡ kind.OutOfMemory) ⊎ IsAmong k (fault_of b words)) e (has (ap is_simple_and_free e ∙ simple_and_free))) is
+
+-- and where only requests are found, it is one, unless memory ran out
+request_of : (words : List Text) (k : ErrorKind) (f : WordsFault) → (k ≡ kind.OutOfMemory) ⊎ IsAmong k (fault_of program words)
+    → (k ≡ kind.OutOfMemory → f ≡ fault.Memory) → f ≢ fault.Memory → OnlyAsk words → IsRequest k
+request_of words k f (inl e) memory other only = absurd (other (memory e))
+request_of words k f (inr among) memory other only = only.1 k among
+
+pub request_by : (a : App) (words : List Text) (k : ErrorKind) (f : WordsFault) → a ≡ program
+    → (is_simple_and_free a ≡ true → (k ≡ kind.OutOfMemory) ⊎ IsAmong k (fault_of a words)) → (k ≡ kind.OutOfMemory → f ≡ fault.Memory) → f ≢ fault.Memory
+    → OnlyAsk words → IsRequest k
+request_by a words k f e has memory other only =
+    request_of words k f (subst (λ (b : App). (k ≡ kind.OutOfMemory) ⊎ IsAmong k (fault_of b words)) e (has (ap is_simple_and_free e ∙ simple_and_free)))
+    memory other only
+
+-- where `clap` finds nothing, nothing is asked for
+pub none_found : (a : App) (words : List Text) → a ≡ program → (is_simple_and_free a ≡ true → fault_of a words ≡ []) → fault_of program words ≡ []
+none_found a words e none = ap (λ (b : App). fault_of b words) (sym e) ∙ none (ap is_simple_and_free e ∙ simple_and_free)
 
 module _ {Z : Type 0} where
   named : (o : Option (Box SubCommand Z)) (name : Text) (rows : List Row) → option_map (λ b. (out-SubCommand (box_value b)).name.now) o ≡ Some name

@@ -41,7 +41,7 @@ fits certificate path = Some (job.Fits certificate path)
 
 -- the job of words after the program's name
 abbrev job_given : List (List ℕ) → Option Job
-job_given words = job_of (codes "ed_main" ∷ words)
+job_given words = job_of (codes "edv" ∷ words)
 
 words : List Row
 unfolding clap_on_literals program job_of

@@ -1,6 +1,6 @@
 -- The status that the program ends with, whatever its words, its script and its certificate are, and whatever the files answer (our
 -- choice; where memory ran out or an input isn't read, it is that of the editor's fault).
-use Rattle.std.specs.Prelude.{◌≡◌, ℕ, ◌^◌, Bool, true, false, List, IsTrue}
+use Rattle.std.specs.Prelude.{◌≡◌, ◌⊎◌, ℕ, ◌^◌, Bool, true, false, List, IsTrue}
 use Rattle.ed_base.specs.Fault.{status_of}
 use Rattle.ed_base.specs.declared.fault.Fault.TheVariants as fault
 use Rattle.ed_syntax.specs.declared.options.Options.{Options}
@@ -37,10 +37,11 @@ wants_script (job.Check path) = true
 wants_script (job.Run path options rehearsed) = true
 wants_script (job.Fits certificate path) = false
 
--- words that aren't understood have a status of their own
-abbrev pub status_of_words : WordsFault → ℕ
-status_of_words (words.Usage text) = 4
-status_of_words words.Memory = status_of fault.Memory
+-- Words that aren't understood have a status of their own. A request for help or the version is no fault; it can fail to be shown.
+abbrev pub EndsWords : WordsFault → ℕ → Type 0
+EndsWords (words.Usage text) status = status ≡ 4
+EndsWords (words.Asked text) status = (status ≡ 0) ⊎ (status ≡ status_of fault.Output)
+EndsWords words.Memory status = status ≡ status_of fault.Memory
 
 -- a script or a certificate that isn't read ends the program as a file does that is refused
 abbrev pub status_of_unread : ReadFault → ℕ
@@ -93,6 +94,6 @@ Does script (job.Fits certificate path) = WithCertificate (λ bytes. Somehow (λ
 
 -- the words weren't understood, the script wasn't read for a job that wants one, or a job was done for a script
 pub data IsEnding (status : ℕ) : Type 0 where
-  refused : (fault : WordsFault) → status ≡ status_of_words fault → IsEnding status
+  refused : (fault : WordsFault) → EndsWords fault status → IsEnding status
   unread : (asked : Job) → IsGiven asked → IsTrue (wants_script asked) → (fault : ReadFault) → status ≡ status_of_unread fault → IsEnding status
   did : (script : List ℕ) (asked : Job) → IsGiven asked → Does script asked status → IsEnding status

@@ -8,9 +8,9 @@ use Rattle.clap.specs.declared.builder.action.ArgAction.TheVariants.{Append, Set
 abbrev pub silent : Rule
 silent = record (new_rule (codes "silent")) { short = Some 115; action = Some SetTrue }
 
--- `-n`
+-- `-n`, `--dry-run`
 abbrev pub rehearsed : Rule
-rehearsed = record (new_rule (codes "rehearsed")) { short = Some 110; action = Some SetTrue }
+rehearsed = record (new_rule (codes "rehearsed")) { short = Some 110; long = Some (codes "dry-run"); action = Some SetTrue }
 
 -- `-p STRING`
 abbrev pub prompt : Rule
@@ -70,7 +70,7 @@ fits = subcommand (codes "fits") (certificate ∷ file ∷ [])
 
 -- the program without its subcommands, of which it wants one
 abbrev pub bare : App
-bare = on_top (λ s. record s { has_version = true; subcommand_required = true }) (new_app (codes "ed_main"))
+bare = on_top (λ s. record s { has_version = true; subcommand_required = true }) (new_app (codes "edv"))
 
 unfoldable pub program : App
 program = with_subcommand (with_subcommand (with_subcommand (with_subcommand (with_subcommand bare edit.top) vouch.top) check.top) run.top) fits.top

@@ -1,16 +1,20 @@
 -- The words that the program is given, as `clap` reads them, and the job that they give (XCU ed, "Synopsis"; our choice: no prompt or file
 -- that reads as an option).
-use Rattle.std.specs.Prelude.{ℕ, Bool, true, false, not, ◌&&◌, List, [], ◌∷◌, codes, length, nat_eq, nat_lt, Option, Some, None, option_and_then, option_map, unwrap_or, is_ok, if◌then◌else◌}
+use Rattle.std.specs.Prelude.{◌≡◌, ◌≢◌, ◌⊎◌, ℕ, Bool, true, false, not, ◌&&◌, List, [], ◌∷◌, codes, length, nat_eq, nat_lt, Option, Some, None, option_and_then, option_map, unwrap_or, is_ok, if◌then◌else◌}
 use Rattle.std.specs.List.{list_all}
 use Rattle.std.specs.Option.{option_map_or}
 use Rattle.std.specs.Char.{digit_value}
 use Rattle.std.specs.Str.{bytes_eq}
 use Rattle.std.specs.Str.Parse.{digits_value, without_leading_plus}
-use Rattle.clap.specs.Words.{Kinds, Row, all_of, fault_of, first_of, subcommand_of}
+use Rattle.clap.specs.Words.{IsAmong, Kinds, Row, all_of, fault_of, first_of, subcommand_of}
 use Rattle.bre_parse.specs.Grammar.{pattern}
 use Rattle.ed_syntax.specs.declared.options.Options.{Options}
 use Rattle.ed_rules.specs.LineBounds.{is_few, is_within}
 use Rattle.ed_rules.specs.Texts.{with_texts}
+use Rattle.clap.specs.declared.error.kind.ErrorKind.{ErrorKind}
+use Rattle.clap.specs.declared.error.kind.ErrorKind.TheVariants as kind
+use Rattle.ed_main.specs.declared.words.WordsFault.{WordsFault}
+use Rattle.ed_main.specs.declared.words.WordsFault.TheVariants as words
 use Rattle.ed_main.specs.declared.job.Job.{Job}
 use Rattle.ed_main.specs.declared.job.Job.TheVariants as job
 use Rattle.ed_main.specs.Subcommands.{program}
@@ -153,3 +157,20 @@ unless_refused (kind ∷ kinds) found = None
 -- the job that the words give, of which the first is the program's own name
 unfoldable pub job_of : List (List ℕ) → Option Job
 job_of words = unless_refused (fault_of program words) (job_named (subcommand_of program words))
+
+-- help or the version is asked for
+abbrev pub IsRequest : ErrorKind → Type 0
+IsRequest k = (k ≡ kind.DisplayHelp) ⊎ (k ≡ kind.DisplayVersion)
+
+-- what is shown is what was asked for
+abbrev pub IsAsked : WordsFault → Type 0
+IsAsked (words.Asked text) = Unit {0}
+IsAsked other = ⊥
+
+-- of what `clap` may find in the words, one is a request
+abbrev pub MayAsk : List (List ℕ) → Type 0
+MayAsk words = IsAmong kind.DisplayHelp (fault_of program words) ⊎ IsAmong kind.DisplayVersion (fault_of program words)
+
+-- `clap` finds something in the words, and all that it may find are requests
+abbrev pub OnlyAsk : List (List ℕ) → Type 0
+OnlyAsk words = (fault_of program words ≢ []) × ((k : ErrorKind) → IsAmong k (fault_of program words) → IsRequest k)

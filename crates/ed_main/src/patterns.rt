@@ -20,6 +20,7 @@ pub(crate) fn stated_of(
     ensures value { IfOk result (λ has. has ≡ meaning.stated asked (map (λ text. text.now) texts.now)) }
     ensures only_if_refused { IfErr result (λ fault. fault ≢ WordsFault.Memory →
         meaning.are_patterns (map (λ text. text.now) texts.now) ≡ false) }
+    ensures unasked { IfErr result (λ fault. ¬ meaning.IsAsked fault) }
 {
     let set = set_of(alloc, texts)?;
     if asked {
@@ -37,6 +38,7 @@ fn set_of(alloc: Global, texts: &[&str]) -> Result<Texts, WordsFault>
     ensures value { IfOk result (λ set. set ≡ with_texts (map (λ text. text.now) texts.now) []) }
     ensures only_if_refused { IfErr result (λ fault. fault ≢ WordsFault.Memory →
         meaning.are_patterns (map (λ text. text.now) texts.now) ≡ false) }
+    ensures unasked { IfErr result (λ fault. ¬ meaning.IsAsked fault) }
 {
     let mut set = Texts::none(alloc);
     for text in texts {

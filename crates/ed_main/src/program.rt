@@ -5,7 +5,7 @@ ghost use Rattle.ed_calls.specs.Fits.{Fits};
 ghost use Rattle.ed_calls.specs.Told.{Says};
 ghost use Rattle.ed_calls.specs.Vouch.{Vouches};
 ghost use Rattle.ed_main.specs.Job.{IsGiven};
-ghost use Rattle.ed_main.specs.Program.{Does, IsEnding, RunsOn, Somehow, WithCertificate, most_bytes, status_of_unread, status_of_words, wants_script};
+ghost use Rattle.ed_main.specs.Program.{Does, EndsWords, IsEnding, RunsOn, Somehow, WithCertificate, most_bytes, status_of_unread, wants_script};
 ghost use Rattle.ed_main.specs.declared.job.Job.TheVariants as job;
 ghost use Rattle.sources.specs.Source.{HasMore, IsAll};
 
@@ -57,10 +57,10 @@ where
     }
 }
 
-/// Shows what is wrong with the words.
-fn refuse(rt: &impl Eprint, fault: &WordsFault) -> u8
+/// Shows what is wrong with the words, or the help that they ask for.
+fn refuse<R: Print + Eprint>(rt: &R, fault: &WordsFault) -> u8
     ensures status { result ≤ 4 }
-    ensures value { result ≡ status_of_words fault.now }
+    ensures value { EndsWords fault.now result }
 {
     match fault {
         WordsFault::Memory => Fault::Memory.status(),
@@ -68,6 +68,10 @@ fn refuse(rt: &impl Eprint, fault: &WordsFault) -> u8
             let _ = rt.eprint(text);
             USAGE_STATUS
         }
+        WordsFault::Asked(text) => match rt.print(text) {
+            Ok(()) => 0,
+            Err(_) => Fault::Output.status(),
+        },
     }
 }
 

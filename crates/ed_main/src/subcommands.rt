@@ -11,7 +11,7 @@ use std::alloc::{AllocError, Global};
 pub fn program<'a>(alloc: Global) -> Result<Command<'a>, AllocError>
     ensures value { IfOk result (λ command. app_of command ≡ meaning.program) }
 {
-    let command = Command::new(alloc, "ed_main")
+    let command = Command::new(alloc, "edv")
         .about("The line editor ed, for scripts that are checked before they are run")
         .version("0.1")
         .subcommand_required(true)
@@ -31,7 +31,7 @@ fn edit<'a>(alloc: Global) -> Result<Command<'a>, AllocError>
         alloc,
         "edit",
         "Runs the script on standard input on a file",
-        "Example: ed_main edit FILE <script.ed",
+        "Example: edv edit FILE <script.ed",
         vec![in alloc;
             rehearsed(alloc),
             silent(alloc),
@@ -49,7 +49,7 @@ fn vouch<'a>(alloc: Global) -> Result<Command<'a>, AllocError>
         alloc,
         "vouch",
         "Writes a certificate that the script on standard input can't fail, or where it can",
-        "Example: ed_main vouch --min 1 --max any FILE <script.ed >CERT",
+        "Example: edv vouch --min 1 --max any FILE <script.ed >CERT",
         vec![in alloc;
             min(alloc),
             max(alloc),
@@ -69,7 +69,7 @@ fn check<'a>(alloc: Global) -> Result<Command<'a>, AllocError>
         alloc,
         "check",
         "Checks a certificate for the script on standard input",
-        "Example: ed_main check CERT <script.ed",
+        "Example: edv check CERT <script.ed",
         vec![in alloc; certificate(alloc)]?,
     )
 }
@@ -82,7 +82,7 @@ fn run<'a>(alloc: Global) -> Result<Command<'a>, AllocError>
         alloc,
         "run",
         "Runs the script on standard input on a file if a certificate for both is accepted",
-        "Example: ed_main run CERT FILE <script.ed",
+        "Example: edv run CERT FILE <script.ed",
         vec![in alloc;
             certificate(alloc),
             rehearsed(alloc),
@@ -100,7 +100,7 @@ fn fits<'a>(alloc: Global) -> Result<Command<'a>, AllocError>
         alloc,
         "fits",
         "Tells whether a file is one that a certificate allows; no script is read",
-        "Example: ed_main fits CERT FILE",
+        "Example: edv fits CERT FILE",
         vec![in alloc; certificate(alloc), file(alloc, "The file that is tested")]?,
     )
 }
@@ -127,6 +127,7 @@ fn rehearsed<'a>(alloc: Global) -> Arg<'a>
 {
     Arg::new(alloc, "rehearsed")
         .short('n')
+        .long("dry-run")
         .action(ArgAction::SetTrue)
         .help("Writes no file, and says on standard error what would be written")
 }

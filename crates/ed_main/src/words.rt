@@ -3,7 +3,7 @@ ghost use Rattle.std.specs.Prelude.{◌≡◌, ◌≢◌, true, false, List, Som
 ghost use Rattle.clap.specs.Words.{found_of, first_of, rows_of, subcommand_rows_of};
 ghost use Rattle.ed_rules.specs.LineBounds.{is_few};
 ghost use Rattle.ed_main.specs.Words as meaning;
-ghost use Rattle.ed_main.specs.Words.{job_of, job_named, options_in};
+ghost use Rattle.ed_main.specs.Words.{IsAsked, MayAsk, OnlyAsk, job_of, job_named, options_in};
 ghost use Rattle.ed_main.specs.Job.{IsGiven};
 
 use crate::job::Job;
@@ -24,9 +24,12 @@ use thiserror::Error;
 /// Why no job was read.
 #[derive(Debug, Drop, Error)]
 pub enum WordsFault {
-    /// The words aren't as the program is used, or ask for its help: what is to be shown.
+    /// The words aren't as the program is used: what is to be shown.
     #[error("{0}")]
     Usage(String),
+    /// The words ask for help or the version: what is to be shown.
+    #[error("{0}")]
+    Asked(String),
     /// An allocation was refused.
     #[error("out of memory")]
     Memory,
@@ -44,7 +47,9 @@ impl From<AllocError> for WordsFault {
 
 impl WordsFault {
     /// What is wrong with the words, and how the program is used.
-    pub fn of(alloc: Global, wrong: &str, usage: &str) -> WordsFault {
+    pub fn of(alloc: Global, wrong: &str, usage: &str) -> WordsFault
+        ensures unasked { ¬ IsAsked result }
+    {
         match format!(in alloc; "{wrong}\n{usage}") {
             Ok(text) => WordsFault::Usage(text),
             Err(_) => WordsFault::Memory,
@@ -57,6 +62,12 @@ pub fn read_words(alloc: Global, words: &[&str]) -> Result<Job, WordsFault>
     ensures value { IfOk result (λ job. job_of (map (λ w. w.now) words.entry.now) ≡ Some job) }
     ensures only_if_refused { IfErr result (λ fault. fault ≢ WordsFault.Memory →
         job_of (map (λ w. w.now) words.entry.now) ≡ None) }
+
+    // Help or the version is shown just where the words ask for it.
+    ensures asked { IfErr result (λ fault. IsAsked fault → MayAsk (map (λ w. w.now) words.entry.now)) }
+    ensures shown { IfErr result (λ fault. fault ≢ WordsFault.Memory →
+        OnlyAsk (map (λ w. w.now) words.entry.now) → IsAsked fault) }
+
     ensures given { IfOk result IsGiven }
 {
     match program(alloc)?.try_get_matches_from(words) {
@@ -70,6 +81,9 @@ pub fn job_of_words(alloc: Global, words: &[String]) -> Result<Job, WordsFault>
     ensures value { IfOk result (λ job. job_of (map (λ word. string_bytes word) words.now) ≡ Some job) }
     ensures only_if_refused { IfErr result (λ fault. fault ≢ WordsFault.Memory →
         job_of (map (λ word. string_bytes word) words.now) ≡ None) }
+    ensures asked { IfErr result (λ fault. IsAsked fault → MayAsk (map (λ word. string_bytes word) words.now)) }
+    ensures shown { IfErr result (λ fault. fault ≢ WordsFault.Memory →
+        OnlyAsk (map (λ word. string_bytes word) words.now) → IsAsked fault) }
     ensures given { IfOk result IsGiven }
 {
     let mut texts = Vec::new(alloc);
@@ -83,6 +97,7 @@ fn job_of_matches(alloc: Global, matches: &ArgMatches<'_>) -> Result<Job, WordsF
     ensures value { IfOk result (λ job. job_named (subcommand_rows_of matches.now) ≡ Some job) }
     ensures only_if_refused { IfErr result (λ fault. fault ≢ WordsFault.Memory →
         job_named (subcommand_rows_of matches.now) ≡ None) }
+    ensures unasked { IfErr result (λ fault. ¬ IsAsked fault) }
     ensures given { IfOk result IsGiven }
 {
     match matches.subcommand() {
@@ -95,6 +110,7 @@ fn job_by_name(alloc: Global, name: &str, given: &ArgMatches<'_>) -> Result<Job,
     ensures value { IfOk result (λ job. meaning.job_by_name name.now (rows_of (found_of given.now)) ≡ Some job) }
     ensures only_if_refused { IfErr result (λ fault. fault ≢ WordsFault.Memory →
         meaning.job_by_name name.now (rows_of (found_of given.now)) ≡ None) }
+    ensures unasked { IfErr result (λ fault. ¬ IsAsked fault) }
     ensures given { IfOk result IsGiven }
 {
     match name {
@@ -111,6 +127,7 @@ fn edit_job(alloc: Global, given: &ArgMatches<'_>) -> Result<Job, WordsFault>
     ensures value { IfOk result (λ job. meaning.edit_job (rows_of (found_of given.now)) ≡ Some job) }
     ensures only_if_refused { IfErr result (λ fault. fault ≢ WordsFault.Memory →
         meaning.edit_job (rows_of (found_of given.now)) ≡ None) }
+    ensures unasked { IfErr result (λ fault. ¬ IsAsked fault) }
     ensures given { IfOk result IsGiven }
 {
     let prompt = text_of(given, "prompt");
@@ -137,6 +154,7 @@ fn vouch_job(alloc: Global, given: &ArgMatches<'_>) -> Result<Job, WordsFault>
     ensures value { IfOk result (λ job. meaning.vouch_job (rows_of (found_of given.now)) ≡ Some job) }
     ensures only_if_refused { IfErr result (λ fault. fault ≢ WordsFault.Memory →
         meaning.vouch_job (rows_of (found_of given.now)) ≡ None) }
+    ensures unasked { IfErr result (λ fault. ¬ IsAsked fault) }
     ensures given { IfOk result IsGiven }
 {
     let path = text_of(given, "file");
@@ -169,6 +187,7 @@ fn check_job(alloc: Global, given: &ArgMatches<'_>) -> Result<Job, WordsFault>
     ensures value { IfOk result (λ job. meaning.check_job (rows_of (found_of given.now)) ≡ Some job) }
     ensures only_if_refused { IfErr result (λ fault. fault ≢ WordsFault.Memory →
         meaning.check_job (rows_of (found_of given.now)) ≡ None) }
+    ensures unasked { IfErr result (λ fault. ¬ IsAsked fault) }
     ensures given { IfOk result IsGiven }
 {
     match text_of(given, "certificate") {
@@ -183,6 +202,7 @@ fn run_job(alloc: Global, given: &ArgMatches<'_>) -> Result<Job, WordsFault>
     ensures value { IfOk result (λ job. meaning.run_job (rows_of (found_of given.now)) ≡ Some job) }
     ensures only_if_refused { IfErr result (λ fault. fault ≢ WordsFault.Memory →
         meaning.run_job (rows_of (found_of given.now)) ≡ None) }
+    ensures unasked { IfErr result (λ fault. ¬ IsAsked fault) }
     ensures given { IfOk result IsGiven }
 {
     let path = text_of(given, "file");
@@ -209,6 +229,7 @@ fn fits_job(alloc: Global, given: &ArgMatches<'_>) -> Result<Job, WordsFault>
     ensures value { IfOk result (λ job. meaning.fits_job (rows_of (found_of given.now)) ≡ Some job) }
     ensures only_if_refused { IfErr result (λ fault. fault ≢ WordsFault.Memory →
         meaning.fits_job (rows_of (found_of given.now)) ≡ None) }
+    ensures unasked { IfErr result (λ fault. ¬ IsAsked fault) }
     ensures given { IfOk result IsGiven }
 {
     let path = text_of(given, "file");
@@ -242,6 +263,7 @@ fn patterns_in(
     ensures value { IfOk result (λ has. has ≡ meaning.stated asked (meaning.texts_in (codes "has") (rows_of (found_of given.now)))) }
     ensures only_if_refused { IfErr result (λ fault. fault ≢ WordsFault.Memory →
         meaning.are_patterns (meaning.texts_in (codes "has") (rows_of (found_of given.now))) ≡ false) }
+    ensures unasked { IfErr result (λ fault. ¬ IsAsked fault) }
 {
     match given.get_strs("has") {
         Some(texts) => stated_of(alloc, asked, texts),

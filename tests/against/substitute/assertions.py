@@ -5,7 +5,7 @@
 
 PTESTS is posix/PTESTS of the C library's source (on Debian, of the package glibc: apt-get source glibc). A line of it is
 `start|end|pattern|text|`: the first and the last byte of the match, counted from 1; 0|0 for an empty match at the text's begin;
--1 for no match; -2 for a pattern that is at fault. PROGRAM is `ed_main edit -s` that `make` built, or another editor, such as `ed -s`.
+-1 for no match; -2 for a pattern that is at fault. PROGRAM is `edv edit -s` that `make` built, or another editor, such as `ed -s`.
 Of each case `s` puts the match between < and >; a match that the test puts elsewhere, or one that isn't told as it should be, is shown.
 """
 import os, subprocess, sys, tempfile

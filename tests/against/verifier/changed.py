@@ -1,10 +1,10 @@
 #!/usr/bin/env python3
-"""Changes certificates byte by byte, and compares what `ed_main check` says with a plain checker.
+"""Changes certificates byte by byte, and compares what `edv check` says with a plain checker.
 
     python3 changed.py SEED [PROCESSES]
     python3 changed.py --large
 
-For each of SCRIPTS `ed_main vouch` makes a certificate. It is then given to `ed_main check` with each line doubled, dropped or exchanged
+For each of SCRIPTS `edv vouch` makes a certificate. It is then given to `edv check` with each line doubled, dropped or exchanged
 with the next one, each set with each other choice of its words, a mark more or less, an entry of a zone less, each number one more or less,
 each byte changed to five others, zero bytes, CRLF line ends, and cut at each place. The
 checker in this file reads the text, and says once more and as plainly as it can what the verifier's rules say; the answers and the exit

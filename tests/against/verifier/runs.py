@@ -3,8 +3,8 @@
 
     python3 runs.py COUNT SEED [PROCESSES [RUNS]]
 
-Each script is that of ../scripts/compare.py, with bounds on the lines of its start file. Where `ed_main vouch` prints a certificate,
-`ed_main check` has to accept it, and `ed_main run` runs the script RUNS times (50 if left out), on start files of each size within the
+Each script is that of ../scripts/compare.py, with bounds on the lines of its start file. Where `edv vouch` prints a certificate,
+`edv check` has to accept it, and `edv run` runs the script RUNS times (50 if left out), on start files of each size within the
 bounds in turn, up to LARGEST lines, with random lines, and with random other files that may be missing. Each run has to end with status 0,
 or with 3 where the script reads a file that isn't there; to leave a number of lines within the certificate's; to write no path that it
 doesn't list; and status, output and the files that are left have to be those of the plain editor of ../scripts/editor.py. A run is left

@@ -136,7 +136,7 @@ fn script_text(alloc: Global, path: &[u8], bytes: &[u8]) -> Result<String, Alloc
     let word = quoted_word(alloc, path)?;
     let (name, word) = (name.as_str(), word.as_str());
     Ok(format!(in alloc;
-        "error: {name} isn't a certificate; to judge a script: ed_main vouch FILE <{word}\n"
+        "error: {name} isn't a certificate; to judge a script: edv vouch FILE <{word}\n"
     )?)
 }
 
@@ -194,11 +194,11 @@ fn again_text(alloc: Global, certificate: &Certificate) -> Result<String, AllocE
             let word = shell_word(alloc, path.as_slice())?;
             let word = word.as_str();
             Ok(format!(in alloc;
-                "hint: vouch again: ed_main vouch --min {min} --max {max}{patterns} {word}\n"
+                "hint: vouch again: edv vouch --min {min} --max {max}{patterns} {word}\n"
             )?)
         }
         None => Ok(format!(in alloc;
-            "hint: vouch again: ed_main vouch --min {min} --max {max}{patterns}\n"
+            "hint: vouch again: edv vouch --min {min} --max {max}{patterns}\n"
         )?),
     }
 }

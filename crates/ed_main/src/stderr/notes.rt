@@ -42,9 +42,9 @@ fn file_of(job: &Job) -> Option<&[u8]> {
 /// How the file of this name is given as the script of a job.
 fn script_text(alloc: Global, job: &Job, file: &[u8]) -> Result<String, AllocError> {
     let words = match job {
-        Job::Vouch { .. } => "judge a script: ed_main vouch FILE",
-        Job::Run { .. } => "run a script: ed_main run CERT FILE",
-        _ => "run a script: ed_main edit FILE",
+        Job::Vouch { .. } => "judge a script: edv vouch FILE",
+        Job::Run { .. } => "run a script: edv run CERT FILE",
+        _ => "run a script: edv edit FILE",
     };
     let file = quoted_word(alloc, file)?;
     let file = file.as_str();

@@ -1,5 +1,6 @@
 //! A pattern of the command line that is none, as a person reads it.
 ghost use Rattle.std.specs.Prelude.{◌≡◌};
+ghost use Rattle.ed_main.specs.Words.{IsAsked};
 
 use crate::stderr::usage::VOUCH_USAGE;
 use crate::words::WordsFault;
@@ -10,6 +11,7 @@ use std::alloc::{AllocError, Global};
 /// What is shown of a text that isn't a pattern for this reason.
 pub fn wrong_pattern(alloc: Global, text: &[u8], fault: BreFault) -> WordsFault
     ensures memory { fault ≡ BreFault.Memory → result ≡ WordsFault.Memory }
+    ensures unasked { ¬ IsAsked result }
 {
     if fault == BreFault::Memory {
         return WordsFault::Memory;

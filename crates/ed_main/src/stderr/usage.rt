@@ -1,6 +1,7 @@
 //! What is shown of words that aren't understood: what is wrong, and how the program is used.
-ghost use Rattle.std.specs.Prelude.{◌≡◌};
+ghost use Rattle.std.specs.Prelude.{◌≡◌, ◌≢◌};
 ghost use Rattle.clap.specs.Words.{kind_of};
+ghost use Rattle.ed_main.specs.Words.{IsAsked, IsRequest};
 
 use crate::words::WordsFault;
 use clap::error::ErrorKind;
@@ -9,23 +10,23 @@ use std::alloc::{AllocError, Global};
 
 /// How the program is used.
 pub const USAGE: &str = "\
-usage: ed_main edit [-n] [-s] [-p STRING] [FILE] <SCRIPT
-       ed_main vouch --min N --max M [--all] [--patterns] [--has RE] [FILE] <SCRIPT
-       ed_main check CERT <SCRIPT
-       ed_main run CERT [-n] [-s] [FILE] <SCRIPT
-       ed_main fits CERT [FILE]
+usage: edv edit [-n] [-s] [-p STRING] [FILE] <SCRIPT
+       edv vouch --min N --max M [--all] [--patterns] [--has RE] [FILE] <SCRIPT
+       edv check CERT <SCRIPT
+       edv run CERT [-n] [-s] [FILE] <SCRIPT
+       edv fits CERT [FILE]
 ";
 
-pub const EDIT_USAGE: &str = "usage: ed_main edit [-n] [-s] [-p STRING] [FILE] <SCRIPT\n";
+pub const EDIT_USAGE: &str = "usage: edv edit [-n] [-s] [-p STRING] [FILE] <SCRIPT\n";
 
 pub const VOUCH_USAGE: &str =
-    "usage: ed_main vouch --min N --max M [--all] [--patterns] [--has RE] [FILE] <SCRIPT\n";
+    "usage: edv vouch --min N --max M [--all] [--patterns] [--has RE] [FILE] <SCRIPT\n";
 
-pub const CHECK_USAGE: &str = "usage: ed_main check CERT <SCRIPT\n";
+pub const CHECK_USAGE: &str = "usage: edv check CERT <SCRIPT\n";
 
-pub const RUN_USAGE: &str = "usage: ed_main run CERT [-n] [-s] [FILE] <SCRIPT\n";
+pub const RUN_USAGE: &str = "usage: edv run CERT [-n] [-s] [FILE] <SCRIPT\n";
 
-pub const FITS_USAGE: &str = "usage: ed_main fits CERT [FILE]\n";
+pub const FITS_USAGE: &str = "usage: edv fits CERT [FILE]\n";
 
 pub const NO_FILE: &str = "error: a file without a name, or named -";
 
@@ -38,9 +39,17 @@ pub const NO_MAX: &str = "error: --max is neither a number of lines up to 10^12 
 /// What is shown of words that `clap` refuses, or the help that they ask for.
 pub fn refused(alloc: Global, error: &clap::Error, words: &[&str]) -> WordsFault
     ensures memory { kind_of error.now ≡ ErrorKind.OutOfMemory → result ≡ WordsFault.Memory }
+    ensures asked { IsAsked result → IsRequest (kind_of error.now) }
+    ensures shown { IsRequest (kind_of error.now) → result ≢ WordsFault.Memory → IsAsked result }
 {
     if error.kind() == ErrorKind::OutOfMemory {
         return WordsFault::Memory;
+    }
+    if !error.use_stderr() {
+        return match error.to_string(alloc) {
+            Ok(text) => WordsFault::Asked(text),
+            Err(_) => WordsFault::Memory,
+        };
     }
     match shown(alloc, error, words) {
         Ok(text) => WordsFault::Usage(text),
@@ -48,11 +57,9 @@ pub fn refused(alloc: Global, error: &clap::Error, words: &[&str]) -> WordsFault
     }
 }
 
+/// What is shown of a mistake in the words: what is wrong, the word that may be meant, and how the program is used.
 fn shown(alloc: Global, error: &clap::Error, words: &[&str]) -> Result<String, AllocError> {
     let text = error.to_string(alloc)?;
-    if !error.use_stderr() {
-        return Ok(text);
-    }
     let usage = usage_of(words);
     if error.kind() == ErrorKind::UnknownArgument {
         if let Some(wrong) = bound_below_zero(words) {
@@ -60,8 +67,27 @@ fn shown(alloc: Global, error: &clap::Error, words: &[&str]) -> Result<String, A
         }
     }
     let wrong = first_sentence(alloc, text.as_str())?;
+    let wrong = match meant(text.as_str()) {
+        Some(word) => {
+            let wrong = wrong.as_str();
+            format!(in alloc; "{wrong}; did you mean {word}?")?
+        }
+        None => wrong,
+    };
     let wrong = shown_lines(alloc, wrong.as_str())?;
     Ok(format!(in alloc; "{wrong}{usage}")?)
+}
+
+/// The word that `clap` takes to be meant, as it quotes it in its tip. Of several the last one is closest.
+fn meant(text: &str) -> Option<&str> {
+    let (_, tip) = text.split_once("  tip: ")?;
+    let (tip, _) = tip.split_once('\n')?;
+    if !tip.contains("similar") {
+        return None;
+    }
+    let (tip, _) = tip.rsplit_once('\'')?;
+    let (_, word) = tip.rsplit_once('\'')?;
+    Some(word)
 }
 
 /// What is wrong where the first word that `clap` doesn't know is a number below 0 and stands where a bound does.

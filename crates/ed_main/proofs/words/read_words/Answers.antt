@@ -3,7 +3,7 @@ use Rattle.std.proofs.Common.{◌≡◌, ◌∙◌, ℕ, List, map}
 use Rattle.std.proofs.lemmas.Result.{IfErr-weaker, IfOk-weaker}
 use Rattle.clap.specs.Words.{app_of, kind_of, subcommand_rows_of}
 use Rattle.ed_main.specs.Words.{job_of, job_named}
-use Rattle.ed_main.proofs.WordsLemmas.{given_by, refused_by}
+use Rattle.ed_main.proofs.WordsLemmas.{asked_by, given_by, none_found, refused_by, request_by}
 use Rattle.ed_main.proofs.words.read_words.Goals as goal
 
 pub returns-in-Ok-clause-value : goal.returns-in-Ok-clause-value
@@ -24,3 +24,21 @@ pub returns-in-Err-clause-only_if_refused : goal.returns-in-Err-clause-only_if_r
 returns-in-Err-clause-only_if_refused c =
     let words : List (List ℕ) = map (λ w. w.now) c.args.words.now in
     refused_by (app_of c.in_ok-program.field-0) words (kind_of c.in-Err.error) c.refused.result c.in_ok-program.ensures.value c.in-Err.ensures.kinds c.refused.ensures.memory
+
+pub returns-in-Err-clause-asked : goal.returns-in-Err-clause-asked
+returns-in-Err-clause-asked c = λ is.
+    asked_by (app_of c.in_ok-program.field-0) _ (kind_of c.in-Err.error) c.in_ok-program.ensures.value c.in-Err.ensures.kinds (c.refused.ensures.asked is)
+
+pub returns-in-Err-clause-shown : goal.returns-in-Err-clause-shown
+returns-in-Err-clause-shown c = λ other only.
+    c.refused.ensures.shown
+    (request_by (app_of c.in_ok-program.field-0) _ (kind_of c.in-Err.error) c.refused.result c.in_ok-program.ensures.value c.in-Err.ensures.kinds
+    c.refused.ensures.memory other only) other
+
+pub returns-in-Ok-clause-asked : goal.returns-in-Ok-clause-asked
+returns-in-Ok-clause-asked c = IfErr-weaker c.job_of_matches.result _ _ (λ fault no is. absurd (no is)) c.job_of_matches.ensures.unasked
+
+pub returns-in-Ok-clause-shown : goal.returns-in-Ok-clause-shown
+returns-in-Ok-clause-shown c =
+    let none = none_found (app_of c.in_ok-program.field-0) (map (λ w. w.now) c.args.words.now) c.in_ok-program.ensures.value c.in-Ok.ensures.kinds in
+    IfErr-weaker c.job_of_matches.result _ _ (λ fault no other only. absurd (only.0 none)) c.job_of_matches.ensures.unasked

@@ -1,5 +1,5 @@
-# Completion of ed_main's words for bash.
-_ed_main() {
+# Completion of edv's words for bash.
+_edv() {
   local word=${COMP_WORDS[COMP_CWORD]} before=${COMP_WORDS[COMP_CWORD - 1]} job=${COMP_WORDS[1]:-}
   COMPREPLY=()
   if [ "$COMP_CWORD" -eq 1 ]; then
@@ -18,10 +18,10 @@ _ed_main() {
   -*)
     local words=
     case $job in
-    edit) words="-n -s -p --help" ;;
+    edit) words="-n --dry-run -s -p --help" ;;
     vouch) words="--min --max --all --patterns --has --help" ;;
     check) words="--help" ;;
-    run) words="-n -s --help" ;;
+    run) words="-n --dry-run -s --help" ;;
     fits) words="--help" ;;
     esac
     mapfile -t COMPREPLY < <(compgen -W "$words" -- "$word")
@@ -29,4 +29,4 @@ _ed_main() {
   *) mapfile -t COMPREPLY < <(compgen -f -- "$word") ;;
   esac
 }
-complete -o filenames -F _ed_main ed_main
+complete -o filenames -F _edv edv ed_main
