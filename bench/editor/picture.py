@@ -1,26 +1,32 @@
 #!/usr/bin/python3
-"""Draws the growth of the editor's rows as one picture: picture.py RUN TO, where RUN is a file of bench/runs and TO is an SVG.
+"""Draws how the editor's rows grow as one picture: picture.py [RUN [TO]], where RUN is a file of bench/runs and TO is an SVG.
 
-It needs Debian's python3-matplotlib. Both axes are logarithmic: a line of slope 1 is linear growth."""
+Without words it takes the newest run that is kept, and writes docs/growth.svg. It needs Debian's python3-matplotlib. Both axes are
+logarithmic, and every panel has the same seconds: a line of slope 1 is linear growth. The same run gives the same bytes."""
 import collections
+import io
 import math
 import re
 import sys
+import textwrap
+from pathlib import Path
 
 import matplotlib
 
 matplotlib.use("svg")
 from matplotlib import pyplot as plots, ticker  # noqa: E402
 
+TOP = Path(__file__).resolve().parents[2]
 COLUMNS = 4
-NAMES = {"ours": "ed_main", "ed": "GNU ed"}
+NAMES = {"ours": "edv", "ed": "GNU ed"}
 COLOURS = {"ours": "#b03030", "ed": "#3060a0", "vim": "#308050", "sed": "#c08020", "perl": "#7050a0"}
 ROW = re.compile(r"(.*) \((lines|hunks|commands|bytes)\)$")
-FIGURE = re.compile(r" +(\d+) (\w+) +([\d.]+) s\b")
+FIGURE = re.compile(r" +(\d+) (\w+) +(ended after )?([\d.]+) s\b")
+SECONDS = (0.005, 30)
 
 
 def rows(path):
-    """Returns the date of a run, and its rows, each with its unit and with sizes and seconds by program."""
+    """Returns the date of a run, and its rows, each with its unit, and by program with sizes, seconds and whether it was ended then."""
     found, row = [], None
     with open(path, encoding="utf-8") as lines:
         date = next(lines).strip()
@@ -30,49 +36,77 @@ def rows(path):
                 row = collections.defaultdict(list)
                 found.append((head[1], head[2], row))
             elif figure and row is not None:
-                size, program, seconds = figure.groups()
-                if float(seconds) > 0:
-                    row[program].append((int(size), float(seconds)))
+                size, program, ended, seconds = figure.groups()
+                if float(seconds) > 0 and program in COLOURS:
+                    row[program].append((int(size), float(seconds), ended is not None))
             elif not line.startswith(" "):
                 row = None
     return date, [it for it in found if any(len(points) > 1 for points in it[2].values())]
 
 
-def draw(plot, title, unit, row):
+def short(size):
+    """A size as a label: 12.5k, 400k, 2.4M."""
+    return f"{size / 1e6:g}M" if size >= 1e6 else f"{size / 1e3:g}k"
+
+
+def draw(plot, title, unit, row, has_labels):
     for program, colour in COLOURS.items():
-        points = row.get(program)
-        if points:
-            wide = 2.2 if program == "ours" else 1.2
-            plot.loglog(*zip(*points), marker="o", markersize=3, color=colour, linewidth=wide, label=NAMES.get(program, program))
-    sizes = sorted({size for points in row.values() for size, _ in points})
-    plot.set_xticks(sizes, [f"{size:,}" for size in sizes])
+        points = row.get(program, ())
+        for ended in (False, True):
+            chosen = [(size, seconds) for size, seconds, was_ended in points if was_ended == ended]
+            if chosen:
+                look = dict(marker="^", linestyle="", markerfacecolor="white") if ended else dict(marker="o")
+                plot.loglog(*zip(*chosen), color=colour, linewidth=2.2 if program == "ours" else 1.2, markersize=5 if ended else 3,
+                            label=None if ended else NAMES.get(program, program), **look)
+    sizes = sorted({size for points in row.values() for size, *_ in points})
+    plot.set_xticks(sizes, [short(size) for size in sizes])
     plot.xaxis.set_minor_locator(ticker.NullLocator())
-    plot.yaxis.set_major_locator(ticker.LogLocator(subs=(1, 2, 5)))
-    plot.yaxis.set_major_formatter("{x:g}")
+    plot.set_ylim(*SECONDS)
+    plot.set_yticks([0.01, 0.1, 1, 10], ["0.01", "0.1", "1", "10"] if has_labels else [])
     plot.yaxis.set_minor_locator(ticker.NullLocator())
-    plot.set_title(title.replace("$", r"\$"), fontsize=7.5, wrap=True)
-    plot.set_xlabel(unit, fontsize=7)
-    plot.tick_params(labelsize=6)
-    plot.grid(True, linewidth=0.3)
+    plot.tick_params(labelsize=8, bottom=False, left=False)
+    plot.spines[["top", "right", "left", "bottom"]].set_visible(False)
+    plot.grid(True, linewidth=0.4)
+    plot.set_title(textwrap.fill(title.replace("$", r"\$"), 38), fontsize=8, loc="left")
+    plot.set_xlabel(unit, fontsize=8)
+
+
+def short_tag(tag):
+    """A tag with its numbers to a tenth, and without what turns it by nothing or clips it."""
+    text = re.sub(r" clip-path=\"[^\"]*\"| transform=\"rotate\(-?0 [^\"]*\"", "", re.sub(r"\s+", " ", tag[0]))
+    return re.sub(r"-?\d+\.\d{2,}", lambda number: f"{float(number[0]):.1f}".removesuffix(".0"), text)
+
+
+def shrunk(picture):
+    """The same picture in fewer bytes: no group has a colour or a place of its own, and nothing lies outside of its panel."""
+    picture = re.sub(r"<!--.*?-->|<metadata>.*?</metadata>|<clipPath.*?</clipPath>", "", picture, flags=re.S)
+    picture = re.sub(r"</?g\b[^>]*>", "", picture)
+    picture = re.sub(r"<[^>]*>", short_tag, picture).replace("'DejaVu Sans'", "sans-serif")
+    return re.sub(r">\s+<", ">\n<", picture).replace("<defs>\n</defs>\n", "")
 
 
 def main():
-    path, to = sys.argv[1:]
+    path, to = (sys.argv[1:] + [None, None])[:2]
+    path = path or max(TOP.glob("bench/runs/*/editor.txt"))
     date, found = rows(path)
     plots.rcParams.update({"svg.hashsalt": "mullerfawn", "font.family": "DejaVu Sans", "svg.fonttype": "none"})
     high = math.ceil((len(found) + 1) / COLUMNS)
-    figure, grid = plots.subplots(high, COLUMNS, figsize=(3.1 * COLUMNS, 2.6 * high), layout="constrained")
+    figure, grid = plots.subplots(high, COLUMNS, figsize=(2.5 * COLUMNS, 2 * high), layout="constrained")
     places = list(grid.flat)
-    for place, (title, unit, row) in zip(places, found):
-        draw(place, title, unit, row)
+    for number, (place, (title, unit, row)) in enumerate(zip(places, found)):
+        draw(place, title, unit, row, number % COLUMNS == 0)
     for place in places[len(found):]:
         place.axis("off")
     shown = {}
-    for place in places:
+    for place in places[:len(found)]:
         shown.update(dict(zip(*reversed(place.get_legend_handles_labels()))))
+    places[-1].plot([], [], marker="^", linestyle="", color="#606060", markerfacecolor="white", label="ended after 20 s")
+    shown.update(dict(zip(*reversed(places[-1].get_legend_handles_labels()))))
     places[-1].legend(shown.values(), shown.keys(), loc="center", fontsize=9)
-    figure.suptitle(f"Processor seconds by size, run of {date}", fontsize=10)
-    figure.savefig(to, metadata={"Date": None})
+    figure.suptitle(f"Processor seconds by size, run of {date}", fontsize=11)
+    made = io.StringIO()
+    figure.savefig(made, format="svg", metadata={"Date": None})
+    Path(to or TOP / "docs/growth.svg").write_text(shrunk(made.getvalue()), encoding="utf-8")
 
 
 main()
