@@ -1,13 +1,15 @@
 #!/usr/bin/env python3
 """Measures bre_ask beside sed, perl and grep in one run: lines made to be slow, many short lines, and long lines.
 
-    python3 measure.py [hostile] [growth] [lines] [long] [places] [searcher] [all] [letter] [references]
+    python3 measure.py [--runs N] [--most SECONDS] [hostile] [growth] [lines] [long] [places] [searcher] [all] [letter]
+        [references] [limits]
 
-Each figure is processor seconds, the least of three runs, and the most memory in MB; what runs the programs has 11 MB
-itself, so no less is told, and no text is held here. `^` is how the time grows with the line: 1 is in proportion, 2 is with
-its square; it is told where both times are above what starting takes. A program that takes more than 20 seconds is stopped.
+Each figure is processor seconds, the least of N runs (3, if it isn't given), and the most memory in MB; what runs the programs has
+11 MB itself, so no less is told, and no text is held here. `^` is how the time grows with the line: 1 is in proportion, 2 is with
+its square; it is told where both times are above what starting takes. A program that takes more than SECONDS (20) is stopped.
 The counts of lines have to agree. Build crates/bre_ask first.
 """
+import argparse
 import itertools
 import math
 import os
@@ -21,6 +23,7 @@ import time
 HERE = os.path.dirname(os.path.abspath(__file__))
 PROGRAM = os.path.join(HERE, '../../crates/bre_ask/out/bre_ask')
 MOST = 20  # seconds
+RUNS = 3
 
 EQUALS = r'\(.*\)=\(.*\)=\1$'
 
@@ -54,7 +57,7 @@ def extended(pattern):
     return pattern
 
 
-def commands(pattern):
+def commands(pattern, path=None):
     count = '$n++ if /' + extended(pattern) + '/; END { print $n + 0, "\n" }'
     return {
         'bre_ask': [PROGRAM, 'count', pattern],
@@ -93,22 +96,22 @@ def run(command, path):
 
 def best(command, path):
     runs = []
-    for _ in range(3):
+    for _ in range(RUNS):
         runs.append(run(command, path))
         if runs[-1] is None or runs[-1][0] > 5:
             break
     return None if None in runs else min(runs, key=lambda figures: figures[0])
 
 
-def compare(pattern, texts, starting, programs=None):
+def compare(pattern, texts, starting, programs=None, commands_of=commands):
     """The figures of each program on each of some files."""
     rows = {}
-    for name, command in commands(pattern).items():
+    for name in commands_of(pattern):
         if programs and name not in programs:
             continue
         figures, last = [], None
         for path, size in texts:
-            found = best(command, path)
+            found = best(commands_of(pattern, path)[name], path)
             if found is None:
                 figures.append(f'over {MOST} s')
                 break
@@ -171,10 +174,13 @@ def measure_growth(folder, starting):
     compare('a' + '*' * 64 + 'bb', lines, starting, ('bre_ask', 'sed -n', 'grep -c'))
 
 
+LINES = ('needle', '[0-9][0-9]*', 'foo[0-9]*bar', '^#', '[ ]*$', r'\([a-z]*\) \1', r'x.*y.*z')
+
+
 def measure_lines(folder, starting):
     print('\n200,000 lines of 50 bytes')
     lines = many_lines(folder)
-    for pattern in ('needle', '[0-9][0-9]*', 'foo[0-9]*bar', '^#', '[ ]*$', r'\([a-z]*\) \1', r'x.*y.*z'):
+    for pattern in LINES:
         print(pattern)
         compare(pattern, [lines], starting)
 
@@ -276,6 +282,8 @@ def print_rows(patterns, programs, path):
         print(f'  {pattern:26} {next(iter(seen.values()), "-"):>9}  ' + '  '.join(row) + differ, flush=True)
 
 
+# How long the lines are in which back-references are looked for, but for a few bytes at their ends.
+SIZES = (68, 200, 400, 1_000)
 # Patterns with back-references whose ways are many: many of them end at one place with the same spans of the groups referred to.
 REFERENCES = (
     (r'\(a\{1,2\}[\a]\)*a\1$', 'a', lambda size: 'a' * size),
@@ -294,36 +302,67 @@ REFERENCES = (
 )
 
 
+# What grows fastest: repeats in one another, which are gone through anew from each turn, items that part after a group that is referred
+# to, several such groups, and, without a back-reference, counted repeats in one another that are too many to be written out.
+FASTEST = (
+    (r'a***\(b\)\1bb', 'b, a, cbbcb', lambda size: 'b' + 'a' * size + 'cbbcb'),
+    (r'a****\(b\)\1bb', 'b, a, cbbcb', lambda size: 'b' + 'a' * size + 'cbbcb'),
+    (r'\(\(a*\)*\)*\2bb', 'b, a, cbbc', lambda size: 'b' + 'a' * size + 'cbbc'),
+    (r'\(\(\(a*\)*\)*\)*\3bb', 'b, a, cbbc', lambda size: 'b' + 'a' * size + 'cbbc'),
+    (r'a*\(a*\)a*a*\1bb', 'b, a, cbbc', lambda size: 'b' + 'a' * size + 'cbbc'),
+    (r'\(a*\)\(a*\)\(a*\)\1\2\3bb', 'b, a, cbbc', lambda size: 'b' + 'a' * size + 'cbbc'),
+    (r'.*\(.*\).*\(.*\).*\1.*\2.*bb', 'b, a, cbbc', lambda size: 'b' + 'a' * size + 'cbbc'),
+    (r'\(\(\(a\{0,200\}\)\{0,200\}\)\{0,200\}\)bb', 'b, a, b', lambda size: 'b' + 'a' * size + 'b'),
+)
+
+
+def measure_limits(folder, starting):
+    print('\nOne line, and what grows fastest')
+    for pattern, name, line in FASTEST:
+        lines = [written(folder, str(size), line(size) + '\n') for size in (20, 40, 68, 100, 200)]
+        print(f'{pattern}  on {name}, 20 and 40 and 68 and 100 and 200 bytes')
+        compare(pattern, lines, starting, commands_of=with_editor)
+
+
 def measure_references(folder, starting):
     """Patterns with back-references beside sed, perl and GNU ed, on lines of growing length, and one of them on a file as people write."""
+    print('\nOne line, and back-references with many ways')
     for pattern, name, line in REFERENCES:
-        print(f'\n{pattern}  on {name}')
-        for size in (68, 200, 400, 1_000):
-            path = written(folder, str(size), line(size) + '\n')[0]
-            print_rows((pattern,), lambda asked: with_editor(asked, path), path)
+        lines = [written(folder, str(size), line(size) + '\n') for size in SIZES]
+        print(f"{pattern}  on {name}, {' and '.join(str(size) for size in SIZES)} bytes")
+        compare(pattern, lines, starting, commands_of=with_editor)
     path = os.path.join(HERE, '../../tests/against/README.md')
-    print(f'\n{REFERENCES[-1][0]}  on {os.path.relpath(path, HERE)}')
-    print_rows((REFERENCES[-1][0],), lambda asked: with_editor(asked, path), path)
+    print(f'{REFERENCES[-1][0]}  on {os.path.relpath(path, HERE)}')
+    compare(REFERENCES[-1][0], [(path, os.path.getsize(path))], starting, commands_of=with_editor)
 
 
-def with_editor(pattern, path):
-    """Those programs, and GNU ed, whose lines are counted."""
-    script = 'printf "%s\\n" "g/$1/p" | ed -s "$0" | grep -c ^'
+def with_editor(pattern, path=''):
+    """Those programs but grep, and GNU ed, whose lines are counted."""
+    script = 'found=$(printf "%s\\n" "g/$1/p" | ed -s "$0"); [ $? -lt 128 ] || kill -s XCPU $$; printf "%s" "$found" | grep -c ^'
     found = commands(pattern)
-    return {'bre_ask': found['bre_ask'], 'sed': found['sed -n'], 'perl': found['perl'], 'ed': ['sh', '-c', script, path, pattern]}
+    del found['grep -c']
+    return {**found, 'GNU ed': ['sh', '-c', script, path, pattern]}
 
 
 PARTS = {'hostile': measure_hostile, 'growth': measure_growth, 'lines': measure_lines, 'long': measure_long, 'places': measure_places,
-         'searcher': measure_searcher, 'all': measure_all, 'letter': measure_letter, 'references': measure_references}
+         'searcher': measure_searcher, 'all': measure_all, 'letter': measure_letter, 'references': measure_references,
+         'limits': measure_limits}
 
 
 def main():
+    global RUNS, MOST
+    parser = argparse.ArgumentParser()
+    parser.add_argument('--runs', type=int, default=RUNS)
+    parser.add_argument('--most', type=int, default=MOST)
+    parser.add_argument('parts', metavar='PART', nargs='*', help=', '.join(PARTS))
+    words = parser.parse_args()
+    RUNS, MOST = words.runs, words.most
     print(time.strftime('%Y-%m-%d'))
     with tempfile.TemporaryDirectory() as folder:
-        empty = written(folder, 'empty', '')
-        starting = {name: best(command, empty[0])[0] for name, command in commands('a').items()}
+        empty = written(folder, 'empty', '')[0]
+        starting = {name: best(command, empty)[0] for name, command in {**commands('a', empty), **with_editor('a', empty)}.items()}
         print('starting: ' + ', '.join(f'{name} {seconds:.3f} s' for name, seconds in starting.items()))
-        for part in sys.argv[1:] or PARTS:
+        for part in words.parts or PARTS:
             PARTS[part](folder, starting)
 
 

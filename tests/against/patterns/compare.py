@@ -1,14 +1,16 @@
 #!/usr/bin/env python3
 """Compares where bre_ask finds random patterns in random texts with where reference.py does.
 
-    python3 compare.py COUNT SEED
+    python3 compare.py COUNT SEED [references]
 
 Patterns are small and hostile: groups in groups, optional groups of two or three bytes side by side, repeats of repeats,
 turns that may be empty, anchors within groups and repeats, and back-references, also to groups in repeats and after several
-repeats, through which ways meet. A pattern with a back-reference whose ways are too many for the reference is left out. Build
-crates/bre_ask first.
+repeats, through which ways meet. A pattern with a back-reference whose ways are too many for the reference is left out. With
+`references` each of the COUNT cases has one; texts may be longer, and a third of the patterns repeat a group among plain items
+and refer to it later. Build crates/bre_ask first.
 """
 import collections
+import itertools
 import os
 import random
 import subprocess
@@ -79,22 +81,60 @@ class Maker:
             items.append(('text end',))
         return ('sequence', items)
 
+    def plain(self):
+        made = ('set', *self.chance.choice(((False, 'a'), (False, 'a'), (False, 'a'), (False, 'b'), (False, 'ab'), (True, ''))))
+        return ('repeat', *self.chance.choice(REPEATS), made) if self.chance.random() < 0.4 else made
+
+    def row(self, *sizes):
+        return [self.plain() for _ in range(self.chance.choice(sizes))]
+
+    def turn(self):
+        """What a group repeats: plain items, and sometimes another group or a back-reference among them."""
+        made = self.row(1, 1, 1, 2)
+        if self.chance.random() < 0.2:
+            made.insert(self.chance.randrange(len(made) + 1), self.group(lambda: ('sequence', self.row(1, 2))))
+        if self.closed and self.chance.random() < 0.15:
+            made.append(('reference', self.chance.choice(self.closed)))
+        return ('sequence', made)
+
+    def turned(self):
+        """Plain items, some of them in a group, a repeated group, and a back-reference later."""
+        made = self.row(0, 0, 1, 2)
+        if self.chance.random() < 0.3:
+            made.append(self.group(lambda: ('sequence', self.row(1, 1, 2))))
+            made += self.row(0, 1)
+        for _ in range(self.chance.choice((1, 1, 1, 2))):
+            made.append(('repeat', *self.chance.choice(REPEATS), self.group(self.turn)))
+            made += self.row(0, 0, 1)
+        for _ in range(self.chance.choice((1, 1, 2))):
+            made.append(('reference', self.chance.choice(self.closed)))
+            made += self.row(0, 0, 1)
+        return ('sequence', made + [('text end',)] * (self.chance.random() < 0.3))
+
     def pattern(self):
-        return self.content(self.chance.choice((1, 2, 2, 3)))
+        return self.turned() if self.kind == 'turned' else self.content(self.chance.choice((1, 2, 2, 3)))
 
 
 KINDS = ('mixed', 'nested', 'optional', 'repeats', 'empty', 'anchors', 'reference', 'meeting')
+SIZES_OF_TEXTS = (0, 1, 2, 3, 4, 5, 6, 7, 8, 10)
 
 
-def cases(count, seed):
-    """So many cases: the kind, the pattern, the text and the place to begin at."""
+def made_cases(kinds, letters, sizes, seed):
+    """Cases without end: the kind, the pattern, the text and the place to begin at."""
     chance = random.Random(seed)
-    for number in range(count):
-        kind = KINDS[number % len(KINDS)]
+    for kind in itertools.cycle(kinds):
         tree = Maker(kind, chance).pattern()
-        text = ''.join(chance.choice('aaabbc') for _ in range(chance.choice((0, 1, 2, 3, 4, 5, 6, 7, 8, 10))))
+        text = ''.join(chance.choice(letters) for _ in range(chance.choice(sizes)))
         begin = 0 if chance.random() < 0.8 else chance.randrange(len(text) + 1)
         yield kind, tree, text, begin
+
+
+def cases(count, seed, with_references=False):
+    """So many cases, all of them with a back-reference where that is asked for."""
+    if with_references:
+        made = made_cases(KINDS + ('turned',), 'aaaaaabbbc', SIZES_OF_TEXTS + (9, 11, 12, 14), seed)
+        return itertools.islice((case for case in made if reference.refers(case[1])), count)
+    return itertools.islice(made_cases(KINDS, 'aaabbc', SIZES_OF_TEXTS, seed), count)
 
 
 def expected(tree, text, begin):
@@ -112,7 +152,7 @@ def expected(tree, text, begin):
 def main():
     count, seed = int(sys.argv[1]), int(sys.argv[2])
     lines, wanted, tally = [], [], collections.Counter()
-    for kind, tree, text, begin in cases(count, seed):
+    for kind, tree, text, begin in cases(count, seed, sys.argv[3:] == ['references']):
         answer = expected(tree, text, begin)
         tally['too slow for the reference'] += answer is None
         tally['with a back-reference'] += reference.refers(tree)
