@@ -21,6 +21,10 @@ pub record IsAllowed (start : Start) : Type 0 where
 abbrev pub IsVouched : Script → Start → Type 0
 IsVouched script start = (c : Certificate) × IsCertificate script start c
 
+-- the first need of the script that fails over this start is the one at the place, by some fault
+abbrev pub FailsAt : Script → Start → Place → Type 0
+FailsAt script start place = (why : Fault) × ((notes : List Note) × IsFailure script start place why notes)
+
 -- a start with another least number of lines
 abbrev pub with_min : Start → ℕ → Start
 with_min start min = record { path = start.path; min = min; max = start.max; has = start.has }

@@ -139,3 +139,17 @@ pub fn widest_start(
     }
     Ok(Some(widest_of(alloc, &read, given, min, patterns.members())?))
 }
+
+/// The start over which a script is judged where no start of what is given is found: with as many lines at least as there may be, or as
+/// are given, and beside the patterns that are given all those that the script's searches are given.
+pub fn fullest_start(alloc: Global, script: &[u8], given: &Given) -> Result<Start, AllocError>
+    requires ordered { IfSome given.now.min (λ min. IsAtMost min given.now.max) }
+    requires low { IfSome given.now.min (λ min. min ≤ most_lines) }
+    requires high { IfSome given.now.max (λ most. most ≤ most_lines) }
+    ensures value { IfOk result (λ start. start ≡ fullest (script_of script.now) given.now) }
+    ensures allowed { IfOk result IsAllowed }
+{
+    let read = read_script(alloc, script)?;
+    let patterns = searched(alloc, &read)?;
+    start_beside(alloc, given, fullest_min(given), patterns.members())
+}

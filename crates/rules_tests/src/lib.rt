@@ -1,4 +1,4 @@
-//! Tests of the public calls of `ed_rules`, `cert_check` and `analyser`, and of the start that `hints` finds.
+//! Tests of the public calls of `ed_rules`, `cert_check` and `analyser`, and of the starts that `hints` finds.
 #![tactic(auto)]
 
 #[cfg(test)]
@@ -17,6 +17,8 @@ mod globals;
 mod lists;
 #[cfg(test)]
 mod matching;
+#[cfg(test)]
+mod plain;
 #[cfg(test)]
 mod rules;
 #[cfg(test)]

@@ -13,7 +13,7 @@ use std::test::Fail;
 const MOST_LINES: u64 = 1_000_000_000_000;
 
 /// Patterns in the order of their bytes; with none at all a certificate of version one is asked for.
-type Patterns = Option<&'static [&'static [u8]]>;
+pub(crate) type Patterns = Option<&'static [&'static [u8]]>;
 
 /// What is found: the fewest lines and the patterns.
 #[derive(Drop)]
@@ -44,7 +44,7 @@ macro_rules! found {
     };
 }
 
-const CONF: Option<&[u8]> = Some(b"conf");
+pub(crate) const CONF: Option<&[u8]> = Some(b"conf");
 
 #[rattlefmt::skip]
 static ROWS: [Row; 38] = [
@@ -102,7 +102,10 @@ fn has_of(alloc: Global, has: Patterns) -> Result<Option<Texts>, Unreached> {
     }
 }
 
-fn path_of(alloc: Global, path: Option<&'static [u8]>) -> Result<Option<Bytes>, AllocError> {
+pub(crate) fn path_of(
+    alloc: Global,
+    path: Option<&'static [u8]>,
+) -> Result<Option<Bytes>, AllocError> {
     match path {
         Some(path) => Ok(Some(Bytes::from_slice(alloc, path)?)),
         None => Ok(None),
@@ -133,7 +136,7 @@ fn found_of(alloc: Global, script: &[u8], given: &Given) -> Result<Option<Start>
 }
 
 /// Whether just these patterns are stated.
-fn states(has: &Option<Texts>, members: Patterns) -> bool {
+pub(crate) fn states(has: &Option<Texts>, members: Patterns) -> bool {
     let (Some(has), Some(members)) = (has, members) else {
         return has.is_none() && members.is_none();
     };
