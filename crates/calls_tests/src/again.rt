@@ -1,6 +1,6 @@
 //! Calls one after another over the same files, the later ones where an earlier one wrote.
 use crate::asserting::same;
-use crate::calling::{Case, ON_F, edited, files_of, fitted, ran};
+use crate::calling::{Case, ON_F, OUTSIDE, edited, files_of, fitted, ran};
 use crate::certificates::{DELETED, DELETING};
 use ed_session::MemFiles;
 use std::alloc::Global;
@@ -20,8 +20,6 @@ struct Row {
     output: &'static [u8],
     after: Option<&'static [u8]>,
 }
-
-const OUTSIDE: &[u8] = b"start outside the certificate\n";
 
 // Not silent: the counts tell what each call found.
 const COUNTED: Case = Case {

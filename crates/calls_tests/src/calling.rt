@@ -36,7 +36,13 @@ pub(crate) const ON_F: Case = Case {
     refused_write: 0,
 };
 
-fn bytes_of(alloc: Global, bytes: Option<&[u8]>) -> Result<Option<Bytes>, AllocError> {
+/// What the file `F` has at first.
+pub(crate) const ABC: Option<&[u8]> = Some(b"a\nb\nc\n");
+
+/// What is told where a start isn't one that a certificate allows.
+pub(crate) const OUTSIDE: &[u8] = b"start outside the certificate\n";
+
+pub(crate) fn bytes_of(alloc: Global, bytes: Option<&[u8]>) -> Result<Option<Bytes>, AllocError> {
     match bytes {
         Some(bytes) => Bytes::from_slice(alloc, bytes).map(Some),
         None => Ok(None),
@@ -74,7 +80,7 @@ pub(crate) fn output(alloc: Global, refused_write: u64) -> Result<MemSink, Alloc
     Ok(sink)
 }
 
-fn options_of(alloc: Global, case: &Case) -> Result<Options, AllocError> {
+pub(crate) fn options_of(alloc: Global, case: &Case) -> Result<Options, AllocError> {
     let prompt = bytes_of(alloc, case.prompt)?;
     let path = bytes_of(alloc, case.start)?;
     Ok(Options {

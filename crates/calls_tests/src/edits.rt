@@ -1,6 +1,6 @@
 //! Runs of scripts by `edit`: their status, what they write, and what the file `F` holds after them.
 use crate::asserting::same;
-use crate::calling::{Case, ON_F, edited, files_of};
+use crate::calling::{ABC, Case, ON_F, edited, files_of};
 use std::alloc::Global;
 use std::process::Abort;
 
@@ -11,8 +11,6 @@ struct Row {
     output: &'static [u8],
     after: Option<&'static [u8]>,
 }
-
-const ABC: Option<&[u8]> = Some(b"a\nb\nc\n");
 
 // The bytes that are read and written are counted.
 const COUNTED: Case = Case {

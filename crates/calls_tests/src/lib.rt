@@ -16,6 +16,8 @@ mod edits;
 #[cfg(test)]
 mod fitting;
 #[cfg(test)]
+mod found;
+#[cfg(test)]
 mod runs;
 #[cfg(test)]
 mod vouching;

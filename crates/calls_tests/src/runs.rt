@@ -1,6 +1,6 @@
 //! Runs by `run`, which a certificate has to allow: their status, what they write or tell, and what the file `F` holds after them.
 use crate::asserting::same;
-use crate::calling::{Came, Case, ON_F, files_of, ran};
+use crate::calling::{ABC, Came, Case, ON_F, OUTSIDE, files_of, ran};
 use crate::certificates::{AS_IT_IS, Change, DELETING, changed};
 use crate::vouching::{Bounds, vouched};
 use ed_session::MemFiles;
@@ -15,10 +15,6 @@ struct Row {
     output: &'static [u8],
     after: Option<&'static [u8]>,
 }
-
-const ABC: Option<&[u8]> = Some(b"a\nb\nc\n");
-
-const OUTSIDE: &[u8] = b"start outside the certificate\n";
 
 const DONE: Row = Row {
     change: AS_IT_IS,

@@ -4,28 +4,13 @@ use crate::calling::{Came, output};
 use crate::certificates::{DELETED, DELETING};
 use analyser::Start;
 use ed_base::Bytes;
-use ed_calls::vouch_text;
+use ed_calls::{Aside, Starts, vouch_text};
 use ed_rules::Texts;
 use std::alloc::{AllocError, Global};
-use std::fmt::Display;
-use std::io;
 use std::process::Abort;
 
 /// A certificate tells of at most 10^12 lines.
 const MOST_LINES: u64 = 1_000_000_000_000;
-
-/// Nobody, to whom lines for a person may be shown.
-pub(crate) struct Nobody;
-
-impl Eprint for Nobody {
-    fn eprint<D: Display + Drop>(&self, _value: D) -> io::Result<()> {
-        Ok(())
-    }
-
-    fn eprintln<D: Display + Drop>(&self, _value: D) -> io::Result<()> {
-        Ok(())
-    }
-}
 
 /// The bounds of a start at the file `F`, and the pattern that it states, where it states any.
 #[derive(Clone, Copy)]
@@ -36,7 +21,7 @@ pub(crate) struct Bounds {
 }
 
 /// The set of this pattern alone, where there is one.
-fn set_of(alloc: Global, pattern: Option<&[u8]>) -> Result<Option<Texts>, AllocError> {
+pub(crate) fn set_of(alloc: Global, pattern: Option<&[u8]>) -> Result<Option<Texts>, AllocError> {
     match pattern {
         Some(pattern) => {
             let mut set = Texts::none(alloc);
@@ -72,7 +57,9 @@ pub(crate) fn vouched(
         max,
         has,
     };
-    let status = vouch_text(alloc, &Nobody, script, start, all, &mut sink);
+    let mut aside = Aside::new(alloc, script, b"");
+    let starts = Starts::Given(start);
+    let status = vouch_text(alloc, script, starts, all, &mut sink, &mut aside);
     Ok(Some(Came { status, sink }))
 }
 

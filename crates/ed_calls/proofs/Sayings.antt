@@ -30,11 +30,16 @@ use Rattle.ed_calls.specs.Check as check
 use Rattle.ed_calls.specs.Check.{Checks}
 use Rattle.ed_calls.specs.Headline.{Headline}
 use Rattle.ed_calls.specs.Run as run
-use Rattle.ed_calls.specs.Run.{CheckedRun, Runs, ran_told}
+use Rattle.ed_calls.specs.Run.{CheckedRun, Runs, RunsBy, ran_told}
 use Rattle.ed_calls.specs.Told as telling
 use Rattle.ed_calls.specs.Told.{IsUnread, Says, Tells, verdict_told, cannot_told}
 use Rattle.ed_calls.specs.Names.{first_unusable}
+use Rattle.ed_calls.specs.Finding.{IsJudged}
+use Rattle.ed_calls.specs.Starts.{IsJudgedFor}
 use Rattle.ed_calls.specs.Vouch.{IsAnswerFor, IsToldOf, Vouches, answered, unusable}
+use Rattle.ed_calls.specs.Vouched.{IsRefused}
+use Rattle.ed_calls.specs.declared.judging.Judged.{Judged}
+use Rattle.ed_calls.specs.declared.starts.Starts.{Starts}
 
 -- what is said of some telling is said of each that it implies
 pub says_more : (P Q : Told → Type 0) (sink : SinkChange) (status : ℕ) → ((t : Told) → P t → Q t) → Says P sink status → Says Q sink status
@@ -88,16 +93,22 @@ answer_few : (answer : Analysis) (told : Told) → IsToldOf answer told → told
 answer_few (Vouched c) told is = rw is.1 (omega arith)
 answer_few (Cannot place why notes) told is = told_few told _ is (omega arith)
 
-vouched_few : (script : List ℕ) (start : Start) (told : Told) → Vouches script start told → told.status ≤ 4
-vouched_few script start told (answered answer usable is told_so) = answer_few answer told told_so
-vouched_few script start told (unusable number named is) = told_few told _ is (omega arith)
+vouched_few : (script : List ℕ) (starts : Starts) (told : Told) → Vouches script starts told → told.status ≤ 4
+vouched_few script starts told (answered start answer usable judged is told_so) = answer_few answer told told_so
+vouched_few script starts told (unusable number named is) = told_few told _ is (omega arith)
 
 -- the statuses of what is told
 pub check_status : (script certificate : List ℕ) (sink : SinkChange) (status : ℕ) → Says (Checks script certificate) sink status → status ≤ 4
 check_status script certificate sink status says = says_few (Checks script certificate) sink status (checks_few script certificate) says
 
-pub vouch_status : (script : List ℕ) (start : Start) (sink : SinkChange) (status : ℕ) → Says (Vouches script start) sink status → status ≤ 4
-vouch_status script start sink status says = says_few (Vouches script start) sink status (vouched_few script start) says
+pub vouch_status : (script : List ℕ) (starts : Starts) (sink : SinkChange) (status : ℕ) → Says (Vouches script starts) sink status → status ≤ 4
+vouch_status script starts sink status says = says_few (Vouches script starts) sink status (vouched_few script starts) says
+
+refused_few : (script : List ℕ) (starts : Starts) (told : Told) → IsRefused script starts told → told.status ≤ 4
+refused_few script starts told refused = rw refused.status (omega arith)
+
+pub refusal_status : (script : List ℕ) (starts : Starts) (sink : SinkChange) (status : ℕ) → Says (IsRefused script starts) sink status → status ≤ 4
+refusal_status script starts sink status says = says_few (IsRefused script starts) sink status (refused_few script starts) says
 
 pub unread_status : (bytes : List ℕ) (sink : SinkChange) (status : ℕ) → Says (IsUnread bytes) sink status → status ≤ 4
 unread_status bytes sink status says = says_few (IsUnread bytes) sink status (unread_few bytes) says
@@ -125,29 +136,34 @@ headline_ok s c o log one other (ran.Refused place) h = h
 headline_ok s c o log one other ran.StartOutside h = h
 headline_ok s c o log one other (ran.Done ending) h = h
 
-module _ (spells : SpellsWhatIsRead script_of) (bytes certificate : List ℕ) (s : Script) (c : Certificate) (o : Options) (log : Log) (before between : SinkState) (result : Result Ran Fault)
-    (read : s ≡ script_of bytes) (text : IsText certificate c) (came : CheckedRun s c o log (change before between) result) where
-  runs_of : (may_fail : Fault → Type 0) (after : SinkState) (status : ℕ) → Headline s c o log may_fail result → Tells (ran_told result) (change between after) status
-      → Runs bytes certificate o log may_fail (change before after) status
-  runs_of may_fail after status headline told =
-      run.checked (script_of bytes) c result between (spells bytes) text (subst (λ s. CheckedRun s c o log (change before between) result) read came)
-      (subst (λ s. Headline s c o log may_fail result) read headline) told
+module _ (s : Script) (c : Certificate) (o : Options) (log : Log) (before between : SinkState) (result : Result Ran Fault)
+    (came : CheckedRun s c o log (change before between) result) where
+  by_of : (may_fail : Fault → Type 0) (after : SinkState) (status : ℕ) → Headline s c o log may_fail result → Tells (ran_told result) (change between after) status
+      → RunsBy s c o log may_fail (change before after) status
+  by_of may_fail after status headline told = record { result = result; between = between; came = came; headline = headline; told = told }
 
   -- what came of it was told
   pub runs_told : (one other : Fault → Type 0) (r : Ran) (made : Result Told AllocError) (after : SinkState) (status : ℕ) → result ≡ Ok r → Headline s c o log one result
       → (ran_told (Ok r)).output ≢ [] → IfOk made (λ told. told ≡ ran_told (Ok r)) → Says (λ t. made ≡ Ok t) (change between after) status
-      → Runs bytes certificate o log other (change before after) status
+      → RunsBy s c o log other (change before after) status
   runs_told one other r made after status is headline some told says =
-      runs_of other after status
+      by_of other after status
       (subst (λ x. Headline s c o log other x) (sym is) (headline_ok s c o log one other r (subst (λ x. Headline s c o log one x) is headline)))
       (subst (λ x. Tells (ran_told x) (change between after) status) (sym is) (tells_only (ran_told (Ok r)) made (change between after) status some told says))
 
   -- it was run to its end, of which no more is told
   pub runs_ended : (may_fail : Fault → Type 0) (status : ℕ) (end : Result Ran Fault) → result ≡ end → Headline s c o log may_fail result → (ran_told end).output ≡ [] → status ≡ (ran_told end).status
-      → Runs bytes certificate o log may_fail (change before between) status
+      → RunsBy s c o log may_fail (change before between) status
   runs_ended may_fail status end is headline none ends =
-      runs_of may_fail between status headline
+      by_of may_fail between status headline
       (subst (λ x. Tells (ran_told x) (change between between) status) (sym is) (telling.all (subst (Took (change between between)) (sym none) (none_taken between.taken)) ends))
+
+-- the script that was run is the one that the bytes spell
+pub runs_of : (spells : SpellsWhatIsRead script_of) (bytes certificate : List ℕ) (s : Script) (c : Certificate) (o : Options) (log : Log)
+    (may_fail : Fault → Type 0) (sink : SinkChange) (status : ℕ) → s ≡ script_of bytes → IsText certificate c → RunsBy s c o log may_fail sink status
+    → Runs bytes certificate o log may_fail sink status
+runs_of spells bytes certificate s c o log may_fail sink status read text by =
+    run.checked (script_of bytes) c (spells bytes) text (subst (λ s. RunsBy s c o log may_fail sink status) read by)
 
 -- the text of the certificate that vouches was taken
 pub says_vouched : (answer : Analysis) (c : public.Certificate) (sink : SinkChange) → answer ≡ Vouched c → HasTextIfVouched answer
@@ -171,15 +187,36 @@ pub says_cannot : (answer : Analysis) (place : Place) (why : Fault) (notes : _) 
 says_cannot answer place why notes made sink status is told says = rw is (says_of (λ t. t ≡ cannot_told place why) made sink status told says)
 
 -- the analyser's answer was told
-pub vouches_of : (script : List ℕ) (start : Start) (answer : Analysis) (sink : SinkChange) (status : ℕ) →
-    first_unusable (script_of script) ≡ None → IsAnswerFor script start answer → Says (IsToldOf answer) sink status → Says (Vouches script start) sink status
-vouches_of script start answer sink status usable is says =
-    says_more (IsToldOf answer) (Vouches script start) sink status (λ t told_so. answered answer usable is told_so) says
+pub vouches_of : (script : List ℕ) (starts : Starts) (start : Start) (answer : Analysis) (sink : SinkChange) (status : ℕ) →
+    first_unusable (script_of script) ≡ None → IsJudgedFor script starts start → IsAnswerFor script start answer →
+    Says (IsToldOf answer) sink status → Says (Vouches script starts) sink status
+vouches_of script starts start answer sink status usable judged is says =
+    says_more (IsToldOf answer) (Vouches script starts) sink status (λ t told_so. answered start answer usable judged is told_so) says
+
+-- what tells that it isn't vouched for is what `vouch` tells
+refusal_vouches : (script : List ℕ) (starts : Starts) (told : Told) → IsRefused script starts told → Vouches script starts told
+refusal_vouches script starts told refused = refused.vouches
+
+pub refusal_told : (script : List ℕ) (starts : Starts) (sink : SinkChange) (status : ℕ) → Says (IsRefused script starts) sink status →
+    Says (Vouches script starts) sink status
+refusal_told script starts sink status says =
+    says_more (IsRefused script starts) (Vouches script starts) sink status (refusal_vouches script starts) says
+
+-- the need that fails was told, and nothing is run
+pub refused_of : (script : List ℕ) (starts : Starts) (one : Judged) → IsJudged script starts one → (place : Place) (why : Fault) (notes : _)
+    (made : Result Told AllocError) (sink : SinkChange) (status : ℕ) → one.analysis ≡ Cannot place why notes →
+    IfOk made (λ told. told ≡ cannot_told place why) → Says (λ t. made ≡ Ok t) sink status → Says (IsRefused script starts) sink status
+refused_of script starts one found place why notes made sink status cannot told says =
+    says_more (λ t. t ≡ cannot_told place why) (IsRefused script starts) sink status (λ t told_so.
+    let so : IsToldOf one.analysis t = rw cannot told_so in
+    record { vouches = answered one.start one.analysis found.usable found.start found.answer so; status = rw told_so refl })
+    (says_of (λ t. t ≡ cannot_told place why) made sink status told says)
 
 -- or the command that names a file by what isn't UTF-8
-pub names_told : (script : List ℕ) (start : Start) (number : ℕ) (made : Result Told AllocError) (sink : SinkChange) (status : ℕ) →
+pub names_told : (script : List ℕ) (starts : Starts) (number : ℕ) (made : Result Told AllocError) (sink : SinkChange) (status : ℕ) →
     first_unusable (script_of script) ≡ Some number → IfOk made (λ told. told ≡ cannot_told (record { command = number; inner = None }) fault.File) →
-    Says (λ one. made ≡ Ok one) sink status → Says (Vouches script start) sink status
-names_told script start number made sink status named told says =
-    says_more (λ t. t ≡ cannot_told (record { command = number; inner = None }) fault.File) (Vouches script start) sink status (λ t is. unusable number named is)
+    Says (λ one. made ≡ Ok one) sink status → Says (IsRefused script starts) sink status
+names_told script starts number made sink status named told says =
+    says_more (λ t. t ≡ cannot_told (record { command = number; inner = None }) fault.File) (IsRefused script starts) sink status
+    (λ t is. record { vouches = unusable number named is; status = rw is refl })
     (says_of (λ t. t ≡ cannot_told (record { command = number; inner = None }) fault.File) made sink status told says)

@@ -4,11 +4,14 @@ pub mod Headline
 pub mod Told
 pub mod Check
 pub mod Names
+pub mod Starts
 pub mod Vouch
 pub mod Run
+pub mod Vouched
 pub mod Fits
 pub mod Rehearsed
 -- what serves clauses inside the crate
+pub mod Finding
 pub mod Gathering
 pub mod RunOver
 pub mod StartTest

@@ -80,9 +80,16 @@ ran_told (Ok ran.StartOutside) = outside_told
 ran_told (Ok (ran.Done ending)) = record { output = []; status = 0 }
 ran_told (Err f) = record { output = []; status = status_of f }
 
+-- a script was run where its certificate allows that, and what came of it was told
+pub record RunsBy (script : Script) (c : Certificate) (o : Options) (log : Log) (may_fail : Fault → Type 0) (sink : SinkChange) (status : ℕ) : Type 0 where
+  pub result : Result Ran Fault
+  pub between : SinkState
+  pub came : CheckedRun script c o log (change sink.before between) result
+  pub headline : Headline script c o log may_fail result
+  pub told : Tells (ran_told result) (change between sink.after) status
+
 -- `run`: there is no certificate, or the script that these bytes spell was checked and run, and what came of that was told
 pub data Runs (script certificate : List ℕ) (o : Options) (log : Log) (may_fail : Fault → Type 0) (sink : SinkChange) (status : ℕ) : Type 0 where
   unbegun : log ≡ [] → Says (IsUnread certificate) sink status → Runs script certificate o log may_fail sink status
-  checked : (s : Script) (c : Certificate) (result : Result Ran Fault) (between : SinkState) → SpellsScript script s → IsText certificate c →
-      CheckedRun s c o log (change sink.before between) result → Headline s c o log may_fail result → Tells (ran_told result) (change between sink.after) status →
+  checked : (s : Script) (c : Certificate) → SpellsScript script s → IsText certificate c → RunsBy s c o log may_fail sink status →
       Runs script certificate o log may_fail sink status

@@ -15,6 +15,8 @@ use Rattle.analyser.specs.declared.analysis.Analysis.TheVariants.{Vouched, Canno
 use Rattle.ed_calls.specs.declared.told.Told.{Told}
 use Rattle.ed_calls.specs.Told.{cannot_told}
 use Rattle.ed_calls.specs.Names.{first_unusable}
+use Rattle.ed_calls.specs.declared.starts.Starts.{Starts}
+use Rattle.ed_calls.specs.Starts.{IsJudgedFor}
 
 -- the text of the certificate that vouches, or the need that fails
 abbrev pub IsToldOf : Analysis → Told → Type 0
@@ -31,10 +33,10 @@ pub record IsAnswerFor (script : List ℕ) (start : Start) (answer : Analysis) :
   pub checked : IsChecked read start answer
   pub foretold : IsExactAnswer read start answer
 
--- A script that names no file by what isn't UTF-8 is told by the analyser's answer. Another one is refused at its first command with such a
--- name, since a run would be refused that file.
-pub data Vouches (script : List ℕ) (start : Start) (told : Told) : Type 0 where
-  answered : (answer : Analysis) → first_unusable (script_of script) ≡ None → IsAnswerFor script start answer → IsToldOf answer told →
-      Vouches script start told
+-- A script that names no file by what isn't UTF-8 is told by the analyser's answer over the start that it is judged over. Another one is
+-- refused at its first command with such a name, since a run would be refused that file.
+pub data Vouches (script : List ℕ) (starts : Starts) (told : Told) : Type 0 where
+  answered : (start : Start) (answer : Analysis) → first_unusable (script_of script) ≡ None → IsJudgedFor script starts start →
+      IsAnswerFor script start answer → IsToldOf answer told → Vouches script starts told
   unusable : (number : ℕ) → first_unusable (script_of script) ≡ Some number →
-      told ≡ cannot_told (record { command = number; inner = None }) fault.File → Vouches script start told
+      told ≡ cannot_told (record { command = number; inner = None }) fault.File → Vouches script starts told

@@ -8,7 +8,7 @@ ghost use Rattle.ed_rules.specs.LineBounds.{IsWithin};
 ghost use Rattle.cert_check.specs.Certificates.{certificate_value};
 ghost use Rattle.cert_check.specs.checker.Sound.{IsAllowed};
 ghost use Rattle.ed_calls.specs.Headline.{Headline, MayFail};
-ghost use Rattle.ed_calls.specs.Run.{CheckedRun, LiesOutside, Runs, reading, told_of};
+ghost use Rattle.ed_calls.specs.Run.{CheckedRun, LiesOutside, Runs, RunsBy, reading, told_of};
 ghost use Rattle.ed_calls.specs.RunOver.{RunsOver, lines_told};
 
 use crate::stated::unmatched;
@@ -55,10 +55,31 @@ pub fn run<O: Outside, W: Sink>(
     let Ok(script) = read_script(alloc, script) else {
         return Fault::Memory.status();
     };
+    run_by(alloc, script, &certificate, options, outside, sink, aside)
+}
+
+/// Runs a script where its certificate allows it, tells the sink what keeps it from being run, and gives the exit status.
+pub(crate) fn run_by<O: Outside, W: Sink>(
+    alloc: Global,
+    script: Script,
+    certificate: &Certificate,
+    options: Options,
+    outside: &mut O,
+    sink: &mut W,
+    aside: &mut Aside<'_>,
+) -> u8
+    requires count { (W.state sink.old).failures < 2 ^ 64 - 1 }
+    ensures log { O.log outside.new ≡ O.log outside.old ++ added (O.log outside.old) (O.log outside.new) }
+    ensures came { let log = added (O.log outside.old) (O.log outside.new) in
+        let sink = change (W.state sink.old) (W.state sink.new) in
+        RunsBy (script_value script) (certificate_value certificate.now) options log
+        (MayFail options.path log (O.failures outside.old) (O.failures outside.new) sink) sink result }
+    ensures status { result ≤ 4 }
+{
     match run_checked::<ChunkStore, O, W>(
         alloc,
         script,
-        &certificate,
+        certificate,
         options,
         outside,
         sink,

@@ -2,9 +2,12 @@
 pub mod aside;
 pub mod command_line;
 pub mod file_name;
-pub mod hinted;
+mod found;
+mod hinted;
+mod numbered;
 pub mod pattern;
 mod reasons;
 pub mod refusals;
 pub mod shown;
 mod stopped;
+mod unread;

@@ -1,107 +1,56 @@
 //! The certificate of a script, or the need that fails.
-ghost use Rattle.std.specs.Prelude.{◌≡◌, ◌<◌, ◌≤◌, ◌-◌, ◌^◌, ℕ, List, Some, None, IfOk, IfSome};
-ghost use Rattle.ed_syntax.specs.PublicScript.{script_value};
+ghost use Rattle.std.specs.Prelude.{◌≡◌, ◌<◌, ◌≤◌, ◌-◌, ◌^◌, Some};
 ghost use Rattle.ed_syntax.specs.reading.Reading.{script_of};
-ghost use Rattle.ed_rules.specs.LineBounds.{IsAtMost, most_lines};
 ghost use Rattle.analyser.specs.Analysis.{HasTextIfVouched};
 ghost use Rattle.ed_session.specs.Sinks.{change};
 ghost use Rattle.ed_calls.specs.Names.{first_unusable};
+ghost use Rattle.ed_calls.specs.Starts.{AreAllowed};
 ghost use Rattle.ed_calls.specs.Told.{Says};
-ghost use Rattle.ed_calls.specs.Vouch.{IsAnswerFor, IsToldOf, Vouches};
+ghost use Rattle.ed_calls.specs.Vouch.{IsToldOf, Vouches};
+ghost use Rattle.ed_calls.specs.Vouched.{IsRefused};
 
 use crate::gathered::give_certificate;
-use crate::names::first_unusable;
-use crate::stderr::hinted::{show_hinted, show_unusable};
+use crate::judging::{Finding, judge};
+use crate::starts::Starts;
+use crate::stderr::aside::Aside;
 use crate::told::{cannot_told, tell};
-use analyser::{Analysis, Start, analyse};
+use analyser::Analysis;
 use cert_check::Place;
 use ed_base::Fault;
 use ed_session::Sink;
-use ed_syntax::{Script, read_script, scripts_are_read_as_spelled};
-use hints::copy_of;
 use std::alloc::{AllocError, Global};
 
 /// The status of a script that is vouched for.
 const VOUCHED_STATUS: u8 = 0;
 
-/// Tells a sink the certificate of the script that these bytes spell, for starts of these bounds, or the need that fails, and gives
-/// the exit status. A person is shown where it fails, what is known there, and what to write; where `all` is true, also where it fails with
-/// that written, and so on.
+/// The status of a script that isn't.
+pub(crate) const CANNOT_STATUS: u8 = 1;
+
+/// Tells a sink the certificate of the script that these bytes spell, for the start that is given or found, or the need that fails, and
+/// gives the exit status. A person is told the start that was found, or where the script fails, what is known there, and what to write;
+/// where `all` is true, also where it fails with that written, and so on.
 pub fn vouch_text<W: Sink>(
     alloc: Global,
-    rt: &impl Eprint,
     script: &[u8],
-    start: Start,
+    starts: Starts,
     all: bool,
     sink: &mut W,
+    aside: &mut Aside<'_>,
 ) -> u8
     requires count { (W.state sink.old).failures < 2 ^ 64 - 1 }
-    requires ordered { IsAtMost start.min start.max }
-    requires low { start.min ≤ most_lines }
-    requires high { IfSome start.max (λ most. most ≤ most_lines) }
-    ensures says { Says (Vouches script.now start) (change (W.state sink.old) (W.state sink.new)) result }
+    requires allowed { AreAllowed starts }
+    ensures says { Says (Vouches script.now starts) (change (W.state sink.old) (W.state sink.new)) result }
     ensures status { result ≤ 4 }
 {
-    let Ok(read) = read_script(alloc, script) else {
-        return Fault::Memory.status();
-    };
-    match first_unusable(&read) {
-        Some(number) => refuse_name(alloc, rt, script, number, sink),
-        None => vouch_read(alloc, rt, script, &read, start, all, sink),
-    }
-}
-
-/// Tells a sink that a command names a file that none can be, by the fault that a run would end with. A person is shown the command.
-fn refuse_name<W: Sink>(
-    alloc: Global,
-    rt: &impl Eprint,
-    script: &[u8],
-    number: usize,
-    sink: &mut W,
-) -> u8
-    requires count { (W.state sink.old).failures < 2 ^ 64 - 1 }
-    requires named { first_unusable (script_of script.now) ≡ Some number }
-    ensures says { (start : Start) → Says (Vouches script.now start) (change (W.state sink.old) (W.state sink.new)) result }
-    ensures status { result ≤ 4 }
-{
-    let place = Place {
-        command: number,
-        inner: None,
-    };
-    let status = tell(cannot_told(alloc, place, Fault::File), sink);
-    if status == 1 {
-        show_unusable(alloc, rt, script, number);
-    }
-    status
-}
-
-/// Tells a sink the analyser's answer for a script that was read and names no such file.
-fn vouch_read<W: Sink>(
-    alloc: Global,
-    rt: &impl Eprint,
-    script: &[u8],
-    read: &Script,
-    start: Start,
-    all: bool,
-    sink: &mut W,
-) -> u8
-    requires count { (W.state sink.old).failures < 2 ^ 64 - 1 }
-    requires ordered { IsAtMost start.min start.max }
-    requires low { start.min ≤ most_lines }
-    requires high { IfSome start.max (λ most. most ≤ most_lines) }
-    requires read { script_value read.now ≡ script_of script.now }
-    requires usable { first_unusable (script_of script.now) ≡ None }
-    ensures says { Says (Vouches script.now start) (change (W.state sink.old) (W.state sink.new)) result }
-    ensures status { result ≤ 4 }
-{
-    let Ok(kept) = copy_of(&start) else {
-        return Fault::Memory.status();
-    };
-    match answer(read, start) {
-        Ok(analysis) => {
-            let status = tell_answer(alloc, &analysis, sink);
-            if status == 1 {
-                show_hinted(alloc, rt, script, &kept, &analysis, all);
+    let (are_sought, least_sought) = (starts.are_sought(), starts.least_sought());
+    match judge(alloc, script, starts) {
+        Ok(Finding::Unusable(number)) => refuse_name(alloc, script, number, sink, aside),
+        Ok(Finding::Judged(one)) => {
+            let status = tell_answer(alloc, &one.analysis, sink);
+            match status {
+                VOUCHED_STATUS if are_sought => aside.found(&one.script, &one.start),
+                CANNOT_STATUS => aside.cannot(&one.start, &one.analysis, least_sought, all),
+                _ => {}
             }
             status
         }
@@ -109,16 +58,25 @@ fn vouch_read<W: Sink>(
     }
 }
 
-/// The analyser's answer for a script that was read of some bytes.
-fn answer(read: &Script, start: Start) -> Result<Analysis, AllocError>
-    requires ordered { IsAtMost start.min start.max }
-    requires low { start.min ≤ most_lines }
-    requires high { IfSome start.max (λ most. most ≤ most_lines) }
-    ensures answers { (bytes : List ℕ) → script_value read.now ≡ script_of bytes → IfOk result (IsAnswerFor bytes start) }
-    ensures texts { IfOk result HasTextIfVouched }
+/// Tells a sink that a command names a file that none can be, by the fault that a run would end with. A person is told the command.
+pub(crate) fn refuse_name<W: Sink>(
+    alloc: Global,
+    script: &[u8],
+    number: usize,
+    sink: &mut W,
+    aside: &mut Aside<'_>,
+) -> u8
+    requires count { (W.state sink.old).failures < 2 ^ 64 - 1 }
+    requires named { first_unusable (script_of script.now) ≡ Some number }
+    ensures says { (starts : Starts) → Says (IsRefused script.now starts) (change (W.state sink.old) (W.state sink.new)) result }
+    ensures status { result ≤ 4 }
 {
-    scripts_are_read_as_spelled();
-    analyse(read, start)
+    let place = Place {
+        command: number,
+        inner: None,
+    };
+    aside.unusable(number);
+    tell(cannot_told(alloc, place, Fault::File), sink)
 }
 
 /// Tells a sink the certificate, as its text is made, or the need that fails, and says which status goes with it.

@@ -1,6 +1,8 @@
+mod Editing
 mod GivenPatterns
 mod Rehearsing
 mod Scripts
+mod StartLemmas
 mod SubcommandLemmas
 mod WordsLemmas
 mod Worked

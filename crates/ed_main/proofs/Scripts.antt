@@ -3,7 +3,7 @@ use Rattle.std.proofs.Common.{◌≡◌, List, [], Bool, true, false, Result, Ok
 use Rattle.std.specs.Prelude.{ℕ, IsTrue, IsFalse}
 use Rattle.sources.specs.declared.source.ReadFault.{ReadFault}
 
-pub wanted_where_unread : {Same : Type 0} (wanted : Bool) (result : Result (List ℕ) ReadFault) (fault : ReadFault) →
-    (IsFalse wanted → Same × (result ≡ Ok [])) → result ≡ Err fault → IsTrue wanted
+pub wanted_where_unread : (wanted : Bool) (result : Result (List ℕ) ReadFault) (fault : ReadFault) →
+    (IsFalse wanted → result ≡ Ok []) → result ≡ Err fault → IsTrue wanted
 wanted_where_unread true result fault unasked is = refl
-wanted_where_unread false result fault unasked is = absurd (let read = (unasked refl).1 in cc)
+wanted_where_unread false result fault unasked is = absurd (let read = unasked refl in cc)

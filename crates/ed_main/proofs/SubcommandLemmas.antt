@@ -1,5 +1,5 @@
 -- What a subcommand takes, after it was told of each in turn.
-use Rattle.std.proofs.Common.{◌≡◌, ◌∙◌, Bool, false, List, [], ◌∷◌, ◌++◌, map, refl, ap, ap₂, sym, append-nil, append_assoc}
+use Rattle.std.proofs.Common.{◌≡◌, ◌∙◌, Bool, false, List, [], ◌∷◌, ◌++◌, map, refl, ap, ap₂, sym, subst, append-nil, append_assoc}
 use Rattle.std.specs.Prelude.{All, ◌||◌}
 use Rattle.std.proofs.lemmas.List.Elements.{All-nil, All-cons, All-head, All-tail}
 use Rattle.clap.specs.Built.{AddsArg, AddsInTurn}
@@ -35,27 +35,22 @@ none_global old new (arg ∷ args) local none adds =
     none_global adds.0 new args (All-tail IsLocal arg args local)
     (adds.1.globals ∙ ap₂ (λ (b c : Bool). b || c) none (All-head IsLocal arg args local)) adds.2
 
-three_local : (a b c : Arg) → IsLocal a → IsLocal b → IsLocal c → All IsLocal (a ∷ b ∷ c ∷ [])
-three_local a b c e f g = All-cons IsLocal a (b ∷ c ∷ []) e (All-cons IsLocal b (c ∷ []) f (All-cons IsLocal c [] g (All-nil IsLocal)))
+-- each of these is of its subcommand alone
+abbrev pub AreLocal : List Arg → Type 0
+AreLocal [] = Unit {0}
+AreLocal (arg ∷ args) = IsLocal arg × AreLocal args
 
--- two rules in a row
-pub two_rules : (a b : Arg) (r s : Rule) → rule_of a ≡ r → rule_of b ≡ s → map rule_of (a ∷ b ∷ []) ≡ r ∷ s ∷ []
-two_rules a b r s e f = rw (e, f) refl
+each_local : (args : List Arg) → AreLocal args → All IsLocal args
+each_local [] local = All-nil IsLocal
+each_local (arg ∷ args) local = All-cons IsLocal arg args local.0 (each_local args local.1)
 
-pub two_local : (a b : Arg) → IsLocal a → IsLocal b → All IsLocal (a ∷ b ∷ [])
-two_local a b e f = All-cons IsLocal a (b ∷ []) e (All-cons IsLocal b [] f (All-nil IsLocal))
+-- so is each of a list that has just these
+pub all_local : (args listed : List Arg) → args ≡ listed → AreLocal listed → All IsLocal args
+all_local args listed is local = subst (All IsLocal) (sym is) (each_local listed local)
 
--- four rules in a row
-pub four_rules : (a b c d : Arg) (r s t u : Rule) → rule_of a ≡ r → rule_of b ≡ s → rule_of c ≡ t → rule_of d ≡ u → map rule_of (a ∷ b ∷ c ∷ d ∷ []) ≡ r ∷ s ∷ t ∷ u ∷ []
-four_rules a b c d r s t u e f g h = rw (e, f, g, h) refl
+-- rules in a row: none, or the first one and those after it
+pub no_rules : ◌≡◌ {A = List Rule} [] []
+no_rules = refl
 
-pub four_local : (a b c d : Arg) → IsLocal a → IsLocal b → IsLocal c → IsLocal d → All IsLocal (a ∷ b ∷ c ∷ d ∷ [])
-four_local a b c d e f g h = All-cons IsLocal a (b ∷ c ∷ d ∷ []) e (three_local b c d f g h)
-
--- six rules in a row
-pub six_rules : (a b c d e f : Arg) (r s t u v w : Rule) → rule_of a ≡ r → rule_of b ≡ s → rule_of c ≡ t → rule_of d ≡ u → rule_of e ≡ v → rule_of f ≡ w
-    → map rule_of (a ∷ b ∷ c ∷ d ∷ e ∷ f ∷ []) ≡ r ∷ s ∷ t ∷ u ∷ v ∷ w ∷ []
-six_rules a b c d e f r s t u v w g h i j k l = rw (g, h, i, j, k, l) refl
-
-pub six_local : (a b c d e f : Arg) → IsLocal a → IsLocal b → IsLocal c → IsLocal d → IsLocal e → IsLocal f → All IsLocal (a ∷ b ∷ c ∷ d ∷ e ∷ f ∷ [])
-six_local a b c d e f g h i j k l = All-cons IsLocal a (b ∷ c ∷ d ∷ e ∷ f ∷ []) g (All-cons IsLocal b (c ∷ d ∷ e ∷ f ∷ []) h (four_local c d e f i j k l))
+pub and_rules : {r s : Rule} {rs ss : List Rule} → r ≡ s → rs ≡ ss → r ∷ rs ≡ s ∷ ss
+and_rules e f = ap₂ (λ (r : Rule) (rs : List Rule). r ∷ rs) e f

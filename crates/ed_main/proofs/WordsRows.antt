@@ -1,6 +1,7 @@
 -- Words and the jobs that they give.
 use Rattle.std.proofs.Common.{◌≡◌, ℕ, Bool, true, false, List, [], ◌∷◌, Option, Some, None, refl, codes}
 use Rattle.clap.proofs.OnLiterals.{clap_on_literals}
+use Rattle.ed_calls.specs.declared.starts.Starts.TheVariants.{Given, Widest}
 use Rattle.ed_main.specs.Subcommands.{program}
 use Rattle.ed_main.specs.Words.{job_of}
 use Rattle.ed_main.specs.declared.job.Job.{Job}
@@ -9,31 +10,60 @@ use Rattle.ed_main.proofs.Worked.{Row, row}
 
 -- a run with these options
 abbrev edit : Bool → Option (List ℕ) → Option (List ℕ) → Option Job
-edit silent prompt path = Some (job.Edit (record { silent = silent; prompt = prompt; path = path }) false)
+edit silent prompt path = Some (job.Edit (record { silent = silent; prompt = prompt; path = path }) None false false)
 
 -- its rehearsal
 abbrev rehearsal : Bool → Option (List ℕ) → Option (List ℕ) → Option Job
-rehearsal silent prompt path = Some (job.Edit (record { silent = silent; prompt = prompt; path = path }) true)
+rehearsal silent prompt path = Some (job.Edit (record { silent = silent; prompt = prompt; path = path }) None true false)
+
+-- a run only if the script is vouched for, or its rehearsal
+abbrev edit_vouched : (rehearsed : Bool) → (path : Option (List ℕ)) → Option Job
+edit_vouched rehearsed path = Some (job.Edit (record { silent = false; prompt = None; path = path }) None rehearsed true)
 
 -- a certificate for these bounds
 abbrev vouch : ℕ → Option ℕ → Option (List ℕ) → Option Job
-vouch min max path = Some (job.Vouch (record { path = path; min = min; max = max; has = None }) false)
+vouch min max path = Some (job.Vouch (Given (record { path = path; min = min; max = max; has = None })) None false)
 
 -- the same, or else all refusals
 abbrev vouch_all : ℕ → Option ℕ → Option (List ℕ) → Option Job
-vouch_all min max path = Some (job.Vouch (record { path = path; min = min; max = max; has = None }) true)
+vouch_all min max path = Some (job.Vouch (Given (record { path = path; min = min; max = max; has = None })) None true)
 
 -- a certificate that tells of patterns, which states these
 abbrev vouch_with : List (List ℕ) → Option Job
-vouch_with has = Some (job.Vouch (record { path = Some (codes "F"); min = 1; max = None; has = Some has }) false)
+vouch_with has = Some (job.Vouch (Given (record { path = Some (codes "F"); min = 1; max = None; has = Some has })) None false)
+
+-- a certificate for the widest start of these bounds, as far as they are given
+abbrev vouch_widest : (min max : Option ℕ) → Option Job
+vouch_widest min max = Some (job.Vouch (Widest (record { path = Some (codes "F"); min = min; max = max; has = None })) None false)
+
+-- a certificate for the empty buffer, with these patterns, or else all refusals
+abbrev vouch_empty_with : List (List ℕ) → Option Job
+vouch_empty_with has = Some (job.Vouch (Given (record { path = None; min = 0; max = Some 0; has = Some has })) None true)
+
+-- a check
+abbrev check : List ℕ → Option Job
+check certificate = Some (job.Check certificate None)
 
 -- a run that is checked first
 abbrev run : List ℕ → Bool → Option (List ℕ) → Option Job
-run certificate silent path = Some (job.Run certificate (record { silent = silent; prompt = None; path = path }) false)
+run certificate silent path = Some (job.Run certificate (record { silent = silent; prompt = None; path = path }) None false)
 
 -- its rehearsal
 abbrev rehearsed_run : List ℕ → Bool → Option (List ℕ) → Option Job
-rehearsed_run certificate silent path = Some (job.Run certificate (record { silent = silent; prompt = None; path = path }) true)
+rehearsed_run certificate silent path = Some (job.Run certificate (record { silent = silent; prompt = None; path = path }) None true)
+
+-- what each does with a file F and the script in a file S
+abbrev edit_from_file : (silent vouched : Bool) → Option Job
+edit_from_file silent vouched = Some (job.Edit (record { silent = silent; prompt = None; path = Some (codes "F") }) (Some (codes "S")) false vouched)
+
+abbrev vouch_from_file : Option Job
+vouch_from_file = Some (job.Vouch (Widest (record { path = Some (codes "F"); min = None; max = None; has = None })) (Some (codes "S")) false)
+
+abbrev check_from_file : Option Job
+check_from_file = Some (job.Check (codes "C") (Some (codes "S")))
+
+abbrev run_from_file : Option Job
+run_from_file = Some (job.Run (codes "C") (record { silent = false; prompt = None; path = Some (codes "F") }) (Some (codes "S")) false)
 
 -- a test of a start
 abbrev fits : (certificate : List ℕ) → (path : Option (List ℕ)) → Option Job
@@ -88,8 +118,16 @@ words =
     ∷ row (job_given (codes "vouch" ∷ codes "--min=-1" ∷ codes "--max" ∷ codes "any" ∷ []) ≡ None) refl  -- a number below zero
     ∷ row (job_given (codes "vouch" ∷ codes "--min" ∷ codes " 1" ∷ codes "--max" ∷ codes "any" ∷ []) ≡ None) refl  -- a number with a blank
     ∷ row (job_given (codes "vouch" ∷ codes "--min" ∷ codes "++1" ∷ codes "--max" ∷ codes "any" ∷ []) ≡ None) refl  -- two pluses
-    ∷ row (job_given (codes "vouch" ∷ codes "--max" ∷ codes "any" ∷ []) ≡ None) refl  -- no min
-    ∷ row (job_given (codes "vouch" ∷ codes "--min" ∷ codes "0" ∷ []) ≡ None) refl  -- no max
+    ∷ row (job_given (codes "vouch" ∷ codes "F" ∷ []) ≡ vouch_widest None None) refl  -- no bounds
+    ∷ row (job_given (codes "vouch" ∷ codes "--min" ∷ codes "2" ∷ codes "F" ∷ []) ≡ vouch_widest (Some 2) None) refl  -- no max
+    ∷ row (job_given (codes "vouch" ∷ codes "--max" ∷ codes "any" ∷ codes "F" ∷ []) ≡ vouch_widest None None) refl  -- no min and no limit
+    ∷ row (job_given (codes "vouch" ∷ codes "F" ∷ codes "--max=3" ∷ []) ≡ vouch_widest None (Some 3)) refl  -- no min
+    ∷ row (job_given (codes "vouch" ∷ codes "--all" ∷ codes "--has" ∷ codes "a" ∷ []) ≡ vouch_empty_with (codes "a" ∷ [])) refl  -- no bounds and no file
+    ∷ row (job_given (codes "vouch" ∷ codes "--min" ∷ codes "3" ∷ codes "--max" ∷ codes "2" ∷ codes "F" ∷ []) ≡ None) refl  -- three lines at least and two at most
+    ∷ row (job_given (codes "vouch" ∷ codes "--min" ∷ codes "any" ∷ codes "F" ∷ []) ≡ None) refl  -- min any and no max
+    ∷ row (job_given (codes "vouch" ∷ codes "--max" ∷ codes "x" ∷ codes "F" ∷ []) ≡ None) refl  -- max without a number and no min
+    ∷ row (job_given (codes "vouch" ∷ codes "--max" ∷ codes "1000000000001" ∷ codes "F" ∷ []) ≡ None) refl  -- max above the most lines and no min
+    ∷ row (job_given (codes "vouch" ∷ codes "-" ∷ []) ≡ None) refl  -- a hyphen and no bounds
     ∷ row (job_given (codes "vouch" ∷ codes "--min" ∷ codes "0" ∷ codes "--min" ∷ codes "1" ∷ codes "--max" ∷ codes "any" ∷ []) ≡ None) refl  -- two mins
     ∷ row (job_given (codes "vouch" ∷ codes "--min" ∷ codes "0" ∷ codes "--max" ∷ codes "any" ∷ codes "F" ∷ codes "G" ∷ []) ≡ None) refl  -- two vouched files
     ∷ row (job_given (codes "vouch" ∷ codes "--min" ∷ codes "0" ∷ codes "--max" ∷ codes "any" ∷ [] ∷ []) ≡ None) refl  -- an empty vouched file
@@ -110,8 +148,8 @@ words =
     ∷ row (job_given (codes "vouch" ∷ codes "--min" ∷ codes "1" ∷ codes "--max" ∷ codes "any" ∷ codes "--has" ∷ codes "-x" ∷ codes "F" ∷ []) ≡ None) refl  -- a pattern like an option
     ∷ row (job_given (codes "check" ∷ codes "--has" ∷ codes "a" ∷ codes "C" ∷ []) ≡ None) refl  -- patterns of a check
     ∷ row (job_given (codes "vouch" ∷ codes "--help" ∷ []) ≡ None) refl  -- help of vouch
-    ∷ row (job_given (codes "check" ∷ codes "C" ∷ []) ≡ Some (job.Check (codes "C"))) refl  -- checked
-    ∷ row (job_given (codes "check" ∷ codes "--" ∷ codes "-x" ∷ []) ≡ Some (job.Check (codes "-x"))) refl  -- checked after two hyphens
+    ∷ row (job_given (codes "check" ∷ codes "C" ∷ []) ≡ check (codes "C")) refl  -- checked
+    ∷ row (job_given (codes "check" ∷ codes "--" ∷ codes "-x" ∷ []) ≡ check (codes "-x")) refl  -- checked after two hyphens
     ∷ row (job_given (codes "check" ∷ []) ≡ None) refl  -- no certificate
     ∷ row (job_given (codes "check" ∷ codes "C" ∷ codes "D" ∷ []) ≡ None) refl  -- two certificates
     ∷ row (job_given (codes "check" ∷ [] ∷ []) ≡ None) refl  -- an empty certificate
@@ -138,9 +176,28 @@ words =
     ∷ row (job_given (codes "edit" ∷ codes "-sn" ∷ codes "-p" ∷ codes "> " ∷ codes "F" ∷ []) ≡ rehearsal true (Some (codes "> ")) (Some (codes "F"))) refl  -- rehearsed and silent
     ∷ row (job_given (codes "edit" ∷ codes "-n" ∷ []) ≡ rehearsal false None None) refl  -- rehearsed without a file
     ∷ row (job_given (codes "edit" ∷ codes "-n" ∷ codes "-n" ∷ codes "F" ∷ []) ≡ None) refl  -- rehearsed twice
+    ∷ row (job_given (codes "edit" ∷ codes "--vouched" ∷ codes "F" ∷ []) ≡ edit_vouched false (Some (codes "F"))) refl  -- if it is vouched for
+    ∷ row (job_given (codes "edit" ∷ codes "F" ∷ codes "-n" ∷ codes "--vouched" ∷ []) ≡ edit_vouched true (Some (codes "F"))) refl  -- rehearsed if it is vouched for
+    ∷ row (job_given (codes "edit" ∷ codes "--vouched" ∷ []) ≡ edit_vouched false None) refl  -- without a file if it is vouched for
+    ∷ row (job_given (codes "edit" ∷ codes "--vouched" ∷ codes "--vouched" ∷ codes "F" ∷ []) ≡ None) refl  -- vouched for twice
+    ∷ row (job_given (codes "run" ∷ codes "--vouched" ∷ codes "C" ∷ codes "F" ∷ []) ≡ None) refl  -- run if it is vouched for
+    ∷ row (job_given (codes "vouch" ∷ codes "--vouched" ∷ codes "F" ∷ []) ≡ None) refl  -- vouched if it is vouched for
     ∷ row (job_given (codes "run" ∷ codes "-n" ∷ codes "C" ∷ codes "F" ∷ []) ≡ rehearsed_run (codes "C") false (Some (codes "F"))) refl  -- run rehearsed
     ∷ row (job_given (codes "run" ∷ codes "C" ∷ codes "F" ∷ codes "-s" ∷ codes "-n" ∷ []) ≡ rehearsed_run (codes "C") true (Some (codes "F"))) refl  -- run rehearsed at the end
     ∷ row (job_given (codes "vouch" ∷ codes "-n" ∷ codes "--min" ∷ codes "0" ∷ codes "--max" ∷ codes "any" ∷ []) ≡ None) refl  -- vouching rehearsed
     ∷ row (job_given (codes "check" ∷ codes "-n" ∷ codes "C" ∷ []) ≡ None) refl  -- checking rehearsed
     ∷ row (job_given (codes "fits" ∷ codes "-n" ∷ codes "C" ∷ []) ≡ None) refl  -- fits rehearsed
+    ∷ row (job_given (codes "edit" ∷ codes "-f" ∷ codes "S" ∷ codes "F" ∷ []) ≡ edit_from_file false false) refl  -- a script in a file
+    ∷ row (job_given (codes "edit" ∷ codes "F" ∷ codes "-sfS" ∷ codes "--vouched" ∷ []) ≡ edit_from_file true true) refl  -- a script in a file in one word
+    ∷ row (job_given (codes "vouch" ∷ codes "-f" ∷ codes "S" ∷ codes "F" ∷ []) ≡ vouch_from_file) refl  -- vouched in a file
+    ∷ row (job_given (codes "check" ∷ codes "C" ∷ codes "-f" ∷ codes "S" ∷ []) ≡ check_from_file) refl  -- checked in a file
+    ∷ row (job_given (codes "run" ∷ codes "-f" ∷ codes "S" ∷ codes "C" ∷ codes "F" ∷ []) ≡ run_from_file) refl  -- run from a file
+    ∷ row (job_given (codes "fits" ∷ codes "-f" ∷ codes "S" ∷ codes "C" ∷ codes "F" ∷ []) ≡ None) refl  -- fits with a script
+    ∷ row (job_given (codes "edit" ∷ codes "-f" ∷ codes "-" ∷ codes "F" ∷ []) ≡ None) refl  -- a hyphen as a script
+    ∷ row (job_given (codes "vouch" ∷ codes "-f" ∷ codes "-" ∷ codes "F" ∷ []) ≡ None) refl  -- a vouched hyphen as a script
+    ∷ row (job_given (codes "check" ∷ codes "-f" ∷ codes "-" ∷ codes "C" ∷ []) ≡ None) refl  -- a checked hyphen as a script
+    ∷ row (job_given (codes "run" ∷ codes "-f" ∷ codes "-" ∷ codes "C" ∷ codes "F" ∷ []) ≡ None) refl  -- run on a hyphen as a script
+    ∷ row (job_given (codes "edit" ∷ codes "-f" ∷ [] ∷ codes "F" ∷ []) ≡ None) refl  -- a script without a name
+    ∷ row (job_given (codes "edit" ∷ codes "-f" ∷ codes "S" ∷ codes "-f" ∷ codes "T" ∷ codes "F" ∷ []) ≡ None) refl  -- two scripts
+    ∷ row (job_given (codes "edit" ∷ codes "-f" ∷ []) ≡ None) refl  -- no script
     ∷ []

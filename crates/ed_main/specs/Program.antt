@@ -1,6 +1,6 @@
 -- The status that the program ends with, whatever its words, its script and its certificate are, and whatever the files answer (our
 -- choice; where memory ran out or an input isn't read, it is that of the editor's fault).
-use Rattle.std.specs.Prelude.{◌≡◌, ◌⊎◌, ℕ, ◌^◌, Bool, true, false, List, IsTrue}
+use Rattle.std.specs.Prelude.{◌≡◌, ◌⊎◌, ℕ, ◌^◌, Bool, true, false, ◌&&◌, List, [], Option, None, Some, is_none, IsTrue}
 use Rattle.ed_base.specs.Fault.{status_of}
 use Rattle.ed_base.specs.declared.fault.Fault.TheVariants as fault
 use Rattle.ed_syntax.specs.declared.options.Options.{Options}
@@ -16,6 +16,7 @@ use Rattle.ed_calls.specs.Rehearsed.{Rehearsed}
 use Rattle.ed_calls.specs.Run.{Runs}
 use Rattle.ed_calls.specs.Told.{Says}
 use Rattle.ed_calls.specs.Vouch.{Vouches}
+use Rattle.ed_calls.specs.Vouched.{RunsVouched}
 use Rattle.ed_main.specs.declared.job.Job.{Job}
 use Rattle.ed_main.specs.declared.job.Job.TheVariants as job
 use Rattle.ed_main.specs.declared.task.Task.{Task}
@@ -23,19 +24,31 @@ use Rattle.ed_main.specs.declared.task.Trust.{Trust}
 use Rattle.ed_main.specs.declared.task.Trust.TheVariants as trust
 use Rattle.ed_main.specs.declared.words.WordsFault.{WordsFault}
 use Rattle.ed_main.specs.declared.words.WordsFault.TheVariants as words
-use Rattle.ed_main.specs.Job.{IsGiven}
+use Rattle.ed_main.specs.Job.{IsGiven, any_start}
 
--- how many bytes of standard input, and of a certificate, are read at most
+-- how many bytes of a script, and of a certificate, are read at most
 abbrev pub most_bytes : ℕ
 most_bytes = 2 ^ 30
 
 -- a job wants a script: each does but the test of a start
 abbrev pub wants_script : Job → Bool
-wants_script (job.Edit options rehearsed) = true
-wants_script (job.Vouch start all) = true
-wants_script (job.Check path) = true
-wants_script (job.Run path options rehearsed) = true
+wants_script (job.Edit options script rehearsed vouched) = true
+wants_script (job.Vouch starts script all) = true
+wants_script (job.Check certificate script) = true
+wants_script (job.Run certificate options script rehearsed) = true
 wants_script (job.Fits certificate path) = false
+
+-- the file that is named for a job's script, if one is
+abbrev pub script_named : Job → Option (List ℕ)
+script_named (job.Edit options script rehearsed vouched) = script
+script_named (job.Vouch starts script all) = script
+script_named (job.Check certificate script) = script
+script_named (job.Run certificate options script rehearsed) = script
+script_named (job.Fits certificate path) = None
+
+-- a job wants standard input: it wants a script, and no file is named for it
+abbrev pub wants_input : Job → Bool
+wants_input asked = wants_script asked && is_none (script_named asked)
 
 -- Words that aren't understood have a status of their own. A request for help or the version is no fault; it can fail to be shown.
 abbrev pub EndsWords : WordsFault → ℕ → Type 0
@@ -64,6 +77,17 @@ abbrev pub Edits : (script : List ℕ) → Options → (rehearsed : Bool) → Me
 Edits script options rehearsed met status =
     Correct script options met.log met.refusals_before met.refusals met.sink status × (IsTrue rehearsed → Rehearsed met.log)
 
+-- what `edit --vouched` came to with what it met, for a script of these bytes; nothing is written where it was rehearsed
+abbrev pub EditsVouched : (script : List ℕ) → Options → (rehearsed : Bool) → Met → ℕ → Type 0
+EditsVouched script options rehearsed met status =
+    RunsVouched script (any_start options.path (Some [])) options met.log (MayFail options.path met.log met.refusals_before met.refusals met.sink) met.sink status
+    × (IsTrue rehearsed → Rehearsed met.log)
+
+-- what came of the one or the other
+abbrev pub EditsBy : (vouched : Bool) → (script : List ℕ) → Options → (rehearsed : Bool) → Met → ℕ → Type 0
+EditsBy true = EditsVouched
+EditsBy false = Edits
+
 -- what `run` came to with what it met, for a script and a certificate of these bytes; nothing is written where it was rehearsed
 abbrev pub RunsOn : (script certificate : List ℕ) → Options → (rehearsed : Bool) → Met → ℕ → Type 0
 RunsOn script certificate options rehearsed met status =
@@ -74,6 +98,12 @@ RunsOn script certificate options rehearsed met status =
 abbrev pub ComesBy : Trust → (script : List ℕ) → Options → (rehearsed : Bool) → Met → ℕ → Type 0
 ComesBy trust.Unchecked script = Edits script
 ComesBy (trust.Certified name certificate) script = RunsOn script certificate.now
+ComesBy trust.Vouched script = EditsVouched script
+
+-- what the run of a script without a certificate rests on
+abbrev pub trust_of : (vouched : Bool) → Trust
+trust_of true = trust.Vouched
+trust_of false = trust.Unchecked
 
 -- what a task came to with what it met
 abbrev pub Comes : Task → Met → ℕ → Type 0
@@ -86,10 +116,10 @@ pub data WithCertificate (Used : List ℕ → ℕ → Type 0) (status : ℕ) : T
 
 -- what a job comes to, for a script of these bytes; a test of a start has none
 abbrev pub Does : List ℕ → Job → ℕ → Type 0
-Does script (job.Edit options rehearsed) = Somehow (Edits script options rehearsed)
-Does script (job.Vouch start all) = Somehow (λ met. Says (Vouches script start) met.sink)
-Does script (job.Check path) = WithCertificate (λ certificate. Somehow (λ met. Says (Checks script certificate) met.sink))
-Does script (job.Run path options rehearsed) = WithCertificate (λ certificate. Somehow (RunsOn script certificate options rehearsed))
+Does script (job.Edit options named rehearsed vouched) = Somehow (EditsBy vouched script options rehearsed)
+Does script (job.Vouch starts named all) = Somehow (λ met. Says (Vouches script starts) met.sink)
+Does script (job.Check path named) = WithCertificate (λ certificate. Somehow (λ met. Says (Checks script certificate) met.sink))
+Does script (job.Run path options named rehearsed) = WithCertificate (λ certificate. Somehow (RunsOn script certificate options rehearsed))
 Does script (job.Fits certificate path) = WithCertificate (λ bytes. Somehow (λ met. Fits bytes path met.log met.sink))
 
 -- the words weren't understood, the script wasn't read for a job that wants one, or a job was done for a script

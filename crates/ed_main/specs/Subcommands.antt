@@ -12,6 +12,10 @@ silent = record (new_rule (codes "silent")) { short = Some 115; action = Some Se
 abbrev pub rehearsed : Rule
 rehearsed = record (new_rule (codes "rehearsed")) { short = Some 110; long = Some (codes "dry-run"); action = Some SetTrue }
 
+-- `--vouched`
+abbrev pub vouched : Rule
+vouched = record (new_rule (codes "vouched")) { long = Some (codes "vouched"); action = Some SetTrue }
+
 -- `-p STRING`
 abbrev pub prompt : Rule
 prompt = record (new_rule (codes "prompt")) { short = Some 112; action = Some Set; value_names = 1 }
@@ -20,13 +24,17 @@ prompt = record (new_rule (codes "prompt")) { short = Some 112; action = Some Se
 abbrev pub file : Rule
 file = record (new_rule (codes "file")) { action = Some Set; value_names = 1 }
 
+-- `-f SCRIPT`
+abbrev pub script : Rule
+script = record (new_rule (codes "script")) { short = Some 102; action = Some Set; value_names = 1 }
+
 -- `--min N`
 abbrev pub min : Rule
-min = record (new_rule (codes "min")) { long = Some (codes "min"); action = Some Set; value_names = 1; required = true }
+min = record (new_rule (codes "min")) { long = Some (codes "min"); action = Some Set; value_names = 1 }
 
 -- `--max M`
 abbrev pub max : Rule
-max = record (new_rule (codes "max")) { long = Some (codes "max"); action = Some Set; value_names = 1; required = true }
+max = record (new_rule (codes "max")) { long = Some (codes "max"); action = Some Set; value_names = 1 }
 
 -- `--all`
 abbrev pub all : Rule
@@ -48,21 +56,21 @@ certificate = record (new_rule (codes "certificate")) { action = Some Set; value
 abbrev pub subcommand : List ℕ → List Rule → App
 subcommand name takes = on_top (λ s. record s { rules = takes }) (new_app name)
 
--- `edit [-n] [-s] [-p STRING] [FILE]`
+-- `edit [--vouched] [-n] [-s] [-p STRING] [-f SCRIPT] [FILE]`
 abbrev pub edit : App
-edit = subcommand (codes "edit") (rehearsed ∷ silent ∷ prompt ∷ file ∷ [])
+edit = subcommand (codes "edit") (vouched ∷ rehearsed ∷ silent ∷ prompt ∷ script ∷ file ∷ [])
 
--- `vouch --min N --max M [--all] [--patterns] [--has RE] [FILE]`
+-- `vouch [--min N] [--max M] [--all] [--patterns] [--has RE] [-f SCRIPT] [FILE]`
 abbrev pub vouch : App
-vouch = subcommand (codes "vouch") (min ∷ max ∷ all ∷ patterns ∷ has ∷ file ∷ [])
+vouch = subcommand (codes "vouch") (min ∷ max ∷ all ∷ patterns ∷ has ∷ script ∷ file ∷ [])
 
--- `check CERT`
+-- `check [-f SCRIPT] CERT`
 abbrev pub check : App
-check = subcommand (codes "check") (certificate ∷ [])
+check = subcommand (codes "check") (script ∷ certificate ∷ [])
 
--- `run CERT [-n] [-s] [FILE]`
+-- `run [-n] [-s] [-f SCRIPT] CERT [FILE]`
 abbrev pub run : App
-run = subcommand (codes "run") (certificate ∷ rehearsed ∷ silent ∷ file ∷ [])
+run = subcommand (codes "run") (rehearsed ∷ silent ∷ script ∷ certificate ∷ file ∷ [])
 
 -- `fits CERT [FILE]`
 abbrev pub fits : App

@@ -1,6 +1,6 @@
 -- The words that the program is given, as `clap` reads them, and the job that they give (XCU ed, "Synopsis"; our choice: no prompt or file
 -- that reads as an option).
-use Rattle.std.specs.Prelude.{◌≡◌, ◌≢◌, ◌⊎◌, ℕ, Bool, true, false, not, ◌&&◌, List, [], ◌∷◌, codes, length, nat_eq, nat_lt, Option, Some, None, option_and_then, option_map, unwrap_or, is_ok, if◌then◌else◌}
+use Rattle.std.specs.Prelude.{◌≡◌, ◌≢◌, ◌⊎◌, ℕ, Bool, true, false, not, ◌&&◌, List, [], ◌∷◌, codes, length, nat_eq, nat_lt, Option, Some, None, option_map, unwrap_or, is_ok, if◌then◌else◌}
 use Rattle.std.specs.List.{list_all}
 use Rattle.std.specs.Option.{option_map_or}
 use Rattle.std.specs.Char.{digit_value}
@@ -11,12 +11,15 @@ use Rattle.bre_parse.specs.Grammar.{pattern}
 use Rattle.ed_syntax.specs.declared.options.Options.{Options}
 use Rattle.ed_rules.specs.LineBounds.{is_few, is_within}
 use Rattle.ed_rules.specs.Texts.{with_texts}
+use Rattle.ed_calls.specs.declared.starts.Starts.{Starts}
+use Rattle.ed_calls.specs.declared.starts.Starts.TheVariants.{Given, Widest}
 use Rattle.clap.specs.declared.error.kind.ErrorKind.{ErrorKind}
 use Rattle.clap.specs.declared.error.kind.ErrorKind.TheVariants as kind
 use Rattle.ed_main.specs.declared.words.WordsFault.{WordsFault}
 use Rattle.ed_main.specs.declared.words.WordsFault.TheVariants as words
 use Rattle.ed_main.specs.declared.job.Job.{Job}
 use Rattle.ed_main.specs.declared.job.Job.TheVariants as job
+use Rattle.ed_main.specs.Job.{any_start}
 use Rattle.ed_main.specs.Subcommands.{program}
 
 -- a string that may be a prompt: it doesn't begin with a hyphen
@@ -48,13 +51,24 @@ options_in rows = record {
 abbrev pub is_rehearsed : List Row → Bool
 is_rehearsed rows = is_given (first_of (codes "rehearsed") rows)
 
+-- a script is only to be run if it is vouched for
+abbrev pub is_to_be_vouched : List Row → Bool
+is_to_be_vouched rows = is_given (first_of (codes "vouched") rows)
+
 -- all refusals are to be shown
 abbrev pub shows_all : List Row → Bool
 shows_all rows = is_given (first_of (codes "all") rows)
 
+-- the file that a script is to be read from
+abbrev pub script_in : List Row → Option (List ℕ)
+script_in rows = first_of (codes "script") rows
+
 -- a run with these options, where they may be given
-abbrev pub editing : Options → (rehearsed : Bool) → Option Job
-editing o rehearsed = elim (is_prompt o.prompt && is_path o.path) [ true ↦ Some (job.Edit o rehearsed) | false ↦ None ]
+abbrev pub editing : Options → (script : Option (List ℕ)) → (rehearsed vouched : Bool) → Option Job
+editing o script rehearsed vouched = elim (is_prompt o.prompt && (is_path o.path && is_path script)) [
+  | true ↦ Some (job.Edit o script rehearsed vouched)
+  | false ↦ None
+]
 
 -- digits, of which there is one at least
 abbrev pub are_digits : List ℕ → Bool
@@ -69,6 +83,27 @@ lines_in text =
 -- a limit on lines: such a number, or `any` for none
 abbrev pub limit_in : List ℕ → Option (Option ℕ)
 limit_in text = elim (bytes_eq text (codes "any")) [ true ↦ Some None | false ↦ option_map (λ n. Some n) (lines_in text) ]
+
+-- the fewest lines, where they are given: the text has to be such a number
+abbrev pub least_in : Option (List ℕ) → Option (Option ℕ)
+least_in None = Some None
+least_in (Some text) = option_map (λ least. Some least) (lines_in text)
+
+-- the limit, where one is given: the text has to be one
+abbrev pub most_in : Option (List ℕ) → Option (Option (Option ℕ))
+most_in None = Some None
+most_in (Some text) = option_map (λ most. Some most) (limit_in text)
+
+-- the low bound isn't above the high one; where one isn't given, it is 0 or no limit
+abbrev pub are_in_order : (least : Option ℕ) → (most : Option (Option ℕ)) → Bool
+are_in_order least most = is_within (unwrap_or least 0) (unwrap_or most None)
+
+-- the start of these bounds where both are given, and else what is given of the widest one
+abbrev pub starts_of : (path : Option (List ℕ)) → (least : Option ℕ) → (most : Option (Option ℕ)) → (has : Option (List (List ℕ))) → Starts
+starts_of path (Some least) (Some most) has = Given (record { path = path; min = least; max = most; has = has })
+starts_of path (Some least) None has = Widest (record { path = path; min = Some least; max = None; has = has })
+starts_of path None (Some most) has = Widest (record { path = path; min = None; max = most; has = has })
+starts_of path None None has = any_start path has
 
 -- the values of an option that may come several times
 abbrev pub texts_in : (id : List ℕ) → List Row → List (List ℕ)
@@ -86,33 +121,36 @@ stated true [] = Some []
 stated false [] = None
 
 -- a certificate for starts of these bounds, where the low one isn't above the high one
-abbrev pub vouching_within : ℕ → Option ℕ → (path : Option (List ℕ)) → (asked : Bool) → (has : List (List ℕ)) → (all : Bool) → Option Job
-vouching_within least most path asked has all = elim (is_within least most && (is_path path && are_patterns has)) [
-  | true ↦ Some (job.Vouch (record { path = path; min = least; max = most; has = stated asked has }) all)
+abbrev pub vouching_within : (least : Option ℕ) → (most : Option (Option ℕ)) → (path script : Option (List ℕ)) → (asked : Bool) → (has : List (List ℕ)) → (all : Bool) → Option Job
+vouching_within least most path script asked has all = elim (are_in_order least most && (is_path path && (is_path script && are_patterns has))) [
+  | true ↦ Some (job.Vouch (starts_of path least most (stated asked has)) script all)
   | false ↦ None
 ]
 
-abbrev pub vouching_from : ℕ → Option (Option ℕ) → (path : Option (List ℕ)) → (asked : Bool) → (has : List (List ℕ)) → (all : Bool) → Option Job
-vouching_from least None path asked has all = None
-vouching_from least (Some most) path asked has all = vouching_within least most path asked has all
+abbrev pub vouching_from : (least : Option ℕ) → Option (Option (Option ℕ)) → (path script : Option (List ℕ)) → (asked : Bool) → (has : List (List ℕ)) → (all : Bool) → Option Job
+vouching_from least None path script asked has all = None
+vouching_from least (Some most) path script asked has all = vouching_within least most path script asked has all
 
-abbrev pub vouching_read : Option ℕ → Option (Option ℕ) → (path : Option (List ℕ)) → (asked : Bool) → (has : List (List ℕ)) → (all : Bool) → Option Job
-vouching_read None most path asked has all = None
-vouching_read (Some least) most path asked has all = vouching_from least most path asked has all
+abbrev pub vouching_read : Option (Option ℕ) → Option (Option (Option ℕ)) → (path script : Option (List ℕ)) → (asked : Bool) → (has : List (List ℕ)) → (all : Bool) → Option Job
+vouching_read None most path script asked has all = None
+vouching_read (Some least) most path script asked has all = vouching_from least most path script asked has all
 
 -- the same by the texts of the bounds
-abbrev pub vouching : (min max : Option (List ℕ)) → (path : Option (List ℕ)) → (asked : Bool) → (has : List (List ℕ)) → (all : Bool) → Option Job
-vouching min max path asked has all = vouching_read (option_and_then lines_in min) (option_and_then limit_in max) path asked has all
+abbrev pub vouching : (min max : Option (List ℕ)) → (path script : Option (List ℕ)) → (asked : Bool) → (has : List (List ℕ)) → (all : Bool) → Option Job
+vouching min max path script asked has all = vouching_read (least_in min) (most_in max) path script asked has all
 
 -- a check of the certificate at a path that may be given
-abbrev pub checking : Option (List ℕ) → Option Job
-checking None = None
-checking (Some path) = elim (is_path (Some path)) [ true ↦ Some (job.Check path) | false ↦ None ]
+abbrev pub checking : (certificate script : Option (List ℕ)) → Option Job
+checking None script = None
+checking (Some path) script = elim (is_path (Some path) && is_path script) [ true ↦ Some (job.Check path script) | false ↦ None ]
 
 -- a run of a script that is checked first
-abbrev pub running : Option (List ℕ) → Options → (rehearsed : Bool) → Option Job
-running None o rehearsed = None
-running (Some path) o rehearsed = elim (is_path (Some path) && is_path o.path) [ true ↦ Some (job.Run path o rehearsed) | false ↦ None ]
+abbrev pub running : Option (List ℕ) → Options → (script : Option (List ℕ)) → (rehearsed : Bool) → Option Job
+running None o script rehearsed = None
+running (Some path) o script rehearsed = elim (is_path (Some path) && (is_path o.path && is_path script)) [
+  | true ↦ Some (job.Run path o script rehearsed)
+  | false ↦ None
+]
 
 -- a test of the file at a path that may be given, by the certificate at another
 abbrev pub fitting : (certificate path : Option (List ℕ)) → Option Job
@@ -121,19 +159,19 @@ fitting (Some certificate) path = elim (is_path (Some certificate) && is_path pa
 
 -- the job of each subcommand with what it was given
 abbrev pub edit_job : List Row → Option Job
-edit_job rows = editing (options_in rows) (is_rehearsed rows)
+edit_job rows = editing (options_in rows) (script_in rows) (is_rehearsed rows) (is_to_be_vouched rows)
 
 abbrev pub vouch_job : List Row → Option Job
 vouch_job rows =
-    vouching (first_of (codes "min") rows) (first_of (codes "max") rows) (first_of (codes "file") rows) (is_given (first_of (codes "patterns") rows))
-    (texts_in (codes "has") rows) (shows_all rows)
+    vouching (first_of (codes "min") rows) (first_of (codes "max") rows) (first_of (codes "file") rows) (script_in rows)
+    (is_given (first_of (codes "patterns") rows)) (texts_in (codes "has") rows) (shows_all rows)
 
 abbrev pub check_job : List Row → Option Job
-check_job rows = checking (first_of (codes "certificate") rows)
+check_job rows = checking (first_of (codes "certificate") rows) (script_in rows)
 
 -- there is no prompt here
 abbrev pub run_job : List Row → Option Job
-run_job rows = running (first_of (codes "certificate") rows) (record (options_in rows) { prompt = None }) (is_rehearsed rows)
+run_job rows = running (first_of (codes "certificate") rows) (record (options_in rows) { prompt = None }) (script_in rows) (is_rehearsed rows)
 
 abbrev pub fits_job : List Row → Option Job
 fits_job rows = fitting (first_of (codes "certificate") rows) (first_of (codes "file") rows)

@@ -1,28 +1,38 @@
 //! What the program is to do.
+ghost use Rattle.std.specs.Prelude.{◌≡◌};
+ghost use Rattle.std.specs.Option.{option_copied};
+ghost use Rattle.ed_main.specs.Program.{script_named, wants_input};
 
-use analyser::Start;
 use ed_base::Bytes;
+use ed_calls::Starts;
 use ed_syntax::Options;
 
-/// What the program is to do.
+/// What the program is to do. A script comes from the file at the path `script`, or without one from standard input.
 #[derive(Debug, Drop)]
 pub enum Job {
-    /// To run a script on a file, or to rehearse that.
+    /// To run a script on a file, or to rehearse that; where `vouched` is true, only if the script is vouched for and the file fits.
     Edit {
         options: Options,
+        script: Option<Bytes>,
         rehearsed: bool,
+        vouched: bool,
     },
-    /// To make a script's certificate for a start of these bounds, or to show its first refusal, or all of them.
+    /// To make a script's certificate for a start that is given or found, or to show its first refusal, or all of them.
     Vouch {
-        start: Start,
+        starts: Starts,
+        script: Option<Bytes>,
         all: bool,
     },
-    /// To check the certificate at this path.
-    Check(Bytes),
+    /// To check the certificate at a path for a script.
+    Check {
+        certificate: Bytes,
+        script: Option<Bytes>,
+    },
     /// To run a script on a file if the certificate at this path allows it, or to rehearse that.
     Run {
         certificate: Bytes,
         options: Options,
+        script: Option<Bytes>,
         rehearsed: bool,
     },
     /// To tell whether the file at a path is one that the certificate at another path allows.
@@ -30,4 +40,32 @@ pub enum Job {
         certificate: Bytes,
         path: Option<Bytes>,
     },
+}
+
+impl Job {
+    /// The path of the file that the script is read from, where one is named.
+    pub fn script(&self) -> Option<&Bytes>
+        ensures value { option_copied result ≡ script_named self.now }
+    {
+        match self {
+            Job::Edit { script, .. }
+            | Job::Vouch { script, .. }
+            | Job::Check { script, .. }
+            | Job::Run { script, .. } => script.as_ref(),
+            Job::Fits { .. } => None,
+        }
+    }
+
+    /// Whether the script is read from standard input.
+    pub fn wants_input(&self) -> bool
+        ensures value { result ≡ wants_input self.now }
+    {
+        match self {
+            Job::Edit { script, .. }
+            | Job::Vouch { script, .. }
+            | Job::Check { script, .. }
+            | Job::Run { script, .. } => script.is_none(),
+            Job::Fits { .. } => false,
+        }
+    }
 }

@@ -1,6 +1,8 @@
-//! `ed` for scripts: runs the script on standard input over a file.
+//! `ed` for scripts: runs a script over a file.
 #![tactic(auto)]
 
+mod any_start;
+mod inputs;
 mod job;
 mod patterns;
 mod program;

@@ -30,12 +30,14 @@ fn edit<'a>(alloc: Global) -> Result<Command<'a>, AllocError>
     subcommand(
         alloc,
         "edit",
-        "Runs the script on standard input on a file",
+        "Runs a script on a file",
         "Example: edv edit FILE <script.ed",
         vec![in alloc;
+            vouched(alloc),
             rehearsed(alloc),
             silent(alloc),
             prompt(alloc),
+            script(alloc),
             file(alloc, "The file that is edited"),
         ]?,
     )
@@ -48,14 +50,15 @@ fn vouch<'a>(alloc: Global) -> Result<Command<'a>, AllocError>
     subcommand(
         alloc,
         "vouch",
-        "Writes a certificate that the script on standard input can't fail, or where it can",
-        "Example: edv vouch --min 1 --max any FILE <script.ed >CERT",
+        "Writes a certificate that a script can't fail, or where it can",
+        "Example: edv vouch FILE <script.ed >CERT",
         vec![in alloc;
             min(alloc),
             max(alloc),
             all(alloc),
             patterns(alloc),
             has(alloc),
+            script(alloc),
             file(alloc, "The file that the certificate is for"),
         ]?,
     )
@@ -68,9 +71,9 @@ fn check<'a>(alloc: Global) -> Result<Command<'a>, AllocError>
     subcommand(
         alloc,
         "check",
-        "Checks a certificate for the script on standard input",
+        "Checks a certificate for a script",
         "Example: edv check CERT <script.ed",
-        vec![in alloc; certificate(alloc)]?,
+        vec![in alloc; script(alloc), certificate(alloc)]?,
     )
 }
 
@@ -81,12 +84,13 @@ fn run<'a>(alloc: Global) -> Result<Command<'a>, AllocError>
     subcommand(
         alloc,
         "run",
-        "Runs the script on standard input on a file if a certificate for both is accepted",
+        "Runs a script on a file if a certificate for both is accepted",
         "Example: edv run CERT FILE <script.ed",
         vec![in alloc;
-            certificate(alloc),
             rehearsed(alloc),
             silent(alloc),
+            script(alloc),
+            certificate(alloc),
             file(alloc, "The file that is edited"),
         ]?,
     )
@@ -121,6 +125,16 @@ fn subcommand<'a>(
     command.args(takes)
 }
 
+fn vouched<'a>(alloc: Global) -> Arg<'a>
+    ensures value { rule_of result ≡ meaning.vouched }
+    ensures local { result.global ≡ false }
+{
+    Arg::new(alloc, "vouched")
+        .long("vouched")
+        .action(ArgAction::SetTrue)
+        .help("Runs the script only if it is vouched for and the file fits")
+}
+
 fn rehearsed<'a>(alloc: Global) -> Arg<'a>
     ensures value { rule_of result ≡ meaning.rehearsed }
     ensures local { result.global ≡ false }
@@ -153,6 +167,17 @@ fn prompt<'a>(alloc: Global) -> Arg<'a>
         .help("Writes STRING before each command")
 }
 
+fn script<'a>(alloc: Global) -> Arg<'a>
+    ensures value { rule_of result ≡ meaning.script }
+    ensures local { result.global ≡ false }
+{
+    Arg::new(alloc, "script")
+        .short('f')
+        .action(ArgAction::Set)
+        .value_name("SCRIPT")
+        .help("The file that the script is read from, in place of standard input")
+}
+
 fn file<'a>(alloc: Global, help: &'a str) -> Arg<'a>
     ensures value { rule_of result ≡ meaning.file }
     ensures local { result.global ≡ false }
@@ -171,8 +196,7 @@ fn min<'a>(alloc: Global) -> Arg<'a>
         .long("min")
         .action(ArgAction::Set)
         .value_name("N")
-        .required(true)
-        .help("The fewest lines that the file may have, at most 10^12")
+        .help("The fewest lines that the file may have, at most 10^12; found if it isn't given")
 }
 
 fn max<'a>(alloc: Global) -> Arg<'a>
@@ -183,8 +207,7 @@ fn max<'a>(alloc: Global) -> Arg<'a>
         .long("max")
         .action(ArgAction::Set)
         .value_name("M")
-        .required(true)
-        .help("The most lines that the file may have, at most 10^12, or any")
+        .help("The most lines that the file may have, at most 10^12, or any, which is the default")
 }
 
 fn all<'a>(alloc: Global) -> Arg<'a>

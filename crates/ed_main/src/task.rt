@@ -1,16 +1,21 @@
 //! A script that is to be run, and its run over the system's files, or over a rehearsal of them.
-ghost use Rattle.std.specs.Prelude.{◌≡◌, ◌<◌, ◌≤◌, ◌-◌, ◌^◌, IsTrue};
+ghost use Rattle.std.specs.Prelude.{◌≡◌, ◌<◌, ◌≤◌, ◌-◌, ◌^◌, [], Some, IfOk, IsTrue};
 ghost use Rattle.ed_session.specs.Drives.{added};
 ghost use Rattle.ed_session.specs.Sinks.{change};
+ghost use Rattle.ed_calls.specs.Headline.{MayFail};
 ghost use Rattle.ed_calls.specs.Rehearsed.{Rehearsed};
-ghost use Rattle.ed_main.specs.Program.{Comes, Somehow};
+ghost use Rattle.ed_calls.specs.Vouched.{RunsVouched};
+ghost use Rattle.ed_main.specs.Job as meaning;
+ghost use Rattle.ed_main.specs.Program.{Comes, Somehow, trust_of};
 
-use ed_base::Bytes;
-use ed_calls::{Aside, Explains, Watched, edit, run, show_held};
+use crate::any_start::any_start;
+use ed_base::{Bytes, Fault};
+use ed_calls::{Aside, Explains, Starts, Watched, edit, edit_vouched, run, show_held};
+use ed_rules::Texts;
 use ed_session::{DiskFiles, Out, Outside, Sink};
 use ed_syntax::Options;
 use rehearsal::Rehearsal;
-use std::alloc::Global;
+use std::alloc::{AllocError, Global};
 use std::fs::File;
 use std::io;
 use std::rt::Files;
@@ -25,6 +30,21 @@ pub enum Trust<'a> {
         name: &'a Bytes,
         certificate: &'a [u8],
     },
+    /// A certificate that is made for it, over any start with its file.
+    Vouched,
+}
+
+impl<'a> Trust<'a> {
+    /// What the run of a script without a certificate rests on.
+    pub fn of(vouched: bool) -> Trust<'a>
+        ensures value { result ≡ trust_of vouched }
+    {
+        if vouched {
+            Trust::Vouched
+        } else {
+            Trust::Unchecked
+        }
+    }
 }
 
 /// A script that is to be run, or whose run is to be rehearsed.
@@ -40,7 +60,7 @@ impl<'a> Task<'a> {
     /// Nothing that a person is told so far of this task.
     fn aside(&self, alloc: Global) -> Aside<'a> {
         match self.trust {
-            Trust::Unchecked => Aside::new(alloc, self.script, b""),
+            Trust::Unchecked | Trust::Vouched => Aside::new(alloc, self.script, b""),
             Trust::Certified { name, .. } => Aside::new(alloc, self.script, name.as_slice()),
         }
     }
@@ -77,8 +97,42 @@ impl<'a> Task<'a> {
             Trust::Certified { certificate, .. } => {
                 run(alloc, script, certificate, options, outside, sink, aside)
             }
+            Trust::Vouched => edit_if_vouched(alloc, script, options, outside, sink, aside),
         }
     }
+}
+
+/// Runs a script if it is vouched for over some start with its file, and the file is such a start.
+fn edit_if_vouched<O: Outside, W: Sink>(
+    alloc: Global,
+    script: &[u8],
+    options: Options,
+    outside: &mut O,
+    sink: &mut W,
+    aside: &mut Aside<'_>,
+) -> u8
+    requires count { (W.state sink.old).failures < 2 ^ 64 - 1 }
+    ensures status { result ≤ 4 }
+    ensures came { let log = added (O.log outside.old) (O.log outside.new) in
+        let sink = change (W.state sink.old) (W.state sink.new) in
+        RunsVouched script.now (meaning.any_start options.path (Some [])) options log
+        (MayFail options.path log (O.failures outside.old) (O.failures outside.new) sink) sink result }
+{
+    match start_with(alloc, &options.path) {
+        Ok(starts) => edit_vouched(alloc, script, starts, options, outside, sink, aside),
+        Err(AllocError) => Fault::Memory.status(),
+    }
+}
+
+/// Any start with the file at this path, which is found with the patterns that it has to match; without a file the empty buffer.
+fn start_with(alloc: Global, path: &Option<Bytes>) -> Result<Starts, AllocError>
+    ensures value { IfOk result (λ starts. starts ≡ meaning.any_start path.now (Some [])) }
+{
+    let path = match path {
+        Some(path) => Some(path.try_copy()?),
+        None => None,
+    };
+    Ok(any_start(path, Some(Texts::none(alloc))))
 }
 
 /// Does a task over the system's files and the standard output, or rehearses it.

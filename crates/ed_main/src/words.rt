@@ -1,24 +1,25 @@
 //! The words that the program is given, and the job that they give.
-ghost use Rattle.std.specs.Prelude.{◌≡◌, ◌≢◌, true, false, List, Some, None, if◌then◌else◌, map, codes, string_bytes, IfOk, IfErr, option_and_then, option_map};
-ghost use Rattle.clap.specs.Words.{found_of, first_of, rows_of, subcommand_rows_of};
-ghost use Rattle.ed_rules.specs.LineBounds.{is_few};
+ghost use Rattle.std.specs.Prelude.{◌≡◌, ◌≢◌, Some, None, map, string_bytes, IfOk, IfErr};
+ghost use Rattle.clap.specs.Words.{found_of, rows_of, subcommand_rows_of};
 ghost use Rattle.ed_main.specs.Words as meaning;
-ghost use Rattle.ed_main.specs.Words.{IsAsked, MayAsk, OnlyAsk, job_of, job_named, options_in};
+ghost use Rattle.ed_main.specs.Words.{IsAsked, MayAsk, OnlyAsk, job_of, job_named};
 ghost use Rattle.ed_main.specs.Job.{IsGiven};
 
+mod starts;
+mod texts;
+
 use crate::job::Job;
-use crate::patterns::stated_of;
 use crate::stderr::usage::{
-    CHECK_USAGE, EDIT_USAGE, FITS_USAGE, NO_CERTIFICATE, NO_FILE, NO_MAX, NO_MIN, RUN_USAGE, USAGE,
-    VOUCH_USAGE, refused,
+    CHECK_USAGE, EDIT_USAGE, FITS_USAGE, NO_CERTIFICATE, NO_FILE, NO_MAX, NO_MIN, NO_SCRIPT,
+    RUN_USAGE, USAGE, VOUCH_USAGE, refused,
 };
 use crate::subcommands::program;
-use analyser::Start;
 use clap::ArgMatches;
 use ed_base::Bytes;
-use ed_rules::{LineBounds, Texts};
 use ed_syntax::Options;
+use starts::{are_in_order, least_in, most_in, patterns_in, starts_of};
 use std::alloc::{AllocError, Global};
+use texts::{bytes_of, is_given, is_path, is_prompt, text_of};
 use thiserror::Error;
 
 /// Why no job was read.
@@ -132,12 +133,16 @@ fn edit_job(alloc: Global, given: &ArgMatches<'_>) -> Result<Job, WordsFault>
 {
     let prompt = text_of(given, "prompt");
     let path = text_of(given, "file");
+    let script = text_of(given, "script");
     if !is_prompt(prompt) {
         let wrong = "error: a prompt that begins with a hyphen";
         return Err(WordsFault::of(alloc, wrong, EDIT_USAGE));
     }
     if !is_path(path) {
         return Err(WordsFault::of(alloc, NO_FILE, EDIT_USAGE));
+    }
+    if !is_path(script) {
+        return Err(WordsFault::of(alloc, NO_SCRIPT, EDIT_USAGE));
     }
     let options = Options {
         silent: is_given(text_of(given, "silent")),
@@ -146,7 +151,9 @@ fn edit_job(alloc: Global, given: &ArgMatches<'_>) -> Result<Job, WordsFault>
     };
     Ok(Job::Edit {
         options,
+        script: bytes_of(alloc, script)?,
         rehearsed: is_given(text_of(given, "rehearsed")),
+        vouched: is_given(text_of(given, "vouched")),
     })
 }
 
@@ -158,27 +165,26 @@ fn vouch_job(alloc: Global, given: &ArgMatches<'_>) -> Result<Job, WordsFault>
     ensures given { IfOk result IsGiven }
 {
     let path = text_of(given, "file");
-    let Some(min) = lines_in(text_of(given, "min")) else {
+    let script = text_of(given, "script");
+    let Some(least) = least_in(text_of(given, "min")) else {
         return Err(WordsFault::of(alloc, NO_MIN, VOUCH_USAGE));
     };
-    let Some(max) = limit_in(text_of(given, "max")) else {
+    let Some(most) = most_in(text_of(given, "max")) else {
         return Err(WordsFault::of(alloc, NO_MAX, VOUCH_USAGE));
     };
-    if !(LineBounds { min, max }).in_order() {
+    if !are_in_order(least, most) {
         return Err(WordsFault::of(alloc, "error: --min is above --max", VOUCH_USAGE));
     }
     if !is_path(path) {
         return Err(WordsFault::of(alloc, NO_FILE, VOUCH_USAGE));
     }
+    if !is_path(script) {
+        return Err(WordsFault::of(alloc, NO_SCRIPT, VOUCH_USAGE));
+    }
     let has = patterns_in(alloc, given, is_given(text_of(given, "patterns")))?;
-    let start = Start {
-        path: bytes_of(alloc, path)?,
-        min,
-        max,
-        has,
-    };
     Ok(Job::Vouch {
-        start,
+        starts: starts_of(bytes_of(alloc, path)?, least, most, has),
+        script: bytes_of(alloc, script)?,
         all: is_given(text_of(given, "all")),
     })
 }
@@ -190,12 +196,18 @@ fn check_job(alloc: Global, given: &ArgMatches<'_>) -> Result<Job, WordsFault>
     ensures unasked { IfErr result (λ fault. ¬ IsAsked fault) }
     ensures given { IfOk result IsGiven }
 {
-    match text_of(given, "certificate") {
-        Some(path) if is_path(Some(path)) => {
-            Ok(Job::Check(Bytes::from_slice(alloc, path.as_bytes())?))
-        }
-        _ => Err(WordsFault::of(alloc, NO_CERTIFICATE, CHECK_USAGE)),
+    let script = text_of(given, "script");
+    let certificate = match text_of(given, "certificate") {
+        Some(path) if is_path(Some(path)) => Bytes::from_slice(alloc, path.as_bytes())?,
+        _ => return Err(WordsFault::of(alloc, NO_CERTIFICATE, CHECK_USAGE)),
+    };
+    if !is_path(script) {
+        return Err(WordsFault::of(alloc, NO_SCRIPT, CHECK_USAGE));
     }
+    Ok(Job::Check {
+        certificate,
+        script: bytes_of(alloc, script)?,
+    })
 }
 
 fn run_job(alloc: Global, given: &ArgMatches<'_>) -> Result<Job, WordsFault>
@@ -206,12 +218,16 @@ fn run_job(alloc: Global, given: &ArgMatches<'_>) -> Result<Job, WordsFault>
     ensures given { IfOk result IsGiven }
 {
     let path = text_of(given, "file");
+    let script = text_of(given, "script");
     let certificate = match text_of(given, "certificate") {
         Some(path) if is_path(Some(path)) => Bytes::from_slice(alloc, path.as_bytes())?,
         _ => return Err(WordsFault::of(alloc, NO_CERTIFICATE, RUN_USAGE)),
     };
     if !is_path(path) {
         return Err(WordsFault::of(alloc, NO_FILE, RUN_USAGE));
+    }
+    if !is_path(script) {
+        return Err(WordsFault::of(alloc, NO_SCRIPT, RUN_USAGE));
     }
     let options = Options {
         silent: is_given(text_of(given, "silent")),
@@ -221,6 +237,7 @@ fn run_job(alloc: Global, given: &ArgMatches<'_>) -> Result<Job, WordsFault>
     Ok(Job::Run {
         certificate,
         options,
+        script: bytes_of(alloc, script)?,
         rehearsed: is_given(text_of(given, "rehearsed")),
     })
 }
@@ -244,96 +261,4 @@ fn fits_job(alloc: Global, given: &ArgMatches<'_>) -> Result<Job, WordsFault>
         certificate,
         path: bytes_of(alloc, path)?,
     })
-}
-
-/// The first value of an argument.
-fn text_of<'a>(given: &ArgMatches<'a>, id: &str) -> Option<&'a str>
-    ensures value { option_map (λ text. text.now) result ≡ first_of id.now (rows_of (found_of given.now)) }
-{
-    given.get_str(id)
-}
-
-/// The patterns that a start states, where they are asked for or given.
-fn patterns_in(
-    alloc: Global,
-    given: &ArgMatches<'_>,
-    asked: bool,
-) -> Result<Option<Texts>, WordsFault>
-    ensures patterns { IfOk result (λ _. meaning.are_patterns (meaning.texts_in (codes "has") (rows_of (found_of given.now))) ≡ true) }
-    ensures value { IfOk result (λ has. has ≡ meaning.stated asked (meaning.texts_in (codes "has") (rows_of (found_of given.now)))) }
-    ensures only_if_refused { IfErr result (λ fault. fault ≢ WordsFault.Memory →
-        meaning.are_patterns (meaning.texts_in (codes "has") (rows_of (found_of given.now))) ≡ false) }
-    ensures unasked { IfErr result (λ fault. ¬ IsAsked fault) }
-{
-    match given.get_strs("has") {
-        Some(texts) => stated_of(alloc, asked, texts),
-        None => stated_of(alloc, asked, &[]),
-    }
-}
-
-fn is_prompt(text: Option<&str>) -> bool
-    ensures value { result ≡ meaning.is_prompt (option_map (λ text. text.now) text.entry) }
-{
-    match text {
-        Some(text) => !matches!(text.as_bytes(), [b'-', ..]),
-        None => true,
-    }
-}
-
-fn is_path(text: Option<&str>) -> bool
-    ensures value { result ≡ meaning.is_path (option_map (λ text. text.now) text.entry) }
-{
-    match text {
-        Some(text) => !matches!(text.as_bytes(), [] | [b'-']),
-        None => true,
-    }
-}
-
-fn is_given(text: Option<&str>) -> bool
-    ensures value { result ≡ meaning.is_given (option_map (λ text. text.now) text.entry) }
-{
-    match text {
-        Some(text) => text == "true",
-        None => false,
-    }
-}
-
-fn bytes_of(alloc: Global, text: Option<&str>) -> Result<Option<Bytes>, AllocError>
-    ensures value { IfOk result (λ bytes. bytes ≡ option_map (λ text. text.now) text.entry) }
-{
-    match text {
-        Some(text) => Ok(Some(Bytes::from_slice(alloc, text.as_bytes())?)),
-        None => Ok(None),
-    }
-}
-
-fn lines_in(text: Option<&str>) -> Option<u64>
-    ensures value { result ≡ option_and_then meaning.lines_in (option_map (λ text. text.now) text.entry) }
-{
-    match text?.parse::<u64>() {
-        Ok(lines) => few(lines),
-        Err(_) => None,
-    }
-}
-
-fn few(lines: u64) -> Option<u64>
-    ensures value { result ≡ (if is_few lines then Some lines else None) }
-{
-    if lines <= LineBounds::MOST {
-        Some(lines)
-    } else {
-        None
-    }
-}
-
-fn limit_in(text: Option<&str>) -> Option<Option<u64>>
-    ensures value { result ≡ option_and_then meaning.limit_in (option_map (λ text. text.now) text.entry) }
-{
-    if text? == "any" {
-        return Some(None);
-    }
-    match lines_in(text) {
-        Some(lines) => Some(Some(lines)),
-        None => None,
-    }
 }

@@ -1,26 +1,29 @@
 //! What a person is told of a job beside its output. No clause speaks of these lines.
+ghost use Rattle.hints.specs.Passing.{IsAllowed};
 
 use crate::stderr::command_line::quoted;
-use crate::stderr::file_name::{
-    is_named_as_script, quoted_name, quoted_word, shell_option, shell_word, start_name,
-};
+use crate::stderr::file_name::{shell_option, shell_word, start_name};
+use crate::stderr::found::{sought_text, start_text};
+use crate::stderr::hinted::{hinted_text, unusable_text};
 use crate::stderr::shown::shown_lines;
 use crate::stderr::stopped::{listed_text, stopped_text};
-use cert_check::{CertFault, Certificate, Place, Verdict, Version, wanted};
+use crate::stderr::unread::unread_text;
+use analyser::{Analysis, Start};
+use cert_check::{CertFault, Certificate, Place, Verdict, Version};
 use ed_base::{Bytes, Fault, count_lines};
 use ed_session::Session;
-use ed_syntax::{Answer, Ending, read_script};
+use ed_syntax::{Answer, Ending, Script};
 use line_store::LineStore;
 use std::alloc::{AllocError, Global};
+
+/// The status of a job that was done.
+const DONE_STATUS: u8 = 0;
 
 /// The status of a fault of the script, and of a certificate that is none or is refused.
 const FAULT_STATUS: u8 = 1;
 
 /// The status of a start that the certificate doesn't allow.
 const OUTSIDE_STATUS: u8 = 4;
-
-/// What `vouch` writes begins so where it can't vouch.
-const CANNOT: &[u8] = b"cannot: ";
 
 /// Lines for a person, gathered while a job is done and shown after its output. A line for which there is no memory is left out.
 #[derive(Drop)]
@@ -45,7 +48,7 @@ impl<'a> Aside<'a> {
 
     /// Shows the lines where the job ended with a status that they explain.
     pub fn show(&self, rt: &impl Eprint, status: u8) {
-        if status == FAULT_STATUS || status == OUTSIDE_STATUS {
+        if matches!(status, DONE_STATUS | FAULT_STATUS | OUTSIDE_STATUS) {
             let _ = rt.eprint(self.lines.as_str());
         }
     }
@@ -56,6 +59,29 @@ impl<'a> Aside<'a> {
                 let _ = self.lines.push_str(lines.as_str());
             }
         }
+    }
+
+    /// A command, whose number counts from 1, names a file by what isn't UTF-8.
+    pub fn unusable(&mut self, number: usize) {
+        self.add(unusable_text(self.alloc, self.script, number));
+    }
+
+    /// The script is vouched for over a start that was found.
+    pub fn found(&mut self, script: &Script, start: &Start) {
+        self.add(start_text(self.alloc, script, start));
+    }
+
+    /// The script isn't vouched for over a start. Where `least_sought` is true, its least number of lines isn't given, and it has as many as
+    /// there may be. Where `all` is true, each later place that may fail is told too.
+    pub fn cannot(&mut self, start: &Start, analysis: &Analysis, least_sought: bool, all: bool)
+        requires allowed { IsAllowed start.now }
+    {
+        let lines = if least_sought {
+            sought_text(self.alloc, self.script, start, analysis, all)
+        } else {
+            hinted_text(self.alloc, self.script, start, analysis, all)
+        };
+        self.add(lines);
     }
 
     /// How a run ended of a script that has so many commands: where it stopped, if the script is at fault.
@@ -81,16 +107,7 @@ impl<'a> Aside<'a> {
 
     /// These bytes are the text of no certificate.
     pub fn unread(&mut self, bytes: &[u8], fault: CertFault) {
-        let lines = match fault {
-            CertFault::Version if bytes.starts_with(CANNOT) => answer_text(
-                self.alloc,
-                self.certificate,
-            ),
-            CertFault::Version => script_text(self.alloc, self.certificate, bytes),
-            CertFault::Line(_) => wanted_text(self.alloc, self.certificate, bytes),
-            _ => return,
-        };
-        self.add(lines);
+        self.add(unread_text(self.alloc, self.certificate, bytes, fault));
     }
 
     /// What the checker says of a certificate.
@@ -117,49 +134,6 @@ impl<'a> Aside<'a> {
     pub fn unmatched(&mut self, path: &Option<Bytes>, pattern: &Bytes) {
         let lines = unmatched_text(self.alloc, path, pattern.as_slice());
         self.add(lines);
-    }
-}
-
-/// The file of this name holds what `vouch` wrote instead of a certificate.
-fn answer_text(alloc: Global, path: &[u8]) -> Result<String, AllocError> {
-    let name = quoted_name(alloc, path)?;
-    let name = name.as_str();
-    Ok(format!(in alloc; "hint: {name} holds the answer of a vouch that could not\n")?)
-}
-
-/// The file of this name is a script, by its name or by how it begins.
-fn script_text(alloc: Global, path: &[u8], bytes: &[u8]) -> Result<String, AllocError> {
-    if !is_named_as_script(path) && !begins_as_script(alloc, bytes)? {
-        return Ok(String::new(alloc));
-    }
-    let name = quoted_name(alloc, path)?;
-    let word = quoted_word(alloc, path)?;
-    let (name, word) = (name.as_str(), word.as_str());
-    Ok(format!(in alloc;
-        "error: {name} isn't a certificate; to judge a script: edv vouch FILE <{word}\n"
-    )?)
-}
-
-/// Whether the first line of a file is a command, and not empty.
-fn begins_as_script(alloc: Global, bytes: &[u8]) -> Result<bool, AllocError> {
-    let mut lines = bytes.split(|byte| *byte == b'\n');
-    match lines.next() {
-        Some(line) if !line.is_empty() => Ok(read_script(alloc, line)?.fault.is_none()),
-        _ => Ok(false),
-    }
-}
-
-/// A line may not stand where it stands.
-fn wanted_text(alloc: Global, path: &[u8], bytes: &[u8]) -> Result<String, AllocError> {
-    match wanted(alloc, bytes)? {
-        Some(wanted) => {
-            let name = quoted_name(alloc, path)?;
-            let name = name.as_str();
-            let line = wanted.line;
-            let kind = str::from_utf8(wanted.kind.name()).unwrap_or("");
-            Ok(format!(in alloc; "error: {name}: line {line}: wanted: {kind}\n")?)
-        }
-        None => Ok(String::new(alloc)),
     }
 }
 

@@ -1,63 +1,43 @@
 //! The needs that fail, what is known there and what to write, as a person reads it; and names that no file can have.
-ghost use Rattle.std.specs.Prelude.{◌≤◌, IfSome};
-ghost use Rattle.ed_rules.specs.LineBounds.{IsAtMost, most_lines};
+ghost use Rattle.hints.specs.Passing.{IsAllowed};
 
 use crate::stderr::command_line::line_of_command;
 use crate::stderr::reasons::reason_at;
-use crate::stderr::shown::shown_lines;
 use analyser::{Analysis, Start};
 use cert_check::{Note, Place};
 use ed_base::Fault;
 use hints::{MOST_REFUSALS, Refusal, refusals, told};
 use std::alloc::{AllocError, Global};
 
-/// Shows why a script isn't vouched for over this start, and hints. Where `all` is true, each later place that may fail is shown too, as
-/// it is with the earlier ones mended. Without memory nothing is shown.
-pub fn show_hinted(
+/// Why a script isn't vouched for over this start, and hints. Where `all` is true, each later place that may fail is told too, as it is
+/// with the earlier ones mended. Nothing where it is vouched for.
+pub fn hinted_text(
     alloc: Global,
-    rt: &impl Eprint,
     script: &[u8],
     start: &Start,
     analysis: &Analysis,
     all: bool,
-)
-    requires ordered { IsAtMost start.now.min start.now.max }
-    requires low { start.now.min ≤ most_lines }
-    requires high { IfSome start.now.max (λ most. most ≤ most_lines) }
+) -> Result<String, AllocError>
+    requires allowed { IsAllowed start.now }
 {
-    if let Analysis::Cannot { place, why, notes } = analysis {
-        let text = if all {
-            all_told(alloc, script, start)
-        } else {
+    match analysis {
+        Analysis::Vouched(_) => Ok(String::new(alloc)),
+        Analysis::Cannot { .. } if all => all_told(alloc, script, start),
+        Analysis::Cannot { place, why, notes } => {
             one_told(alloc, script, start, *place, *why, notes.as_slice())
-        };
-        if let Ok(text) = text {
-            let _ = rt.eprint(text);
         }
     }
 }
 
-/// Shows the command of this number, which counts from 1, as one that names a file by what isn't UTF-8. Without memory nothing is shown.
-pub fn show_unusable(alloc: Global, rt: &impl Eprint, script: &[u8], number: usize) {
-    if let Ok(Some(text)) = unusable_text(alloc, script, number) {
-        let _ = rt.eprint(text);
-    }
-}
-
-/// The line that tells of such a command.
-fn unusable_text(
-    alloc: Global,
-    script: &[u8],
-    number: usize,
-) -> Result<Option<String>, AllocError> {
+/// The line that tells of the command of this number, which counts from 1, as one that names a file by what isn't UTF-8.
+pub fn unusable_text(alloc: Global, script: &[u8], number: usize) -> Result<String, AllocError> {
     let Some(line) = line_of_command(alloc, script, number)? else {
-        return Ok(None);
+        return Ok(String::new(alloc));
     };
     let (at, shown, why) = (line.number, line.text.as_str(), Fault::File.text());
-    let lines = format!(in alloc;
-        "error: line {at}, command {number}: {shown}: {why}: the name of its file isn't UTF-8"
-    )?;
-    Ok(Some(shown_lines(alloc, lines.as_str())?))
+    Ok(format!(in alloc;
+        "error: line {at}, command {number}: {shown}: {why}: the name of its file isn't UTF-8\n"
+    )?)
 }
 
 /// The lines of one refusal.
@@ -69,9 +49,7 @@ fn one_told(
     why: Fault,
     notes: &[Note],
 ) -> Result<String, AllocError>
-    requires ordered { IsAtMost start.now.min start.now.max }
-    requires low { start.now.min ≤ most_lines }
-    requires high { IfSome start.now.max (λ most. most ≤ most_lines) }
+    requires allowed { IsAllowed start.now }
 {
     let lines = told(alloc, script, start, place, why, notes)?;
     with_reason(alloc, script, place, why, lines.as_str())
@@ -91,18 +69,15 @@ fn with_reason(
     ) {
         (Some(reason), Some((first, others))) => {
             let reason = reason.as_str();
-            let lines = format!(in alloc; "{first}: {reason}\n{others}")?;
-            shown_lines(alloc, lines.as_str())
+            Ok(format!(in alloc; "{first}: {reason}\n{others}")?)
         }
-        _ => shown_lines(alloc, lines),
+        _ => String::from_str(alloc, lines),
     }
 }
 
 /// The lines of all refusals, and what is to be said of the rest of the script.
 fn all_told(alloc: Global, script: &[u8], start: &Start) -> Result<String, AllocError>
-    requires ordered { IsAtMost start.now.min start.now.max }
-    requires low { start.now.min ≤ most_lines }
-    requires high { IfSome start.now.max (λ most. most ≤ most_lines) }
+    requires allowed { IsAllowed start.now }
 {
     let found = refusals(alloc, script, start)?;
     let mut lines = String::new(alloc);

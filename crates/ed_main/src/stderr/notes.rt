@@ -4,19 +4,23 @@ use crate::job::Job;
 use ed_calls::{is_named_as_script, quoted_word, shown_lines};
 use std::alloc::{AllocError, Global};
 
-/// Shows that the script of a job comes from a terminal, where it wants one: else nobody would know what the program waits for.
+/// Shows that the script of a job comes from a terminal, where it does: else nobody would know what the program waits for.
 pub fn show_terminal(rt: &impl Eprint, job: &Job, is_terminal: bool) {
-    if is_terminal && !matches!(job, Job::Fits { .. }) {
+    if is_terminal && job.wants_input() {
         let _ = rt.eprint("note: reading the script from the terminal, to its end\n");
     }
 }
 
-/// Shows that the script of a job is empty, where it wants one. Where FILE may be the script that was meant, it is shown how that is given.
+/// Shows that the script of a job is empty, where it wants one. Where none is named, and FILE may be the script that was meant, it is shown how
+/// that is given.
 pub fn show_empty(alloc: Global, rt: &impl Eprint, script: &[u8], job: &Job) {
     if !script.is_empty() || matches!(job, Job::Fits { .. }) {
         return;
     }
     let _ = rt.eprint("note: the script is empty\n");
+    if job.script().is_some() {
+        return;
+    }
     if let Some(file) = file_of(job) {
         if is_named_as_script(file) {
             if let Ok(hint) = script_text(alloc, job, file) {
@@ -30,8 +34,8 @@ pub fn show_empty(alloc: Global, rt: &impl Eprint, script: &[u8], job: &Job) {
 fn file_of(job: &Job) -> Option<&[u8]> {
     let path = match job {
         Job::Edit { options, .. } | Job::Run { options, .. } => &options.path,
-        Job::Vouch { start, .. } => &start.path,
-        Job::Check(_) | Job::Fits { .. } => return None,
+        Job::Vouch { starts, .. } => starts.path(),
+        Job::Check { .. } | Job::Fits { .. } => return None,
     };
     match path {
         Some(path) => Some(path.as_slice()),

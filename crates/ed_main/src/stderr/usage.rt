@@ -10,25 +10,28 @@ use std::alloc::{AllocError, Global};
 
 /// How the program is used.
 pub const USAGE: &str = "\
-usage: edv edit [-n] [-s] [-p STRING] [FILE] <SCRIPT
-       edv vouch --min N --max M [--all] [--patterns] [--has RE] [FILE] <SCRIPT
-       edv check CERT <SCRIPT
-       edv run CERT [-n] [-s] [FILE] <SCRIPT
+usage: edv edit [--vouched] [-n] [-s] [-p STRING] [-f SCRIPT] [FILE] <SCRIPT
+       edv vouch [--min N] [--max M] [--all] [--patterns] [--has RE] [-f SCRIPT] [FILE] <SCRIPT
+       edv check [-f SCRIPT] CERT <SCRIPT
+       edv run [-n] [-s] [-f SCRIPT] CERT [FILE] <SCRIPT
        edv fits CERT [FILE]
 ";
 
-pub const EDIT_USAGE: &str = "usage: edv edit [-n] [-s] [-p STRING] [FILE] <SCRIPT\n";
+pub const EDIT_USAGE: &str =
+    "usage: edv edit [--vouched] [-n] [-s] [-p STRING] [-f SCRIPT] [FILE] <SCRIPT\n";
 
 pub const VOUCH_USAGE: &str =
-    "usage: edv vouch --min N --max M [--all] [--patterns] [--has RE] [FILE] <SCRIPT\n";
+    "usage: edv vouch [--min N] [--max M] [--all] [--patterns] [--has RE] [-f SCRIPT] [FILE] <SCRIPT\n";
 
-pub const CHECK_USAGE: &str = "usage: edv check CERT <SCRIPT\n";
+pub const CHECK_USAGE: &str = "usage: edv check [-f SCRIPT] CERT <SCRIPT\n";
 
-pub const RUN_USAGE: &str = "usage: edv run CERT [-n] [-s] [FILE] <SCRIPT\n";
+pub const RUN_USAGE: &str = "usage: edv run [-n] [-s] [-f SCRIPT] CERT [FILE] <SCRIPT\n";
 
 pub const FITS_USAGE: &str = "usage: edv fits CERT [FILE]\n";
 
 pub const NO_FILE: &str = "error: a file without a name, or named -";
+
+pub const NO_SCRIPT: &str = "error: a script without a name, or named -";
 
 pub const NO_CERTIFICATE: &str = "error: a certificate without a name, or named -";
 

@@ -2,7 +2,7 @@ use Rattle.ed_main.specs.Program as meaning
 use Rattle.ed_main.proofs.program.do_job.Goals as goal
 
 pub returns-in-Edit-clause-did : goal.returns-in-Edit-clause-did
-returns-in-Edit-clause-did g c = rw c.in-Edit.is c.do_task.ensures.came
+returns-in-Edit-clause-did g c = rw c.in-Edit.is c.edit_file.ensures.came
 
 pub returns-in-Vouch-clause-did : goal.returns-in-Vouch-clause-did
 returns-in-Vouch-clause-did g c = rw c.in-Vouch.is c.vouch_file.ensures.came
@@ -16,8 +16,8 @@ returns-in-Check-clause-did g c = rw c.in-Check.is (meaning.unread _ c.status_of
 pub returns-in-Run-clause-did : goal.returns-in-Run-clause-did
 returns-in-Run-clause-did g c = rw c.in-Run.is c.run_file.ensures.came
 
-pub returns-in-Ok-certificate_at-clause-did : goal.returns-in-Ok-certificate_at-clause-did
-returns-in-Ok-certificate_at-clause-did g c = rw c.in-Fits.is (meaning.read c.as_slice-in-Ok-certificate_at.result.now c.fit_file.ensures.came)
+pub returns-in-Ok-bytes_at-clause-did : goal.returns-in-Ok-bytes_at-clause-did
+returns-in-Ok-bytes_at-clause-did g c = rw c.in-Fits.is (meaning.read c.as_slice-in-Ok-bytes_at.result.now c.fit_file.ensures.came)
 
 pub returns-clause-did : goal.returns-clause-did
-returns-clause-did g c = rw c.in-Fits.is (meaning.unread _ c.status_of_read-in-Err-certificate_at.ensures.value)
+returns-clause-did g c = rw c.in-Fits.is (meaning.unread _ c.status_of_read-in-Err-bytes_at.ensures.value)

@@ -1,20 +1,19 @@
 -- What `clap` is told of `fits`.
-use Rattle.std.proofs.Common.{◌∙◌, codes, ap, map, sym, subst}
-use Rattle.std.specs.Prelude.{All}
+use Rattle.std.proofs.Common.{◌∙◌, codes, ap, map}
 use Rattle.std.proofs.lemmas.Result.{IfOk-weaker}
 use Rattle.clap.specs.Words.{rule_of}
 use Rattle.ed_main.specs.Subcommands as meaning
-use Rattle.ed_main.proofs.SubcommandLemmas.{IsLocal, two_local, two_rules}
+use Rattle.ed_main.proofs.SubcommandLemmas.{all_local, and_rules, no_rules}
 use Rattle.ed_main.proofs.subcommands.fits.Goals as goal
 
 pub subcommand-requires : goal.subcommand-requires
 subcommand-requires c =
     record {
-      local = subst (All IsLocal) (sym c.in_ok-vec.ensures.items)
-          (two_local c.certificate.result c.file.result c.certificate.ensures.local c.file.ensures.local);
+      local = all_local _ _ c.in_ok-vec.ensures.items
+          (c.certificate.ensures.local, (c.file.ensures.local, tt));
     }
 
 pub returns-clause-value : goal.returns-clause-value
 returns-clause-value c =
     IfOk-weaker c.subcommand.result _ _ (λ command is. is ∙ ap (meaning.subcommand (codes "fits")) (ap (map rule_of) c.in_ok-vec.ensures.items
-    ∙ two_rules c.certificate.result c.file.result _ _ c.certificate.ensures.value c.file.ensures.value)) c.subcommand.ensures.value
+    ∙ and_rules c.certificate.ensures.value (and_rules c.file.ensures.value no_rules))) c.subcommand.ensures.value

@@ -5,3 +5,6 @@ returns-in-Unchecked-clause-came g c = λ rehearsed. rw c.in-Unchecked.is (c.edi
 
 pub returns-in-Certified-clause-came : goal.returns-in-Certified-clause-came
 returns-in-Certified-clause-came g c = λ rehearsed. rw c.in-Certified.is (c.run.ensures.came, rehearsed)
+
+pub returns-in-Vouched-clause-came : goal.returns-in-Vouched-clause-came
+returns-in-Vouched-clause-came g c = λ rehearsed. rw c.in-Vouched.is (c.edit_if_vouched.ensures.came, rehearsed)

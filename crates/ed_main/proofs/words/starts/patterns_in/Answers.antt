@@ -5,7 +5,7 @@ use Rattle.clap.specs.Words.{found_of}
 use Rattle.ed_main.specs.Words.{are_patterns, stated}
 use Rattle.ed_main.specs.declared.words.WordsFault.TheVariants as fault
 use Rattle.ed_main.proofs.WordsLemmas.{texts_found}
-use Rattle.ed_main.proofs.words.patterns_in.Goals as goal
+use Rattle.ed_main.proofs.words.starts.patterns_in.Goals as goal
 
 pub returns-in-Some-clause-patterns : goal.returns-in-Some-clause-patterns
 returns-in-Some-clause-patterns c =

@@ -2,7 +2,7 @@
 use Rattle.std.proofs.Common.{◌∙◌}
 use Rattle.clap.specs.Words.{found_of}
 use Rattle.clap.proofs.WalkLemmas.{first_value-rows}
-use Rattle.ed_main.proofs.words.text_of.Goals as goal
+use Rattle.ed_main.proofs.words.texts.text_of.Goals as goal
 
 pub returns : goal.returns
 returns c = record { value = c.get_str.ensures ∙ first_value-rows (found_of c.args.given.now) c.args.id.now }

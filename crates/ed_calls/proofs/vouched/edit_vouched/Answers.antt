@@ -1,0 +1,38 @@
+-- The script was run by the certificate that was made, or it is told why it isn't.
+use Rattle.std.proofs.Common.{subst}
+use Rattle.std.proofs.Math.Seq.{drop-length}
+use Rattle.analyser.specs.declared.analysis.Analysis.TheVariants.{Vouched, Cannot}
+use Rattle.cert_check.specs.Certificates.{certificate_value}
+use Rattle.ed_session.specs.Drives.{added}
+use Rattle.ed_session.specs.Sinks.{change}
+use Rattle.ed_syntax.specs.reading.Reading.{script_of}
+use Rattle.ed_calls.specs.Finding.{IsJudged}
+use Rattle.ed_calls.specs.Headline.{MayFail}
+use Rattle.ed_calls.specs.Run.{RunsBy}
+use Rattle.ed_calls.specs.Vouch.{IsAnswerFor}
+use Rattle.ed_calls.specs.Vouched as meaning
+use Rattle.ed_calls.proofs.Sayings.{refused_of}
+use Rattle.ed_calls.proofs.vouched.edit_vouched.Goals as goal
+
+pub returns-in-Ok-Unusable-clause-came : goal.returns-in-Ok-Unusable-clause-came
+returns-in-Ok-Unusable-clause-came g c = meaning.refused (drop-length (g.O.Outside.log c.args.outside.now)) (c.refuse_name.ensures.says c.args.starts)
+
+pub returns-in-Vouched-clause-came : goal.returns-in-Vouched-clause-came
+returns-in-Vouched-clause-came g c =
+    let one = c.in-Ok-Judged.field-0-0 in
+    let found : IsJudged c.args.script.now c.args.starts one = rw c.in-Ok-Judged.field-0-is at c.in-Ok-Judged.ensures.found in
+    let log = added (g.O.Outside.log c.args.outside.now) (g.O.Outside.log c.run_by.new.outside) in
+    let sink = change (g.W.Sink.state c.args.sink.now) (g.W.Sink.state c.run_by.new.sink) in
+    let may_fail = MayFail c.args.options.path log (g.O.Outside.failures c.args.outside.now) (g.O.Outside.failures c.run_by.new.outside) sink in
+    meaning.vouched (script_of c.args.script.now) one.start c.in-Vouched.certificate
+    (c.scripts_are_read_as_spelled.ensures.spelled c.args.script.now) found.usable found.start
+    (subst (IsAnswerFor c.args.script.now one.start) c.in-Vouched.is found.answer)
+    (subst (λ s. RunsBy s (certificate_value c.in-Vouched.certificate) c.args.options log may_fail sink c.run_by.result) found.read c.run_by.ensures.came)
+
+pub returns-after-status-eq-CANNOT_STATUS-clause-came : goal.returns-after-status-eq-CANNOT_STATUS-clause-came
+returns-after-status-eq-CANNOT_STATUS-clause-came g c =
+    let one = c.in-Ok-Judged.field-0-0 in
+    let found : IsJudged c.args.script.now c.args.starts one = rw c.in-Ok-Judged.field-0-is at c.in-Ok-Judged.ensures.found in
+    meaning.refused (drop-length (g.O.Outside.log c.args.outside.now))
+    (refused_of c.args.script.now c.args.starts one found c.in-Cannot.place c.in-Cannot.why c.in-Cannot.notes c.cannot_told.result _ _ c.in-Cannot.is
+    c.cannot_told.ensures.value c.tell-status.ensures.says)

@@ -1,0 +1,32 @@
+-- The start that a script is judged over: the one that is given, or one that is found from what is given of it (our own).
+use Rattle.std.specs.Prelude.{◌≡◌, ◌≤◌, ◌⊎◌, ℕ, List, Option, Some, IfSome}
+use Rattle.ed_syntax.specs.reading.Reading.{script_of}
+use Rattle.ed_rules.specs.LineBounds.{IsAtMost, most_lines}
+use Rattle.analyser.specs.declared.analysis.Start.{Start}
+use Rattle.hints.specs.Passing.{IsVouched}
+use Rattle.hints.specs.Widest.{IsWidest, fullest}
+use Rattle.ed_calls.specs.declared.starts.Starts.{Starts}
+use Rattle.ed_calls.specs.declared.starts.Starts.TheVariants as starts
+
+-- bounds, as far as they are given, are those of some start: in order, and at most most_lines
+pub record IsPartOfStart (min max : Option ℕ) : Type 0 where
+  pub ordered : IfSome min (λ least. IsAtMost least max)
+  pub low : IfSome min (λ least. least ≤ most_lines)
+  pub high : IfSome max (λ most. most ≤ most_lines)
+
+-- the path of the start file, if there is one
+abbrev pub path_of : Starts → Option (List ℕ)
+path_of (starts.Given start) = start.path
+path_of (starts.Widest given) = given.path
+
+abbrev pub AreAllowed : Starts → Type 0
+AreAllowed (starts.Given start) = IsPartOfStart (Some start.min) start.max
+AreAllowed (starts.Widest given) = IsPartOfStart given.min given.max
+
+-- A script is judged over the start that is given. Where it is to be found, it is the widest one of what is given that is vouched for, or the
+-- fullest, if that isn't: then none is.
+abbrev pub IsJudgedFor : (script : List ℕ) → Starts → Start → Type 0
+IsJudgedFor script (starts.Given start) judged = judged ≡ start
+IsJudgedFor script (starts.Widest given) judged =
+    IsWidest (script_of script) given judged
+    ⊎ (judged ≡ fullest (script_of script) given) × (IsVouched (script_of script) (fullest (script_of script) given) → ⊥)

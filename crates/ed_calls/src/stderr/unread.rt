@@ -1,0 +1,67 @@
+//! Why a file holds no certificate, as a person reads it.
+
+use crate::stderr::file_name::{is_named_as_script, quoted_name, quoted_word};
+use cert_check::{CertFault, wanted};
+use ed_syntax::read_script;
+use std::alloc::{AllocError, Global};
+
+/// What `vouch` writes begins so where it can't vouch.
+const CANNOT: &[u8] = b"cannot: ";
+
+/// Why the bytes of the file of this name are the text of no certificate; nothing where a size or the memory is the reason.
+pub fn unread_text(
+    alloc: Global,
+    path: &[u8],
+    bytes: &[u8],
+    fault: CertFault,
+) -> Result<String, AllocError> {
+    match fault {
+        CertFault::Version if bytes.starts_with(CANNOT) => answer_text(alloc, path),
+        CertFault::Version => script_text(alloc, path, bytes),
+        CertFault::Line(_) => wanted_text(alloc, path, bytes),
+        _ => Ok(String::new(alloc)),
+    }
+}
+
+/// The file of this name holds what `vouch` wrote instead of a certificate.
+fn answer_text(alloc: Global, path: &[u8]) -> Result<String, AllocError> {
+    let name = quoted_name(alloc, path)?;
+    let name = name.as_str();
+    Ok(format!(in alloc; "hint: {name} holds the answer of a vouch that could not\n")?)
+}
+
+/// The file of this name is a script, by its name or by how it begins.
+fn script_text(alloc: Global, path: &[u8], bytes: &[u8]) -> Result<String, AllocError> {
+    if !is_named_as_script(path) && !begins_as_script(alloc, bytes)? {
+        return Ok(String::new(alloc));
+    }
+    let name = quoted_name(alloc, path)?;
+    let word = quoted_word(alloc, path)?;
+    let (name, word) = (name.as_str(), word.as_str());
+    Ok(format!(in alloc;
+        "error: {name} isn't a certificate; to judge a script: edv vouch FILE <{word}\n"
+    )?)
+}
+
+/// Whether the first line of a file is a command, and not empty.
+fn begins_as_script(alloc: Global, bytes: &[u8]) -> Result<bool, AllocError> {
+    let mut lines = bytes.split(|byte| *byte == b'\n');
+    match lines.next() {
+        Some(line) if !line.is_empty() => Ok(read_script(alloc, line)?.fault.is_none()),
+        _ => Ok(false),
+    }
+}
+
+/// A line may not stand where it stands.
+fn wanted_text(alloc: Global, path: &[u8], bytes: &[u8]) -> Result<String, AllocError> {
+    match wanted(alloc, bytes)? {
+        Some(wanted) => {
+            let name = quoted_name(alloc, path)?;
+            let name = name.as_str();
+            let line = wanted.line;
+            let kind = str::from_utf8(wanted.kind.name()).unwrap_or("");
+            Ok(format!(in alloc; "error: {name}: line {line}: wanted: {kind}\n")?)
+        }
+        None => Ok(String::new(alloc)),
+    }
+}

@@ -1,0 +1,55 @@
+-- Starts that are allowed, and what two bounds say of them.
+use Rattle.std.proofs.Common.{◌≡◌, ◌≢◌, ◌≤◌, ◌∙◌, ℕ, true, List, [], ◌∷◌, Option, Some, None, refl, sym, lit≤}
+use Rattle.std.specs.Prelude.{IfSome}
+use Rattle.std.proofs.lemmas.Bool.{leb-true}
+use Rattle.ed_rules.specs.LineBounds.{IsAtMost, is_within, most_lines}
+use Rattle.ed_calls.specs.Starts.{AreAllowed, path_of}
+use Rattle.ed_main.specs.Job.{AreStarts, any_start}
+use Rattle.ed_main.specs.Words.{are_in_order, is_path, starts_of}
+
+-- any start with a file, or the empty buffer
+pub any_allowed : (path : Option (List ℕ)) (has : Option (List (List ℕ))) → AreAllowed (any_start path has)
+any_allowed None has = record { ordered = lit≤ tt; low = lit≤ tt; high = lit≤ tt }
+any_allowed (Some path) has = record { ordered = tt; low = tt; high = tt }
+
+any_kept : (path : Option (List ℕ)) (has : Option (List (List ℕ))) → path_of (any_start path has) ≡ path
+any_kept None has = refl
+any_kept (Some path) has = refl
+
+at_most : (lines : ℕ) (limit : Option ℕ) → is_within lines limit ≡ true → IsAtMost lines limit
+at_most lines None within = tt
+at_most lines (Some most) within = leb-true lines most within
+
+-- at most so many lines as a certificate tells of, where they are given
+abbrev pub AreFew : Option ℕ → Type 0
+AreFew given = IfSome given (λ lines. lines ≤ most_lines)
+
+module _ (path : Option (List ℕ)) (has : Option (List (List ℕ))) where
+  -- a start of bounds that are in order and few
+  pub bounds_allowed : (least : Option ℕ) (most : Option (Option ℕ)) → are_in_order least most ≡ true → AreFew least → IfSome most AreFew
+      → AreAllowed (starts_of path least most has)
+  bounds_allowed (Some least) (Some most) order low high = record { ordered = at_most least most order; low = low; high = high }
+  bounds_allowed (Some least) None order low high = record { ordered = tt; low = low; high = tt }
+  bounds_allowed None (Some most) order low high = record { ordered = tt; low = tt; high = high }
+  bounds_allowed None None order low high = any_allowed path has
+
+  -- it has the path that is given
+  pub path_kept : (least : Option ℕ) (most : Option (Option ℕ)) → path_of (starts_of path least most has) ≡ path
+  path_kept (Some least) (Some most) = refl
+  path_kept (Some least) None = refl
+  path_kept None (Some most) = refl
+  path_kept None None = any_kept path has
+
+path_has_bytes : (path : Option (List ℕ)) → is_path path ≡ true → path ≢ Some []
+path_has_bytes None named is = cc
+path_has_bytes (Some []) named is = cc
+path_has_bytes (Some (byte ∷ bytes)) named is = cc
+
+-- what is known of the starts of a job
+pub starts_given : (path : Option (List ℕ)) (least : Option ℕ) (most : Option (Option ℕ)) (has : Option (List (List ℕ)))
+    → are_in_order least most ≡ true → AreFew least → IfSome most AreFew → is_path path ≡ true → AreStarts (starts_of path least most has)
+starts_given path least most has order low high named =
+    record {
+      allowed = bounds_allowed path has least most order low high;
+      path = λ is. path_has_bytes path named (sym (path_kept path has least most) ∙ is);
+    }

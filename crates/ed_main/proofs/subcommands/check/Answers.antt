@@ -1,0 +1,19 @@
+-- What `clap` is told of `check`.
+use Rattle.std.proofs.Common.{◌∙◌, codes, ap, map}
+use Rattle.std.proofs.lemmas.Result.{IfOk-weaker}
+use Rattle.clap.specs.Words.{rule_of}
+use Rattle.ed_main.specs.Subcommands as meaning
+use Rattle.ed_main.proofs.SubcommandLemmas.{all_local, and_rules, no_rules}
+use Rattle.ed_main.proofs.subcommands.check.Goals as goal
+
+pub subcommand-requires : goal.subcommand-requires
+subcommand-requires c =
+    record {
+      local = all_local _ _ c.in_ok-vec.ensures.items
+          (c.script.ensures.local, (c.certificate.ensures.local, tt));
+    }
+
+pub returns-clause-value : goal.returns-clause-value
+returns-clause-value c =
+    IfOk-weaker c.subcommand.result _ _ (λ command is. is ∙ ap (meaning.subcommand (codes "check")) (ap (map rule_of) c.in_ok-vec.ensures.items
+    ∙ and_rules c.script.ensures.value (and_rules c.certificate.ensures.value no_rules))) c.subcommand.ensures.value

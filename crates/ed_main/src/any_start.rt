@@ -1,0 +1,30 @@
+//! The start that a script is judged over where no bounds are given.
+ghost use Rattle.std.specs.Prelude.{◌≡◌};
+ghost use Rattle.ed_main.specs.Job as meaning;
+
+use analyser::Start;
+use ed_base::Bytes;
+use ed_calls::Starts;
+use ed_rules::Texts;
+use hints::Given;
+
+/// Any start with the file at this path that states these patterns, which is found with others that it has to state. Without a file it is
+/// the empty buffer.
+pub fn any_start(path: Option<Bytes>, has: Option<Texts>) -> Starts
+    ensures value { result ≡ meaning.any_start path has }
+{
+    match path {
+        None => Starts::Given(Start {
+            path: None,
+            min: 0,
+            max: Some(0),
+            has,
+        }),
+        Some(path) => Starts::Widest(Given {
+            path: Some(path),
+            min: None,
+            max: None,
+            has,
+        }),
+    }
+}
