@@ -51,6 +51,13 @@ def globals_of(count):
     yield 'w\nq\n'
 
 
+def searching(count):
+    """So many commands, of which each tenth searches for a line of its own and the others mark one by its number."""
+    for number in range(count - 2):
+        yield f'/^key{number}=/a\nx\n.\n' if number % 10 == 0 else f'{number % 97 + 1}ka\n'
+    yield 'w\nq\n'
+
+
 def measured(words, script, output):
     """Processor seconds, peak memory and status of one run."""
     with open(script, 'rb') as source, open(output, 'wb') as sink:
@@ -102,6 +109,29 @@ def table(title, kind, lines, counts, runs=3, line='line {} of the file\n'):
         os.chdir('/')
 
 
+def found(counts):
+    """One row for each number of commands: the start is found, its certificate made, and the script run."""
+    print('\nStarts that are found: a tenth of the commands search, each for another line')
+    print(f'{"commands":>9} {"vouch, found":>17} {"vouch, given":>17} {"edit --vouched":>17} {"edit":>17}')
+    with tempfile.TemporaryDirectory() as folder:
+        os.chdir(folder)
+
+        def restore():
+            with open('F', 'w') as out:
+                out.writelines(f'key{number}=value\n' for number in range(max(counts)))
+
+        for count in counts:
+            with open('script', 'w') as out:
+                out.writelines(searching(count))
+            given = [word for number in range(0, count - 2, 10) for word in ('--has', f'^key{number}=')]
+            figures = [best(words, 'script', output, restore, 3) for words, output in (
+                (['vouch', 'F'], 'C'), (['vouch', '--min', '97', '--max', 'any', *given, 'F'], 'C'),
+                (['edit', '--vouched', '-s', 'F'], 'told'), (['edit', '-s', 'F'], 'told'))]
+            print(f'{count:>9} ' + ' '.join(f'{time:8.3f} s  {peak:4.0f} M' + ('' if status == 0 else f' ({status})')
+                                            for time, peak, status in figures), flush=True)
+        os.chdir('/')
+
+
 def main():
     resource.setrlimit(resource.RLIMIT_CORE, (0, 0))
     table('Small scripts, over a file of 10 lines', small, 10, [0, 1, 10], 100)
@@ -109,6 +139,7 @@ def main():
     table('Updates as diff -e writes them, over a file of 300,000 lines', update, 300000, [5000, 10000, 20000],
           line='line {:07} of a text that is forty-seven bytes\n')
     table('Globals, over a file of 1,000 lines', globals_of, 1000, [10, 100, 1000])
+    found([10, 100, 1000])
 
 
 if __name__ == '__main__':

@@ -23,6 +23,8 @@ class Edit(typing.NamedTuple):
     help_on: typing.Optional[int] = None
 
 
+# A script that is run only if it is vouched for and the file fits.
+VOUCHED_FOR = ('--vouched', '-s', 'F')
 EDITS = [
     Edit('a line is appended, and the file written', b'$a\nd\n.\nw\nq\n', ('F',)),
     Edit('an empty match after a full one', b's/a*/x/gp\nQ\n', files={'F': b'baaac\n'}),
@@ -53,6 +55,11 @@ EDITS = [
     Edit('chunks of lines', MANY + b'1,2500d\nu\n$p\nu\n$=\nQ\n'),
     Edit('a file without its last newline is read', b'r OTHER\n,p\nw\nq\n', ('F',), {'F': ABC, 'OTHER': b'x'}),
     Edit('searches by one pattern', SEARCHES),
+    Edit('vouched for, and run', b'/b/d\n1d\n,p\nw\nq\n', VOUCHED_FOR),
+    Edit('vouched for by a line that is entered', b'$a\nx\n.\n/x/p\nw\nq\n', VOUCHED_FOR),
+    Edit('not vouched for', b'1d\n/b/s/c/d/\nw\nq\n', VOUCHED_FOR),
+    Edit('vouched for over longer files', b'/b/p\n9d\nw\nq\n', VOUCHED_FOR),
+    Edit('vouched for over files with a line that matches', b'/z/d\nw\nq\n', VOUCHED_FOR),
 ]
 
 
@@ -104,6 +111,10 @@ VOUCHED = [
     of_foo('a line entered after three that may be gone', b'$a\nfoo\n.\n1d\n/foo/p\nQ\n', '--min 0 --max any --patterns', False),
     of_foo('a line entered after three that is brought back', b'$a\nfoo\n.\n1d\nu\n/foo/p\nQ\n', '--min 0 --max any --patterns'),
     of_foo('a line of three that a global took', b'g/foo/?foo?p\nQ\n', '--min 0 --max any --patterns'),
+    of_foo('a start that is found', b'/foo/p\n2d\nw\nq\n', ''),
+    of_foo('a start that is found without a line', b'$a\nfoo\n.\n/foo/p\nQ\n', ''),
+    of_foo('a start of which the most lines are given', b'1d\n?b?p\nQ\n', '--max 9', False),
+    of_foo('a start that is not found', b'/foo/p\n3d\n/b/s/b/d/\nw\nq\n', '', False),
     of_foo('lines of three that a global left out', b'v/foo/?foo?p\nQ\n', '--min 0 --max any --patterns', False),
 ]
 
