@@ -1,0 +1,108 @@
+//! Runs over files on a disk. What the system answers, no clause says.
+use crate::asserting::{reads, same, writes};
+use ed_syntax::Answer;
+use std::alloc::Global;
+use std::os::unix::fs::{MetadataExt, PermissionsExt, symlink};
+use std::path::PathBuf;
+use std::process::Abort;
+use std::rt::{Env, Files};
+use std::{env, fs};
+use whole::{DiskDrafts, Outcome, Whole};
+
+/// A path in the folder for files that don't last, at which there is nothing.
+fn free_path<R: Abort + AllocGlobal + Env + Files>(rt: &R, alloc: Global, name: &str) -> PathBuf {
+    let folder = env::temp_dir(rt).expect(rt, "a folder");
+    let path = folder.join(alloc, name).expect(rt, "memory");
+    let _ = fs::remove_file(rt, path.as_str());
+    path
+}
+
+/// The name of the first draft beside a path of the same folder.
+fn draft_of<R: Abort + AllocGlobal + Env + Files>(rt: &R, alloc: Global, name: &str) -> PathBuf {
+    let draft = format!(in alloc; ".{name}.edv-0").expect(rt, "memory");
+    free_path(rt, alloc, draft.as_str())
+}
+
+fn is_there(rt: &(impl Abort + Files), path: &PathBuf) -> bool {
+    fs::exists(rt, path.as_str()).expect(rt, "a path that can be looked up")
+}
+
+#[test]
+fn a_file_is_replaced_once_the_run_has_ended(rt: HostRuntime) {
+    let alloc = rt.alloc();
+    let path = free_path(&rt, alloc, "whole_tests_replaced");
+    let draft = draft_of(&rt, alloc, "whole_tests_replaced");
+    fs::write(&rt, path.as_str(), "old\n").expect(&rt, "written");
+    let mode = fs::Permissions::from_mode(0o640);
+    fs::set_permissions(&rt, path.as_str(), mode).expect(&rt, "a mode");
+    let name = path.as_str().as_bytes();
+    let mut files = Whole::new(alloc, DiskDrafts::new(alloc, &rt));
+    writes(&rt, alloc, &mut files, name, b"new\n", Answer::Done);
+    writes(&rt, alloc, &mut files, name, b"newer\n", Answer::Done);
+    reads(&rt, alloc, &mut files, name, b"newer\n");
+    same(&rt, is_there(&rt, &draft), true, "a draft");
+    let text = fs::read_to_string(&rt, path.as_str()).expect(&rt, "read");
+    same(&rt, text.as_str(), "old\n", "before the end");
+    let end = files.finish(true);
+    same(&rt, end.outcome, Outcome::Put, "the outcome");
+    let text = fs::read_to_string(&rt, path.as_str()).expect(&rt, "read");
+    same(&rt, text.as_str(), "newer\n", "after the end");
+    let found = fs::metadata(&rt, path.as_str()).expect(&rt, "there");
+    same(&rt, found.mode() & 0o777, 0o640, "the mode");
+    same(&rt, is_there(&rt, &draft), false, "no draft");
+    fs::remove_file(&rt, path.as_str()).expect(&rt, "removed");
+}
+
+#[test]
+fn a_new_file_is_made_at_the_end_alone(rt: HostRuntime) {
+    let alloc = rt.alloc();
+    let path = free_path(&rt, alloc, "whole_tests_new");
+    let draft = draft_of(&rt, alloc, "whole_tests_new");
+    let name = path.as_str().as_bytes();
+    let mut files = Whole::new(alloc, DiskDrafts::new(alloc, &rt));
+    writes(&rt, alloc, &mut files, name, b"new\n", Answer::Done);
+    same(&rt, is_there(&rt, &path), false, "before the end");
+    let end = files.finish(true);
+    same(&rt, end.outcome, Outcome::Put, "the outcome");
+    let text = fs::read_to_string(&rt, path.as_str()).expect(&rt, "read");
+    same(&rt, text.as_str(), "new\n", "after the end");
+    same(&rt, is_there(&rt, &draft), false, "no draft");
+    fs::remove_file(&rt, path.as_str()).expect(&rt, "removed");
+}
+
+#[test]
+fn a_fault_leaves_no_draft(rt: HostRuntime) {
+    let alloc = rt.alloc();
+    let path = free_path(&rt, alloc, "whole_tests_fault");
+    let draft = draft_of(&rt, alloc, "whole_tests_fault");
+    let name = path.as_str().as_bytes();
+    let mut files = Whole::new(alloc, DiskDrafts::new(alloc, &rt));
+    writes(&rt, alloc, &mut files, name, b"new\n", Answer::Done);
+    let end = files.finish(false);
+    same(&rt, end.outcome, Outcome::Discarded, "the outcome");
+    same(&rt, is_there(&rt, &path), false, "no file");
+    same(&rt, is_there(&rt, &draft), false, "no draft");
+}
+
+#[test]
+fn a_path_that_is_no_plain_file_or_has_several_links_is_refused(rt: HostRuntime) {
+    let alloc = rt.alloc();
+    let path = free_path(&rt, alloc, "whole_tests_links");
+    let link = free_path(&rt, alloc, "whole_tests_symlink");
+    let other = free_path(&rt, alloc, "whole_tests_other");
+    fs::write(&rt, path.as_str(), "old\n").expect(&rt, "written");
+    symlink(&rt, path.as_str(), link.as_str()).expect(&rt, "a link");
+    let mut files = Whole::new(alloc, DiskDrafts::new(alloc, &rt));
+    let name = link.as_str().as_bytes();
+    writes(&rt, alloc, &mut files, name, b"new\n", Answer::Refused);
+    same(&rt, files.drafts().reason().is_some(), true, "a reason");
+    let mut files = Whole::new(alloc, DiskDrafts::new(alloc, &rt));
+    fs::hard_link(&rt, path.as_str(), other.as_str()).expect(&rt, "a link");
+    let name = path.as_str().as_bytes();
+    writes(&rt, alloc, &mut files, name, b"new\n", Answer::Refused);
+    let end = files.finish(true);
+    same(&rt, end.outcome, Outcome::Discarded, "the outcome");
+    for each in [&path, &link, &other] {
+        fs::remove_file(&rt, each.as_str()).expect(&rt, "removed");
+    }
+}

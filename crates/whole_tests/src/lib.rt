@@ -1,0 +1,9 @@
+//! Tests of writes that are held back until a run has ended.
+#![tactic(auto)]
+
+#[cfg(test)]
+mod asserting;
+#[cfg(test)]
+mod disk;
+#[cfg(test)]
+mod memory;
