@@ -1,5 +1,5 @@
 -- What was found is judged, and else the fullest start.
-use Rattle.std.proofs.Common.{inl, inr}
+use Rattle.std.proofs.Common.{inl}
 use Rattle.ed_calls.proofs.starts.start_of.Goals as goal
 
 pub returns-in-Some-clause-judged : goal.returns-in-Some-clause-judged

@@ -1,7 +1,6 @@
 -- The script was run by the certificate that was made, or it is told why it isn't.
 use Rattle.std.proofs.Common.{subst}
 use Rattle.std.proofs.Math.Seq.{drop-length}
-use Rattle.analyser.specs.declared.analysis.Analysis.TheVariants.{Vouched, Cannot}
 use Rattle.cert_check.specs.Certificates.{certificate_value}
 use Rattle.ed_session.specs.Drives.{added}
 use Rattle.ed_session.specs.Sinks.{change}

@@ -3,7 +3,7 @@ use Rattle.std.proofs.Common.{Some, [], refl, sym, subst}
 use Rattle.std.proofs.Math.Seq.{drop-length}
 use Rattle.ed_calls.specs.Starts.{AreAllowed}
 use Rattle.ed_calls.specs.Told.{nothing}
-use Rattle.ed_calls.specs.Vouched.{RunsVouched, refused}
+use Rattle.ed_calls.specs.Vouched.{refused}
 use Rattle.ed_main.proofs.StartLemmas.{any_allowed}
 use Rattle.ed_main.proofs.task.edit_if_vouched.Goals as goal
 
