@@ -5,7 +5,7 @@ ghost use Rattle.ed_calls.specs.Starts.{AreAllowed, IsJudgedFor, path_of};
 
 use analyser::Start;
 use ed_base::Bytes;
-use hints::{Given, copy_of, fullest_start, widest_start};
+use hints::{Given, fullest_start, widest_start};
 use std::alloc::{AllocError, Global};
 
 /// The start that a script is judged over.
@@ -25,16 +25,6 @@ impl Starts {
         match self {
             Starts::Given(start) => &start.path,
             Starts::Widest(given) => &given.path,
-        }
-    }
-
-    /// Equal ones.
-    pub fn try_copy(&self) -> Result<Starts, AllocError>
-        ensures value { IfOk result (λ copy. copy ≡ self.now) }
-    {
-        match self {
-            Starts::Given(start) => Ok(Starts::Given(copy_of(start)?)),
-            Starts::Widest(given) => Ok(Starts::Widest(given.try_copy()?)),
         }
     }
 

@@ -1,11 +1,7 @@
 //! What is given of a start that is to be found.
 
-ghost use Rattle.std.specs.Prelude.{◌≡◌, IfOk};
-
-use crate::starts::{copy_of_has, copy_of_path};
 use ed_base::Bytes;
 use ed_rules::Texts;
-use std::alloc::AllocError;
 
 /// What is given of a start that is to be found for a script. What isn't given is found (`widest_start`).
 #[derive(Debug, Drop)]
@@ -19,18 +15,4 @@ pub struct Given {
     /// The patterns that some line of the start matches, to which others may be added. With `None` a certificate of version 1 is made where
     /// none has to be added, and else one of version 2, as with the set of none.
     pub has: Option<Texts>,
-}
-
-impl Given {
-    /// Equal parts.
-    pub fn try_copy(&self) -> Result<Given, AllocError>
-        ensures value { IfOk result (λ copy. copy ≡ self.now) }
-    {
-        Ok(Given {
-            path: copy_of_path(&self.path)?,
-            min: self.min,
-            max: self.max,
-            has: copy_of_has(&self.has)?,
-        })
-    }
 }
