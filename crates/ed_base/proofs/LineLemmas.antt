@@ -4,8 +4,7 @@ use Rattle.std.proofs.lemmas.Bool.{ne_eqb, eqb-false, eqb-true, eq-eqb, cases_eq
 use Rattle.std.proofs.lemmas.List.{get_or-take, take-append-drop, length-take-le, take_all, take_more, take_rest}
 use Rattle.std.proofs.lemmas.List.Elements.{All-nil, All-cons, All-head, All-tail, All-from_get_or}
 use Rattle.std.proofs.lemmas.List.Sums.{sum_by-cons}
-use Rattle.memchr.specs.Find.{is_byte, places, Passes, Nowhere, NoneBefore}
-use Rattle.memchr.proofs.lemmas.CallerLemmas.{length-places}
+use Rattle.memchr.specs.Find.{is_byte, Passes, Nowhere, NoneBefore}
 use Rattle.ed_base.specs.Lines.{newline, IsLine, AreLines, HoldsLines, empty, incomplete, whole, onto_first, lines_of, bytes_of}
 
 -- a byte that is no newline goes before the first line
@@ -159,18 +158,15 @@ bytes_of-completed front last lacks =
 pub lines_of-completed : (bytes completed : List ℕ) → completed ≡ bytes_of (lines_of bytes) → lines_of completed ≡ lines_of bytes
 lines_of-completed bytes completed is = ap lines_of is ∙ lines_of-bytes_of (lines_of bytes) (AreLines-lines_of bytes)
 
--- the same for a list of places of newlines
-pub length-lines_of-places : (front : List ℕ) (last : ℕ) → length (lines_of (front ++ last ∷ [])) ≡ length (places (is_byte newline) front) + 1
-length-lines_of-places front last = length-lines_of front last ∙ ap (λ n. n + 1) (sym (length-places (is_byte newline) front))
-
 -- the same for all bytes but the last
-pub length-lines_of-front : (bytes : List ℕ) → 0 < length bytes → length (lines_of bytes) ≡ length (places (is_byte newline) (take (length bytes - 1) bytes)) + 1
+pub length-lines_of-front : (bytes : List ℕ) → 0 < length bytes
+    → length (lines_of bytes) ≡ count_by (is_byte newline) (take (length bytes - 1) bytes) + 1
 length-lines_of-front bytes some =
     let before : ℕ = length bytes - 1 in
     let all : length bytes ≤ before + 1 = omega arith in
     let lt : before < length bytes = omega arith in
     ap (λ bs. length (lines_of bs)) (sym (take_all (before + 1) bytes all) ∙ take_more bytes before 0 lt)
-    ∙ length-lines_of-places (take before bytes) (get_or bytes before 0)
+    ∙ length-lines_of (take before bytes) (get_or bytes before 0)
 
 -- no newline at all
 pub IsLine-none : (bytes : List ℕ) → Nowhere (Passes (is_byte newline) bytes) 0 (length bytes) → IsLine bytes

@@ -5,6 +5,7 @@ mod bytes;
 mod fault;
 mod letter;
 mod lines;
+mod newlines;
 mod numbers;
 mod part;
 mod pieces;

@@ -2,8 +2,9 @@
 ghost use Rattle.std.specs.Prelude.{◌≡◌, ◌↔◌, ◌<◌, ℕ, List, [], ◌∷◌, ◌++◌, length, IsNone, IfSome, IfOk};
 ghost use Rattle.ed_base.specs.Lines.{IsLine, AreLines, HoldsLines, CutsFirst, lines_of, bytes_of};
 
+use crate::newlines::count_newlines;
 use crate::{Bytes, Text};
-use memchr::{memchr, memchr_iter};
+use memchr::memchr;
 use std::alloc::{AllocError, Global};
 
 /// The first line and the bytes after its newline; a last line may lack the newline. It takes no memory.
@@ -45,7 +46,7 @@ pub fn count_lines(bytes: &[u8]) -> usize
     match bytes {
         [] => 0,
         // After each newline but a last one stands a line.
-        [front @ .., _] => memchr_iter(b'\n', front).count() + 1,
+        [front @ .., _] => count_newlines(front) + 1,
     }
 }
 

@@ -46,6 +46,38 @@ fn a_last_line_without_its_newline_is_a_line_and_gets_one_when_written(rt: HostR
     }
 }
 
+/// Bytes so often, and how many lines they are.
+struct CountRow {
+    again: &'static [u8],
+    times: usize,
+    lines: usize,
+}
+
+// Bytes are counted in blocks of 64, and fewer one by one.
+#[rattlefmt::skip]
+static COUNTS: [CountRow; 9] = [
+    CountRow { again: b"\n", times: 63, lines: 63 },
+    CountRow { again: b"\n", times: 64, lines: 64 },
+    CountRow { again: b"\n", times: 65, lines: 65 },
+    CountRow { again: b"\n", times: 66, lines: 66 },
+    CountRow { again: b"\n", times: 129, lines: 129 },
+    CountRow { again: b"a", times: 200, lines: 1 },
+    CountRow { again: b"a\n", times: 33, lines: 33 },
+    CountRow { again: b"abcdefghijklmnopqrstuvwxyzabcdefghijklmnopqrstuvwxyz012345678\n", times: 10, lines: 10 },
+    CountRow { again: b"\xff\x8a\x0b\t\n\0", times: 100, lines: 101 },
+];
+
+#[test]
+fn newlines_are_counted_wherever_they_stand_in_a_block(rt: HostRuntime) {
+    for row in &COUNTS {
+        let mut bytes = Bytes::new(rt.alloc());
+        for _ in 0..row.times {
+            bytes.extend_from_slice(row.again).expect(&rt, "memory");
+        }
+        same(&rt, count_lines(bytes.as_slice()), row.lines, row.again);
+    }
+}
+
 /// Bytes that were pushed and appended.
 fn built(rt: &impl Abort, alloc: Global) -> Bytes {
     let mut built = bytes(rt, alloc, b"a");
