@@ -11,6 +11,7 @@ mod kept;
 mod kept_undo;
 mod laws;
 mod line_bounds;
+mod line_facts;
 mod lines;
 mod marks;
 mod matched;
@@ -41,6 +42,10 @@ pub use laws::{
     states_stay_formed, weaker_states_stand_for_more,
 };
 pub use line_bounds::LineBounds;
+pub use line_facts::{
+    ClearStretch, KnownLine, LineFacts, assign, is_witnessed, move_by, search_backward,
+    search_forward,
+};
 pub use marks::Marks;
 pub use matched::some_line_matches;
 pub use rules::{after, needs, outcome_into};

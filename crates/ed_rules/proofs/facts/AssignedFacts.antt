@@ -1,5 +1,5 @@
 -- What is said once a name has become another one's line, or has moved, is true.
-use Rattle.std.proofs.Common.{◌≡◌, ◌<◌, inl, inr, ℕ, zero, suc, ℤ, pos, negsuc, ◌+ℤ◌, ◌≤ℤ◌, true, false, cond, not, ◌&&◌, eqb, List, [], ◌++◌, filter, flat_map, length, All, Some, refl, sym, ap, ◌∙◌, arith}
+use Rattle.std.proofs.Common.{◌≡◌, ◌<◌, inl, inr, ℕ, zero, suc, ℤ, pos, negsuc, ◌+ℤ◌, ◌≤ℤ◌, ◌<ℤ◌, ◌==◌, true, false, cond, not, ◌&&◌, eqb, List, [], ◌++◌, filter, flat_map, length, All, Some, refl, sym, ap, ◌∙◌, arith}
 use Rattle.std.proofs.lemmas.Int.{ints}
 use Rattle.std.proofs.lemmas.Bool.{eqb-true, cases_eq, and_parts}
 use Rattle.std.proofs.lemmas.List.Elements.{All-nil, All-map, All-append}
@@ -11,7 +11,7 @@ use Rattle.ed_base.specs.Buffer.{Line}
 use Rattle.ed_syntax.specs.meaning.Values.{matches_line}
 use Rattle.ed_rules.specs.facts.Facts.{ReadsEnds, LineFact, Stretch, Facts, FactsHold, LineFactHolds, StretchHolds, value_of, point, told}
 use Rattle.ed_rules.specs.facts.FactOrder.{is_line}
-use Rattle.ed_rules.specs.facts.FoundLines.{Known, without}
+use Rattle.ed_rules.specs.facts.FoundLines.{Known, known_as, without}
 use Rattle.ed_rules.specs.facts.FoundHolds.{KnownHolds}
 use Rattle.ed_rules.specs.facts.EditedFacts.{told_fact}
 use Rattle.ed_rules.specs.facts.AssignedFacts.{told_as, from_as, to_as, assigned, shortened, moved}
@@ -141,3 +141,21 @@ moved-holds x (negsuc n) k number lines hx ne h some =
             record { after_named = q.after_named; before_named = q.before_named; holds = clear-within (length lines) (matches_line s.pattern lines) _ _ _ _ (omega (arith, ints)) high q.holds });
       };
     }
+
+-- what a move down and a move up leave
+pub moved-down : (x : ℕ) (i : ℤ) (k : Known) → pos 0 <ℤ i →
+    moved x i k ≡ known_as (after_shift k.zone x (Some i) (Some i)) (record {
+      lines = filter (λ f. not (f.name == x)) k.facts.lines;
+      clear = filter (λ s. not (s.before == x)) k.facts.clear;
+    })
+moved-down x (pos zero) k h = absurd (omega (arith, ints))
+moved-down x (pos (suc n)) k h = refl
+moved-down x (negsuc n) k h = absurd (omega (arith, ints))
+
+pub moved-up : (x : ℕ) (i : ℤ) (k : Known) → i <ℤ pos 0 →
+    moved x i k ≡ known_as (after_shift k.zone x (Some i) (Some i)) (record {
+      lines = filter (λ f. not (f.name == x)) k.facts.lines;
+      clear = filter (λ s. not (s.after == x)) k.facts.clear;
+    })
+moved-up x (pos n) k h = absurd (omega (arith, ints))
+moved-up x (negsuc n) k h = refl

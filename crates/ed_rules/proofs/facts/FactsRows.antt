@@ -29,7 +29,7 @@ unfolding apart known bound after_put zone_by put_bound any_zone
 told_rows =
     row (told apart x_at_a a (codes "x") ≡ Some true) refl  -- matches at a
     ∷ row (told apart x_at_a a (codes "y") ≡ None) refl  -- other patterns are open
-    ∷ row (told apart x_at_a b (codes "y*") ≡ Some true) refl  -- some patterns match each line
+    ∷ row (told apart x_at_a b (codes "y*") ≡ None) refl  -- that a pattern matches each line is no fact
     ∷ row (told apart x_at_a b (codes "x") ≡ None) refl  -- b is open
     ∷ row (is_clear apart x_at_a (at 0) (at a) (codes "x") ≡ true) refl  -- clear before a
     ∷ row (is_clear apart x_at_a (at b) (point end) (codes "x") ≡ false) refl  -- open after b

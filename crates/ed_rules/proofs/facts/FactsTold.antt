@@ -1,11 +1,11 @@
 -- What a zone with facts says is true of the numbers that the zone and the facts hold of.
 use Rattle.std.proofs.Common.{◌≡◌, ◌<◌, ◌≤◌, inl, inr, ℕ, ℤ, pos, ◌+ℤ◌, ◌-ℤ◌, ◌≤ℤ◌, int_le, Bool}
-use Rattle.std.proofs.Common.{true, false, cond, not, List, [], ◌∷◌, length, All, Option, Some, None, refl, ap, subst, ◌∙◌}
+use Rattle.std.proofs.Common.{true, false, cond, not, eqb, List, [], ◌∷◌, length, All, Option, Some, None, refl, ap, subst, ◌∙◌}
 use Rattle.std.proofs.Common.{arith}
 use Rattle.std.specs.List.{list_any}
 use Rattle.std.specs.Cmp.Lexicographic.{bytes_decides}
 use Rattle.std.proofs.lemmas.Int.{ints}
-use Rattle.std.proofs.lemmas.Bool.{and_parts, or_cases}
+use Rattle.std.proofs.lemmas.Bool.{eq-eqb, ne_eqb, and_parts, or_cases}
 use Rattle.std.proofs.lemmas.Bool.Decides.{eqb_tells}
 use Rattle.std.proofs.lemmas.List.Elements.{All-head, All-tail}
 use Rattle.zones.specs.Zone.{Bounds, Numbers, Holds}
@@ -13,9 +13,7 @@ use Rattle.zones.specs.Known.{known}
 use Rattle.zones.proofs.Known.{known-true}
 use Rattle.ed_base.specs.Buffer.{Line}
 use Rattle.ed_syntax.specs.meaning.Values.{matches_line}
-use Rattle.ed_rules.specs.Addresses.{is_always}
 use Rattle.ed_rules.specs.facts.Facts.{LineFact, Stretch, Facts, Point, FactsHold, LineFactHolds, StretchHolds, IsClear, value_of, at, point, le, same, below, same_text, spans, is_clear, says, holds_line, is_told, tells, told, are_opposite, differ}
-use Rattle.ed_rules.proofs.sound.Searching.{always-matches}
 
 -- where some element passes a test, what follows from each that passes is true
 pub any-gives : {A : Type 0} (test : A → Bool) (Q : A → Type 0) (R : Type 0) (xs : List A) → All Q xs →
@@ -37,6 +35,14 @@ point-named x h = elim (eqb_tells x 32) [
 
 int_le-true : (a b : ℤ) → int_le a b ≡ true → a ≤ℤ b
 int_le-true a b h = grind (arith, ints)
+
+-- how `le` computes, for names that are one and for others
+pub le-same : (zone : Bounds) (x y : Point) (c d : ℤ) → d ≡ (c +ℤ y.plus) -ℤ x.plus → x.name ≡ y.name → int_le (pos 0) d ≡ le zone x y c
+le-same zone x y c d e q = let k : eqb x.name y.name ≡ true = eq-eqb x.name y.name q in rw (e, k) refl
+
+pub le-other : (zone : Bounds) (x y : Point) (c d : ℤ) → d ≡ (c +ℤ y.plus) -ℤ x.plus → (x.name ≡ y.name → ⊥) →
+    known zone x.name y.name d ≡ le zone x y c
+le-other zone x y c d e q = let k : eqb x.name y.name ≡ false = ne_eqb x.name y.name q in rw (e, k) refl
 
 pub le-true : (zone : Bounds) (number : Numbers) (x y : Point) (c : ℤ) → le zone x y c ≡ true → x.name < 32 → y.name < 32 →
     Holds zone number → value_of number x ≤ℤ (value_of number y +ℤ c)
@@ -114,10 +120,7 @@ pub tells-true : (zone : Bounds) (facts : Facts) (number : Numbers) (lines : Lis
     tells zone facts x pattern answer ≡ true → x < 32 → Holds zone number → FactsHold facts number lines →
     number x ≡ pos n → 1 ≤ n → n ≤ length lines → matches_line pattern lines n ≡ answer
 tells-true zone facts number lines x n pattern true e hx holds h is from inside =
-    elim (or_cases (is_always (Some pattern)) (is_told zone facts x pattern true) e) [
-      | inl k ↦ always-matches pattern _ k
-      | inr k ↦ is_told-true zone facts number lines x n pattern true k hx holds h is
-    ]
+    is_told-true zone facts number lines x n pattern true e hx holds h is
 tells-true zone facts number lines x n pattern false e hx holds h is from inside =
     elim (or_cases (is_told zone facts x pattern false) (list_any (holds_line zone x pattern) facts.clear) e) [
       | inl k ↦ is_told-true zone facts number lines x n pattern false k hx holds h is

@@ -7,7 +7,6 @@ use Rattle.zones.specs.Zone.{Bounds, Numbers}
 use Rattle.zones.specs.Known.{known}
 use Rattle.ed_base.specs.Buffer.{Line}
 use Rattle.ed_syntax.specs.meaning.Values.{matches_line}
-use Rattle.ed_rules.specs.Addresses.{is_always}
 
 -- the line that a name numbers matches a pattern, or doesn't
 pub record LineFact : Type 0 where
@@ -124,9 +123,10 @@ holds_line zone x pattern s =
 abbrev pub is_told : Bounds → Facts → (x : ℕ) → (pattern : List ℕ) → (answer : Bool) → Bool
 is_told zone facts x pattern answer = list_any (says zone x pattern answer) facts.lines
 
--- it is known that the line x matches the pattern, or that it doesn't; x is the number of a line
+-- it is known that the line x matches the pattern, or that it doesn't; x is the number of a line. That some patterns match every line is no
+-- fact: rules ask that where they have the pattern itself.
 abbrev pub tells : Bounds → Facts → (x : ℕ) → (pattern : List ℕ) → (answer : Bool) → Bool
-tells zone facts x pattern true = is_always (Some pattern) || is_told zone facts x pattern true
+tells zone facts x pattern true = is_told zone facts x pattern true
 tells zone facts x pattern false = is_told zone facts x pattern false || list_any (holds_line zone x pattern) facts.clear
 
 -- whether the line x matches the pattern, where that is known
