@@ -34,3 +34,4 @@ pub mod TextLemmas
 pub mod Fronts
 pub mod OffsetSteps
 pub mod QuotedSteps
+pub mod FrontLemmas

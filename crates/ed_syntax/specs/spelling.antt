@@ -3,6 +3,7 @@ pub mod Characters
 pub mod Letters
 pub mod Quoting
 pub mod Addressing
+pub mod Absence
 pub mod Parameters
 pub mod CommandLetters
 pub mod Spellings

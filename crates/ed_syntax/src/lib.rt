@@ -35,9 +35,11 @@ pub use laws::{
 };
 pub use options::{Ending, Options};
 pub use pattern::Pattern;
+pub use quoting::{Parsed, pattern_at};
 pub use reading::{first_lines, read_script};
 pub use replacement::{MatchNumber, Part, Replacement, Which};
 pub use request::{Answer, Request};
 pub use script::Script;
 pub use spelling::scripts_are_read_as_spelled;
+pub use tokens::{after_blanks, number};
 pub use verbs::{Alteration, DefaultAddresses, Ends, Takes, Taking};

@@ -1,5 +1,8 @@
 //! Patterns between delimiters.
-ghost use Rattle.std.specs.Prelude.{◌≡◌, ◌++◌, drop, length, MatchOption, Some, None, IfOk, OnOk};
+ghost use Rattle.std.specs.Prelude.{◌≡◌, ◌≢◌, ◌++◌, drop, length, MatchOption, Some, None, IfOk, OnOk};
+ghost use Rattle.ed_syntax.specs.spelling.Characters.{backslash};
+ghost use Rattle.ed_syntax.specs.spelling.Quoting.{SpellsPattern};
+ghost use Rattle.ed_syntax.specs.spelling.Absence.{NoPattern};
 ghost use Rattle.ed_syntax.specs.reading.Tokens.{unescaped, quoted, pattern_of, pattern_at};
 
 use crate::Pattern;
@@ -12,10 +15,12 @@ use std::alloc::{AllocError, Global};
 pub type Parsed<'a, T> = Result<Option<(T, &'a [u8])>, AllocError>;
 
 /// The pattern after a delimiter, up to the next one, with which the rest begins, or to the line's end. Nothing is the remembered
-/// pattern, `None`.
+/// pattern, `None`. Only a lack of memory is an error.
 pub fn pattern_at(alloc: Global, delimiter: u8, bytes: &[u8]) -> Parsed<'_, Option<Pattern>>
     ensures value { IfOk result (λ read. MatchOption read (pattern_at delimiter bytes.now ≡ None)
         (λ (p, rest). pattern_at delimiter bytes.now ≡ Some (p, rest.now))) }
+    ensures spelled { IfOk result (λ read. delimiter ≢ backslash → MatchOption read (NoPattern delimiter bytes.now)
+        (λ (p, rest). SpellsPattern delimiter bytes.now rest.now p)) }
 {
     match quoted(alloc, delimiter, bytes)? {
         Some((text, rest)) => match pattern_of(alloc, text)? {

@@ -2,6 +2,8 @@
 ghost use Rattle.std.specs.Prelude.{◌≡◌, ◌≤◌, length, All, IsTrue, MatchOption, Some, None, ⊤};
 ghost use Rattle.std.specs.List.{prefix_len};
 ghost use Rattle.ed_syntax.specs.spelling.Characters.{is_digit, is_letter, is_delimiter, after_blanks, value_of};
+ghost use Rattle.ed_syntax.specs.spelling.Addressing.{SpellsNumber};
+ghost use Rattle.ed_syntax.specs.spelling.Absence.{NoNumber};
 ghost use Rattle.ed_syntax.specs.reading.Tokens.{number, letter};
 ghost use Rattle.ed_syntax.specs.reading.ReadParameters.{form_of};
 ghost use Rattle.ed_syntax.specs.PublicTypes.{suffix_value};
@@ -32,10 +34,11 @@ pub fn letter(bytes: &[u8]) -> Option<(Letter, &[u8])>
     }
 }
 
-/// One to nine digits in front, and the bytes after them.
+/// The number that one to nine digits in front spell, and the bytes after them. `None` where there is no digit, or a tenth one.
 pub fn number(bytes: &[u8]) -> Option<(u32, &[u8])>
     ensures value { MatchOption result (number bytes.now ≡ None)
         (λ (n, rest). number bytes.now ≡ Some (n, rest.now)) }
+    ensures spelled { MatchOption result (NoNumber bytes.now) (λ (n, rest). SpellsNumber bytes.now rest.now n) }
     ensures few { MatchOption result ⊤ (λ (n, rest). n ≤ 999999999) }
     ensures shorter { MatchOption result ⊤ (λ (n, rest). length rest.now ≤ length bytes.now) }
 {

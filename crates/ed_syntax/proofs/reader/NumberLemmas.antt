@@ -16,7 +16,7 @@ abbrev pub IsDigit : ℕ → Type 0
 IsDigit b = is_digit b ≡ true
 
 -- as many digits as a number may have
-abbrev is_few : ℕ → Bool
+abbrev pub is_few : ℕ → Bool
 is_few len = nat_le 1 len && nat_le len 9
 
 number-some : (bytes : List ℕ) (len : ℕ) → prefix_len is_digit bytes ≡ len → is_few len ≡ true → number bytes ≡ Some (value_of (take len bytes), drop len bytes)
@@ -25,7 +25,7 @@ number-some bytes len counted few =
     let read : number bytes ≡ Some (value_of (take (prefix_len is_digit bytes) bytes), drop (prefix_len is_digit bytes) bytes) = rw (enough, number) refl in
     read ∙ ap (λ n. Some (value_of (take n bytes), drop n bytes)) counted
 
-number-none : (bytes : List ℕ) → is_few (prefix_len is_digit bytes) ≡ false → number bytes ≡ None
+pub number-none : (bytes : List ℕ) → is_few (prefix_len is_digit bytes) ≡ false → number bytes ≡ None
 number-none bytes few = rw (few, number) refl
 
 -- no digit stands after the digits in front
@@ -40,7 +40,7 @@ after_digits (b ∷ bytes) =
     (cases_Bool (is_digit b))
 
 -- the digits in front spell a number
-number-spelled : (bytes : List ℕ) (len : ℕ) → prefix_len is_digit bytes ≡ len → is_few len ≡ true → SpellsNumber bytes (drop len bytes) (value_of (take len bytes))
+pub number-spelled : (bytes : List ℕ) (len : ℕ) → prefix_len is_digit bytes ≡ len → is_few len ≡ true → SpellsNumber bytes (drop len bytes) (value_of (take len bytes))
 number-spelled bytes len counted few =
     let parts = and_parts (nat_le 1 len) (nat_le len 9) few in
     let within : len ≤ length bytes = omega (arith, counted, prefix_len-le-length is_digit bytes) in
