@@ -62,7 +62,7 @@ module _ (patterns names : List Choice) where
   within-widen one other h q = (are-union patterns one.patterns other.patterns h.0 q.0, are-union names one.names other.names h.1 q.1)
 
   abbrev These : Property
-  These set paths _ _ _ = (are_choices set patterns ≡ true) × (are_choices paths names ≡ true)
+  These set paths _ _ = (are_choices set patterns ≡ true) × (are_choices paths names ≡ true)
 
   keeps : (start : State) → Kept (Within patterns names) (Has patterns) (Has names) (Unit {0}) start
   unfolding mark_lost

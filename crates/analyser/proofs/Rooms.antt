@@ -21,7 +21,8 @@ use Rattle.ed_rules.specs.declared.state.State.{State}
 use Rattle.ed_rules.specs.Choices.{Choice, order_of, has_choice, union, are_choices}
 use Rattle.ed_rules.specs.Marks.{is_sure, both_sure}
 use Rattle.ed_rules.specs.Texts.{is_member, are_members, both_texts}
-use Rattle.ed_rules.specs.Order.{old_of_both, old_has_of_both, united, join, widen, CoversOld, Covers}
+use Rattle.ed_rules.specs.KnownMatches.{old_has_of_both}
+use Rattle.ed_rules.specs.Order.{old_of_both, united, join, widen, CoversOld, Covers}
 use Rattle.ed_rules.proofs.Choosing.{choice-itself, same-choices}
 use Rattle.ed_rules.proofs.Texting.{member-passes, members-both, members-both_other}
 use Rattle.cert_check.specs.checker.Covering.{zone_covers, allows, are_among, old_covers, old_has_covers, covers}
@@ -373,11 +374,11 @@ state_room patterns names texts s =
     total_room s.zone + (sure_room 26 s.marks + (lacking patterns s.patterns
     + ((flag_room s.replacements.none + (flag_room s.replacements.plain + flag_room s.replacements.split)) + (lacking names s.names
     + ((flag_room s.changed.no + flag_room s.changed.yes) + ((flag_room s.undo.nothing + (flag_room s.undo.same + old_room s.undo.was))
-    + (length s.has + old_has_room texts s.undo.was s.old_has)))))))
+    + (length s.matches.has + old_has_room texts s.undo.was s.matches.old_has)))))))
 
 module _ (patterns names : List Choice) (texts : List (List ℕ)) where
   falls-united : (one other : State) (zone : Bounds) → HasZones one → HasZones other →
-      are_choices other.patterns patterns ≡ true → are_choices other.names names ≡ true → are_members one.old_has texts ≡ true →
+      are_choices other.patterns patterns ≡ true → are_choices other.names names ≡ true → are_members one.matches.old_has texts ≡ true →
       IsZone zone → Covers (united one other zone) one → Covers (united one other zone) other →
       Falls (covers one other) (state_room patterns names texts (united one other zone)) (state_room patterns names texts one)
   unfolding covers
@@ -394,11 +395,11 @@ module _ (patterns names : List Choice) (texts : List (List ℕ)) where
       (falls-and _ _ _ _ _ _ (falls-flag one.changed.no other.changed.no) (falls-flag one.changed.yes other.changed.yes)) (
       falls-and _ _ _ _ _ _ (falls-and _ _ _ _ _ _ (falls-flag one.undo.nothing other.undo.nothing) (
       falls-and _ _ _ _ _ _ (falls-flag one.undo.same other.undo.same) (falls-old one.undo.was other.undo.was h.old k.old c.was d.was)))
-      (falls-and _ _ _ _ _ _ (falls-has one.has other.has)
-      (falls-old_has texts one.undo.was other.undo.was one.old_has other.old_has o))))))))
+      (falls-and _ _ _ _ _ _ (falls-has one.matches.has other.matches.has)
+      (falls-old_has texts one.undo.was other.undo.was one.matches.old_has other.matches.old_has o))))))))
 
   falls-join : Laws → (one other : State) → HasZones one → HasZones other → are_choices other.patterns patterns ≡ true →
-      are_choices other.names names ≡ true → are_members one.old_has texts ≡ true →
+      are_choices other.names names ≡ true → are_members one.matches.old_has texts ≡ true →
       Falls (covers one other) (state_room patterns names texts (join one other)) (state_room patterns names texts one)
   unfolding join
   falls-join l one other h k p n o =
@@ -406,7 +407,7 @@ module _ (patterns names : List Choice) (texts : List (List ℕ)) where
       (l.joined_other one other)
 
   falls-widen : Laws → (one other : State) → HasZones one → HasZones other → are_choices other.patterns patterns ≡ true →
-      are_choices other.names names ≡ true → are_members one.old_has texts ≡ true →
+      are_choices other.names names ≡ true → are_members one.matches.old_has texts ≡ true →
       Falls (covers one other) (state_room patterns names texts (widen one other)) (state_room patterns names texts one)
   unfolding widen
   falls-widen l one other h k p n o =
@@ -414,7 +415,7 @@ module _ (patterns names : List Choice) (texts : List (List ℕ)) where
       (l.widened one other) (l.widened_other one other)
 
   pub falls-next : Laws → (before : ℕ) (one other : State) → HasZones one → HasZones other →
-      are_choices other.patterns patterns ≡ true → are_choices other.names names ≡ true → are_members one.old_has texts ≡ true →
+      are_choices other.patterns patterns ≡ true → are_choices other.names names ≡ true → are_members one.matches.old_has texts ≡ true →
       Falls (covers one other) (state_room patterns names texts (next_invariant before one other)) (state_room patterns names texts one)
   falls-next l before one other h k p n o =
       either (λ (u : State). Falls (covers one other) (state_room patterns names texts u) (state_room patterns names texts one))

@@ -1,17 +1,19 @@
 -- What is known is formed, as far as it is told: it can be written down.
-use Rattle.std.proofs.Common.{◌≡◌, ℕ, zero, suc, Bool, true, false, List, [], ◌∷◌, Option, None, Some, Result, Ok, Err, refl, sym, ap, subst}
+use Rattle.std.proofs.Common.{◌≡◌, ℕ, zero, suc, Bool, true, false, List, [], ◌∷◌, Option, None, Some, Result, Ok, Err, refl, ◌∙◌, sym, ap, subst}
 use Rattle.std.specs.Prelude.{nat_lt, IfOk}
 use Rattle.std.specs.List.{All}
 use Rattle.std.proofs.lemmas.List.Elements.{All-nil, All-cons, All-head, All-tail}
 use Rattle.ed_base.specs.declared.fault.Fault.{Fault}
 use Rattle.ed_syntax.specs.Commands.{Verb, Command, Step, Script}
 use Rattle.ed_syntax.specs.meaning.Verbs.{is_global, ends_run}
+use Rattle.ed_rules.specs.declared.known_matches.Matches.{Matches}
+use Rattle.ed_rules.specs.declared.state.Old.{Old}
 use Rattle.ed_rules.specs.declared.state.State.{State}
 use Rattle.ed_rules.specs.Choices.{Choice}
-use Rattle.ed_rules.specs.Texts.{both_texts}
 use Rattle.ed_rules.specs.Matched.{watched}
 use Rattle.ed_rules.specs.States as states
-use Rattle.ed_rules.specs.Order.{join, widen, old_has_of_both}
+use Rattle.ed_rules.specs.KnownMatches.{no_matches, matches_of_both}
+use Rattle.ed_rules.specs.Order.{join, widen}
 use Rattle.ed_rules.specs.Rules.{step}
 use Rattle.ed_rules.specs.Globals.{body_entry, loop_end}
 use Rattle.ed_rules.specs.Formed.{ChoiceIsBytes, IsFormed, IsEnded, TextsAreFormed, MatchesAreFormed, VerbIsBytes, TextsAreBytes}
@@ -75,7 +77,7 @@ ended-told w s h = ended-told_by w.version s h
 
 -- version one says nothing of matches; what version two says is formed
 abbrev pub SaysAsTold : Version → State → Type 0
-SaysAsTold version.One s = (s.has ≡ []) × (s.old_has ≡ [])
+SaysAsTold version.One s = s.matches ≡ no_matches
 SaysAsTold version.Two s = MatchesAreFormed s
 
 -- what is asked of a result before it is told
@@ -88,26 +90,30 @@ WatchIsFormed version.One watch = Unit {0}
 WatchIsFormed version.Two watch = TextsAreFormed watch
 
 says-told : (v : Version) (s : State) → MayBeTold v s → SaysAsTold v (told_by v s)
-says-told version.One s h = (refl, refl)
+says-told version.One s h = refl
 says-told version.Two s h = h
 
 may-told : (v : Version) (s : State) → SaysAsTold v s → MayBeTold v s
 may-told version.One s h = tt
 may-told version.Two s h = h
 
-old-none : {A B : Type 0} (one : Option A) (other : Option B) (has other_has : List (List ℕ)) → has ≡ [] → other_has ≡ [] → old_has_of_both one other has other_has ≡ []
-old-none None other has other_has e f = f
-old-none (Some a) None has other_has e f = e
-old-none (Some a) (Some b) has other_has e f = ap (λ (set : List (List ℕ)). both_texts set other_has) e
+none-both : (one other : Option Old) → matches_of_both one other no_matches no_matches ≡ no_matches
+none-both None other = refl
+none-both (Some a) None = refl
+none-both (Some a) (Some b) = refl
+
+none-of : (one other : Option Old) (m n : Matches) → m ≡ no_matches → n ≡ no_matches → matches_of_both one other m n ≡ no_matches
+none-of one other m n e f =
+    ap (λ (k : Matches). matches_of_both one other k n) e ∙ ap (λ (k : Matches). matches_of_both one other no_matches k) f ∙ none-both one other
 
 says-join : MatchLaws → (v : Version) (one other : State) → SaysAsTold v one → SaysAsTold v other → SaysAsTold v (join one other)
 unfolding join
-says-join k version.One one other h q = (ap (λ (set : List (List ℕ)). both_texts set other.has) h.0, old-none one.undo.was other.undo.was one.old_has other.old_has h.1 q.1)
+says-join k version.One one other h q = none-of one.undo.was other.undo.was one.matches other.matches h q
 says-join k version.Two one other h q = k.join one other h q
 
 says-widen : MatchLaws → (v : Version) (one other : State) → SaysAsTold v one → SaysAsTold v other → SaysAsTold v (widen one other)
 unfolding widen
-says-widen k version.One one other h q = (ap (λ (set : List (List ℕ)). both_texts set other.has) h.0, old-none one.undo.was other.undo.was one.old_has other.old_has h.1 q.1)
+says-widen k version.One one other h q = none-of one.undo.was other.undo.was one.matches other.matches h q
 says-widen k version.Two one other h q = k.widen one other h q
 
 may-step : MatchLaws → (v : Version) (watch : List (List ℕ)) (c : Command) (s : State) → WatchIsFormed v watch → SaysAsTold v s → IfOk (step watch c s) (MayBeTold v)
@@ -242,7 +248,7 @@ sight-version script (Some has) = refl
 
 begun-says : MatchLaws → (has : Option (List (List ℕ))) (path : Choice) (min : ℕ) (max : Option ℕ) → TextsAreFormed (stated_of has) → SaysAsTold (version_of has) (states.start path min max (stated_of has))
 unfolding states.start
-begun-says k None path min max h = (refl, refl)
+begun-says k None path min max h = refl
 begun-says k (Some has) path min max h = k.start path min max has h
 
 watch-formed : MatchLaws → (script : Script) (has : Option (List (List ℕ))) → All StepIsBytes script.steps → TextsAreFormed (stated_of has) →

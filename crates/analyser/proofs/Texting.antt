@@ -10,15 +10,17 @@ use Rattle.std.proofs.lemmas.Bool.{le-leb, ltb-false, and_from}
 use Rattle.std.proofs.lemmas.List.Elements.{All-nil, All-cons, All-head, All-tail}
 use Rattle.zones.specs.Known.{least, greatest}
 use Rattle.ed_syntax.specs.Commands.{Script}
+use Rattle.ed_rules.specs.declared.known_matches.Matches.{Matches}
 use Rattle.ed_rules.specs.declared.state.Old.{Old}
 use Rattle.ed_rules.specs.declared.state.State.{State}
 use Rattle.ed_rules.specs.Choices.{Choice, order_of}
+use Rattle.ed_rules.specs.KnownMatches.{no_matches}
 use Rattle.ed_rules.specs.Formed.{ChoiceIsBytes, TextsAreFormed, IsOfLines, is_rising}
 use Rattle.ed_rules.specs.LineBounds.{IsAtMost, is_few, is_limit, is_within}
 use Rattle.cert_check.specs.declared.certificate.Version.{Version}
 use Rattle.cert_check.specs.declared.certificate.Version.TheVariants as version
 use Rattle.cert_check.specs.Certificates.{Looped, Note, Certificate}
-use Rattle.cert_check.specs.text.HasText.{IsSaidIn, OldIsSaidIn, StateHasText, LoopedHasText, NoteHasText, HasText}
+use Rattle.cert_check.specs.text.HasText.{IsSaidIn, OldIsSaidIn, AreSaidIn, StateHasText, LoopedHasText, NoteHasText, HasText}
 use Rattle.analyser.specs.declared.analysis.Start.{Start}
 use Rattle.analyser.specs.Following.{version_of, stated_of}
 use Rattle.analyser.specs.Analysis.{most_lines, low_of, high_of, IsCertificate}
@@ -59,17 +61,23 @@ rising (p ∷ q ∷ paths) h =
 
 -- WHAT IS SAID OF MATCHES
 
-old-of_one : (was : Option Old) (old_has : List (List ℕ)) → old_has ≡ [] → OldIsSaidIn version.One was old_has
-old-of_one None old_has h = h
-old-of_one (Some old) old_has h = h
+none-said : (was : Option Old) → AreSaidIn version.One was no_matches
+none-said None = (refl, refl)
+none-said (Some old) = (refl, refl)
 
-old-of_two : (was : Option Old) (old_has : List (List ℕ)) → TextsAreFormed old_has → IsOfLines was old_has → OldIsSaidIn version.Two was old_has
-old-of_two None old_has h lines = lines
-old-of_two (Some old) old_has h lines = h
+old-said : (was : Option Old) (has : List (List ℕ)) → TextsAreFormed has → IsOfLines was has → OldIsSaidIn version.Two was has
+old-said None has h lines = lines
+old-said (Some old) has h lines = h
 
 text-of_state : (v : Version) (s : State) → Holds v s → StateHasText v s
-text-of_state version.One s h = record { formed = h.formed.formed; has = h.says.0; old_has = old-of_one s.undo.was s.old_has h.says.1 }
-text-of_state version.Two s h = record { formed = h.formed.formed; has = h.says.has; old_has = old-of_two s.undo.was s.old_has h.says.old_has h.says.of_lines }
+text-of_state version.One s h = record {
+  formed = h.formed.formed;
+  matches = subst (λ (m : Matches). AreSaidIn version.One s.undo.was m) (sym h.says) (none-said s.undo.was);
+}
+text-of_state version.Two s h = record {
+  formed = h.formed.formed;
+  matches = (h.says.has, old-said s.undo.was s.matches.old_has h.says.old_has h.says.of_lines);
+}
 
 texts-of_states : (v : Version) (ss : List State) → All (Holds v) ss → All (StateHasText v) ss
 texts-of_states v [] h = All-nil (StateHasText v)

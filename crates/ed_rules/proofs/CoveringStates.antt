@@ -11,7 +11,8 @@ use Rattle.ed_rules.specs.declared.state.Old.{Old}
 use Rattle.ed_rules.specs.declared.state.State.{State}
 use Rattle.ed_rules.specs.Choices.{Choice, has_choice, union, are_choices}
 use Rattle.ed_rules.specs.Marks.{is_sure, both_sure}
-use Rattle.ed_rules.specs.Order.{old_of_both, old_has_of_both, united, join, widen, CoversOld, CoversOldHas, Covers}
+use Rattle.ed_rules.specs.KnownMatches.{old_has_of_both, CoversOldHas}
+use Rattle.ed_rules.specs.Order.{old_of_both, united, join, widen, CoversOld, Covers}
 use Rattle.ed_rules.proofs.Texting.{members-same, members-through, members-both, members-both_other}
 use Rattle.ed_rules.proofs.Choosing.{has_choice-all, has-union, has-union_other, choices-more, choices-same}
 
@@ -94,8 +95,7 @@ Covers-itself s = record {
   nothing = λ e. e;
   same = λ e. e;
   was = old-same s.undo.was;
-  matched = members-same s.has;
-  old_matched = matched-same s.undo.was s.old_has;
+  matches = record { has = members-same s.matches.has; old_has = matched-same s.undo.was s.matches.old_has };
 }
 
 pub Covers-on : (a b c : State) → Covers a b → Covers b c → Covers a c
@@ -112,8 +112,11 @@ Covers-on a b c h k = record {
   nothing = λ e. h.nothing (k.nothing e);
   same = λ e. h.same (k.same e);
   was = old-through a.undo.was b.undo.was c.undo.was h.was k.was;
-  matched = members-through a.has b.has c.has h.matched k.matched;
-  old_matched = matched-through b.undo.was c.undo.was a.old_has b.old_has c.old_has k.was h.old_matched k.old_matched;
+  matches = record {
+    has = members-through a.matches.has b.matches.has c.matches.has h.matches.has k.matches.has;
+    old_has =
+        matched-through b.undo.was c.undo.was a.matches.old_has b.matches.old_has c.matches.old_has k.was h.matches.old_has k.matches.old_has;
+  };
 }
 
 united-covers : (one other : State) (zone : Bounds) → zones.Covers zone one.zone → Covers (united one other zone) one
@@ -130,8 +133,10 @@ united-covers one other zone z = record {
   nothing = λ e. or_left one.undo.nothing other.undo.nothing e;
   same = λ e. or_left one.undo.same other.undo.same e;
   was = old-both one.undo.was other.undo.was;
-  matched = members-both one.has other.has;
-  old_matched = matched-both one.undo.was other.undo.was one.old_has other.old_has;
+  matches = record {
+    has = members-both one.matches.has other.matches.has;
+    old_has = matched-both one.undo.was other.undo.was one.matches.old_has other.matches.old_has;
+  };
 }
 
 united-covers_other : (one other : State) (zone : Bounds) → zones.Covers zone other.zone → Covers (united one other zone) other
@@ -148,8 +153,10 @@ united-covers_other one other zone z = record {
   nothing = λ e. or_right one.undo.nothing other.undo.nothing e;
   same = λ e. or_right one.undo.same other.undo.same e;
   was = old-both_other one.undo.was other.undo.was;
-  matched = members-both_other one.has other.has;
-  old_matched = matched-both_other one.undo.was other.undo.was one.old_has other.old_has;
+  matches = record {
+    has = members-both_other one.matches.has other.matches.has;
+    old_has = matched-both_other one.undo.was other.undo.was one.matches.old_has other.matches.old_has;
+  };
 }
 
 pub Covers-join : (one other : State) → Covers (join one other) one

@@ -51,7 +51,7 @@ found x k zone =
 -- some line is known to match the pattern: it is one of those of which that is known, or has a match in every line, and some line is there
 abbrev pub is_found : State → Choice → Bool
 is_found s None = false
-is_found s (Some text) = is_member s.has text || (known s.zone name.zero last_line (negsuc 0) && is_always (Some text))
+is_found s (Some text) = is_member s.matches.has text || (known s.zone name.zero last_line (negsuc 0) && is_always (Some text))
 
 -- a search: some line is known to match each pattern that may be looked for
 abbrev pub searched : ℕ → Option (List ℕ) → ℤ → State → Result State Fault

@@ -62,9 +62,9 @@ IsOfLines (Some old) old_has = Unit {0}
 
 -- what a state says of matches
 pub record MatchesAreFormed (s : State) : Type 0 where
-  pub has : TextsAreFormed s.has
-  pub old_has : TextsAreFormed s.old_has
-  pub of_lines : IsOfLines s.undo.was s.old_has
+  pub has : TextsAreFormed s.matches.has
+  pub old_has : TextsAreFormed s.matches.old_has
+  pub of_lines : IsOfLines s.undo.was s.matches.old_has
 
 pub record StateIsFormed (s : State) : Type 0 where
   pub zone : ZoneIsFormed s.marks s.zone

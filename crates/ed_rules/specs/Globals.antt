@@ -11,6 +11,7 @@ use Rattle.ed_syntax.specs.Commands as ed
 use Rattle.ed_syntax.specs.Commands.{Verb, Command, Step}
 use Rattle.ed_syntax.specs.declared.command.Sense.TheVariants as sense
 use Rattle.ed_syntax.specs.meaning.Verbs.{may_alter}
+use Rattle.ed_rules.specs.declared.known_matches.Matches.{Matches}
 use Rattle.ed_rules.specs.declared.state.Old.{Old}
 use Rattle.ed_rules.specs.declared.state.Undo.{Undo}
 use Rattle.ed_rules.specs.declared.state.State.{State}
@@ -34,7 +35,8 @@ taken_matches _ has = has
 
 -- the state in which the list is run for a line that was taken
 abbrev pub body_entry : Verb → (invariant : State) → State
-body_entry verb invariant = finished (record invariant { zone = line_taken invariant.zone; has = taken_matches verb invariant.has })
+body_entry verb invariant =
+    finished (record invariant { zone = line_taken invariant.zone; matches = record invariant.matches { has = taken_matches verb invariant.matches.has } })
 
 -- a command of the list may change the buffer
 abbrev pub list_may_alter : List Command → Bool
@@ -47,8 +49,12 @@ old_if false before = None
 
 -- what some of its lines matched
 abbrev pub old_has_if : Bool → (before : State) → List (List ℕ)
-old_has_if true before = before.has
+old_has_if true before = before.matches.has
 old_has_if false before = []
+
+-- what is known of matches once undo has these lines
+abbrev pub with_old : Bool → (before : State) → Matches → Matches
+with_old may before m = record m { old_has = old_has_if may before }
 
 -- what undo may find after a global command: the buffer as it is, or the one before the command where its list may change it
 abbrev pub undo_of_global : List Command → (before : State) → Undo
@@ -57,4 +63,4 @@ undo_of_global list before = record { nothing = false; same = true; was = old_if
 -- the state after a global command that began in the state `before`
 abbrev pub loop_end : Step → (before invariant : State) → State
 loop_end x before invariant =
-    finished (record invariant { undo = undo_of_global x.list before; old_has = old_has_if (list_may_alter x.list) before })
+    finished (record invariant { undo = undo_of_global x.list before; matches = with_old (list_may_alter x.list) before invariant.matches })

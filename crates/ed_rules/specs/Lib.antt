@@ -2,6 +2,7 @@
 pub mod Choices
 pub mod Marks
 pub mod Texts
+pub mod KnownMatches
 pub mod Matched
 pub mod States
 pub mod Formed

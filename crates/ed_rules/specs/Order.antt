@@ -1,5 +1,5 @@
 -- Joining, widening and comparing states: the joined state says what both say, and one covers another that says no less.
-use Rattle.std.specs.Prelude.{◌≡◌, ℕ, true, Bool, ◌||◌, List, Option, Some, None}
+use Rattle.std.specs.Prelude.{◌≡◌, true, Bool, ◌||◌, Option, Some, None}
 use Rattle.zones.specs.Zone as zones
 use Rattle.zones.specs.Zone.{Bounds}
 use Rattle.zones.specs.Steps.{join_of, widening_of}
@@ -10,7 +10,7 @@ use Rattle.ed_rules.specs.declared.state.Undo.{Undo}
 use Rattle.ed_rules.specs.declared.state.State.{State}
 use Rattle.ed_rules.specs.Choices.{union, are_choices}
 use Rattle.ed_rules.specs.Marks.{both_sure, AreAmong}
-use Rattle.ed_rules.specs.Texts.{are_members, both_texts}
+use Rattle.ed_rules.specs.KnownMatches.{matches_of_both, CoversMatches}
 
 -- where one side has no earlier buffer, the other's stands
 abbrev pub old_of_both : Option Old → Option Old → Option Old
@@ -31,12 +31,6 @@ undo_of_both one other = record {
   was = old_of_both one.was other.was;
 }
 
--- what some of the earlier lines match; where one side has no earlier buffer, the other's stands
-abbrev pub old_has_of_both : {A B : Type 0} → Option A → Option B → (has other : List (List ℕ)) → List (List ℕ)
-old_has_of_both None was has other = other
-old_has_of_both (Some a) None has other = has
-old_has_of_both (Some a) (Some b) has other = both_texts has other
-
 -- what both states allow, over a zone
 abbrev pub united : State → State → Bounds → State
 united one other zone = record {
@@ -47,8 +41,7 @@ united one other zone = record {
   names = union one.names other.names;
   changed = changed_of_both one.changed other.changed;
   undo = undo_of_both one.undo other.undo;
-  has = both_texts one.has other.has;
-  old_has = old_has_of_both one.undo.was other.undo.was one.old_has other.old_has;
+  matches = matches_of_both one.undo.was other.undo.was one.matches other.matches;
 }
 
 -- the strongest state that says what both say
@@ -68,11 +61,6 @@ CoversOld weak None = Unit {0}
 CoversOld None (Some strong) = ⊥
 CoversOld (Some weak) (Some strong) = zones.Covers weak.zone strong.zone × AreAmong weak.marks strong.marks
 
--- where the strong one has an earlier buffer, what its lines match is among what those of the strong one do
-abbrev pub CoversOldHas : {A : Type 0} → Option A → (weak strong : List (List ℕ)) → Type 0
-CoversOldHas None weak strong = Unit {0}
-CoversOldHas (Some old) weak strong = are_members weak strong ≡ true
-
 -- one state covers another: all that it says the other says too
 pub record Covers (weak strong : State) : Type 0 where
   pub zone : zones.Covers weak.zone strong.zone
@@ -87,5 +75,4 @@ pub record Covers (weak strong : State) : Type 0 where
   pub nothing : Allows weak.undo.nothing strong.undo.nothing
   pub same : Allows weak.undo.same strong.undo.same
   pub was : CoversOld weak.undo.was strong.undo.was
-  pub matched : are_members weak.has strong.has ≡ true
-  pub old_matched : CoversOldHas strong.undo.was weak.old_has strong.old_has
+  pub matches : CoversMatches strong.undo.was weak.matches strong.matches

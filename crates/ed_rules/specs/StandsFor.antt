@@ -11,6 +11,7 @@ use Rattle.ed_syntax.specs.declared.replacement.Part.TheVariants.{Literal, Split
 use Rattle.ed_syntax.specs.meaning.CommandLaws.{AreWhole, OfPast}
 use Rattle.ed_syntax.specs.meaning.States as editor
 use Rattle.ed_syntax.specs.meaning.States.{Past, Nothing, Same, Was, Kept}
+use Rattle.ed_rules.specs.declared.known_matches.Matches.{Matches}
 use Rattle.ed_rules.specs.declared.state.Old.{Old}
 use Rattle.ed_rules.specs.declared.state.Changed.{Changed}
 use Rattle.ed_rules.specs.declared.state.Replacements.{Replacements}
@@ -86,11 +87,14 @@ KeepsLettered past = OfPast AreLettered past
 abbrev pub KeepsMatched : (patterns : List (List ℕ)) → Past → Type 0
 KeepsMatched patterns past = OfPast (AreMatched patterns) past
 
+-- what is known of matches is true of these lines, and of those that undo would bring back
+abbrev pub MatchesHold : Matches → List Line → Past → Type 0
+MatchesHold m lines past = AreMatched m.has lines × KeepsMatched m.old_has past
+
 -- a state stands for an editor's of which all that it says is true, for some numbers of the names that it says nothing of
 pub record StandsFor (s : State) (e : editor.State) : Type 0 where
   pub numbers : Numbers
   pub stands : StandsBy s e numbers
   pub lines : AreLettered e.lines
   pub kept : KeepsLettered e.past
-  pub matched : AreMatched s.has e.lines
-  pub kept_matched : KeepsMatched s.old_has e.past
+  pub matches : MatchesHold s.matches e.lines e.past

@@ -10,6 +10,7 @@ use Rattle.ed_rules.specs.declared.state.Undo.{Undo}
 use Rattle.ed_rules.specs.declared.state.State.{State}
 use Rattle.ed_rules.specs.Choices.{Choice}
 use Rattle.ed_rules.specs.Marks.{no_marks}
+use Rattle.ed_rules.specs.KnownMatches.{matches_of}
 
 -- surely unchanged, and surely changed
 abbrev pub unchanged : Changed
@@ -48,6 +49,5 @@ start path min max has = record {
   names = path ∷ [];
   changed = unchanged;
   undo = nothing_to_undo;
-  has = has;
-  old_has = [];
+  matches = matches_of has;
 }

@@ -128,7 +128,7 @@ impl State {
     fn is_found(&self, pattern: &Pattern) -> bool
         ensures value { result ≡ is_found self.now (Some pattern.now) }
     {
-        self.has.has(pattern.text())
+        self.matches.has.has(pattern.text())
             || (self.zone.is_known(Name::ZERO, Name::LAST_LINE, -1) && matches_always(pattern))
     }
 
@@ -139,7 +139,7 @@ impl State {
         let Some(text) = choice else {
             return Ok(false);
         };
-        if self.has.has(text.as_slice()) {
+        if self.matches.has.has(text.as_slice()) {
             return Ok(true);
         }
         if !self.zone.is_known(Name::ZERO, Name::LAST_LINE, -1) {

@@ -87,7 +87,7 @@ pub fn body_entry(command: &Command, invariant: &State) -> Result<State, AllocEr
     globals_are_sound();
     let mut entry = invariant.try_copy()?;
     take_line(&mut entry.zone);
-    gain_taken(&command.verb, &mut entry.has)?;
+    gain_taken(&command.verb, &mut entry.matches.has)?;
     end(&mut entry.zone, &entry.marks);
     Ok(entry)
 }
@@ -102,10 +102,10 @@ pub fn loop_end(command: &Command, before: &State, invariant: &State) -> Result<
     globals_are_sound();
     let mut after = invariant.try_copy()?;
     let was = if list_may_alter(command) {
-        after.old_has.try_copy_from(&before.has)?;
+        after.matches.old_has.try_copy_from(&before.matches.has)?;
         Some(before.old())
     } else {
-        after.old_has = Texts::none(before.patterns.allocator());
+        after.matches.old_has = Texts::none(before.patterns.allocator());
         None
     };
     after.undo = Undo {

@@ -5,10 +5,10 @@ ghost use Rattle.ed_rules.specs.Order.{Covers};
 
 use crate::choices::Choices;
 use crate::kept_undo::{KeptUndo, kept_old_covers};
+use crate::known_matches::Matches;
 use crate::marks::Marks;
 use crate::order::allows;
 use crate::state::{Changed, Replacements, State};
-use crate::texts::Texts;
 use std::alloc::AllocError;
 use std::marker::Model;
 use zones::{KeptZone, Zone};
@@ -24,8 +24,7 @@ pub struct KeptState {
     names: Choices,
     changed: Changed,
     undo: KeptUndo,
-    has: Texts,
-    old_has: Texts,
+    matches: Matches,
 }
 
 impl Model for KeptState {
@@ -41,8 +40,7 @@ impl Model for KeptState {
       names = kept.names;
       changed = kept.changed;
       undo = kept.undo;
-      has = kept.has;
-      old_has = kept.old_has;
+      matches = kept.matches;
     } };
 }
 
@@ -60,8 +58,7 @@ impl State {
             names: self.names.try_copy()?,
             changed: self.changed,
             undo: KeptUndo::of(&self.undo, alloc)?,
-            has: self.has.try_copy()?,
-            old_has: self.old_has.try_copy()?,
+            matches: self.matches.try_copy()?,
         })
     }
 }
@@ -76,8 +73,7 @@ impl KeptState {
         names: Choices,
         changed: Changed,
         undo: KeptUndo,
-        has: Texts,
-        old_has: Texts,
+        matches: Matches,
     ) -> KeptState
         ensures value { result ≡ record {
           zone = zone;
@@ -87,8 +83,7 @@ impl KeptState {
           names = names;
           changed = changed;
           undo = undo;
-          has = has;
-          old_has = old_has;
+          matches = matches;
         } }
     {
         KeptState {
@@ -99,8 +94,7 @@ impl KeptState {
             names,
             changed,
             undo,
-            has,
-            old_has,
+            matches,
         }
     }
 
@@ -116,8 +110,7 @@ impl KeptState {
             names: self.names.try_copy()?,
             changed: self.changed,
             undo: self.undo.undo(),
-            has: self.has.try_copy()?,
-            old_has: self.old_has.try_copy()?,
+            matches: self.matches.try_copy()?,
         })
     }
 
@@ -128,8 +121,7 @@ impl KeptState {
     {
         state.patterns.try_copy_from(&self.patterns)?;
         state.names.try_copy_from(&self.names)?;
-        state.has.try_copy_from(&self.has)?;
-        state.old_has.try_copy_from(&self.old_has)?;
+        state.matches.try_copy_from(&self.matches)?;
         self.zone.restore(&mut state.zone);
         state.marks = self.marks;
         state.replacements = self.replacements;
@@ -154,8 +146,7 @@ impl KeptState {
             && allows(self.undo.nothing(), other.undo.nothing)
             && allows(self.undo.same(), other.undo.same)
             && kept_old_covers(self.undo.was(), &other.undo.was)
-            && self.has.are_among(&other.has)
-            && (other.undo.was.is_none() || self.old_has.are_among(&other.old_has))
+            && self.matches.covers(&other.matches, &other.undo.was)
     }
 
     /// The bounds on lines. Like each part that is asked for alone, they take no memory.
@@ -207,18 +198,11 @@ impl KeptState {
         self.changed
     }
 
-    /// The patterns that some line surely matches.
-    pub fn has(&self) -> &Texts
-        ensures value { result.now ≡ self.now.has }
+    /// What is known of matches.
+    pub fn matches(&self) -> &Matches
+        ensures value { result.now ≡ self.now.matches }
     {
-        &self.has
-    }
-
-    /// The same of an earlier buffer, which undo may bring back.
-    pub fn old_has(&self) -> &Texts
-        ensures value { result.now ≡ self.now.old_has }
-    {
-        &self.old_has
+        &self.matches
     }
 
     /// What undo may find, as it is kept.

@@ -121,6 +121,6 @@ pub fn matches_stay_formed()
 
 /// Where nothing is known of matches, a search needs what it did in certificates that tell nothing of them.
 pub fn searches_are_as_before()
-    ensures need { (s : State) (c : Choice) (set : List Choice) → s.has ≡ [] →
+    ensures need { (s : State) (c : Choice) (set : List Choice) → s.matches.has ≡ [] →
         list_all (is_found s) (c ∷ set) ≡ (known s.zone name.zero last_line (negsuc 0) && list_all is_always (c ∷ set)) }
 {}

@@ -9,6 +9,7 @@ mod files;
 mod globals;
 mod kept;
 mod kept_undo;
+mod known_matches;
 mod laws;
 mod line_bounds;
 mod line_facts;
@@ -36,6 +37,7 @@ pub use fact_laws::{
 pub use globals::{body_entry, loop_end, loop_start};
 pub use kept::KeptState;
 pub use kept_undo::{KeptOld, KeptUndo};
+pub use known_matches::Matches;
 pub use laws::{
     commands_are_sound, covering_states_is_an_order, exact_commands_are_exact, globals_are_sound,
     matches_stay_formed, needs_are_the_same_whatever_is_watched, searches_are_as_before,

@@ -1,11 +1,12 @@
 //! The rules of what some line matches.
 
-ghost use Rattle.std.specs.Prelude.{◌≡◌, Some, is_some, IfOk};
+ghost use Rattle.std.specs.Prelude.{◌≡◌, Some, IfOk};
 ghost use Rattle.ed_syntax.specs.PublicTypes.{addresses_value, alteration_value};
-ghost use Rattle.ed_rules.specs.Matching.{entering, joining, joining_given, how_surely, kept_unless, matched_by_undo, matched_after, old_matched_by, old_matched_unless, old_matched_after};
-ghost use Rattle.ed_rules.specs.Order.{old_has_of_both};
+ghost use Rattle.ed_rules.specs.Matching.{entering, joining, joining_given, how_surely, matched_after, old_matched_unless, matches_after};
+ghost use Rattle.ed_rules.specs.KnownMatches.{old_has_of_both};
 
-use crate::state::{State, Undo};
+use crate::known_matches::Matches;
+use crate::state::State;
 use crate::texts::Texts;
 use crate::watch::Watch;
 use ed_base::Text;
@@ -66,31 +67,10 @@ fn how_surely(given: &Addresses, lines: Alteration<'_>, zone: &Zone) -> Certaint
     }
 }
 
-fn kept_unless(altered: Certainty, has: &Texts) -> Result<Texts, AllocError>
-    ensures value { IfOk result (λ kept. kept ≡ kept_unless altered has.now) }
-{
-    match altered {
-        Certainty::Never => has.try_copy(),
-        _ => Ok(Texts::none(has.allocator())),
-    }
-}
-
-fn matched_by_undo(undo: &Undo, has: &Texts, old_has: &Texts) -> Result<Texts, AllocError>
-    ensures value { IfOk result (λ known. known ≡
-        matched_by_undo undo.now.same (is_some undo.now.was) has.now old_has.now) }
-{
-    if undo.was.is_none() {
-        has.try_copy()
-    } else if undo.same {
-        has.both(old_has)
-    } else {
-        old_has.try_copy()
-    }
-}
-
 impl State {
-    /// What some line matches after a command whose lines are taken, and which does this to the lines of the buffer.
-    pub(crate) fn matched_after(
+    /// What some line matches after a command whose lines are taken, and which does this to the lines of the buffer. It isn't asked of
+    /// `u`, `e` and `E`.
+    fn matched_after(
         &self,
         watch: &Watch,
         given: &Addresses,
@@ -100,49 +80,66 @@ impl State {
             matched_after watch.now (addresses_value given.now) (alteration_value lines.entry) self.now) }
     {
         match lines {
-            Alteration::Enters(text) => self.has.with_all(&watch.gained(text)?),
+            Alteration::Enters(text) => self.matches.has.with_all(&watch.gained(text)?),
             Alteration::Replaces(text) => watch.gained(text),
-            Alteration::Deletes | Alteration::Rewrites | Alteration::Loads => {
-                Ok(Texts::none(self.has.allocator()))
+            Alteration::Deletes | Alteration::Rewrites => {
+                Ok(Texts::none(self.patterns.allocator()))
             }
-            Alteration::Joins => kept_unless(joining_given(given, &self.zone), &self.has),
-            Alteration::BringsBack => matched_by_undo(&self.undo, &self.has, &self.old_has),
-            Alteration::Never | Alteration::Carries | Alteration::Reads => self.has.try_copy(),
+            Alteration::Joins => match joining_given(given, &self.zone) {
+                Certainty::Never => self.matches.has.try_copy(),
+                _ => Ok(Texts::none(self.patterns.allocator())),
+            },
+            _ => self.matches.has.try_copy(),
         }
     }
 
-    fn old_matched_by(&self, altered: Certainty, start: &State) -> Result<Texts, AllocError>
-        ensures value { IfOk result (λ known. known ≡ old_matched_by altered start.now self.now) }
+    /// What a line of those that undo would bring back matches, where the command began with `start`. In a list undo stays as it is.
+    fn old_matched_unless(
+        &self,
+        listed: bool,
+        altered: Certainty,
+        start: &State,
+    ) -> Result<Texts, AllocError>
+        ensures value { IfOk result (λ known. known ≡ old_matched_unless listed altered start.now self.now) }
     {
         match altered {
-            Certainty::Never => self.old_has.try_copy(),
-            Certainty::Surely => start.has.try_copy(),
+            _ if listed => self.matches.old_has.try_copy(),
+            Certainty::Never => self.matches.old_has.try_copy(),
+            Certainty::Surely => start.matches.has.try_copy(),
             Certainty::Maybe => {
                 if self.undo.was.is_some() {
-                    self.old_has.both(&start.has)
+                    self.matches.old_has.both(&start.matches.has)
                 } else {
-                    start.has.try_copy()
+                    start.matches.has.try_copy()
                 }
             }
         }
     }
 
-    /// What a line of those that undo would bring back matches, after a command that began with `start`.
-    pub(crate) fn old_matched_after(
+    /// What is known of matches after a command that began with `start`, whose lines are taken, and which does this to the lines of
+    /// the buffer.
+    pub(crate) fn matches_after(
         &self,
+        watch: &Watch,
         listed: bool,
         given: &Addresses,
         lines: Alteration<'_>,
         start: &State,
-    ) -> Result<Texts, AllocError>
+    ) -> Result<Matches, AllocError>
         ensures value { IfOk result (λ known. known ≡
-            old_matched_after listed (addresses_value given.now) (alteration_value lines.entry) start.now self.now) }
+            matches_after watch.now listed (addresses_value given.now) (alteration_value lines.entry) start.now self.now) }
     {
         match lines {
-            Alteration::Loads => Ok(Texts::none(self.has.allocator())),
-            Alteration::BringsBack => matched_by_undo(&self.undo, &self.old_has, &self.has),
-            _ if listed => self.old_has.try_copy(),
-            _ => self.old_matched_by(how_surely(given, lines, &self.zone), start),
+            Alteration::Loads => Ok(Matches::none(self.patterns.allocator())),
+            Alteration::BringsBack => self.matches.by_undo(&self.undo),
+            _ => Ok(Matches {
+                has: self.matched_after(watch, given, lines)?,
+                old_has: self.old_matched_unless(
+                    listed,
+                    how_surely(given, lines, &self.zone),
+                    start,
+                )?,
+            }),
         }
     }
 }

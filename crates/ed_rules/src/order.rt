@@ -3,11 +3,10 @@
 ghost use Rattle.std.specs.Prelude.{◌≡◌, IfOk, IsTrue, ◌↔◌};
 ghost use Rattle.ed_syntax.specs.meaning.States as editor;
 ghost use Rattle.ed_rules.specs.StandsFor.{StandsFor};
-ghost use Rattle.ed_rules.specs.Order.{old_of_both, old_has_of_both, changed_of_both, replacements_of_both, undo_of_both, united, join, widen, Allows, CoversOld, CoversOldHas, Covers};
+ghost use Rattle.ed_rules.specs.Order.{old_of_both, changed_of_both, replacements_of_both, undo_of_both, united, join, widen, Allows, CoversOld, Covers};
 
 use crate::laws::covering_states_is_an_order;
 use crate::state::{Changed, Old, Replacements, State, Undo};
-use crate::texts::Texts;
 use std::alloc::AllocError;
 use zones::Zone;
 
@@ -66,13 +65,9 @@ impl State {
             names: self.names.union(&other.names)?,
             changed: changed_of_both(&self.changed, &other.changed),
             undo: undo_of_both(&self.undo, &other.undo),
-            has: self.has.both(&other.has)?,
-            old_has: old_has_of_both(
-                &self.undo.was,
-                &other.undo.was,
-                &self.old_has,
-                &other.old_has,
-            )?,
+            matches: self
+                .matches
+                .both(&self.undo.was, &other.matches, &other.undo.was)?,
         })
     }
 
@@ -92,8 +87,7 @@ impl State {
             && allows(self.undo.nothing, other.undo.nothing)
             && allows(self.undo.same, other.undo.same)
             && old_covers(&self.undo.was, &other.undo.was)
-            && self.has.are_among(&other.has)
-            && (other.undo.was.is_none() || self.old_has.are_among(&other.old_has))
+            && self.matches.covers(&other.matches, &other.undo.was)
     }
 }
 
@@ -142,22 +136,6 @@ pub(crate) fn undo_of_both(one: &Undo, other: &Undo) -> Undo
         nothing: one.nothing || other.nothing,
         same: one.same || other.same,
         was: old_of_both(&one.was, &other.was),
-    }
-}
-
-/// What some line of an earlier buffer matches, by both.
-pub(crate) fn old_has_of_both(
-    one: &Option<Old>,
-    other: &Option<Old>,
-    has: &Texts,
-    other_has: &Texts,
-) -> Result<Texts, AllocError>
-    ensures value { IfOk result (λ both. both ≡ old_has_of_both one.now other.now has.now other_has.now) }
-{
-    match (one, other) {
-        (None, _) => other_has.try_copy(),
-        (Some(_), None) => has.try_copy(),
-        (Some(_), Some(_)) => has.both(other_has),
     }
 }
 

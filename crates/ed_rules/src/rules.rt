@@ -162,8 +162,8 @@ impl State {
         self.evaluate_all(addresses)?;
         self.evaluate_target(takes.target)?;
         self.take(takes.taking, &command.addresses, addresses)?;
-        let has = self.matched_after(watch, &command.addresses, takes.lines)?;
-        let old_has = self.old_matched_after(
+        let matches = self.matches_after(
+            watch,
             command.listed,
             &command.addresses,
             takes.lines,
@@ -171,8 +171,7 @@ impl State {
         )?;
         self.act(command.listed, &command.addresses, &command.verb, before)?;
         self.finish(&command.suffix)?;
-        self.has = has;
-        self.old_has = old_has;
+        self.matches = matches;
         Ok(())
     }
 

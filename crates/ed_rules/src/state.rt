@@ -1,10 +1,12 @@
 //! What is known of an editor's state.
 
-ghost use Rattle.std.specs.Prelude.{◌≡◌, [], None, IfOk, OnOk};
+ghost use Rattle.std.specs.Prelude.{◌≡◌, None, IfOk, OnOk};
+ghost use Rattle.ed_rules.specs.KnownMatches.{no_matches};
 ghost use Rattle.ed_rules.specs.States.{old_of, unchanged, changed, no_replacement, nothing_to_undo, start};
 ghost use Rattle.ed_rules.specs.declared.state.State.{State};
 
 use crate::choices::Choices;
+use crate::known_matches::Matches;
 use crate::marks::Marks;
 use crate::texts::Texts;
 use ed_base::Bytes;
@@ -54,10 +56,7 @@ pub struct State {
     pub names: Choices,
     pub changed: Changed,
     pub undo: Undo,
-    /// The patterns that some line surely matches.
-    pub has: Texts,
-    /// The same of an earlier buffer, which undo may bring back; none where it can't.
-    pub old_has: Texts,
+    pub matches: Matches,
 }
 
 impl Old {
@@ -150,8 +149,10 @@ impl State {
                 same: false,
                 was: None,
             },
-            has: has.try_copy()?,
-            old_has: Texts::none(alloc),
+            matches: Matches {
+                has: has.try_copy()?,
+                old_has: Texts::none(alloc),
+            },
         })
     }
 
@@ -167,10 +168,9 @@ impl State {
 
     /// What is known of matches is given up. It takes no memory.
     pub fn forget_matches(&mut self)
-        ensures value { self.new ≡ record self.old { has = []; old_has = [] } }
+        ensures value { self.new ≡ record self.old { matches = no_matches } }
     {
-        self.has = Texts::none(self.has.allocator());
-        self.old_has = Texts::none(self.old_has.allocator());
+        self.matches = Matches::none(self.patterns.allocator());
     }
 
     /// An equal state, made by the same allocator.
@@ -185,8 +185,7 @@ impl State {
             names: self.names.try_copy()?,
             changed: self.changed,
             undo: self.undo,
-            has: self.has.try_copy()?,
-            old_has: self.old_has.try_copy()?,
+            matches: self.matches.try_copy()?,
         })
     }
 
@@ -196,8 +195,7 @@ impl State {
     {
         self.patterns.try_copy_from(&other.patterns)?;
         self.names.try_copy_from(&other.names)?;
-        self.has.try_copy_from(&other.has)?;
-        self.old_has.try_copy_from(&other.old_has)?;
+        self.matches.try_copy_from(&other.matches)?;
         self.zone.copy_from(&other.zone);
         self.marks = other.marks;
         self.replacements = other.replacements;

@@ -60,7 +60,7 @@ remembered s = with_texts (filter_map (λ choice. choice) s.patterns) []
 
 -- no line need match the pattern: it isn't one that some line is known to match, nor one that every line matches
 abbrev pub is_unmatched : State → (text : List ℕ) → Bool
-is_unmatched s text = not (is_member s.has text || text_is_always text)
+is_unmatched s text = not (is_member s.matches.has text || text_is_always text)
 
 -- the set of those that a command's searches may look for and that no line need match
 abbrev pub unmatched : Command → State → List (List ℕ)

@@ -116,9 +116,9 @@ pub(crate) fn is_always(alloc: Global, text: &Bytes) -> Result<bool, AllocError>
 
 /// Whether some line is known to match a pattern, or every line does.
 fn is_matched(alloc: Global, state: &KeptState, text: &Bytes) -> Result<bool, AllocError>
-    ensures value { IfOk result (λ yes. yes ≡ (is_member state.now.has text.now || text_is_always text.now)) }
+    ensures value { IfOk result (λ yes. yes ≡ (is_member state.now.matches.has text.now || text_is_always text.now)) }
 {
-    if state.has().has(text.as_slice()) {
+    if state.matches().has.has(text.as_slice()) {
         return Ok(true);
     }
     is_always(alloc, text)
@@ -128,7 +128,7 @@ fn is_matched(alloc: Global, state: &KeptState, text: &Bytes) -> Result<bool, Al
 fn is_found(alloc: Global, state: &KeptState, patterns: &Texts) -> Result<bool, AllocError> {
     let has_line = state.zone().is_known(Name::ZERO, Name::LAST_LINE, -1);
     for text in patterns.members() {
-        if !state.has().has(text.as_slice()) && !(has_line && is_always(alloc, text)?) {
+        if !state.matches().has.has(text.as_slice()) && !(has_line && is_always(alloc, text)?) {
             return Ok(false);
         }
     }

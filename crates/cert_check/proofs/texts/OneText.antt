@@ -90,7 +90,7 @@ module _ (version : Version) where
               Above-from_test 32 (codes "undo") refl,
               three-words (codes "nothing") (codes "same") (codes "was") refl refl refl s.undo.nothing s.undo.same (is_some s.undo.was),
             ),
-            old-words s.undo.was s.old_has h.old,
+            old-words s.undo.was s.matches.old_has h.old,
           ),
         ),
       ),
@@ -103,8 +103,8 @@ module _ (version : Version) where
         (Above-from_test 32 (codes "zone") refl, bounds-are-words 0 s.zone (zone-said s.marks s.zone h.zone)),
         (
           (Above-from_test 32 (codes "marks") refl, marks-are-words s.marks),
-          AreLinesOfWords-append (matched_lines version (codes "has") s.has) (after_matched version s)
-              (matched-words version (codes "has") s.has (Above-from_test 32 (codes "has") refl)) (after-words s h),
+          AreLinesOfWords-append (matched_lines version (codes "has") s.matches.has) (after_matched version s)
+              (matched-words version (codes "has") s.matches.has (Above-from_test 32 (codes "has") refl)) (after-words s h),
         ),
       )
 

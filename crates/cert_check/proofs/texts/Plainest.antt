@@ -18,7 +18,7 @@ use Rattle.cert_check.specs.text.HasText.{IsSaidIn, StateHasText}
 use Rattle.cert_check.specs.text.Pieces.{UndoIsFormed, MarkedIsFormed, IsSomeReplacement, IsSomeChange}
 use Rattle.cert_check.specs.text.Reading.{all_marks}
 use Rattle.cert_check.proofs.texts.Limited.{at-place}
-use Rattle.cert_check.proofs.texts.Unambiguous.{state_made}
+use Rattle.cert_check.proofs.texts.Unambiguous.{matches_made, state_made}
 use Rattle.cert_check.proofs.texts.Known.{any-said}
 
 -- a zone that says nothing
@@ -69,7 +69,7 @@ plain_found = record { nothing = true; same = false; was = false }
 abbrev pub state_of : Old → List (List ℕ) → List Choice → Replacements → List Choice → Changed → Undo × List (List ℕ) →
     State
 state_of old has patterns replacements names changed found =
-    state_made old.zone old.marks patterns replacements names changed found.0 has found.1
+    state_made old.zone old.marks patterns replacements names changed found.0 (matches_made has found.1)
 
 pub state-formed : (version : Version) (old : Old) (has : List (List ℕ)) (patterns : List Choice) (r : Replacements) (names : List Choice)
     (c : Changed) (found : Undo × List (List ℕ)) → MarkedIsFormed old → IsSaidIn version has → SetIsFormed patterns →
@@ -85,8 +85,7 @@ state-formed version old has patterns r names c found h s p i n j k = record {
     undo = k.0;
     old = k.1.0;
   };
-  has = s;
-  old_has = k.1.1;
+  matches = (s, k.1.1);
 }
 
 abbrev pub plain_state : State

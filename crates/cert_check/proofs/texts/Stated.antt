@@ -250,8 +250,8 @@ module _ (version : Version) where
       let s = k.value in
       let h = k.has.formed in
       record {
-        value = (old_of s, (s.has, (s.patterns, (s.replacements, (s.names, (s.changed, (s.undo, s.old_has)))))));
-        has = (h.zone, (k.has.has, (h.patterns, (h.replacements, (h.names, (h.changed, (h.undo, (h.old, k.has.old_has))))))));
+        value = (old_of s, (s.matches.has, (s.patterns, (s.replacements, (s.names, (s.changed, (s.undo, s.matches.old_has)))))));
+        has = (h.zone, (k.has.matches.0, (h.patterns, (h.replacements, (h.names, (h.changed, (h.undo, (h.old, k.has.matches.1))))))));
         is = k.is;
       }
 

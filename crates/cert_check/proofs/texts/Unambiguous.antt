@@ -4,6 +4,7 @@ use Rattle.std.specs.Prelude.{codes, is_some, All}
 use Rattle.std.specs.List.{flat_map}
 use Rattle.std.proofs.lemmas.List.Elements.{All-head, All-tail}
 use Rattle.zones.specs.Zone.{Bounds}
+use Rattle.ed_rules.specs.declared.known_matches.Matches.{Matches}
 use Rattle.ed_rules.specs.declared.state.Old.{Old}
 use Rattle.ed_rules.specs.declared.state.Replacements.{Replacements}
 use Rattle.ed_rules.specs.declared.state.Changed.{Changed}
@@ -11,7 +12,7 @@ use Rattle.ed_rules.specs.declared.state.Undo.{Undo}
 use Rattle.ed_rules.specs.declared.state.State.{State}
 use Rattle.ed_rules.specs.Choices.{Choice}
 use Rattle.cert_check.specs.Certificates.{Looped, Note}
-use Rattle.cert_check.specs.text.Text.{Word, Line, letters_words, sure_letters, bounds_words, choices_line, replacements_line, changed_line, undo_line, matched_lines, old_lines, state_lines, headed_lines, looped_lines, note_lines}
+use Rattle.cert_check.specs.text.Text.{Word, Line, letters_words, sure_letters, bounds_words, choices_line, replacements_line, changed_line, undo_line, matched_lines, old_lines, earlier_lines, state_lines, headed_lines, looped_lines, note_lines}
 use Rattle.ed_rules.specs.Formed.{ZoneIsFormed, OldIsFormed}
 use Rattle.cert_check.specs.declared.certificate.Version.{Version}
 use Rattle.cert_check.specs.declared.certificate.Version.TheVariants.{One, Two}
@@ -57,9 +58,14 @@ undo-by a b x y z =
     ap (λ (n : Bool). undo_made n a.same a.was) x ∙ ap (λ (n : Bool). undo_made b.nothing n a.was) y
     ∙ ap (λ (n : Option Old). undo_made b.nothing b.same n) z
 
-abbrev pub state_made : Bounds → List Bool → List Choice → Replacements → List Choice → Changed → Undo → List (List ℕ) →
-    List (List ℕ) → State
-state_made zone marks patterns replacements names changed undo has old_has = record {
+abbrev pub matches_made : (has old_has : List (List ℕ)) → Matches
+matches_made has old_has = record { has = has; old_has = old_has }
+
+matches-by : (a b : Matches) → a.has ≡ b.has → a.old_has ≡ b.old_has → a ≡ b
+matches-by a b h o = λ k. matches_made (h k) (o k)
+
+abbrev pub state_made : Bounds → List Bool → List Choice → Replacements → List Choice → Changed → Undo → Matches → State
+state_made zone marks patterns replacements names changed undo matches = record {
   zone = zone;
   marks = marks;
   patterns = patterns;
@@ -67,14 +73,13 @@ state_made zone marks patterns replacements names changed undo has old_has = rec
   names = names;
   changed = changed;
   undo = undo;
-  has = has;
-  old_has = old_has;
+  matches = matches;
 }
 
 state-by : (a b : State) → a.zone ≡ b.zone → a.marks ≡ b.marks → a.patterns ≡ b.patterns →
-    a.replacements ≡ b.replacements → a.names ≡ b.names → a.changed ≡ b.changed → a.undo ≡ b.undo → a.has ≡ b.has →
-    a.old_has ≡ b.old_has → a ≡ b
-state-by a b z m p r n c u h o = λ k. state_made (z k) (m k) (p k) (r k) (n k) (c k) (u k) (h k) (o k)
+    a.replacements ≡ b.replacements → a.names ≡ b.names → a.changed ≡ b.changed → a.undo ≡ b.undo →
+    a.matches ≡ b.matches → a ≡ b
+state-by a b z m p r n c u h = λ k. state_made (z k) (m k) (p k) (r k) (n k) (c k) (u k) (h k)
 
 -- lines that begin with different letters
 pub letter-differs : {x y : ℕ} {v w : Word} {vs ws : Line} {r s : List Line} → x < y →
@@ -125,7 +130,7 @@ module _ (version : Version) where
   abbrev pub after_matched : State → List Line
   after_matched s =
       choices_line (codes "patterns") s.patterns ∷ replacements_line s.replacements ∷ choices_line (codes "names") s.names
-      ∷ changed_line s.changed ∷ undo_line s.undo ∷ old_lines version s.undo.was s.old_has
+      ∷ changed_line s.changed ∷ undo_line s.undo ∷ earlier_lines version s
 
   pub state-same : (a b : State) (r s : List Line) → StateHasText version a → StateHasText version b →
       state_lines version a ++ r ≡ state_lines version b ++ s → (a ≡ b) × (r ≡ s)
@@ -133,9 +138,9 @@ module _ (version : Version) where
       let h = said.formed in
       let k = other.formed in
       let marks = later-of zone in
-      let matched = matched-same version (codes "has") a.has b.has (after_matched a ++ r) (after_matched b ++ s) said.has other.has (
-      sym (append_assoc (matched_lines version (codes "has") a.has) (after_matched a) r) ∙ later-of marks
-      ∙ append_assoc (matched_lines version (codes "has") b.has) (after_matched b) s) in
+      let matched = matched-same version (codes "has") a.matches.has b.matches.has (after_matched a ++ r) (after_matched b ++ s) said.matches.0 other.matches.0 (
+      sym (append_assoc (matched_lines version (codes "has") a.matches.has) (after_matched a) r) ∙ later-of marks
+      ∙ append_assoc (matched_lines version (codes "has") b.matches.has) (after_matched b) s) in
       let patterns = matched.1 in
       let replacements = later-of patterns in
       let names = later-of replacements in
@@ -148,7 +153,8 @@ module _ (version : Version) where
       (later-of (first-of changed)) in
       let undone = three-same (codes "nothing") (codes "same") (codes "was") refl refl refl a.undo.nothing a.undo.same (is_some a.undo.was)
       b.undo.nothing b.undo.same (is_some b.undo.was) (later-of (first-of undo)) in
-      let was = old-same a.undo.was b.undo.was a.old_has b.old_has r s undone.third h.old k.old said.old_has other.old_has old in (
+      let was = old-same a.undo.was b.undo.was a.matches.old_has b.matches.old_has r s undone.third h.old k.old said.matches.1
+      other.matches.1 old in (
         state-by a b
             (zone-same a.marks b.marks a.zone b.zone h.zone k.zone (later-of (first-of zone)))
             (letters-same a.marks b.marks a.zone b.zone h.zone k.zone (later-of (first-of marks)))
@@ -157,8 +163,7 @@ module _ (version : Version) where
             (choices-same a.names b.names (later-of (first-of names)))
             (changed-by a.changed b.changed sides.0 sides.1)
             (undo-by a.undo b.undo undone.first undone.second was.was)
-            matched.0
-            was.has,
+            (matches-by a.matches b.matches matched.0 was.has),
         was.later,
       )
 

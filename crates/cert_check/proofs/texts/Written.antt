@@ -9,7 +9,7 @@ use Rattle.ed_rules.specs.declared.state.Old.{Old}
 use Rattle.ed_rules.specs.declared.state.Replacements.{Replacements}
 use Rattle.ed_rules.specs.declared.state.State.{State}
 use Rattle.cert_check.specs.declared.certificate.Version.{Version}
-use Rattle.cert_check.specs.text.Text.{Word, Line, space, spaced, line_text, lines_text, possible, zone_line, marks_line, choices_line, texts_line, matched_lines, replacements_line, changed_line, undo_line, old_lines, state_lines, headed_lines, looped_lines, note_lines, version_line, path_line, bounds_line, opening_lines, closing_lines, text_of}
+use Rattle.cert_check.specs.text.Text.{Word, Line, space, spaced, line_text, lines_text, possible, zone_line, marks_line, choices_line, texts_line, matched_lines, replacements_line, changed_line, undo_line, old_lines, earlier_lines, state_lines, headed_lines, looped_lines, note_lines, version_line, path_line, bounds_line, opening_lines, closing_lines, text_of}
 use Rattle.cert_check.specs.Certificates.{Looped, Note, Certificate}
 
 -- lines after lines
@@ -63,10 +63,10 @@ one-more {X} f xs i x o p q h is is_p is_q =
 module _ (version : Version) where
   pub state-written : (o a b m c d e f g h : List ℕ) (s : State) →
       a ≡ o ++ lines_text (zone_line (codes "zone") s.zone ∷ []) → b ≡ a ++ lines_text (marks_line (codes "marks") s.marks ∷ []) →
-      m ≡ b ++ lines_text (matched_lines version (codes "has") s.has) →
+      m ≡ b ++ lines_text (matched_lines version (codes "has") s.matches.has) →
       c ≡ m ++ lines_text (choices_line (codes "patterns") s.patterns ∷ []) → d ≡ c ++ lines_text (replacements_line s.replacements ∷ []) →
       e ≡ d ++ lines_text (choices_line (codes "names") s.names ∷ []) → f ≡ e ++ lines_text (changed_line s.changed ∷ []) →
-      g ≡ f ++ lines_text (undo_line s.undo ∷ []) → h ≡ g ++ lines_text (old_lines version s.undo.was s.old_has) → h ≡ o ++ lines_text (state_lines version s)
+      g ≡ f ++ lines_text (undo_line s.undo ∷ []) → h ≡ g ++ lines_text (earlier_lines version s) → h ≡ o ++ lines_text (state_lines version s)
   state-written o a b m c d e f g h s is_a is_b is_m is_c is_d is_e is_f is_g is_h =
       let zone : Line = zone_line (codes "zone") s.zone in
       let marks : Line = marks_line (codes "marks") s.marks in
@@ -74,10 +74,10 @@ module _ (version : Version) where
       let replacements : Line = replacements_line s.replacements in
       let names : Line = choices_line (codes "names") s.names in
       let changed : Line = changed_line s.changed in
-      let above : List Line = zone ∷ marks ∷ matched_lines version (codes "has") s.has in
-      then-lines o m h above (patterns ∷ replacements ∷ names ∷ changed ∷ undo_line s.undo ∷ old_lines version s.undo.was s.old_has)
-      (then-lines o b m (zone ∷ marks ∷ []) (matched_lines version (codes "has") s.has) (then-lines o a b (zone ∷ []) (marks ∷ []) is_a is_b) is_m) (
-      then-lines m g h (patterns ∷ replacements ∷ names ∷ changed ∷ undo_line s.undo ∷ []) (old_lines version s.undo.was s.old_has) (
+      let above : List Line = zone ∷ marks ∷ matched_lines version (codes "has") s.matches.has in
+      then-lines o m h above (patterns ∷ replacements ∷ names ∷ changed ∷ undo_line s.undo ∷ earlier_lines version s)
+      (then-lines o b m (zone ∷ marks ∷ []) (matched_lines version (codes "has") s.matches.has) (then-lines o a b (zone ∷ []) (marks ∷ []) is_a is_b) is_m) (
+      then-lines m g h (patterns ∷ replacements ∷ names ∷ changed ∷ undo_line s.undo ∷ []) (earlier_lines version s) (
       then-lines m f g (patterns ∷ replacements ∷ names ∷ changed ∷ []) (undo_line s.undo ∷ []) (
       then-lines m e f (patterns ∷ replacements ∷ names ∷ []) (changed ∷ []) (
       then-lines m d e (patterns ∷ replacements ∷ []) (names ∷ []) (then-lines m c d (patterns ∷ []) (replacements ∷ []) is_c is_d) is_e) is_f) is_g) is_h)

@@ -12,7 +12,8 @@ use Rattle.zones.proofs.Order.{Covers-each, each-Covers}
 use Rattle.ed_rules.specs.declared.state.Old.{Old}
 use Rattle.ed_rules.specs.declared.state.State.{State}
 use Rattle.ed_rules.specs.Marks.{AreAmong}
-use Rattle.ed_rules.specs.Order.{CoversOldHas, Allows, CoversOld, Covers}
+use Rattle.ed_rules.specs.KnownMatches.{CoversOldHas}
+use Rattle.ed_rules.specs.Order.{Allows, CoversOld, Covers}
 use Rattle.cert_check.specs.checker.Covering.{old_has_covers, zone_covers, allows, are_among, old_covers, covers}
 
 -- a test of each number below n
@@ -101,7 +102,7 @@ covers-says weak strong h =
     let undo = and_parts _ _ changed.1 in
     let nothing = and_parts _ _ undo.0 in
     let same = and_parts _ _ nothing.1 in
-    let matched = and_parts _ _ undo.1 in
+    let matches = and_parts _ _ undo.1 in
     record {
       zone = zone-says weak.zone strong.zone zone.0;
       marks = among-says weak.marks strong.marks marks.0;
@@ -115,8 +116,10 @@ covers-says weak strong h =
       nothing = allows-says weak.undo.nothing strong.undo.nothing nothing.0;
       same = allows-says weak.undo.same strong.undo.same same.0;
       was = old-says weak.undo.was strong.undo.was same.1;
-      matched = matched.0;
-      old_matched = old_has-says strong.undo.was weak.old_has strong.old_has matched.1;
+      matches = record {
+        has = matches.0;
+        old_has = old_has-says strong.undo.was weak.matches.old_has strong.matches.old_has matches.1;
+      };
     }
 
 pub says-covers : (weak strong : State) → Covers weak strong → covers weak strong ≡ true
@@ -133,4 +136,4 @@ says-covers weak strong h =
     (says-allows weak.changed.yes strong.changed.yes h.changed))
     (and_from _ _ (and_from _ _ (says-allows weak.undo.nothing strong.undo.nothing h.nothing)
     (and_from _ _ (says-allows weak.undo.same strong.undo.same h.same) (says-old weak.undo.was strong.undo.was h.was)))
-    (and_from _ _ h.matched (says-old_has strong.undo.was weak.old_has strong.old_has h.old_matched))))))))
+    (and_from _ _ h.matches.has (says-old_has strong.undo.was weak.matches.old_has strong.matches.old_has h.matches.old_has))))))))

@@ -67,6 +67,5 @@ marked-stands files well stand whole s zone sure marks path bytes number st apar
       };
       lines = lettered lines parts.1 (parts.3 (whole bytes));
       kept = st.kept;
-      matched = matched-same plain lines s.has (parts.0 ∙ sym (texts-plain text)) ∙ st.matched;
-      kept_matched = st.kept_matched;
+      matches = (matched-same plain lines s.matches.has (parts.0 ∙ sym (texts-plain text)) ∙ st.matches.0, st.matches.1);
     }

@@ -66,6 +66,5 @@ start-sound marked whole path min max has bytes within matched =
       };
       lines = lettered lines (marked bytes) (whole bytes);
       kept = tt;
-      matched = lines-match has texts matched;
-      kept_matched = tt;
+      matches = (lines-match has texts matched, tt);
     }

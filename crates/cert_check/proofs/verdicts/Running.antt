@@ -69,8 +69,7 @@ told-stands-by version.One s e st = record {
   stands = record { buffer = st.stands.buffer; remembered = st.stands.remembered; changed = st.stands.changed; past = st.stands.past };
   lines = st.lines;
   kept = st.kept;
-  matched = refl;
-  kept_matched = kept-nothing e.past;
+  matches = (refl, kept-nothing e.past);
 }
 told-stands-by version.Two s e st = st
 

@@ -3,6 +3,7 @@ use Rattle.std.specs.Prelude.{ℕ, Bool, true, false, not, ◌&&◌, ◌||◌, L
 use Rattle.std.specs.List.{list_all, range_with_len}
 use Rattle.zones.specs.Bound.{covers_bound}
 use Rattle.zones.specs.Zone.{Bounds}
+use Rattle.ed_rules.specs.declared.known_matches.Matches.{Matches}
 use Rattle.ed_rules.specs.declared.state.Old.{Old}
 use Rattle.ed_rules.specs.declared.state.Replacements.{Replacements}
 use Rattle.ed_rules.specs.declared.state.Changed.{Changed}
@@ -43,10 +44,13 @@ abbrev pub old_has_covers : {A : Type 0} → Option A → (weak strong : List (L
 old_has_covers None weak strong = true
 old_has_covers (Some old) weak strong = are_members weak strong
 
+abbrev pub matches_cover : {A : Type 0} → Option A → (weak strong : Matches) → Bool
+matches_cover was weak strong = are_members weak.has strong.has && old_has_covers was weak.old_has strong.old_has
+
 -- one state covers another: all that it says the other says too
 unfoldable pub covers : (weak strong : State) → Bool
 covers weak strong =
     zone_covers weak.zone strong.zone && (are_among weak.marks strong.marks && (are_choices strong.patterns weak.patterns && (
     replacements_cover weak.replacements strong.replacements && (are_choices strong.names weak.names && (
     changed_covers weak.changed strong.changed && (undo_covers weak.undo strong.undo && (
-    are_members weak.has strong.has && old_has_covers strong.undo.was weak.old_has strong.old_has)))))))
+    matches_cover strong.undo.was weak.matches strong.matches)))))))

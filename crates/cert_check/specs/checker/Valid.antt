@@ -13,6 +13,7 @@ use Rattle.ed_rules.specs.Choices.{Choice}
 use Rattle.ed_rules.specs.States.{start}
 use Rattle.ed_rules.specs.Files.{written_paths}
 use Rattle.ed_rules.specs.Matched.{watched}
+use Rattle.ed_rules.specs.KnownMatches.{no_matches}
 use Rattle.cert_check.specs.checker.Covering.{covers}
 use Rattle.ed_rules.specs.Rules.{step, fault_of}
 use Rattle.ed_rules.specs.Globals.{body_entry, loop_end}
@@ -68,7 +69,7 @@ seen_by script c = sight_of script c.version c.has
 
 -- A state that a rule gives, as far as the version tells it: version 1 tells nothing of matches.
 abbrev pub told_by : Version → State → State
-told_by version.One s = record s { has = []; old_has = [] }
+told_by version.One s = record s { matches = no_matches }
 told_by version.Two s = s
 
 abbrev pub told : Sight → State → State

@@ -1,5 +1,6 @@
 -- Which certificates have a text, and which bytes are the text of one.
 use Rattle.std.specs.Prelude.{◌≡◌, ℕ, true, ◌&&◌, List, [], map, Option, Some, None, All}
+use Rattle.ed_rules.specs.declared.known_matches.Matches.{Matches}
 use Rattle.ed_rules.specs.declared.state.Old.{Old}
 use Rattle.ed_rules.specs.declared.state.State.{State}
 use Rattle.ed_rules.specs.Formed.{ChoiceIsBytes, is_rising, TextsAreFormed, StateIsFormed}
@@ -15,15 +16,18 @@ IsSaidIn One has = has ≡ []
 IsSaidIn Two has = TextsAreFormed has
 
 -- the same of an earlier buffer, where undo may bring one back
-abbrev pub OldIsSaidIn : Version → Option Old → (old_has : List (List ℕ)) → Type 0
-OldIsSaidIn version None old_has = old_has ≡ []
-OldIsSaidIn version (Some old) old_has = IsSaidIn version old_has
+abbrev pub OldIsSaidIn : Version → Option Old → (has : List (List ℕ)) → Type 0
+OldIsSaidIn version None has = has ≡ []
+OldIsSaidIn version (Some old) has = IsSaidIn version has
+
+-- what is known of matches
+abbrev pub AreSaidIn : Version → Option Old → Matches → Type 0
+AreSaidIn version was m = IsSaidIn version m.has × OldIsSaidIn version was m.old_has
 
 -- a state that has a text
 pub record StateHasText (version : Version) (s : State) : Type 0 where
   pub formed : StateIsFormed s
-  pub has : IsSaidIn version s.has
-  pub old_has : OldIsSaidIn version s.undo.was s.old_has
+  pub matches : AreSaidIn version s.undo.was s.matches
 
 abbrev pub LoopedHasText : Version → Option Looped → Type 0
 LoopedHasText version None = Unit {0}

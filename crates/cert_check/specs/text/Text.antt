@@ -130,17 +130,21 @@ matched_lines One key texts = []
 matched_lines Two key texts = texts_line key texts ∷ []
 
 -- an earlier buffer that undo may bring back, where there is one
-abbrev pub old_lines : Version → Option Old → (old_has : List (List ℕ)) → List Line
-old_lines version None old_has = []
-old_lines version (Some old) old_has =
-    zone_line (codes "old-zone") old.zone ∷ marks_line (codes "old-marks") old.marks ∷ matched_lines version (codes "old-has") old_has
+abbrev pub old_lines : Version → Option Old → (has : List (List ℕ)) → List Line
+old_lines version None has = []
+old_lines version (Some old) has =
+    zone_line (codes "old-zone") old.zone ∷ marks_line (codes "old-marks") old.marks ∷ matched_lines version (codes "old-has") has
+
+-- that of a state
+abbrev pub earlier_lines : Version → State → List Line
+earlier_lines version s = old_lines version s.undo.was s.matches.old_has
 
 -- what is known at one point of a script
 abbrev pub state_lines : Version → State → List Line
 state_lines version s =
-    zone_line (codes "zone") s.zone ∷ marks_line (codes "marks") s.marks ∷ matched_lines version (codes "has") s.has
+    zone_line (codes "zone") s.zone ∷ marks_line (codes "marks") s.marks ∷ matched_lines version (codes "has") s.matches.has
     ++ choices_line (codes "patterns") s.patterns ∷ replacements_line s.replacements ∷ choices_line (codes "names") s.names
-    ∷ changed_line s.changed ∷ undo_line s.undo ∷ old_lines version s.undo.was s.old_has
+    ∷ changed_line s.changed ∷ undo_line s.undo ∷ earlier_lines version s
 
 -- the same after a line of one word
 abbrev pub headed_lines : Version → (head : Word) → State → List Line

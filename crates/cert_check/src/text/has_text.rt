@@ -172,9 +172,10 @@ fn old_is_said(version: Version, old: &Option<KeptOld>, set: &Texts) -> bool
 fn state_has_text(version: Version, state: &KeptState) -> bool
     ensures exact { IsTrue result ↔ StateHasText version state.now }
 {
+    let matches = state.matches();
     is_formed(state)
-        && is_said(version, state.has())
-        && old_is_said(version, state.kept_undo().was(), state.old_has())
+        && is_said(version, &matches.has)
+        && old_is_said(version, state.kept_undo().was(), &matches.old_has)
 }
 
 fn inner_have_text(version: Version, states: &[KeptState]) -> bool

@@ -13,7 +13,7 @@ use crate::text::readers::{
     read_changed, read_choices, read_found, read_marks, read_matched, read_replacements, read_zone,
 };
 use crate::text::wanted::LineKind;
-use ed_rules::{KeptOld, KeptState, KeptUndo, Marks, Texts};
+use ed_rules::{KeptOld, KeptState, KeptUndo, Marks, Matches, Texts};
 use std::alloc::Global;
 use zones::KeptZone;
 
@@ -53,10 +53,10 @@ fn read_undo(
         return Ok((undo, Texts::none(alloc)));
     }
     let old = read_marked(alloc, LineKind::OldZone, LineKind::OldMarks, cursor)?;
-    let old_has = read_matched(alloc, version, LineKind::OldHas, cursor)?;
+    let has = read_matched(alloc, version, LineKind::OldHas, cursor)?;
     let was = KeptOld::new(old.zone, old.marks);
     let undo = KeptUndo::new(found.nothing, found.same, Some(was));
-    Ok((undo, old_has))
+    Ok((undo, has))
 }
 
 /// What is known at one point of a script.
@@ -82,7 +82,6 @@ pub(crate) fn read_state(
         names,
         changed,
         undo,
-        has,
-        old_has,
+        Matches { has, old_has },
     ))
 }

@@ -91,14 +91,14 @@ fn push_undo_line<W: TextWriter>(out: &mut W, undo: &KeptUndo)
     out.push(b'\n');
 }
 
-fn push_old<W: TextWriter>(out: &mut W, version: Version, old: &Option<KeptOld>, old_has: &Texts)
-    ensures appended { W.written out.new ≡ W.written out.old ++ lines_text (old_lines version old.now old_has.now) }
+fn push_old<W: TextWriter>(out: &mut W, version: Version, old: &Option<KeptOld>, has: &Texts)
+    ensures appended { W.written out.new ≡ W.written out.old ++ lines_text (old_lines version old.now has.now) }
 {
     match old {
         Some(old) => {
             push_zone_line(out, b"old-zone", old.zone());
             push_marks_line(out, b"old-marks", old.marks());
-            push_matched(out, version, b"old-has", old_has);
+            push_matched(out, version, b"old-has", has);
         }
         None => {}
     }
@@ -109,14 +109,15 @@ fn push_state<W: TextWriter>(out: &mut W, version: Version, state: &KeptState)
 {
     push_zone_line(out, b"zone", state.kept_zone());
     push_marks_line(out, b"marks", state.marks());
-    push_matched(out, version, b"has", state.has());
+    let matches = state.matches();
+    push_matched(out, version, b"has", &matches.has);
     push_choices_line(out, b"patterns", state.patterns());
     push_replacements_line(out, state.replacements());
     push_choices_line(out, b"names", state.names());
     push_changed_line(out, state.changed());
     let undo = state.kept_undo();
     push_undo_line(out, undo);
-    push_old(out, version, undo.was(), state.old_has());
+    push_old(out, version, undo.was(), &matches.old_has);
 }
 
 /// A state after a line of one word.

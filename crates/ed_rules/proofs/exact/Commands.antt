@@ -21,6 +21,7 @@ use Rattle.ed_syntax.specs.meaning.Effects as effects
 use Rattle.ed_syntax.specs.meaning.Effects.{Outcome, Effect, Makes, Asks}
 use Rattle.ed_syntax.specs.meaning.Files as file
 use Rattle.ed_syntax.specs.meaning.Applied.{making, settled, suffix_written, completed, targeted, effect_of, command}
+use Rattle.ed_rules.specs.declared.known_matches.Matches.{Matches}
 use Rattle.ed_rules.specs.declared.state.State.{State}
 use Rattle.ed_rules.specs.Pieces.{with_zone, ended}
 use Rattle.ed_rules.specs.Lines.{appended, put_before, changed_to, deleted, joined, joined_given, copied_lines, current_at}
@@ -30,7 +31,7 @@ use Rattle.ed_rules.specs.Addresses as addresses
 use Rattle.ed_rules.specs.Addresses.{addressed, standing, last_given, evaluated, ranged}
 use Rattle.ed_syntax.specs.spelling.Readable.{enters_lines, is_readable}
 use Rattle.ed_rules.specs.Rules.{taken, effect, suffixed, step_at}
-use Rattle.ed_rules.specs.Matching.{Matches, saying}
+use Rattle.ed_rules.specs.Matching.{saying}
 use Rattle.ed_rules.specs.Exact.{are_by_number, is_exact_verb}
 use Rattle.ed_rules.specs.LineBounds.{most_lines}
 use Rattle.ed_rules.specs.ExactRules.{is_of_buffer, numbers_of, Tells, EndAlike, LeavesTold, LeavesFew, CommandIsExact}

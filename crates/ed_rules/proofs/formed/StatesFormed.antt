@@ -3,6 +3,7 @@ use Rattle.std.proofs.Common.{ℕ, pos, neg_ℤ, Bool, true, false, List, Option
 use Rattle.std.specs.Prelude.{IfOk}
 use Rattle.ed_syntax.specs.Commands.{Verb, Command, Step}
 use Rattle.ed_syntax.specs.meaning.Verbs.{takes}
+use Rattle.ed_rules.specs.declared.known_matches.Matches.{Matches}
 use Rattle.ed_rules.specs.declared.state.Undo.{Undo}
 use Rattle.ed_rules.specs.declared.state.State.{State}
 use Rattle.ed_rules.specs.Choices.{Choice}
@@ -12,8 +13,8 @@ use Rattle.ed_rules.specs.States.{start}
 use Rattle.ed_rules.specs.Order.{join, widen}
 use Rattle.ed_rules.specs.Pieces.{with_zone}
 use Rattle.ed_rules.specs.Rules.{effect, step}
-use Rattle.ed_rules.specs.Globals.{taken_matches, old_has_if, finished, line_taken, body_entry, list_may_alter, old_if, undo_of_global, loop_end}
-use Rattle.ed_rules.specs.Matching.{Matches, saying, matches_after}
+use Rattle.ed_rules.specs.Globals.{taken_matches, with_old, finished, line_taken, body_entry, list_may_alter, old_if, undo_of_global, loop_end}
+use Rattle.ed_rules.specs.Matching.{saying, matches_after}
 use Rattle.ed_rules.proofs.formed.SpeakingPieces.{Speaks-start, Inner-line_taken}
 use Rattle.ed_rules.proofs.formed.RisingChoices.{SetIsFormed-only}
 use Rattle.ed_rules.proofs.formed.CountedLines.{start-counted}
@@ -43,8 +44,8 @@ start-formed path min max has b =
 matching-ended : (s : State) (m : Matches) → AtEnd s → AtEnd (saying m s)
 matching-ended s m h = (record { letters = h.0.letters; zone = h.0.zone; aside = h.0.aside }, h.1)
 
-matching-forming : (s : State) (has old_has : List (List ℕ)) → Forming s → Forming (record s { has = has; old_has = old_has })
-matching-forming s has old_has h = record { letters = h.letters; zone = h.zone; aside = h.aside }
+matching-forming : (s : State) (m : Matches) → Forming s → Forming (saying m s)
+matching-forming s m h = record { letters = h.letters; zone = h.zone; aside = h.aside }
 
 pub join-formed : (one other : State) → IsFormed one → IsFormed other → IsFormed (join one other)
 join-formed one other h k = Closed-formed (join one other) (Closed-join one other (formed-Closed one h) (formed-Closed other k))
@@ -58,9 +59,10 @@ pub entry-formed : (verb : Verb) (invariant : State) → IsFormed invariant → 
 entry-formed verb invariant h =
     let f : Forming invariant = Closed-forming invariant (formed-Closed invariant h) in
     let t : State = with_zone (line_taken invariant.zone) invariant in
-    let has : List (List ℕ) = taken_matches verb invariant.has in
-    AtEnd-ended (finished (record t { has = has }))
-    (finished-AtEnd (record t { has = has }) (matching-forming t has invariant.old_has (forming-zone invariant (line_taken invariant.zone) (Inner-line_taken invariant.marks invariant.zone f.zone) f)))
+    let m : Matches = record invariant.matches { has = taken_matches verb invariant.matches.has } in
+    AtEnd-ended (finished (saying m t))
+    (finished-AtEnd (saying m t)
+    (matching-forming t m (forming-zone invariant (line_taken invariant.zone) (Inner-line_taken invariant.marks invariant.zone f.zone) f)))
 
 old_if-speaks : (b : Bool) (before : State) → Closed before → OldSpeaks (old_if b before)
 old_if-speaks true before h = (h.letters, h.zone)
@@ -70,10 +72,10 @@ pub end-formed : (x : Step) (before invariant : State) → IsFormed before → I
 end-formed x before invariant h k =
     let f : Forming invariant = Closed-forming invariant (formed-Closed invariant k) in
     let u : Undo = undo_of_global x.list before in
-    let old_has : List (List ℕ) = old_has_if (list_may_alter x.list) before in
-    let t : State = record invariant { undo = u; old_has = old_has } in
+    let m : Matches = with_old (list_may_alter x.list) before invariant.matches in
+    let t : State = record invariant { undo = u; matches = m } in
     AtEnd-ended (finished t)
-    (finished-AtEnd t (matching-forming (record invariant { undo = u }) invariant.has old_has (forming-change invariant invariant.changed u f.aside.flag refl
+    (finished-AtEnd t (matching-forming (record invariant { undo = u }) m (forming-change invariant invariant.changed u f.aside.flag refl
     (old_if-speaks (list_may_alter x.list) before (formed-Closed before h)) f)))
 
 -- ONE COMMAND

@@ -7,11 +7,11 @@ use Rattle.ed_rules.specs.Choices.{Choice}
 use Rattle.ed_rules.specs.Texts.{is_member}
 use Rattle.ed_rules.specs.Addresses.{is_always, is_found}
 
-one-as_before : (s : State) (c : Choice) → s.has ≡ [] → is_found s c ≡ (known s.zone 0 2 (negsuc 0) && is_always c)
+one-as_before : (s : State) (c : Choice) → s.matches.has ≡ [] → is_found s c ≡ (known s.zone 0 2 (negsuc 0) && is_always c)
 one-as_before s None e = elim (known s.zone 0 2 (negsuc 0)) as (λ k. false ≡ (k && false)) [ true ↦ refl | false ↦ refl ]
 one-as_before s (Some text) e = ap (λ (has : List (List ℕ)). is_member has text || (known s.zone 0 2 (negsuc 0) && is_always (Some text))) e
 
-all-as_before : (s : State) (set : List Choice) → s.has ≡ [] → list_all (is_found s) set ≡ list_all (λ c. known s.zone 0 2 (negsuc 0) && is_always c) set
+all-as_before : (s : State) (set : List Choice) → s.matches.has ≡ [] → list_all (is_found s) set ≡ list_all (λ c. known s.zone 0 2 (negsuc 0) && is_always c) set
 all-as_before s [] e = refl
 all-as_before s (c ∷ set) e = λ i. one-as_before s c e i && all-as_before s set e i
 
@@ -19,6 +19,6 @@ out-of : (k : Bool) (c : Choice) (set : List Choice) → list_all (λ d. k && is
 out-of true c set = refl
 out-of false c set = refl
 
-pub searches-as_before : (s : State) (c : Choice) (set : List Choice) → s.has ≡ [] →
+pub searches-as_before : (s : State) (c : Choice) (set : List Choice) → s.matches.has ≡ [] →
     list_all (is_found s) (c ∷ set) ≡ (known s.zone 0 2 (negsuc 0) && list_all is_always (c ∷ set))
 searches-as_before s c set e = all-as_before s (c ∷ set) e ∙ out-of (known s.zone 0 2 (negsuc 0)) c set

@@ -7,10 +7,11 @@ use Rattle.ed_syntax.specs.Commands.{Addresses, Form, Command}
 use Rattle.ed_syntax.specs.meaning.Verbs.{takes, given_or}
 use Rattle.ed_syntax.specs.meaning.Values.{◌>>◌}
 use Rattle.ed_syntax.specs.spelling.Readable.{enters_lines}
+use Rattle.ed_rules.specs.declared.known_matches.Matches.{Matches}
 use Rattle.ed_rules.specs.declared.state.State.{State}
 use Rattle.ed_rules.specs.Pieces.{needing, with_zone, ended}
 use Rattle.ed_rules.specs.Addresses.{addressed, standing, targeted}
-use Rattle.ed_rules.specs.Matching.{Matches, saying, matches_after}
+use Rattle.ed_rules.specs.Matching.{saying, matches_after}
 use Rattle.ed_rules.specs.Rules.{taken, effect, suffixed, step_at, step, fault_of}
 
 -- the phases of a command, what is known of matches left aside

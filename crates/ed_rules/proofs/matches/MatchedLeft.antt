@@ -1,6 +1,5 @@
 -- What is known of matches holds of what a command leaves.
 use Rattle.std.proofs.Common.{◌≡◌, ◌≤◌, inl, inr, ◌⊎◌, ℕ, zero, suc, ◌+◌, ◌-◌, Bool, true, false, ◌||◌, ◌&&◌, List, [], ◌∷◌, ◌++◌, map, take, drop, length, set, get_or, Option, None, Some, Result, Ok, Err, IfOk, arith, refl, ◌∙◌, sym, ap, subst, nat_le, nat_lt}
-use Rattle.std.specs.Prelude.{is_some}
 use Rattle.std.specs.List.{list_any, concat}
 use Rattle.std.proofs.lemmas.List.Folds.{list_any-append}
 use Rattle.std.proofs.lemmas.Bool.{or_cases, or_left, or_right}
@@ -30,15 +29,16 @@ use Rattle.ed_syntax.specs.meaning.Files.{used_path, with_bytes, with_lines}
 use Rattle.ed_syntax.specs.meaning.Globals.{flagged_line, flagged}
 use Rattle.ed_syntax.specs.meaning.Applied.{making, completed, effect_of, settled, past_after, suffix_written}
 use Rattle.zones.specs.Zone.{Bounds}
+use Rattle.ed_rules.specs.declared.known_matches.Matches.{Matches}
 use Rattle.ed_rules.specs.declared.state.Old.{Old}
 use Rattle.ed_rules.specs.declared.state.State.{State}
 use Rattle.ed_rules.specs.Texts.{with_texts}
 use Rattle.ed_rules.specs.Matched.{is_matched, AreMatched, gained}
-use Rattle.ed_rules.specs.Order.{old_has_of_both}
-use Rattle.ed_rules.specs.StandsFor.{AllowsKept, AllowsPast, KeepsMatched}
+use Rattle.ed_rules.specs.KnownMatches.{old_has_of_both}
+use Rattle.ed_rules.specs.StandsFor.{AllowsKept, AllowsPast, KeepsMatched, MatchesHold}
 use Rattle.ed_rules.specs.declared.matching.Certainty.{Certainty}
 use Rattle.ed_rules.specs.declared.matching.Certainty.TheVariants.{Never, Maybe, Surely}
-use Rattle.ed_rules.specs.Matching.{joining_given, kept_unless, matched_by_undo, matched_after, old_matched_unless, old_matched_after}
+use Rattle.ed_rules.specs.Matching.{joining_given, kept_unless, matches_by_undo, old_matched_unless, matches_after}
 use Rattle.ed_syntax.proofs.meaning.ResultLemmas.{IfOk-bind}
 use Rattle.ed_rules.proofs.sound.Flags.{Alike, alike-taken}
 use Rattle.ed_rules.proofs.sound.Outcomes.{always, OnMade, OnMade-bind}
@@ -155,10 +155,6 @@ none-gained watched ls = filter-implied (is_matched ls) (λ text. list_any (matc
 
 -- WHAT A COMMAND LEAVES
 
--- what is known of matches, of the lines that a command leaves and of what undo keeps
-abbrev pub MatchedIn : (has old_has : List (List ℕ)) → editor.State → Type 0
-MatchedIn has old_has e = AreMatched has e.lines × KeepsMatched old_has e.past
-
 -- `j`, where it is known whether lines are joined
 abbrev pub Joins : Certainty → Span → Type 0
 Joins Never x = nat_lt x.first x.last ≡ false
@@ -172,57 +168,60 @@ Suiting given zone lines (ed.Copy to) x = 1 ≤ length (texts (parts.between x.f
 Suiting given zone lines _ x = Unit {0}
 
 -- a command that began in the state s, where an editor was e; with its lines taken they are u and q
-module _ (watched : List (List ℕ)) (listed : Bool) (given : Addresses) (s u : State) (e q : editor.State) (at_start : AreMatched s.has e.lines) (now : AreMatched u.has q.lines)
-    (kept_now : KeepsMatched u.old_has q.past) (may : AllowsPast u.undo q.past) where
+module _ (watched : List (List ℕ)) (listed : Bool) (given : Addresses) (s u : State) (e q : editor.State) (begun : MatchesHold s.matches e.lines e.past)
+    (holds : MatchesHold u.matches q.lines q.past) (may : AllowsPast u.undo q.past) where
   -- what an effect leaves
+  abbrev Leaves : Matches → Outcome → Type 0
+  Leaves m o = MatchesHold m o.state.lines (settled listed (kept e) o).past
+
   abbrev Left : List (List ℕ) → List (List ℕ) → Outcome → Type 0
-  Left has old_has o = AreMatched has o.state.lines × KeepsMatched old_has (settled listed (kept e) o).past
+  Left has old_has = Leaves (record { has = has; old_has = old_has })
 
   -- the lines that undo would bring back, where the buffer was surely changed, surely not, or maybe
   never-kept : KeepsMatched (old_matched_unless listed Never s u) q.past
-  never-kept = elim listed as (λ b. KeepsMatched (old_matched_unless b Never s u) q.past) [ true ↦ kept_now | false ↦ kept_now ]
+  never-kept = elim listed as (λ b. KeepsMatched (old_matched_unless b Never s u) q.past) [ true ↦ holds.1 | false ↦ holds.1 ]
 
   surely-kept : KeepsMatched (old_matched_unless listed Surely s u) (past_after listed (kept e) q.past)
-  surely-kept = elim listed as (λ b. KeepsMatched (old_matched_unless b Surely s u) (past_after b (kept e) q.past)) [ true ↦ kept_now | false ↦ are-matched-kept s.has e.lines at_start ]
+  surely-kept = elim listed as (λ b. KeepsMatched (old_matched_unless b Surely s u) (past_after b (kept e) q.past)) [ true ↦ holds.1 | false ↦ are-matched-kept s.matches.has e.lines begun.0 ]
 
-  both-now : (past : Past) (was : Option Old) → AllowsPast (record u.undo { was = was }) past → KeepsMatched u.old_has past → KeepsMatched (old_has_of_both was (Some s.zone) u.old_has s.has) past
+  both-now : (past : Past) (was : Option Old) → AllowsPast (record u.undo { was = was }) past → KeepsMatched u.matches.old_has past → KeepsMatched (old_has_of_both was (Some s.zone) u.matches.old_has s.matches.has) past
   both-now Nothing was a k = tt
   both-now Same was a k = tt
   both-now (Was before) None a k = absurd a
-  both-now (Was before) (Some old) a k = both-passes (is_matched before.lines) u.old_has s.has k
+  both-now (Was before) (Some old) a k = both-passes (is_matched before.lines) u.matches.old_has s.matches.has k
 
-  both-start : (was : Option Old) → AreMatched (old_has_of_both was (Some s.zone) u.old_has s.has) (unflagged e.lines)
-  both-start None = are-matched-kept s.has e.lines at_start
-  both-start (Some old) = both-passes_other (is_matched (unflagged e.lines)) u.old_has s.has (are-matched-kept s.has e.lines at_start)
+  both-start : (was : Option Old) → AreMatched (old_has_of_both was (Some s.zone) u.matches.old_has s.matches.has) (unflagged e.lines)
+  both-start None = are-matched-kept s.matches.has e.lines begun.0
+  both-start (Some old) = both-passes_other (is_matched (unflagged e.lines)) u.matches.old_has s.matches.has (are-matched-kept s.matches.has e.lines begun.0)
 
   maybe-kept : KeepsMatched (old_matched_unless listed Maybe s u) q.past
-  maybe-kept = elim listed as (λ b. KeepsMatched (old_matched_unless b Maybe s u) q.past) [ true ↦ kept_now | false ↦ both-now q.past u.undo.was may kept_now ]
+  maybe-kept = elim listed as (λ b. KeepsMatched (old_matched_unless b Maybe s u) q.past) [ true ↦ holds.1 | false ↦ both-now q.past u.undo.was may holds.1 ]
 
   maybe-changed : KeepsMatched (old_matched_unless listed Maybe s u) (past_after listed (kept e) q.past)
-  maybe-changed = elim listed as (λ b. KeepsMatched (old_matched_unless b Maybe s u) (past_after b (kept e) q.past)) [ true ↦ kept_now | false ↦ both-start u.undo.was ]
+  maybe-changed = elim listed as (λ b. KeepsMatched (old_matched_unless b Maybe s u) (past_after b (kept e) q.past)) [ true ↦ holds.1 | false ↦ both-start u.undo.was ]
 
   -- entered lines
-  gained-left : (place : ℕ) (ts : List (List ℕ)) → AreMatched (with_texts (gained watched ts) u.has) (parts.inserted place (map plain_line ts) q.lines)
+  gained-left : (place : ℕ) (ts : List (List ℕ)) → AreMatched (with_texts (gained watched ts) u.matches.has) (parts.inserted place (map plain_line ts) q.lines)
   gained-left place ts =
       let ls : List Line = parts.inserted place (map plain_line ts) q.lines in
-      with_texts-passes (is_matched ls) (gained watched ts) u.has (gained-matched watched ts place place q.lines)
-      (matched-more u.has q.lines ls (λ text h. any-inserted (λ line. matches text line.bytes) place (map plain_line ts) q.lines h) now)
+      with_texts-passes (is_matched ls) (gained watched ts) u.matches.has (gained-matched watched ts place place q.lines)
+      (matched-more u.matches.has q.lines ls (λ text h. any-inserted (λ line. matches text line.bytes) place (map plain_line ts) q.lines h) holds.0)
 
-  gained-none : AreMatched (with_texts (gained watched []) u.has) q.lines
-  gained-none = with_texts-passes (is_matched q.lines) (gained watched []) u.has (none-gained watched q.lines) now
+  gained-none : AreMatched (with_texts (gained watched []) u.matches.has) q.lines
+  gained-none = with_texts-passes (is_matched q.lines) (gained watched []) u.matches.has (none-gained watched q.lines) holds.0
 
-  inserted-left : (place : ℕ) (new : List Line) → AreMatched u.has (parts.inserted place new q.lines)
-  inserted-left place new = matched-more u.has q.lines (parts.inserted place new q.lines) (λ text h. any-inserted (λ line. matches text line.bytes) place new q.lines h) now
+  inserted-left : (place : ℕ) (new : List Line) → AreMatched u.matches.has (parts.inserted place new q.lines)
+  inserted-left place new = matched-more u.matches.has q.lines (parts.inserted place new q.lines) (λ text h. any-inserted (λ line. matches text line.bytes) place new q.lines h) holds.0
 
-  append-left : (ts : List (List ℕ)) (x : Span) → Left (matched_after watched given (verbs.Enters ts) u) (old_matched_after listed given (verbs.Enters ts) s u) (effects.append ts x q)
+  append-left : (ts : List (List ℕ)) (x : Span) → Leaves (matches_after watched listed given (verbs.Enters ts) s u) (effects.append ts x q)
   append-left [] x = (gained-none, never-kept)
   append-left (t ∷ ts) x = (gained-left x.first (t ∷ ts), surely-kept)
 
-  insert-left : (ts : List (List ℕ)) (x : Span) → Left (matched_after watched given (verbs.Enters ts) u) (old_matched_after listed given (verbs.Enters ts) s u) (effects.insert ts x q)
+  insert-left : (ts : List (List ℕ)) (x : Span) → Leaves (matches_after watched listed given (verbs.Enters ts) s u) (effects.insert ts x q)
   insert-left [] x = (gained-none, never-kept)
   insert-left (t ∷ ts) x = (gained-left (x.first - 1) (t ∷ ts), surely-kept)
 
-  change-left : (ts : List (List ℕ)) (x : Span) → Left (matched_after watched given (verbs.Replaces ts) u) (old_matched_after listed given (verbs.Replaces ts) s u) (effects.change ts x q)
+  change-left : (ts : List (List ℕ)) (x : Span) → Leaves (matches_after watched listed given (verbs.Replaces ts) s u) (effects.change ts x q)
   change-left [] x = (none-gained watched (parts.replaced x.first x.last [] q.lines), surely-kept)
   change-left (t ∷ ts) x = (gained-matched watched (t ∷ ts) (x.first - 1) x.last q.lines, surely-kept)
 
@@ -233,8 +232,8 @@ module _ (watched : List (List ℕ)) (listed : Bool) (given : Addresses) (s u : 
     | false ↦ effects.only q []
   ]
 
-  join-by : (a : Certainty) (x : Span) → Joins a x → Left (kept_unless a u.has) (old_matched_unless listed a s u) (effects.join x q)
-  join-by Never x h = subst (λ (b : Bool). Left u.has (old_matched_unless listed Never s u) (join-where b x)) (sym h) (now, never-kept)
+  join-by : (a : Certainty) (x : Span) → Joins a x → Left (kept_unless a u.matches.has) (old_matched_unless listed a s u) (effects.join x q)
+  join-by Never x h = subst (λ (b : Bool). Left u.matches.has (old_matched_unless listed Never s u) (join-where b x)) (sym h) (holds.0, never-kept)
   join-by Maybe x h =
       elim (nat_lt x.first x.last) as (λ b. Left [] (old_matched_unless listed Maybe s u) (join-where b x)) [
         | true ↦ (refl, maybe-changed)
@@ -243,23 +242,23 @@ module _ (watched : List (List ℕ)) (listed : Bool) (given : Addresses) (s u : 
   join-by Surely x h = subst (λ (b : Bool). Left [] (old_matched_unless listed Surely s u) (join-where b x)) (sym h) (refl, surely-kept)
 
   -- `m`
-  move-left : (x : Span) (target : ℕ) → x.first ≤ x.last + 1 → OnMade (Left u.has (old_matched_unless listed Surely s u)) (making (effects.move x target q))
+  move-left : (x : Span) (target : ℕ) → x.first ≤ x.last + 1 → OnMade (Left u.matches.has (old_matched_unless listed Surely s u)) (making (effects.move x target q))
   move-left x target le =
       let place : ℕ = effects.place_left x target in
-      elim (nat_le x.first target && nat_le target x.last) as (λ c. OnMade (Left u.has (old_matched_unless listed Surely s u)) (making (elim c as (λ _. Result Outcome Fault) [
+      elim (nat_le x.first target && nat_le target x.last) as (λ c. OnMade (Left u.matches.has (old_matched_unless listed Surely s u)) (making (elim c as (λ _. Result Outcome Fault) [
         | true ↦ Err fault.Destination
         | false ↦ Ok (effects.altered (parts.carried (x.first - 1) x.last place q.lines) (place + length (parts.between x.first x.last q.lines)) q)
       ]))) [
         | true ↦ tt
         | false ↦ (
-          matched-more u.has q.lines (parts.carried (x.first - 1) x.last place q.lines)
-              (λ text h. any-carried (λ line. matches text line.bytes) (x.first - 1) x.last place q.lines (omega arith) h) now,
+          matched-more u.matches.has q.lines (parts.carried (x.first - 1) x.last place q.lines)
+              (λ text h. any-carried (λ line. matches text line.bytes) (x.first - 1) x.last place q.lines (omega arith) h) holds.0,
           surely-kept,
         )
       ]
 
   -- `t`, of some lines
-  copy-left : (target : ℕ) (ts : List (List ℕ)) → 1 ≤ length ts → Left u.has (old_matched_unless listed Surely s u) (effects.entered target ts q)
+  copy-left : (target : ℕ) (ts : List (List ℕ)) → 1 ≤ length ts → Left u.matches.has (old_matched_unless listed Surely s u) (effects.entered target ts q)
   copy-left target [] h = absurd (omega arith)
   copy-left target (t ∷ ts) h = (inserted-left target (map plain_line (t ∷ ts)), surely-kept)
 
@@ -267,7 +266,7 @@ module _ (watched : List (List ℕ)) (listed : Bool) (given : Addresses) (s u : 
   made-left : (form : Option Form) (x : Span) (t : editor.State) (new : Results) → t.past ≡ q.past → IfOk (made listed form x t new) (Left [] (old_matched_unless listed Surely s u))
   made-left form x t (lines, None) same =
       elim listed as (λ b. IfOk (elim b as (λ _. Result Outcome Fault) [ true ↦ Ok (effects.only t []) | false ↦ Err fault.NoMatch ]) (λ (o : Outcome). AreMatched [] o.state.lines × KeepsMatched (old_matched_unless b Surely s u) (settled b (kept e) o).past)) [
-        | true ↦ (refl, subst (λ (p : Past). KeepsMatched u.old_has p) (sym same) kept_now)
+        | true ↦ (refl, subst (λ (p : Past). KeepsMatched u.matches.old_has p) (sym same) holds.1)
         | false ↦ tt
       ]
   made-left form x t (lines, Some n) same =
@@ -291,26 +290,26 @@ module _ (watched : List (List ℕ)) (listed : Bool) (given : Addresses) (s u : 
   bytes-left P path (Some file_answer.Refused) make h = tt
   bytes-left P path (Some file_answer.Done) make h = tt
 
-  entered-left : (place : ℕ) (ts : List (List ℕ)) (used : List ℕ) → Left u.has (old_matched_unless listed Maybe s u) (effects.entered place ts (file.named_first used q))
-  entered-left place [] used = (now, maybe-kept)
+  entered-left : (place : ℕ) (ts : List (List ℕ)) (used : List ℕ) → Left u.matches.has (old_matched_unless listed Maybe s u) (effects.entered place ts (file.named_first used q))
+  entered-left place [] used = (holds.0, maybe-kept)
   entered-left place (t ∷ ts) used = (inserted-left place (map plain_line (t ∷ ts)), maybe-changed)
 
-  read-left : (path : Option (List ℕ)) (answer : Option Answer) (x : Span) → OnMade (Left u.has (old_matched_unless listed Maybe s u)) (file.read path answer x q)
+  read-left : (path : Option (List ℕ)) (answer : Option Answer) (x : Span) → OnMade (Left u.matches.has (old_matched_unless listed Maybe s u)) (file.read path answer x q)
   read-left path answer x =
-      let L : Outcome → Type 0 = Left u.has (old_matched_unless listed Maybe s u) in
+      let L : Outcome → Type 0 = Left u.matches.has (old_matched_unless listed Maybe s u) in
       OnMade-bind (λ (_ : List ℕ). Unit {0}) L (used_path path q) _ (always (used_path path q))
       (λ used _. bytes-left L used answer (λ bytes. effects.entered x.first (lines_of bytes) (file.named_first used q)) (λ bytes. entered-left x.first (lines_of bytes) used))
 
-  lines-left : (used : List ℕ) (answer : Option Answer) (x : Span) → OnMade (Left u.has (old_matched_unless listed Never s u)) (with_lines used answer x q)
+  lines-left : (used : List ℕ) (answer : Option Answer) (x : Span) → OnMade (Left u.matches.has (old_matched_unless listed Never s u)) (with_lines used answer x q)
   lines-left used None x = tt
-  lines-left used (Some file_answer.Done) x = (now, never-kept)
+  lines-left used (Some file_answer.Done) x = (holds.0, never-kept)
   lines-left used (Some (file_answer.Bytes bytes)) x = tt
   lines-left used (Some file_answer.Missing) x = tt
   lines-left used (Some file_answer.Refused) x = tt
 
-  write-left : (path : Option (List ℕ)) (answer : Option Answer) (x : Span) → OnMade (Left u.has (old_matched_unless listed Never s u)) (file.write path answer x q)
+  write-left : (path : Option (List ℕ)) (answer : Option Answer) (x : Span) → OnMade (Left u.matches.has (old_matched_unless listed Never s u)) (file.write path answer x q)
   write-left path answer x =
-      OnMade-bind (λ (_ : List ℕ). Unit {0}) (Left u.has (old_matched_unless listed Never s u)) (used_path path q) _ (always (used_path path q)) (λ used _. lines-left used answer x)
+      OnMade-bind (λ (_ : List ℕ). Unit {0}) (Left u.matches.has (old_matched_unless listed Never s u)) (used_path path q) _ (always (used_path path q)) (λ used _. lines-left used answer x)
 
   edit_anyway-left : (path : Option (List ℕ)) (answer : Option Answer) (t : editor.State) → OnMade (Left [] []) (file.edit_anyway path answer t)
   edit_anyway-left path answer t =
@@ -322,63 +321,63 @@ module _ (watched : List (List ℕ)) (listed : Bool) (given : Addresses) (s u : 
       OnMade-bind (λ (_ : List ℕ). Unit {0}) (Left [] []) (used_path path q) _ (always (used_path path q))
       (λ used _. OnMade-bind (λ (_ : editor.State). Unit {0}) (Left [] []) (file.saved q) _ (always (file.saved q)) (λ t _. edit_anyway-left (Some used) answer t))
 
-  name-left : (path : Option (List ℕ)) → OnMade (Left u.has (old_matched_unless listed Never s u)) (making (file.file_name path q))
+  name-left : (path : Option (List ℕ)) → OnMade (Left u.matches.has (old_matched_unless listed Never s u)) (making (file.file_name path q))
   name-left path =
-      let L : Outcome → Type 0 = Left u.has (old_matched_unless listed Never s u) in
+      let L : Outcome → Type 0 = Left u.matches.has (old_matched_unless listed Never s u) in
       OnMade-bind L L (file.file_name path q) (λ (o : Outcome). Ok (Makes o))
-      (IfOk-bind (λ (_ : List ℕ). Unit {0}) L (used_path path q) _ (always (used_path path q)) (λ used _. (now, never-kept)))
+      (IfOk-bind (λ (_ : List ℕ). Unit {0}) L (used_path path q) _ (always (used_path path q)) (λ used _. (holds.0, never-kept)))
       (λ o k. k)
 
-  quit-left : OnMade (Left u.has (old_matched_unless listed Never s u)) (making (file.quit q))
+  quit-left : OnMade (Left u.matches.has (old_matched_unless listed Never s u)) (making (file.quit q))
   quit-left =
-      let L : Outcome → Type 0 = Left u.has (old_matched_unless listed Never s u) in
+      let L : Outcome → Type 0 = Left u.matches.has (old_matched_unless listed Never s u) in
       elim q.changed as (λ c. OnMade L (making ((elim c as (λ _. Result editor.State Fault) [ true ↦ Err fault.Unsaved | false ↦ Ok q ]) >> λ t. Ok (effects.only t [])))) [
         | true ↦ tt
-        | false ↦ (now, never-kept)
+        | false ↦ (holds.0, never-kept)
       ]
 
   -- `g` and `v`
   flag-left : (sense : Sense) (pattern : Option (List ℕ)) (x : Span) → x.first ≤ x.last + 1 →
-      OnMade (Left u.has (old_matched_unless listed Never s u)) (flagged sense pattern x q >> λ t. Ok (Makes (effects.only t [])))
+      OnMade (Left u.matches.has (old_matched_unless listed Never s u)) (flagged sense pattern x q >> λ t. Ok (Makes (effects.only t [])))
   flag-left sense pattern x le =
-      let L : Outcome → Type 0 = Left u.has (old_matched_unless listed Never s u) in
-      let Q : editor.State → Type 0 = λ (t : editor.State). AreMatched u.has t.lines × KeepsMatched (old_matched_unless listed Never s u) t.past in
+      let L : Outcome → Type 0 = Left u.matches.has (old_matched_unless listed Never s u) in
+      let Q : editor.State → Type 0 = λ (t : editor.State). AreMatched u.matches.has t.lines × KeepsMatched (old_matched_unless listed Never s u) t.past in
       OnMade-bind Q L (flagged sense pattern x q) _
       (IfOk-bind (λ (_ : List ℕ). Unit {0}) Q (used_pattern pattern q) _ (always (used_pattern pattern q))
       (λ text _. (
-        are-matched-alike u.has q.lines (parts.replaced x.first x.last (map (flagged_line sense text) (parts.between x.first x.last q.lines)) q.lines) (alike-taken sense text x.first x.last q.lines le) now,
+        are-matched-alike u.matches.has q.lines (parts.replaced x.first x.last (map (flagged_line sense text) (parts.between x.first x.last q.lines)) q.lines) (alike-taken sense text x.first x.last q.lines le) holds.0,
         never-kept,
       )))
       (λ t k. k)
 
   -- `u`
-  same-left : (same : Bool) (was : Option Old) → same ≡ true → AreMatched (matched_by_undo same (is_some was) u.has u.old_has) q.lines
-  same-left same None h = now
-  same-left true (Some old) h = both-passes (is_matched q.lines) u.has u.old_has now
+  same-left : (same : Bool) (was : Option Old) → same ≡ true → AreMatched (matches_by_undo same was u.matches).has q.lines
+  same-left same None h = holds.0
+  same-left true (Some old) h = both-passes (is_matched q.lines) u.matches.has u.matches.old_has holds.0
   same-left false (Some old) h = absurd cc
 
-  was-left : (same : Bool) (was : Option Old) (before : Kept) → AllowsKept was before → AreMatched u.old_has before.lines →
-      AreMatched (matched_by_undo same (is_some was) u.has u.old_has) before.lines × AreMatched (matched_by_undo same (is_some was) u.old_has u.has) (unflagged q.lines)
+  was-left : (same : Bool) (was : Option Old) (before : Kept) → AllowsKept was before → AreMatched u.matches.old_has before.lines →
+      MatchesHold (matches_by_undo same was u.matches) before.lines (Was (kept q))
   was-left same None before a k = absurd a
   was-left true (Some old) before a k =
-      (both-passes_other (is_matched before.lines) u.has u.old_has k, both-passes_other (is_matched (unflagged q.lines)) u.old_has u.has (are-matched-kept u.has q.lines now))
-  was-left false (Some old) before a k = (k, are-matched-kept u.has q.lines now)
+      (both-passes_other (is_matched before.lines) u.matches.has u.matches.old_has k, both-passes_other (is_matched (unflagged q.lines)) u.matches.old_has u.matches.has (are-matched-kept u.matches.has q.lines holds.0))
+  was-left false (Some old) before a k = (k, are-matched-kept u.matches.has q.lines holds.0)
 
-  undo-by : (past : Past) → AllowsPast u.undo past → KeepsMatched u.old_has past → q.past ≡ past →
-      OnMade (Left (matched_after watched given verbs.BringsBack u) (old_matched_after listed given verbs.BringsBack s u)) (making (effects.undo past q))
+  undo-by : (past : Past) → AllowsPast u.undo past → KeepsMatched u.matches.old_has past → q.past ≡ past →
+      OnMade (Leaves (matches_by_undo u.undo.same u.undo.was u.matches)) (making (effects.undo past q))
   undo-by Nothing a k is = tt
-  undo-by Same a k is = (same-left u.undo.same u.undo.was a, subst (λ (p : Past). KeepsMatched (old_matched_after listed given verbs.BringsBack s u) p) (sym is) tt)
+  undo-by Same a k is = (same-left u.undo.same u.undo.was a, subst (λ (p : Past). KeepsMatched (matches_by_undo u.undo.same u.undo.was u.matches).old_has p) (sym is) tt)
   undo-by (Was before) a k is = was-left u.undo.same u.undo.was before a k
 
   pub effect-left : (verb : Verb) (x : Span) (target : ℕ) (answer : Option Answer) → x.first ≤ x.last + 1 → Suiting given u.zone q.lines verb x →
-      OnMade (Left (matched_after watched given (takes verb).lines u) (old_matched_after listed given (takes verb).lines s u)) (effect_of verb listed x target q answer)
+      OnMade (Leaves (matches_after watched listed given (takes verb).lines s u)) (effect_of verb listed x target q answer)
   effect-left (ed.Append text) x target answer le k = append-left text x
   effect-left (ed.Change text) x target answer le k = change-left text x
   effect-left ed.Delete x target answer le k = (refl, surely-kept)
   effect-left (ed.Insert text) x target answer le k = insert-left text x
   effect-left ed.Join x target answer le k = join-by (joining_given given u.zone) x k
   effect-left (ed.Mark letter) x target answer le k =
-      (matched-more u.has q.lines (marked_at (x.last - 1) letter q.lines) (λ text h. any-marked text (x.last - 1) letter q.lines h) now, never-kept)
+      (matched-more u.matches.has q.lines (marked_at (x.last - 1) letter q.lines) (λ text h. any-marked text (x.last - 1) letter q.lines h) holds.0, never-kept)
   effect-left (ed.Move to) x target answer le k = move-left x target le
   effect-left (ed.Copy to) x target answer le k = copy-left target (texts (parts.between x.first x.last q.lines)) k
   effect-left (ed.Substitute pattern replacement choice form) x target answer le k = substitute-left pattern replacement choice form x
@@ -388,18 +387,19 @@ module _ (watched : List (List ℕ)) (listed : Bool) (given : Addresses) (s u : 
   effect-left (ed.EditAnyway path) x target answer le k = edit_anyway-left path answer q
   effect-left (ed.FileName path) x target answer le k = name-left path
   effect-left (ed.Global sense pattern) x target answer le k = flag-left sense pattern x le
-  effect-left ed.Undo x target answer le k = undo-by q.past may kept_now refl
+  effect-left ed.Undo x target answer le k = undo-by q.past may holds.1 refl
   effect-left ed.Quit x target answer le k = quit-left
-  effect-left _ x target answer le k = (now, never-kept)
+  effect-left _ x target answer le k = (holds.0, never-kept)
 
   -- once it is settled
   settled-lines : (has : List (List ℕ)) (o : Outcome) → AreMatched has o.state.lines → AreMatched has (settled listed (kept e) o).lines
   settled-lines has o h = elim o.alters as (λ b. AreMatched has (settled listed (kept e) (record o { alters = b })).lines) [ true ↦ h | false ↦ h ]
 
-  pub completed-left : (c : Command) → c.listed ≡ listed → (has old_has : List (List ℕ)) (y : Result Effect Fault) → OnMade (Left has old_has) y →
-      OnMade (λ (o : Outcome). MatchedIn has old_has o.state) (y >> completed c e)
-  completed-left c same has old_has (Err f) h = tt
-  completed-left c same has old_has (Ok (Asks r)) h = tt
-  completed-left c same has old_has (Ok (Makes o)) h =
-      OnMade-bind (λ (_ : List ℕ). Unit {0}) (λ (p : Outcome). MatchedIn has old_has p.state) (suffix_written c.suffix o.state) _ (always (suffix_written c.suffix o.state))
-      (λ more _. subst (λ (b : Bool). MatchedIn has old_has (settled b (kept e) o)) (sym same) (settled-lines has o h.0, h.1))
+  pub completed-left : (c : Command) → c.listed ≡ listed → (m : Matches) (y : Result Effect Fault) → OnMade (Leaves m) y →
+      OnMade (λ (o : Outcome). MatchesHold m o.state.lines o.state.past) (y >> completed c e)
+  completed-left c same m (Err f) h = tt
+  completed-left c same m (Ok (Asks r)) h = tt
+  completed-left c same m (Ok (Makes o)) h =
+      let M : editor.State → Type 0 = λ (t : editor.State). MatchesHold m t.lines t.past in
+      OnMade-bind (λ (_ : List ℕ). Unit {0}) (λ (p : Outcome). M p.state) (suffix_written c.suffix o.state) _ (always (suffix_written c.suffix o.state))
+      (λ more _. subst (λ (b : Bool). M (settled b (kept e) o)) (sym same) (settled-lines m.has o h.0, h.1))

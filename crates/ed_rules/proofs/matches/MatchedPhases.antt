@@ -24,15 +24,16 @@ use Rattle.ed_syntax.specs.meaning.Ranges.{Span, spanned}
 use Rattle.ed_syntax.specs.meaning.Effects.{Outcome, Effect, Makes, Asks}
 use Rattle.ed_syntax.specs.meaning.Applied as concrete
 use Rattle.ed_syntax.specs.meaning.Applied.{completed, effect_of, command}
+use Rattle.ed_rules.specs.declared.known_matches.Matches.{Matches}
 use Rattle.ed_rules.specs.declared.state.State.{State}
 use Rattle.ed_rules.specs.declared.state.Undo.{Undo}
-use Rattle.ed_rules.specs.StandsFor.{StandsFor, AllowsPast, KeepsMatched}
-use Rattle.ed_rules.specs.Matched.{AreMatched, sought_by, sought_at_target}
+use Rattle.ed_rules.specs.StandsFor.{StandsFor, AllowsPast, MatchesHold}
+use Rattle.ed_rules.specs.Matched.{sought_by, sought_at_target}
 use Rattle.ed_rules.specs.Pieces.{needing, with_zone, ended}
 use Rattle.std.proofs.Common.{cond, take}
 use Rattle.ed_rules.specs.Addresses.{evaluated, addressed, standing, targeted, ranged}
 use Rattle.ed_rules.specs.declared.matching.Certainty.TheVariants.{Never, Maybe, Surely}
-use Rattle.ed_rules.specs.Matching.{joining, joining_given, matched_after, old_matched_after, saying, matches_after}
+use Rattle.ed_rules.specs.Matching.{joining, joining_given, saying, matches_after}
 use Rattle.ed_rules.specs.Rules.{taken, effect, suffixed, step_at, step}
 use Rattle.ed_syntax.specs.spelling.Readable.{enters_lines}
 use Rattle.ed_rules.proofs.Basics.{Agrees, Agrees-weaker}
@@ -46,12 +47,12 @@ use Rattle.ed_rules.proofs.sound.Outcomes.{always, OnMade, SameBuffer, values-sa
 use Rattle.ed_rules.proofs.through.Needs.{Any, all-any}
 use Rattle.ed_rules.proofs.through.Addresses.{KeptAt, Property, Of, beside, addressed-through, targeted-through, taken-through}
 use Rattle.ed_rules.proofs.through.Steps.{suffixed-through}
-use Rattle.ed_rules.proofs.matches.MatchedLeft.{MatchedIn, Joins, Suiting, effect-left, completed-left}
+use Rattle.ed_rules.proofs.matches.MatchedLeft.{Joins, Suiting, effect-left, completed-left}
 
 -- THE RULE'S SIDE: addresses leave it as it is
 
 abbrev Same : State → Property
-Same s _ _ undo has old_has = (has ≡ s.has) × (old_has ≡ s.old_has) × (undo ≡ s.undo)
+Same s _ _ undo matches = (matches ≡ s.matches) × (undo ≡ s.undo)
 
 abbrev SameMatches : State → State → Type 0
 SameMatches s t = Of (Same s) t
@@ -60,16 +61,16 @@ same-at : (s : State) → KeptAt (SameMatches s) Any
 same-at s = beside (Same s) Any (λ t text _ h. h)
 
 then-same : (s t u : State) → SameMatches s t → SameMatches t u → SameMatches s u
-then-same s t u h k = (k.0 ∙ h.0, k.1 ∙ h.1, k.2 ∙ h.2)
+then-same s t u h k = (k.0 ∙ h.0, k.1 ∙ h.1)
 
 addressed-same : (a : Addresses) (s : State) → IfOk (addressed a s) (SameMatches s)
-addressed-same a s = addressed-through (SameMatches s) Any (same-at s) a s (all-any (sought_by a)) (refl, refl, refl)
+addressed-same a s = addressed-through (SameMatches s) Any (same-at s) a s (all-any (sought_by a)) (refl, refl)
 
 target-same : (a : Option Address) (s : State) → IfOk (targeted a s) (SameMatches s)
-target-same a s = targeted-through (SameMatches s) Any (same-at s) a s (all-any (sought_at_target a)) (refl, refl, refl)
+target-same a s = targeted-through (SameMatches s) Any (same-at s) a s (all-any (sought_at_target a)) (refl, refl)
 
 taken-same : (k : Taking) (given a : Addresses) (s : State) → IfOk (taken k given a s) (SameMatches s)
-taken-same k given a s = taken-through (SameMatches s) Any (same-at s) k given a s (refl, refl, refl)
+taken-same k given a s = taken-through (SameMatches s) Any (same-at s) k given a s (refl, refl)
 
 -- BOTH SIDES
 
@@ -98,15 +99,14 @@ tells-agreed R S P Q (Ok a) (Err e) f g s h k i = tells-nothing R (f a) e
 tells-agreed R S P Q (Err e) y f g s h k i = tt
 
 abbrev pub Holds : State → Outcome → Type 0
-Holds t o = MatchedIn t.has t.old_has o.state
+Holds t o = MatchesHold t.matches o.state.lines o.state.past
 
-tells-so : (has old_has : List (List ℕ)) (x : Result State Fault) (y : Result Effect Fault) → IfOk x (λ (t : State). (t.has ≡ has) × (t.old_has ≡ old_has)) →
-    OnMade (λ (o : Outcome). MatchedIn has old_has o.state) y → Tells Holds x y
-tells-so has old_has (Err f) y h k = tt
-tells-so has old_has (Ok t) (Err f) h k = tt
-tells-so has old_has (Ok t) (Ok (Asks r)) h k = tt
-tells-so has old_has (Ok t) (Ok (Makes o)) h k =
-    (subst (λ (l : List (List ℕ)). AreMatched l o.state.lines) (sym h.0) k.0, subst (λ (l : List (List ℕ)). KeepsMatched l o.state.past) (sym h.1) k.1)
+tells-so : (m : Matches) (x : Result State Fault) (y : Result Effect Fault) → IfOk x (λ (t : State). t.matches ≡ m) →
+    OnMade (λ (o : Outcome). MatchesHold m o.state.lines o.state.past) y → Tells Holds x y
+tells-so m (Err f) y h k = tt
+tells-so m (Ok t) (Err f) h k = tt
+tells-so m (Ok t) (Ok (Asks r)) h k = tt
+tells-so m (Ok t) (Ok (Makes o)) h k = subst (λ (n : Matches). MatchesHold n o.state.lines o.state.past) (sym h) k
 
 -- WHAT IS ASKED OF THE LINES
 
@@ -161,21 +161,20 @@ module _ (watched : List (List ℕ)) (c : Command) (answer : Option Answer) (s :
       Tells Holds (effect c.listed c.addresses c.verb s u >> λ r. suffixed c.suffix (saying (matches_after watched c.listed c.addresses (takes c.verb).lines s u) (with_zone (ended r.marks r.zone) r)))
       (effect_of c.verb c.listed x target q answer >> completed c e)
   acted u q x target same buffer order k =
-      let has : List (List ℕ) = matched_after watched c.addresses (takes c.verb).lines u in
-      let old_has : List (List ℕ) = old_matched_after c.listed c.addresses (takes c.verb).lines s u in
-      let now : AreMatched u.has q.lines =
-      subst (λ (l : List (List ℕ)). AreMatched l q.lines) (sym same.0) (subst (λ (ls : List Line). AreMatched s.has ls) (sym buffer.0) st.matched) in
-      let kept_now : KeepsMatched u.old_has q.past =
-      subst (λ (l : List (List ℕ)). KeepsMatched l q.past) (sym same.1) (subst (λ (p : Past). KeepsMatched s.old_has p) (sym buffer.1) st.kept_matched) in
+      let m : Matches = matches_after watched c.listed c.addresses (takes c.verb).lines s u in
+      let before : MatchesHold s.matches q.lines e.past =
+      subst (λ (ls : List Line). MatchesHold s.matches ls e.past) (sym buffer.0) st.matches in
+      let holds : MatchesHold u.matches q.lines q.past =
+      subst (λ (n : Matches). MatchesHold n q.lines q.past) (sym same.0)
+      (subst (λ (p : Past). MatchesHold s.matches q.lines p) (sym buffer.1) before) in
       let may : AllowsPast u.undo q.past =
-      subst (λ (w : Undo). AllowsPast w q.past) (sym same.2) (subst (λ (p : Past). AllowsPast s.undo p) (sym buffer.1) st.stands.past) in
-      let P : State → Type 0 = λ (t : State). (t.has ≡ has) × (t.old_has ≡ old_has) in
-      tells-so has old_has _ _
+      subst (λ (w : Undo). AllowsPast w q.past) (sym same.1) (subst (λ (p : Past). AllowsPast s.undo p) (sym buffer.1) st.stands.past) in
+      let P : State → Type 0 = λ (t : State). t.matches ≡ m in
+      tells-so m _ _
       (IfOk-bind (λ (_ : State). Unit {0}) P (effect c.listed c.addresses c.verb s u) _ (always (effect c.listed c.addresses c.verb s u))
-      (λ r _. suffixed-through P c.suffix (saying (matches_after watched c.listed c.addresses (takes c.verb).lines s u) (with_zone (ended r.marks r.zone) r))
-      (refl, refl)))
-      (completed-left watched c.listed c.addresses s u e q st.matched now kept_now may c refl has old_has (effect_of c.verb c.listed x target q answer)
-      (effect-left watched c.listed c.addresses s u e q st.matched now kept_now may c.verb x target answer order k))
+      (λ r _. suffixed-through P c.suffix (saying m (with_zone (ended r.marks r.zone) r)) refl))
+      (completed-left watched c.listed c.addresses s u e q st.matches holds may c refl m (effect_of c.verb c.listed x target q answer)
+      (effect-left watched c.listed c.addresses s u e q st.matches holds may c.verb x target answer order k))
 
   abbrev d : Addresses
   d = standing (takes c.verb).default
@@ -233,7 +232,7 @@ module _ (watched : List (List ℕ)) (addresses_given : Addresses) (suffix : Opt
       let a : Addresses = given_or addresses_given d in
       subst (λ (y : Result Effect Fault). Tells Holds (step_at watched a c s) y) (sym (command-is c e answer))
       (tells-agreed Holds (AddressedIn e.lines (NamesOf a)) (SameMatches s) (λ (v : editor.State × List ℕ). SameBuffer e v.0) (addressed a s) (values (given_or addresses_given (takes ed.Join).default) e) _ _
-      (command_addressed addresses_given ed.Join s e (st.numbers, st.stands) st.matched)
+      (command_addressed addresses_given ed.Join s e (st.numbers, st.stands) st.matches.0)
       (addressed-same a s) (values-same (given_or addresses_given (takes ed.Join).default) e)
       (λ t v h i j. tells-agreed Holds (λ (u : State) (x : Span). Joins (joining_given addresses_given u.zone) x) (SameMatches t) InOrder (ranged t) (spanned many.Range (length e.lines) v.1) _ _
       (join-suits addresses_given d tt t v (length e.lines) h.0)
@@ -247,7 +246,7 @@ module _ (watched : List (List ℕ)) (addresses_given : Addresses) (suffix : Opt
       let a : Addresses = given_or addresses_given d in
       subst (λ (y : Result Effect Fault). Tells Holds (step_at watched a c s) y) (sym (command-is c e answer))
       (tells-agreed Holds (AddressedIn e.lines (NamesOf a)) (SameMatches s) (λ (v : editor.State × List ℕ). SameBuffer e v.0) (addressed a s) (values (given_or addresses_given (takes (ed.Copy to)).default) e) _ _
-      (command_addressed addresses_given (ed.Copy to) s e (st.numbers, st.stands) st.matched)
+      (command_addressed addresses_given (ed.Copy to) s e (st.numbers, st.stands) st.matches.0)
       (addressed-same a s) (values-same (given_or addresses_given (takes (ed.Copy to)).default) e)
       (λ t v h i j.
       let n = names-given a (given_or-given addresses_given d tt) v.1 v.0.lines h.0.numbers h.0.names in

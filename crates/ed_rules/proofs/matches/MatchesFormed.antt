@@ -20,7 +20,7 @@ use Rattle.ed_rules.specs.Globals.{taken_matches, old_if, old_has_if, body_entry
 use Rattle.ed_rules.proofs.formed.GivenBytes.{TextIsBytes, sought-bytes}
 use Rattle.ed_rules.proofs.formed.RisingTexts.{none-formed, filter-formed, with_text-formed, with_texts-formed}
 use Rattle.ed_rules.proofs.matches.OldMatches.{both-of_lines, effect-of_lines}
-use Rattle.ed_rules.proofs.matches.Sayings.{OfSets, Says, says-after, says-old, says-join, says-widen, says-entry}
+use Rattle.ed_rules.proofs.matches.Sayings.{OfSets, AreSaid, Says, says-after, says-join, says-widen, says-entry}
 use Rattle.ed_rules.proofs.through.Needs.{Any, all-any}
 use Rattle.ed_rules.proofs.through.Addresses.{Property, Of, beside}
 use Rattle.ed_rules.proofs.through.Steps.{rule-through}
@@ -39,15 +39,13 @@ says-of s h = (h.has, h.old_has)
 
 pub command-matches : (watched : List (List ℕ)) (c : Command) (s : State) → TextsAreFormed watched → MatchesAreFormed s → IfOk (step watched c s) MatchesAreFormed
 command-matches watched c s w h =
-    let Q : Property = λ _ _ undo has old_has. (TextsAreFormed has × TextsAreFormed old_has) × IsOfLines undo.was old_has in
+    let Q : Property = λ _ _ undo m. AreSaid TextsAreFormed m × IsOfLines undo.was m.old_has in
     rule-through (Of Q) Any (beside Q Any (λ t text _ q. q)) MatchesAreFormed watched c s (all-any (sought c))
-    ((h.has, h.old_has), h.of_lines)
-    (λ u k. IfOk-weaker (effect c.listed c.addresses c.verb s u) _ _
-    (λ r old. record {
-      has = says-after TextsAreFormed formed-sets watched c.addresses (takes c.verb).lines u w k.0;
-      old_has = says-old TextsAreFormed formed-sets c.listed c.addresses (takes c.verb).lines s u (says-of s h) k.0;
-      of_lines = old;
-    }) (effect-of_lines c.addresses s u k.1 c.listed c.verb))
+    (says-of s h, h.of_lines)
+    (λ u k. let says = says-after TextsAreFormed formed-sets watched c.listed c.addresses (takes c.verb).lines s u w (says-of s h) k.0 in
+    IfOk-weaker (effect c.listed c.addresses c.verb s u) _ _
+    (λ r old. record { has = says.0; old_has = says.1; of_lines = old })
+    (effect-of_lines watched c.addresses s u k.1 c.listed c.verb))
 
 -- TWO STATES
 
@@ -55,14 +53,14 @@ pub join-matches : (one other : State) → MatchesAreFormed one → MatchesAreFo
 unfolding join
 join-matches one other h k =
     let both = says-join TextsAreFormed formed-sets one other (says-of one h) (says-of other k) in
-    let lines = both-of_lines one.undo.was other.undo.was one.old_has other.old_has h.of_lines k.of_lines in
+    let lines = both-of_lines one.undo.was other.undo.was one.matches.old_has other.matches.old_has h.of_lines k.of_lines in
     record { has = both.0; old_has = both.1; of_lines = lines }
 
 pub widen-matches : (old new : State) → MatchesAreFormed old → MatchesAreFormed new → MatchesAreFormed (widen old new)
 unfolding widen
 widen-matches old new h k =
     let both = says-widen TextsAreFormed formed-sets old new (says-of old h) (says-of new k) in
-    let lines = both-of_lines old.undo.was new.undo.was old.old_has new.old_has h.of_lines k.of_lines in
+    let lines = both-of_lines old.undo.was new.undo.was old.matches.old_has new.matches.old_has h.of_lines k.of_lines in
     record { has = both.0; old_has = both.1; of_lines = lines }
 
 -- THE LIST OF A GLOBAL COMMAND

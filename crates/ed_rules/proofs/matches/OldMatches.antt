@@ -17,14 +17,15 @@ use Rattle.ed_rules.specs.declared.state.Old.{Old}
 use Rattle.ed_rules.specs.declared.state.State.{State}
 use Rattle.ed_rules.specs.Formed.{IsOfLines}
 use Rattle.ed_rules.specs.States.{old_of}
-use Rattle.ed_rules.specs.Order.{old_of_both, old_has_of_both, join}
+use Rattle.ed_rules.specs.KnownMatches.{old_has_of_both}
+use Rattle.ed_rules.specs.Order.{old_of_both, join}
 use Rattle.ed_rules.specs.Pieces.{with_zone, mark_lost, replaced, modified}
 use Rattle.ed_rules.specs.Lines.{joined, joined_given}
 use Rattle.ed_rules.specs.Move.{moved_zone}
 use Rattle.ed_rules.specs.Substituting.{replacement_used, pattern_used, is_sure_to_match, surely_substituted, substituted_if}
 use Rattle.ed_rules.specs.Files.{named, named_first, maybe_modified}
 use Rattle.ed_rules.specs.Undoing.{present_of, undone_by}
-use Rattle.ed_rules.specs.Matching.{joining, joining_given, how_surely, matched_by_undo, old_matched_by, old_matched_unless, old_matched_after}
+use Rattle.ed_rules.specs.Matching.{joining, joining_given, how_surely, matches_by_undo, old_matched_by, old_matched_unless, matches_after}
 use Rattle.ed_rules.specs.Rules.{effect}
 use Rattle.ed_rules.proofs.through.Needs.{needed, anyway, Any, some-any}
 use Rattle.ed_rules.proofs.through.Addresses.{Property, Of, beside}
@@ -63,7 +64,7 @@ of-none (Some old) before old_has h k = tt
 
 -- only a file's lines in place of all leave undo without the earlier lines that it had
 abbrev Lasts : State → Property
-Lasts s _ _ undo _ _ = undo.was ≡ None → s.undo.was ≡ None
+Lasts s _ _ undo _ = undo.was ≡ None → s.undo.was ≡ None
 
 module _ (s start t : State) (h : Of (Lasts s) t) where
   lasts-changed : (listed : Bool) → Of (Lasts s) (modified listed start t)
@@ -149,12 +150,13 @@ module _ (given : Addresses) (start s : State) where
 -- BY WHAT A COMMAND DOES TO THE LINES
 
 -- `u`
-undone_by-of_lines : (same : Bool) (was : Option Old) (s : State) → s.undo.was ≡ was → IsOfLines s.undo.was s.old_has →
-    IsOfLines (undone_by same was s).undo.was (matched_by_undo same (is_some was) s.old_has s.has)
+undone_by-of_lines : (same : Bool) (was : Option Old) (s : State) → s.undo.was ≡ was → IsOfLines s.undo.was s.matches.old_has →
+    IsOfLines (undone_by same was s).undo.was (matches_by_undo same was s.matches).old_has
 unfolding join
 undone_by-of_lines same None s is h = h
 undone_by-of_lines true (Some old) s is h =
-    of-some (old_of_both s.undo.was (Some (present_of s))) (matched_by_undo true true s.old_has s.has) (some-other s.undo.was (present_of s))
+    of-some (old_of_both s.undo.was (Some (present_of s))) (matches_by_undo true (Some old) s.matches).old_has
+    (some-other s.undo.was (present_of s))
 undone_by-of_lines false (Some old) s is h = tt
 
 -- nothing is said of what was there before another file
@@ -162,13 +164,13 @@ none-said : (was : Option Old) → IsOfLines was []
 none-said None = refl
 none-said (Some old) = tt
 
-module _ (given : Addresses) (start s : State) (old : IsOfLines s.undo.was s.old_has) where
+module _ (watched : List (List ℕ)) (given : Addresses) (start s : State) (old : IsOfLines s.undo.was s.matches.old_has) where
   -- in a list, and where nothing is altered
   lasting : (listed : Bool) (verb : Verb) → loads verb ≡ false →
-      IfOk (effect listed given verb start s) (λ r. IsOfLines r.undo.was s.old_has)
+      IfOk (effect listed given verb start s) (λ r. IsOfLines r.undo.was s.matches.old_has)
   lasting listed verb h =
-      IfOk-weaker (effect listed given verb start s) (Of (Lasts s)) (λ r. IsOfLines r.undo.was s.old_has)
-      (λ r k. of-none r.undo.was s.undo.was s.old_has k old)
+      IfOk-weaker (effect listed given verb start s) (Of (Lasts s)) (λ r. IsOfLines r.undo.was s.matches.old_has)
+      (λ r k. of-none r.undo.was s.undo.was s.matches.old_has k old)
       (effect-through (Of (Lasts s)) Any Any ⊥ start (lasts start s) listed given verb s (some-any (pattern_of verb))
       (some-any (path_of verb)) (λ e. let never = sym h ∙ e in absurd cc) (λ e. e))
 
@@ -186,19 +188,19 @@ module _ (given : Addresses) (start s : State) (old : IsOfLines s.undo.was s.old
       altered-of_lines verb (λ (e : how_surely given (takes verb).lines s.zone ≡ Never). let both = sym is ∙ e in absurd cc)
       (old_matched_by Maybe start s)
   certainly false verb Surely is keeps =
-      altered-of_lines verb (λ (e : how_surely given (takes verb).lines s.zone ≡ Never). let both = sym is ∙ e in absurd cc) start.has
+      altered-of_lines verb (λ (e : how_surely given (takes verb).lines s.zone ≡ Never). let both = sym is ∙ e in absurd cc) start.matches.has
 
   by_lines : (listed : Bool) (verb : Verb) (lines : Alteration) → (takes verb).lines ≡ lines → lines ≢ verbs.BringsBack →
-      IfOk (effect listed given verb start s) (λ r. IsOfLines r.undo.was (old_matched_after listed given lines start s))
+      IfOk (effect listed given verb start s) (λ r. IsOfLines r.undo.was (matches_after watched listed given lines start s).old_has)
   by_lines listed verb verbs.Loads is keeps = anyway _ (effect listed given verb start s) (λ r. none-said r.undo.was)
   by_lines listed verb verbs.BringsBack is keeps = absurd (keeps refl)
   by_lines listed verb lines is keeps =
       certainly listed verb (how_surely given lines s.zone) (ap (λ (a : Alteration). how_surely given a s.zone) is) (ap is_loading is)
 
   pub effect-of_lines : (listed : Bool) (verb : Verb) →
-      IfOk (effect listed given verb start s) (λ r. IsOfLines r.undo.was (old_matched_after listed given (takes verb).lines start s))
+      IfOk (effect listed given verb start s) (λ r. IsOfLines r.undo.was (matches_after watched listed given (takes verb).lines start s).old_has)
   effect-of_lines listed ed.Undo =
-      needed (λ (r : State). IsOfLines r.undo.was (old_matched_after listed given verbs.BringsBack start s)) (not s.undo.nothing) fault.Undo
+      needed (λ (r : State). IsOfLines r.undo.was (matches_by_undo s.undo.same s.undo.was s.matches).old_has) (not s.undo.nothing) fault.Undo
       (undone_by s.undo.same s.undo.was s)
       (undone_by-of_lines s.undo.same s.undo.was s refl old)
   effect-of_lines listed verb = by_lines listed verb (takes verb).lines refl (λ e. absurd cc)

@@ -35,12 +35,12 @@ use Rattle.ed_rules.proofs.Basics.{bind-twice, Agrees-also, Agrees-bind, Agrees-
 
 -- x has this value, which is a line or 0
 abbrev pub Valued : ℕ → editor.State → Numbers → State → ℕ → Type 0
-Valued x e v t n = StandsBy t e (updated v x (pos n)) × (n ≤ length e.lines) × AreMatched t.has e.lines
+Valued x e v t n = StandsBy t e (updated v x (pos n)) × (n ≤ length e.lines) × AreMatched t.matches.has e.lines
 
 pub within-inside : (n : ℕ) (e : editor.State) → n ≤ length e.lines → within e (pos n) ≡ Ok n
 within-inside n e h = rw (le-leb n (length e.lines) h, within) refl
 
-in_buffer-sound : (x : ℕ) (m : ℤ) (t : State) (e : editor.State) (v : Numbers) → 3 ≤ x → x < 6 → StandsBy t e (updated v x m) → AreMatched t.has e.lines → Agrees (Valued x e v) (in_buffer x t) (within e m)
+in_buffer-sound : (x : ℕ) (m : ℤ) (t : State) (e : editor.State) (v : Numbers) → 3 ≤ x → x < 6 → StandsBy t e (updated v x m) → AreMatched t.matches.has e.lines → Agrees (Valued x e v) (in_buffer x t) (within e m)
 in_buffer-sound x (pos n) t e v lo hi same known_matches =
     let w : Numbers = updated v x (pos n) in
     Agrees-needing (Valued x e v) _ fault.Address t (within e (pos n)) (λ k.
@@ -60,7 +60,7 @@ in_buffer-sound x (negsuc n) t e v lo hi same known_matches =
     absurd (omega (arith, ints)))
 
 valued_from-sound : (x name : ℕ) (c m : ℤ) (s : State) (e : editor.State) (v : Numbers) → 3 ≤ x → x < 6 → name < 32 → m ≡ v name +ℤ c →
-    StandsBy s e v → AreMatched s.has e.lines → Agrees (Valued x e v) (set_from x name c s) (within e m)
+    StandsBy s e v → AreMatched s.matches.has e.lines → Agrees (Valued x e v) (set_from x name c s) (within e m)
 valued_from-sound x name c m s e v lo hi hn is st known_matches =
     in_buffer-sound x m (with_zone (after_set s.zone x name c) s) e v lo hi (StandsBy-temporary s e v x name c m lo hi hn is st) known_matches
 
@@ -80,11 +80,11 @@ searched-is None order e = refl
 searched-is (Some t) order e = refl
 
 module _ (x : ℕ) (text : Option (List ℕ)) (k : ℤ) (s : State) (e : editor.State) (v : Numbers) (order : List ℕ) (lo : 3 ≤ x) (hi : x < 6) (st : StandsBy s e v)
-    (known_matches : AreMatched s.has e.lines) (finds : (t : List ℕ) → is_matched e.lines t ≡ true → (n : ℕ) × (concrete.searched (Some t) order e ≡ Ok n) × (1 ≤ n) × (n ≤ length e.lines)) where
+    (known_matches : AreMatched s.matches.has e.lines) (finds : (t : List ℕ) → is_matched e.lines t ≡ true → (n : ℕ) × (concrete.searched (Some t) order e ≡ Ok n) × (1 ≤ n) × (n ≤ length e.lines)) where
   -- what is known to be matched is matched
   found-matched : (t : List ℕ) → is_found s (Some t) ≡ true → is_matched e.lines t ≡ true
-  found-matched t h = elim (or_cases (is_member s.has t) (known s.zone 0 2 (negsuc 0) && is_always (Some t)) h) [
-    | inl m ↦ member-matched s.has t e.lines m known_matches
+  found-matched t h = elim (or_cases (is_member s.matches.has t) (known s.zone 0 2 (negsuc 0) && is_always (Some t)) h) [
+    | inl m ↦ member-matched s.matches.has t e.lines m known_matches
     | inr q ↦
         let both = and_parts (known s.zone 0 2 (negsuc 0)) (is_always (Some t)) q in
         let d = known-true s.zone v 0 2 (negsuc 0) both.0 (omega arith) (omega arith) st.buffer.holds in
@@ -135,7 +135,7 @@ module _ (x : ℕ) (text : Option (List ℕ)) (k : ℤ) (s : State) (e : editor.
 abbrev Stays : State → Numbers → ℕ → State → ℕ → Type 0
 Stays s v letter t n = (t ≡ s) × (v (6 + letter) ≡ pos n) × (letter < 26)
 
-valued_base-sound : (x : ℕ) (b : Base) (k : ℤ) (s : State) (e : editor.State) (v : Numbers) → 3 ≤ x → x < 6 → StandsBy s e v → AreMatched s.has e.lines →
+valued_base-sound : (x : ℕ) (b : Base) (k : ℤ) (s : State) (e : editor.State) (v : Numbers) → 3 ≤ x → x < 6 → StandsBy s e v → AreMatched s.matches.has e.lines →
     Agrees (Valued x (record e { pattern = concrete.remembered b e }) v) (evaluated_base x b k s) (base_number b e >> λ n. within e (pos n +ℤ k))
 valued_base-sound x (ed.Number n) k s e v lo hi st m =
     let z = st.buffer.reads.zero_is in
@@ -162,7 +162,7 @@ valued_base-sound x (ed.Forward text) k s e v lo hi st m =
 valued_base-sound x (ed.Backward text) k s e v lo hi st m =
     searched-sound x text k s e v (lines_backward e) lo hi st m (λ t matched. backward-finds t e matched st.buffer.inside)
 
-pub valued-sound : (x : ℕ) (a : Address) (s : State) (e : editor.State) (v : Numbers) → 3 ≤ x → x < 6 → StandsBy s e v → AreMatched s.has e.lines →
+pub valued-sound : (x : ℕ) (a : Address) (s : State) (e : editor.State) (v : Numbers) → 3 ≤ x → x < 6 → StandsBy s e v → AreMatched s.matches.has e.lines →
     Agrees (Valued x (concrete.evaluated a e) v) (evaluated x a s) (value a e)
 valued-sound x a s e v lo hi st m = valued_base-sound x a.base a.offset s e v lo hi st m
 
@@ -186,13 +186,13 @@ pub record Addressed (Named : List ℕ → List Line → Numbers → Type 0) (t 
   pub numbers : Numbers
   pub stands : StandsBy t p.0 numbers
   pub names : Named p.1 p.0.lines numbers
-  pub matched : AreMatched t.has p.0.lines
+  pub matched : AreMatched t.matches.has p.0.lines
 
 -- and the editor's lines are these
 abbrev pub AddressedIn : List Line → (List ℕ → List Line → Numbers → Type 0) → State → editor.State × List ℕ → Type 0
 AddressedIn lines Named t p = Addressed Named t p × (p.0.lines ≡ lines)
 
-addressed-one : (a : Address) (s : State) (e : editor.State) (v : Numbers) → StandsBy s e v → AreMatched s.has e.lines →
+addressed-one : (a : Address) (s : State) (e : editor.State) (v : Numbers) → StandsBy s e v → AreMatched s.matches.has e.lines →
     Agrees (AddressedIn e.lines (Names (Unit {0}))) (addressed (One a) s) (values (One a) e)
 addressed-one a s e v st m =
     Agrees-bind (Valued 3 (concrete.evaluated a e) v) (AddressedIn e.lines (Names (Unit {0}))) (evaluated 3 a s) (value a e) _ _ (valued-sound 3 a s e v (omega arith) (omega arith) st m)
@@ -206,7 +206,7 @@ addressed-one a s e v st m =
       refl,
     ))
 
-pub addressed-sound : (a : Addresses) (s : State) (e : editor.State) → Stands s e → AreMatched s.has e.lines → Agrees (AddressedIn e.lines (NamesOf a)) (addressed a s) (values a e)
+pub addressed-sound : (a : Addresses) (s : State) (e : editor.State) → Stands s e → AreMatched s.matches.has e.lines → Agrees (AddressedIn e.lines (NamesOf a)) (addressed a s) (values a e)
 addressed-sound Without s e st k = (record { numbers = st.0; stands = st.1; names = refl; matched = k }, refl)
 addressed-sound (One a) s e st k = addressed-one a s e st.0 st.1 k
 addressed-sound (Comma a b) s e st k =
@@ -271,7 +271,7 @@ value-here e h =
 pub twice-is : (e : editor.State) → e.current ≤ length e.lines → values (Comma here here) e ≡ Ok (e, e.current ∷ e.current ∷ [])
 twice-is e h = rw (value-here e h) refl
 
-pub twice-sound : (s : State) (e : editor.State) → Stands s e → AreMatched s.has e.lines → Agrees (AddressedIn e.lines (NamesOf (One here))) (addressed (One here) s) (values (Comma here here) e)
+pub twice-sound : (s : State) (e : editor.State) → Stands s e → AreMatched s.matches.has e.lines → Agrees (AddressedIn e.lines (NamesOf (One here))) (addressed (One here) s) (values (Comma here here) e)
 twice-sound s e st k =
     let v : Numbers = st.0 in
     let S : State → editor.State × List ℕ → Type 0 = AddressedIn e.lines (NamesOf (One here)) in
@@ -290,7 +290,7 @@ twice-sound s e st k =
     )))
 
 -- the addresses of a command, given or not
-pub command_addressed : (a : Addresses) (verb : Verb) (s : State) (e : editor.State) → Stands s e → AreMatched s.has e.lines →
+pub command_addressed : (a : Addresses) (verb : Verb) (s : State) (e : editor.State) → Stands s e → AreMatched s.matches.has e.lines →
     Agrees (AddressedIn e.lines (NamesOf (given_or a (standing (takes verb).default)))) (addressed (given_or a (standing (takes verb).default)) s) (values (given_or a (takes verb).default) e)
 command_addressed (One a) verb s e st k = addressed-sound (One a) s e st k
 command_addressed (Comma a b) verb s e st k = addressed-sound (Comma a b) s e st k

@@ -321,7 +321,7 @@ pub record Targeted (p : editor.State) (vs : List ℕ) (t : State) (q : editor.S
   pub target_in : q.1 ≤ length q.0.lines
   pub same_lines : q.0.lines ≡ p.lines
 
-pub targeted-sound : (to : Address) (t : State) (p : editor.State) (vs : List ℕ) (v : Numbers) → StandsBy t p v → Names ⊥ vs p.lines v → AreMatched t.has p.lines →
+pub targeted-sound : (to : Address) (t : State) (p : editor.State) (vs : List ℕ) (v : Numbers) → StandsBy t p v → Names ⊥ vs p.lines v → AreMatched t.matches.has p.lines →
     Agrees (Targeted p vs) (evaluated 5 to t) (targeted (Some to) p)
 targeted-sound to t p vs v st n matched =
     Agrees-map (Valued 5 (concrete.evaluated to p) v) (Targeted p vs) (evaluated 5 to t) (value to p) (λ m. (concrete.evaluated to p, m)) (valued-sound 5 to t p v (omega arith) (omega arith) st matched)
@@ -491,7 +491,7 @@ command-is c e answer =
     (λ v q x. record { state = q.0; span = x; target = q.1 }) (λ r. effect_of c.verb c.listed r.span r.target r.state answer >> completed c e)
 
 pub phases_sound : SpansAreInOrder → (c : Command) (s : State) (e : editor.State) (answer : Option Answer) → AreLettered e.lines →
-    Stands s e → AreMatched s.has e.lines →
+    Stands s e → AreMatched s.matches.has e.lines →
     Does Comes answer (step_aside (given_or c.addresses (standing (takes c.verb).default)) c s) (command e c answer)
 phases_sound order c s e answer letters st matched =
     let d : Addresses = standing (takes c.verb).default in

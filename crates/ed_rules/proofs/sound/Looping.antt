@@ -19,20 +19,21 @@ use Rattle.ed_syntax.specs.declared.request.Answer.{Answer}
 use Rattle.ed_syntax.specs.meaning.Applied.{command}
 use Rattle.ed_syntax.specs.meaning.CommandLaws.{FlagsMarkNothing, FlagsAreNoBytes}
 use Rattle.ed_rules.specs.Rules.{step}
+use Rattle.ed_rules.specs.declared.known_matches.Matches.{Matches}
 use Rattle.ed_rules.specs.declared.state.Undo.{Undo}
 use Rattle.ed_rules.specs.Soundness.{IsDone, CommandIsSound}
 use Rattle.ed_syntax.specs.meaning.Globals.{opened, taken_at, past_of_global, closed}
 use Rattle.ed_rules.specs.declared.state.State.{State}
-use Rattle.ed_rules.specs.StandsFor.{HoldsBy, StandsBy, StandsFor, AllowsPast, AllowsKept, KeepsLettered, AreLettered, KeepsMatched}
+use Rattle.ed_rules.specs.StandsFor.{HoldsBy, StandsBy, StandsFor, AllowsPast, AllowsKept, KeepsLettered, AreLettered, KeepsMatched, MatchesHold}
 use Rattle.ed_rules.specs.States.{old_of}
 use Rattle.ed_rules.specs.Pieces.{with_zone}
-use Rattle.ed_rules.specs.Globals.{finished, line_taken, taken_matches, body_entry, list_may_alter, old_if, old_has_if, undo_of_global, loop_end}
+use Rattle.ed_rules.specs.Globals.{finished, line_taken, taken_matches, body_entry, list_may_alter, old_if, old_has_if, with_old, undo_of_global, loop_end}
 use Rattle.ed_rules.specs.Matched.{is_matched, AreMatched}
 use Rattle.std.proofs.lemmas.List.Folds.{list_any_at}
 use Rattle.ed_rules.proofs.Texting.{with_text-passes}
 use Rattle.ed_rules.proofs.matches.MatchedLeft.{are-matched-alike, are-matched-kept}
 use Rattle.ed_rules.specs.GlobalSoundness.{FlaggedPass, is_taken_by, StartIsSound, TurnIsSound, EndIsSound}
-use Rattle.ed_rules.proofs.sound.Standing.{Reads-current, StandsBy-has}
+use Rattle.ed_rules.proofs.sound.Standing.{Reads-current, StandsBy-matching}
 use Rattle.ed_rules.proofs.sound.Finishing.{StandsBy-ended}
 use Rattle.ed_rules.proofs.sound.Flags.{HoldsBy-alike, kept-allowed, lettered-kept, lettered-alike, same-length, alike-flagged_at}
 
@@ -49,8 +50,7 @@ opened-stands t e before st = record {
   stands = record { buffer = st.stands.buffer; remembered = st.stands.remembered; changed = st.stands.changed; past = st.stands.past };
   lines = st.lines;
   kept = st.kept;
-  matched = st.matched;
-  kept_matched = st.kept_matched;
+  matches = st.matches;
 }
 
 pub start-sound : CommandIsSound → StartIsSound
@@ -102,12 +102,15 @@ taken-stands k verb s e place h flag pass st =
     let v : Numbers = updated st.numbers 1 (pos (place + 1)) in
     record {
       numbers = v;
-      stands = StandsBy-has (finished (with_zone (line_taken s.zone) s)) (taken_at e place) v (taken_matches verb s.has)
+      stands = StandsBy-matching (finished (with_zone (line_taken s.zone) s)) (taken_at e place) v (record s.matches { has = taken_matches verb s.matches.has })
           (StandsBy-ended (with_zone (line_taken s.zone) s) (taken_at e place) v (StandsBy-taken s e st.numbers place h st.stands));
       lines = lettered-alike k.marks k.bytes e.lines (flagged_at place false e.lines) (alike-flagged_at place false e.lines) st.lines;
       kept = st.kept;
-      matched = are-matched-alike (taken_matches verb s.has) e.lines (flagged_at place false e.lines) (alike-flagged_at place false e.lines) (taken-matched verb s.has e.lines place h flag pass st.matched);
-      kept_matched = st.kept_matched;
+      matches = (
+        are-matched-alike (taken_matches verb s.matches.has) e.lines (flagged_at place false e.lines) (alike-flagged_at place false e.lines)
+            (taken-matched verb s.matches.has e.lines place h flag pass st.matches.0),
+        st.matches.1,
+      );
     }
 
 -- the place of the line that is taken
@@ -147,7 +150,7 @@ module _ (k : Laws) (before : State) (e : editor.State) (st : StandsFor before e
   past-matched =
       (elim g.altered as (λ b. (b ≡ true → list_may_alter list ≡ true) → KeepsMatched (old_has_if (list_may_alter list) before) (elim b as (λ _. Past) [ true ↦ Was g.before | false ↦ Same ])) [
         | true ↦ λ k. subst (λ (b : Bool). AreMatched (old_has_if b before) g.before.lines) (sym (k refl))
-            (subst (λ (p : Kept). AreMatched before.has p.lines) (sym begun) (are-matched-kept before.has e.lines st.matched))
+            (subst (λ (p : Kept). AreMatched before.matches.has p.lines) (sym begun) (are-matched-kept before.matches.has e.lines st.matches.0))
         | false ↦ λ k. tt
       ]) may
 
@@ -158,11 +161,12 @@ module _ (k : Laws) (before : State) (e : editor.State) (st : StandsFor before e
         | false ↦ tt
       ]
 
-over-stands : (s : State) (f : editor.State) (g : Open) (undo : Undo) (old_has : List (List ℕ)) → AllowsPast undo (past_of_global g) → KeepsLettered (past_of_global g) → KeepsMatched old_has (past_of_global g) →
-    StandsFor s f → StandsFor (finished (record s { undo = undo; old_has = old_has })) (over f g)
-over-stands s f g undo old_has past kept kept_matched st = record {
+over-stands : (s : State) (f : editor.State) (g : Open) (undo : Undo) (m : Matches) → AllowsPast undo (past_of_global g) →
+    KeepsLettered (past_of_global g) → MatchesHold m f.lines (past_of_global g) → StandsFor s f →
+    StandsFor (finished (record s { undo = undo; matches = m })) (over f g)
+over-stands s f g undo m past kept matches st = record {
   numbers = st.numbers;
-  stands = StandsBy-ended (record s { undo = undo; old_has = old_has }) (over f g) st.numbers
+  stands = StandsBy-ended (record s { undo = undo; matches = m }) (over f g) st.numbers
       (record {
         buffer = record { holds = st.stands.buffer.holds; reads = st.stands.buffer.reads; inside = st.stands.buffer.inside };
         remembered = st.stands.remembered;
@@ -171,15 +175,15 @@ over-stands s f g undo old_has past kept kept_matched st = record {
       });
   lines = st.lines;
   kept = kept;
-  matched = st.matched;
-  kept_matched = kept_matched;
+  matches = matches;
 }
 
 pub end-sound : Laws → (x : Step) (before invariant : State) → EndIsSound x before invariant (loop_end x before invariant)
 end-sound k x before invariant e f g st after is begun may =
     subst (λ (h : editor.State). StandsFor (loop_end x before invariant) h) (sym (closed-is f g is))
-    (over-stands invariant f g (undo_of_global x.list before) (old_has_if (list_may_alter x.list) before) (past-allowed k before e st x.list g begun may)
-    (past-lettered k before e st x.list g begun may) (past-matched k before e st x.list g begun may) after)
+    (over-stands invariant f g (undo_of_global x.list before) (with_old (list_may_alter x.list) before invariant.matches)
+    (past-allowed k before e st x.list g begun may) (past-lettered k before e st x.list g begun may)
+    (after.matches.0, past-matched k before e st x.list g begun may) after)
 
 -- of states that are given by their equations
 

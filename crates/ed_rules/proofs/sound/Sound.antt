@@ -10,13 +10,14 @@ use Rattle.ed_syntax.specs.meaning.Applied.{command}
 use Rattle.ed_syntax.specs.meaning.CommandLaws.{SpansAreInOrder, CommandsKeepMarks, CommandsKeepLines}
 use Rattle.ed_syntax.specs.meaning.Values.{◌>>◌}
 use Rattle.ed_syntax.specs.meaning.Verbs.{takes, given_or}
+use Rattle.ed_rules.specs.declared.known_matches.Matches.{Matches}
 use Rattle.ed_rules.specs.declared.state.State.{State}
 use Rattle.ed_rules.specs.Pieces.{needing}
 use Rattle.ed_rules.specs.Addresses.{standing}
 use Rattle.ed_syntax.specs.spelling.Readable.{enters_lines}
 use Rattle.ed_rules.specs.Rules.{step_at, step, fault_of}
 use Rattle.ed_rules.specs.Soundness.{IsUnserved, IsDone, CommandIsSound}
-use Rattle.ed_rules.specs.Matching.{Matches, saying}
+use Rattle.ed_rules.specs.Matching.{saying}
 use Rattle.ed_rules.specs.StandsFor.{StandsFor}
 use Rattle.ed_rules.proofs.sound.Answering.{Does, Comes}
 use Rattle.ed_rules.proofs.sound.Standing.{Stands-matching}
@@ -57,7 +58,7 @@ step-does order watched c s e given st =
     let a : Addresses = given_or c.addresses (standing (takes c.verb).default) in
     elim (enters_lines c.verb) as (λ b. Does Comes given (needing b fault.Syntax s >> step_at watched a c) (command e c given)) [
       | true ↦ does-beside given (step_aside a c s) (step_at watched a c s) (command e c given) (step_at-beside watched a c s)
-          (phases_sound order c s e given st.lines (st.numbers, st.stands) st.matched)
+          (phases_sound order c s e given st.lines (st.numbers, st.stands) st.matches.0)
       | false ↦ tt
     ]
 
@@ -88,7 +89,7 @@ module _ (k : Laws) (watched : List (List ℕ)) (c : Command) (s t : State) (e :
   done-by given (Ok (Asks r)) same h l m = may-ask k.answers c s e given r st.stands.remembered.2 same
   done-by given (Ok (Makes o)) same h l m =
       let left = l o refl in
-      record { numbers = h.0; stands = h.1; lines = left.0; kept = left.1; matched = m.0; kept_matched = m.1 }
+      record { numbers = h.0; stands = h.1; lines = left.0; kept = left.1; matches = m }
 
 pub command_sound : Laws → CommandIsSound
 command_sound k watched c s t e given st is =

@@ -5,9 +5,10 @@ use Rattle.zones.specs.Zone.{Numbers, updated}
 use Rattle.zones.specs.Steps.{after_set, after_guard}
 use Rattle.zones.proofs.Soundness.{Holds-after_set, Holds-after_guard}
 use Rattle.ed_syntax.specs.meaning.States as editor
+use Rattle.ed_rules.specs.declared.known_matches.Matches.{Matches}
 use Rattle.ed_rules.specs.declared.state.State.{State}
 use Rattle.ed_rules.specs.Choices.{Choice, has_choice}
-use Rattle.ed_rules.specs.Matching.{Matches, saying}
+use Rattle.ed_rules.specs.Matching.{saying}
 use Rattle.ed_rules.specs.StandsFor.{Reads, StandsBy}
 use Rattle.ed_rules.specs.Pieces.{with_zone}
 use Rattle.zones.proofs.Known.{updated-same, updated-other}
@@ -85,9 +86,8 @@ StandsBy-guarded s e v x y c hx hy h st = record {
 }
 
 -- what is known of matches is said beside
-pub Stands-matching : (s : State) (e : editor.State) (m : Matches) → Stands s e → Stands (saying m s) e
-Stands-matching s e m st =
-    (st.0, record { buffer = st.1.buffer; remembered = st.1.remembered; changed = st.1.changed; past = st.1.past })
+pub StandsBy-matching : (s : State) (e : editor.State) (v : Numbers) (m : Matches) → StandsBy s e v → StandsBy (saying m s) e v
+StandsBy-matching s e v m st = record { buffer = st.buffer; remembered = st.remembered; changed = st.changed; past = st.past }
 
-pub StandsBy-has : (s : State) (e : editor.State) (v : Numbers) (has : List (List ℕ)) → StandsBy s e v → StandsBy (record s { has = has }) e v
-StandsBy-has s e v has st = record { buffer = st.buffer; remembered = st.remembered; changed = st.changed; past = st.past }
+pub Stands-matching : (s : State) (e : editor.State) (m : Matches) → Stands s e → Stands (saying m s) e
+Stands-matching s e m st = (st.0, StandsBy-matching s e st.0 m st.1)

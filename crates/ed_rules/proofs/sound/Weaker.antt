@@ -12,7 +12,8 @@ use Rattle.ed_rules.specs.declared.state.Old.{Old}
 use Rattle.ed_rules.specs.declared.state.Changed.{Changed}
 use Rattle.ed_rules.specs.declared.state.Undo.{Undo}
 use Rattle.ed_rules.specs.declared.state.State.{State}
-use Rattle.ed_rules.specs.Order.{old_of_both, changed_of_both, undo_of_both, join, widen, CoversOld, CoversOldHas, Covers}
+use Rattle.ed_rules.specs.Order.{old_of_both, changed_of_both, undo_of_both, join, widen, CoversOld, Covers}
+use Rattle.ed_rules.specs.KnownMatches.{CoversOldHas}
 use Rattle.ed_rules.specs.Matched.{is_matched, AreMatched}
 use Rattle.ed_rules.specs.StandsFor.{HoldsBy, StandsFor, AllowsKept, AllowsPast, KeepsMatched, allows_change, allows_replacement, ends_line}
 use Rattle.ed_rules.proofs.Choosing.{has-are_choices}
@@ -76,10 +77,11 @@ old-covers : (was : Option Old) (weak strong : List (List ℕ)) (k : Kept) → C
 old-covers None weak strong k c a h = absurd a
 old-covers (Some old) weak strong k c a h = members-pass (is_matched k.lines) weak strong c h
 
-matched-covers : (weak strong : State) (p : Past) → Covers weak strong → AllowsPast strong.undo p → KeepsMatched strong.old_has p → KeepsMatched weak.old_has p
-matched-covers weak strong Nothing c a h = tt
-matched-covers weak strong Same c a h = tt
-matched-covers weak strong (Was k) c a h = old-covers strong.undo.was weak.old_has strong.old_has k c.old_matched a h
+past-matched : (weak strong : State) (p : Past) → Covers weak strong → AllowsPast strong.undo p →
+    KeepsMatched strong.matches.old_has p → KeepsMatched weak.matches.old_has p
+past-matched weak strong Nothing c a h = tt
+past-matched weak strong Same c a h = tt
+past-matched weak strong (Was k) c a h = old-covers strong.undo.was weak.matches.old_has strong.matches.old_has k c.matches.old_has a h
 
 pub Stands-covers : (weak strong : State) (e : editor.State) → Covers weak strong → Stands strong e → Stands weak e
 Stands-covers weak strong e c st = (
@@ -106,8 +108,10 @@ StandsFor-covers weak strong e c st =
       stands = q.1;
       lines = st.lines;
       kept = st.kept;
-      matched = members-pass (is_matched e.lines) weak.has strong.has c.matched st.matched;
-      kept_matched = matched-covers weak strong e.past c st.stands.past st.kept_matched;
+      matches = (
+        members-pass (is_matched e.lines) weak.matches.has strong.matches.has c.matches.has st.matches.0,
+        past-matched weak strong e.past c st.stands.past st.matches.1,
+      );
     }
 
 -- what is joined covers either state

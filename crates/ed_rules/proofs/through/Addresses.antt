@@ -14,6 +14,7 @@ use Rattle.ed_syntax.specs.Commands as ed
 use Rattle.ed_syntax.specs.Commands.{Base, Address, Addresses, Without, One, Comma, Semicolon, Verb}
 use Rattle.ed_syntax.specs.meaning.Verbs.{takes, given_or}
 use Rattle.ed_syntax.proofs.meaning.ResultLemmas.{IfOk-bind}
+use Rattle.ed_rules.specs.declared.known_matches.Matches.{Matches}
 use Rattle.ed_rules.specs.declared.state.Undo.{Undo}
 use Rattle.ed_rules.specs.declared.state.State.{State}
 use Rattle.ed_rules.specs.Choices.{Choice}
@@ -44,12 +45,12 @@ pub record KeptAt (P : State → Type 0) (Pattern : List ℕ → Type 0) : Type 
   pub zone : (s : State) (zone : Bounds) → (Inner s.marks s.zone → Inner s.marks zone) → P s → P (with_zone zone s)
   pub given : (s : State) (text : List ℕ) → Pattern text → P s → P (record s { patterns = Some text ∷ [] })
 
--- of the patterns and paths that may be remembered, of undo, and of what lines match
+-- of the patterns and paths that may be remembered, of undo, and of what is known of matches
 abbrev pub Property : Type 1
-Property = (patterns names : List Choice) → Undo → (has old_has : List (List ℕ)) → Type 0
+Property = (patterns names : List Choice) → Undo → Matches → Type 0
 
 abbrev pub Of : Property → State → Type 0
-Of A s = A s.patterns s.names s.undo s.has s.old_has
+Of A s = A s.patterns s.names s.undo s.matches
 
 -- that says nothing of zones
 pub beside : (A : Property) (Pattern : List ℕ → Type 0) →

@@ -25,26 +25,26 @@ returns-in_err-old c = record {
       [] (plain-said c.args.version) c.in_err-old.ensures.exact;
 }
 
-pub returns-in_err-old_has : goal.returns-in_err-old_has
-returns-in_err-old_has c = record {
+pub returns-in_err-has : goal.returns-in_err-has
+returns-in_err-has c = record {
   exact =
-      stops-last same c.read_matched.new.cursor c.from_residual-in_err-old_has.result c.in_err-old_has.field-0.0
-      c.from_residual-in_err-old_has.ensures.1
+      stops-last same c.read_matched.new.cursor c.from_residual-in_err-has.result c.in_err-has.field-0.0
+      c.from_residual-in_err-has.ensures.1
       (old-read c.args.version
       (found-read c.args.version c.in_ok-found.found (not-false c.in_ok-found.found.was c.if-not-found.false) c.in_ok-found.ensures.exact)
-      (marked_value c.in_ok-old.old) c.in_ok-old.ensures.exact) c.in_err-old_has.ensures.exact;
+      (marked_value c.in_ok-old.old) c.in_ok-old.ensures.exact) c.in_err-has.ensures.exact;
 }
 
 pub returns : goal.returns
 returns c =
     let found = c.in_ok-found.found in
     let old = c.in_ok-old.old in
-    let has = c.in_ok-old_has.old_has in
+    let has = c.in_ok-has.has in
     let is : c.new-undo-2.result ≡ undo_with found (marked_value old) = c.new-undo-2.ensures.value
     ∙ ap (λ (o : Old). undo_with found o) c.new-was.ensures.value in
     record {
       exact = subst (λ (u : Undo). UndoIsFormed c.args.version (u, has)
           × Took (texts (undo_lines c.args.version (u, has))) c.args.cursor.now c.read_matched.new.cursor) (sym is)
           (undo-read c.args.version found (marked_value old) has (not-false found.was c.if-not-found.false) c.in_ok-found.ensures.exact
-          c.in_ok-old.ensures.exact c.in_ok-old_has.ensures.exact);
+          c.in_ok-old.ensures.exact c.in_ok-has.ensures.exact);
     }

@@ -10,7 +10,7 @@ returns-in-Some g c =
     let old = c.in-Some.old in
     record {
       appended =
-          old-written c.args.version (written c.args.out.now) (written c.push_zone_line.new.out) (written c.push_marks_line.new.out) (written c.push_matched.new.out) old c.args.old_has.now c.args.old.now c.in-Some.is
+          old-written c.args.version (written c.args.out.now) (written c.push_zone_line.new.out) (written c.push_marks_line.new.out) (written c.push_matched.new.out) old c.args.has.now c.args.old.now c.in-Some.is
           (same-written (λ z. zone_line (codes "old-zone") z ∷ []) _ _ c.zone.result.now old.zone c.zone.ensures.value c.push_zone_line.ensures.appended)
           (same-written (λ m. marks_line (codes "old-marks") m ∷ []) _ _ c.marks.result.now old.marks c.marks.ensures.value c.push_marks_line.ensures.appended)
           c.push_matched.ensures.appended;

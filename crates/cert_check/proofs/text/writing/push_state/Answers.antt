@@ -1,5 +1,6 @@
 use Rattle.std.proofs.Common.{◌∷◌, [], ◌∙◌, ap}
 use Rattle.std.specs.Prelude.{codes}
+use Rattle.ed_rules.specs.declared.known_matches.Matches.{Matches}
 use Rattle.ed_rules.specs.declared.state.Undo.{Undo}
 use Rattle.cert_check.specs.text.Text.{zone_line, marks_line, choices_line, replacements_line, changed_line, undo_line, matched_lines, old_lines}
 use Rattle.cert_check.proofs.texts.Written.{same-written, state-written}
@@ -18,7 +19,7 @@ returns g c =
           c.push_zone_line.ensures.appended)
           (same-written (λ m. marks_line (codes "marks") m ∷ []) _ _ c.marks.result.now state.marks c.marks.ensures.value
           c.push_marks_line.ensures.appended)
-          (same-written (λ t. matched_lines c.args.version (codes "has") t) _ _ c.has.result.now state.has c.has.ensures.value
+          (same-written (λ t. matched_lines c.args.version (codes "has") t) _ _ c.matches-matches.result.now.has state.matches.has (ap (λ (m : Matches). m.has) c.matches-matches.ensures.value)
           c.push_matched.ensures.appended)
           (same-written (λ s. choices_line (codes "patterns") s ∷ []) _ _ c.patterns.result.now state.patterns c.patterns.ensures.value
           c.push_choices_line.ensures.appended)
@@ -30,7 +31,8 @@ returns g c =
           c.push_changed_line.ensures.appended)
           (same-written (λ u. undo_line u ∷ []) _ _ c.kept_undo-undo.result.now state.undo c.kept_undo-undo.ensures.value
           c.push_undo_line.ensures.appended)
-          (same-written (λ w. old_lines c.args.version w state.old_has) _ _ c.was.result.now state.undo.was (c.was.ensures.value ∙ ap (λ (u : Undo). u.was) c.kept_undo-undo.ensures.value)
-          (same-written (λ t. old_lines c.args.version c.was.result.now t) _ _ c.old_has.result.now state.old_has c.old_has.ensures.value
+          (same-written (λ w. old_lines c.args.version w state.matches.old_has) _ _ c.was.result.now state.undo.was (c.was.ensures.value ∙ ap (λ (u : Undo). u.was) c.kept_undo-undo.ensures.value)
+          (same-written (λ t. old_lines c.args.version c.was.result.now t) _ _ c.matches-matches.result.now.old_has state.matches.old_has
+          (ap (λ (m : Matches). m.old_has) c.matches-matches.ensures.value)
           c.push_old.ensures.appended));
     }
