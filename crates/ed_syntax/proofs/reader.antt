@@ -35,3 +35,7 @@ pub mod Fronts
 pub mod OffsetSteps
 pub mod QuotedSteps
 pub mod FrontLemmas
+pub mod PassedLemmas
+pub mod StepEnds
+pub mod SpanLemmas
+pub mod EndPlaces

@@ -1,4 +1,5 @@
 -- Lemmas and worked rows on which bytes spell which script.
 mod ScriptRows
 mod SpellingRows
+mod PlaceRows
 pub mod ReadableLemmas

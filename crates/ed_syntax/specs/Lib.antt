@@ -7,7 +7,11 @@ pub mod PublicTypes
 pub mod PublicScript
 -- when two scripts are the same but for some of their commands
 pub mod Changed
+-- where commands stand in the bytes of a script, and their parts in a line
+pub mod Places
+pub mod Ends
 -- the reader's own words, on which `first_lines` rests
 pub mod reading
 -- what serves clauses inside the crate
 pub mod PartNumbers
+pub mod PassedLines

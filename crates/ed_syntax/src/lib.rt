@@ -4,6 +4,7 @@
 mod addresses;
 mod command;
 mod comparing;
+mod ends;
 mod flags;
 mod globals;
 mod heading;
@@ -21,12 +22,15 @@ mod script;
 mod script_lines;
 mod searched_globals;
 mod single;
+mod spans;
 mod spelling;
 mod substitution;
 mod tokens;
 mod verbs;
 
+pub use addresses::address;
 pub use command::{Address, Addresses, Base, Command, Form, Sense, Verb};
+pub use ends::{addresses_end, pattern_end};
 pub use laws::{
     answers_are_asked_for, commands_are_placed, commands_keep_lines, commands_keep_marks,
     cut_runs_write_a_front, files_have_lines, flags_change_no_line, listed_commands_leave_undo,
@@ -40,6 +44,7 @@ pub use reading::{first_lines, read_script};
 pub use replacement::{MatchNumber, Part, Replacement, Which};
 pub use request::{Answer, Request};
 pub use script::Script;
+pub use spans::{Span, places};
 pub use spelling::scripts_are_read_as_spelled;
 pub use tokens::{after_blanks, number};
 pub use verbs::{Alteration, DefaultAddresses, Ends, Takes, Taking};

@@ -56,7 +56,7 @@ fn pattern_of(alloc: Global, text: Bytes) -> Result<Option<Option<Pattern>>, All
 }
 
 /// The bytes up to the delimiter or the line's end, as the pattern has them.
-fn quoted(alloc: Global, delimiter: u8, bytes: &[u8]) -> Parsed<'_, Bytes>
+pub fn quoted(alloc: Global, delimiter: u8, bytes: &[u8]) -> Parsed<'_, Bytes>
     ensures value { IfOk result (λ read. MatchOption read (quoted (length bytes.now) delimiter bytes.now ≡ None)
         (λ (text, rest). quoted (length bytes.now) delimiter bytes.now ≡ Some (text, rest.now))) }
 {

@@ -54,7 +54,7 @@ pub fn first_lines(alloc: Global, bytes: &[u8]) -> Result<Vec<usize>, AllocError
 }
 
 /// The command that begins on this line, with its list. A replacement, a text and a list go on in the lines after it.
-fn read_step<'a>(
+pub fn read_step<'a>(
     alloc: Global,
     line: &'a [u8],
     later: &mut ScriptLines<'a>,

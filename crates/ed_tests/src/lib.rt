@@ -20,6 +20,8 @@ mod failing;
 #[cfg(test)]
 mod pieces;
 #[cfg(test)]
+mod places;
+#[cfg(test)]
 mod scripts;
 #[cfg(test)]
 mod stores;

@@ -41,7 +41,7 @@ after-end text after same = subst (End text) same (blanks-end text)
 number-end : {text rest : List ℕ} {n : ℕ} → SpellsNumber text rest n → End text rest
 number-end (SpellsNumber.digits bytes rest digits some few over) = (bytes, refl)
 
-quoted-end : (delimiter : ℕ) {text rest bytes : List ℕ} → SpellsQuoted delimiter text rest bytes → End text rest
+pub quoted-end : (delimiter : ℕ) {text rest bytes : List ℕ} → SpellsQuoted delimiter text rest bytes → End text rest
 quoted-end delimiter (SpellsQuoted.closed rest) = end-all (delimiter ∷ rest)
 quoted-end delimiter SpellsQuoted.left_open = end-all []
 quoted-end delimiter (SpellsQuoted.ordinary byte text rest bytes no_end no_escape no_bracket is) = end-after byte (quoted-end delimiter is)

@@ -35,7 +35,7 @@ text-end (line ∷ lines) =
     either (λ (r : List (List ℕ) × List (List ℕ)). End (line ∷ lines) r.1) (is_dot line) ([], lines) (line ∷ (text lines).0, (text lines).1)
     (λ dot. end-after line (end-all lines)) (λ other. end-after line (text-end lines))
 
-with_text-end : (verb : Verb) (later : List (List ℕ)) → End later (with_text verb later).1
+pub with_text-end : (verb : Verb) (later : List (List ℕ)) → End later (with_text verb later).1
 with_text-end verb later =
     either (λ (r : Verb × List (List ℕ)). End later r.1) (takes verb).text (entering (text later).0 verb, (text later).1) (verb, later) (λ yes. text-end later) (λ no. end-all later)
 

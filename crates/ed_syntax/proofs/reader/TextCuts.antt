@@ -23,13 +23,13 @@ dot-same (b ∷ []) = and-true (nat_eq b 46)
 dot-same (b ∷ c ∷ bs) = and-false (nat_eq b 46)
 
 -- what stands before the bytes that are left
-front-is : (bytes front left : List ℕ) → bytes ≡ front ++ left → take (length bytes - length left) bytes ≡ front
+pub front-is : (bytes front left : List ℕ) → bytes ≡ front ++ left → take (length bytes - length left) bytes ≡ front
 front-is bytes front left parted =
     let size : length bytes - length left ≡ length front = omega (arith, ap length parted, length-append front left) in
     ap (λ n. take n bytes) size ∙ ap (take (length front)) parted ∙ take_at front left (length front) refl
 
 -- where lines are left bytes are
-some-left : (left : List ℕ) → 0 < length (lines_of left) → 0 < length left
+pub some-left : (left : List ℕ) → 0 < length (lines_of left) → 0 < length left
 some-left [] some = absurd (omega (arith, some))
 some-left (byte ∷ left) some = omega arith
 

@@ -1,0 +1,93 @@
+//! Where the commands of a script stand, and where the parts of a line end.
+use crate::asserting::same;
+use ed_syntax::{Span, addresses_end, pattern_end, places};
+use std::alloc::Global;
+use std::process::Abort;
+
+struct PlacesRow {
+    script: &'static [u8],
+    spans: &'static [Span],
+}
+
+// The last command, or what can't be read, goes on to the end.
+#[rattlefmt::skip]
+static PLACES: [PlacesRow; 9] = [
+    PlacesRow { script: b"", spans: &[] },
+    PlacesRow { script: b"p", spans: &[Span { line: 1, low: 0, high: 1 }] },
+    PlacesRow {
+        script: b"p\n\n$p\n",
+        spans: &[Span { line: 1, low: 0, high: 2 }, Span { line: 2, low: 2, high: 3 }, Span { line: 3, low: 3, high: 6 }],
+    },
+    PlacesRow { script: b"a\nx\n.\nz\nQ\n", spans: &[Span { line: 1, low: 0, high: 6 }, Span { line: 4, low: 6, high: 10 }] },
+    PlacesRow { script: b"p\n1i\nx", spans: &[Span { line: 1, low: 0, high: 2 }, Span { line: 2, low: 2, high: 6 }] },
+    PlacesRow { script: b"a\n\n\n.\n\n", spans: &[Span { line: 1, low: 0, high: 6 }, Span { line: 5, low: 6, high: 7 }] },
+    PlacesRow { script: b"s/a/b\\\nc/\np\n", spans: &[Span { line: 1, low: 0, high: 10 }, Span { line: 3, low: 10, high: 12 }] },
+    PlacesRow { script: b"g/x/s//y/\\\nd\nQ\n", spans: &[Span { line: 1, low: 0, high: 13 }, Span { line: 3, low: 13, high: 15 }] },
+    PlacesRow { script: b"g/x/a\\\ny\\\n.\nw\n", spans: &[Span { line: 1, low: 0, high: 12 }, Span { line: 4, low: 12, high: 14 }] },
+];
+
+fn check_places(rt: &impl Abort, alloc: Global, row: &PlacesRow) {
+    let spans = places(alloc, row.script).expect(rt, "memory");
+    same(rt, spans.as_slice() == row.spans, true, row.script);
+}
+
+#[test]
+fn each_command_stands_where_the_one_before_it_ends(rt: HostRuntime) {
+    for row in &PLACES {
+        check_places(&rt, rt.alloc(), row);
+    }
+}
+
+struct EndRow {
+    line: &'static [u8],
+    end: Option<usize>,
+}
+
+#[rattlefmt::skip]
+static ADDRESSES: [EndRow; 8] = [
+    EndRow { line: b"", end: Some(0) },
+    EndRow { line: b"p", end: Some(0) },
+    EndRow { line: b" \t,d", end: Some(3) },
+    EndRow { line: b"1,/x/+2 p", end: Some(8) },
+    EndRow { line: b"'a;?[?]?-p", end: Some(9) },
+    EndRow { line: b"/x", end: Some(2) },
+    EndRow { line: b"'Ap", end: None },
+    EndRow { line: b"1,/[/p", end: None },
+];
+
+fn check_addresses(rt: &impl Abort, alloc: Global, row: &EndRow) {
+    let end = addresses_end(alloc, row.line).expect(rt, "memory");
+    same(rt, end, row.end, row.line);
+}
+
+#[test]
+fn addresses_end_before_the_letter(rt: HostRuntime) {
+    for row in &ADDRESSES {
+        check_addresses(&rt, rt.alloc(), row);
+    }
+}
+
+// After a first `/`. A text need not be a pattern.
+#[rattlefmt::skip]
+static PATTERNS: [EndRow; 8] = [
+    EndRow { line: b"", end: Some(0) },
+    EndRow { line: b"/p", end: Some(0) },
+    EndRow { line: b"a/p", end: Some(1) },
+    EndRow { line: b"a[/]b/c/", end: Some(5) },
+    EndRow { line: b"a\\/b", end: Some(4) },
+    EndRow { line: b"\\(a/d", end: Some(3) },
+    EndRow { line: b"[/", end: None },
+    EndRow { line: b"a\\", end: None },
+];
+
+fn check_pattern(rt: &impl Abort, alloc: Global, row: &EndRow) {
+    let end = pattern_end(alloc, b'/', row.line).expect(rt, "memory");
+    same(rt, end, row.end, row.line);
+}
+
+#[test]
+fn a_pattern_ends_before_its_delimiter(rt: HostRuntime) {
+    for row in &PATTERNS {
+        check_pattern(&rt, rt.alloc(), row);
+    }
+}
