@@ -10,6 +10,8 @@ pub mod Checking
 pub mod Accepting
 pub mod Answering
 pub mod Going
+pub mod PassedOn
+pub mod Unwanted
 pub mod Determined
 pub mod Telling
 pub mod Texting

@@ -2,7 +2,10 @@
 pub mod Rounds
 pub mod Following
 pub mod Analysis
+pub mod Judged
+pub mod Wanted
 pub mod Checked
 pub mod Exactness
 -- what only serves clauses inside the crate
 pub mod Walking
+pub mod Passing

@@ -24,7 +24,7 @@ use ed_syntax::Script;
 use std::alloc::{AllocError, Global};
 
 /// The fault that may come at the end of a script.
-fn end_fault(quit: bool, fault: Option<usize>, last: &KeptState) -> Option<Fault>
+pub(crate) fn end_fault(quit: bool, fault: Option<usize>, last: &KeptState) -> Option<Fault>
     ensures value { result ≡ end_fault quit fault last.now }
 {
     if quit {
@@ -74,7 +74,11 @@ fn opened(
 }
 
 /// What the script is judged by beside what is known, and what is known at the start.
-fn begin(alloc: Global, script: &Script, start: &Start) -> Result<(Sight, State), AllocError>
+pub(crate) fn begin(
+    alloc: Global,
+    script: &Script,
+    start: &Start,
+) -> Result<(Sight, State), AllocError>
     ensures value { IfOk result (λ (sight, begins). (sight ≡ sight_over (script_value script.now) start.now) × (begins ≡ begun start.now)) }
 {
     match &start.has {

@@ -30,10 +30,10 @@ pub(crate) enum End {
 
 /// What is known of a command.
 #[derive(Drop)]
-struct Taken {
+pub(crate) struct Taken {
     /// What is known of its list, where its own needs hold.
     looped: Option<Looped>,
-    end: End,
+    pub end: End,
 }
 
 /// What the counted commands come to: the result of the last one, or the first need that fails.
@@ -129,7 +129,7 @@ fn take_global(
 }
 
 /// What a command comes to. Where no need fails, `left` becomes its result.
-fn take(
+pub(crate) fn take(
     alloc: Global,
     sight: &Sight,
     command: &Command,
