@@ -9,7 +9,7 @@ ghost use Rattle.hints.specs.Sought.{GetsPastAll, StatingHelps};
 ghost use Rattle.hints.specs.Hints.{IsTried, AsksForMore, States, IsStated};
 
 use crate::changing::{change_of, does_the_same, unchanged_at};
-use crate::commands::{command_at, command_of, count_of_lines, line_at, line_of_span, span_of};
+use crate::commands::{command_at, command_of, line_at, line_of_span, span_of};
 use crate::drafts::{Draft, Spot};
 use crate::endings::{push_end, push_losing};
 use crate::escapes::push_extended;
@@ -26,7 +26,7 @@ use crate::starts::{copy_of, greatest_start, least_start, with_bounds};
 use crate::stating::with_stated;
 use analyser::Start;
 use cert_check::{Note, Place};
-use ed_base::{Bytes, Fault};
+use ed_base::{Bytes, Fault, count_lines};
 use ed_rules::Texts;
 use ed_syntax::read_script;
 use std::alloc::{AllocError, Global};
@@ -94,7 +94,7 @@ pub(crate) fn drafts_at(
 fn number_at(alloc: Global, script: &[u8], place: Place) -> Result<usize, AllocError> {
     match line_at(alloc, script, place)? {
         Some(span) => Ok(span.line),
-        None => Ok(count_of_lines(script)),
+        None => Ok(count_lines(script)),
     }
 }
 

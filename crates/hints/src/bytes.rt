@@ -24,34 +24,9 @@ pub(crate) fn between(bytes: &[u8], low: usize, high: usize) -> &[u8] {
     from(before(bytes, high), low)
 }
 
-/// The place of a byte, or the number of bytes where it isn't there.
-pub(crate) fn place_of(bytes: &[u8], wanted: u8) -> usize {
-    for (index, byte) in bytes.iter().enumerate() {
-        if *byte == wanted {
-            return index;
-        }
-    }
-    bytes.len()
-}
-
 /// A blank.
 pub(crate) fn is_blank(byte: u8) -> bool {
     byte == b' ' || byte == b'\t'
-}
-
-/// How many blanks stand in front.
-pub(crate) fn blanks(bytes: &[u8]) -> usize {
-    for (index, byte) in bytes.iter().enumerate() {
-        if !is_blank(*byte) {
-            return index;
-        }
-    }
-    bytes.len()
-}
-
-/// The bytes after the blanks in front.
-pub(crate) fn after_blanks(bytes: &[u8]) -> &[u8] {
-    from(bytes, blanks(bytes))
 }
 
 /// The byte in front.

@@ -1,75 +1,27 @@
-//! The commands of a script, by the lines on which they stand.
+//! The commands of a script, and where they stand.
 
 ghost use Rattle.std.specs.Prelude.{◌≡◌, option_map};
 ghost use Rattle.ed_syntax.specs.PublicScript.{script_value};
 ghost use Rattle.ed_syntax.specs.PublicTypes.{address_value, addresses_value, command_value};
 ghost use Rattle.hints.specs.Sought.{first_of, second_of, command_at};
 
-use crate::bytes::{before, between, from, place_of};
+use crate::bytes::between;
 use cert_check::Place;
-use ed_syntax::{Address, Addresses, Command, Script, Verb, first_lines, read_script};
+use ed_base::next_line;
+use ed_syntax::{Address, Addresses, Command, Script, Span, Verb, places, read_script};
 use std::alloc::{AllocError, Global};
 
-/// A command's bytes in a script, with the newline after its last line.
-#[derive(Clone, Copy)]
-pub(crate) struct Span {
-    /// The line on which it begins, counted from 1.
-    pub line: usize,
-    /// The places of its first byte and of the one after its last.
-    pub low: usize,
-    pub high: usize,
-}
-
-/// Where a line begins; lines count from 1.
-pub(crate) fn place_of_line(script: &[u8], number: usize) -> usize {
-    if number <= 1 {
-        return 0;
-    }
-    let mut line: usize = 1;
-    for (index, byte) in script.iter().enumerate() {
-        if *byte == b'\n' {
-            line = line.saturating_add(1);
-            if line >= number {
-                return index.saturating_add(1);
-            }
-        }
-    }
-    script.len()
-}
-
-/// How many lines there are.
-pub(crate) fn count_of_lines(script: &[u8]) -> usize {
-    let mut count: usize = 0;
-    for byte in script {
-        if *byte == b'\n' {
-            count = count.saturating_add(1);
-        }
-    }
-    match script.last() {
-        Some(b'\n') | None => count,
-        Some(_) => count.saturating_add(1),
-    }
-}
-
-/// The bytes of a command; commands count from 1. None where the script has no such command, readable or not.
+/// Where a command stands; commands count from 1. None where the script has no such command, readable or not.
 pub(crate) fn span_of(
     alloc: Global,
     script: &[u8],
     number: usize,
 ) -> Result<Option<Span>, AllocError> {
-    let lines = first_lines(alloc, script)?;
-    let Some(index) = number.checked_sub(1) else {
-        return Ok(None);
-    };
-    let Some(line) = lines.as_slice().get(index).copied() else {
-        return Ok(None);
-    };
-    let low = place_of_line(script, line);
-    let high = match lines.as_slice().get(number).copied() {
-        Some(next) => place_of_line(script, next),
-        None => script.len(),
-    };
-    Ok(Some(Span { line, low, high }))
+    let spans = places(alloc, script)?;
+    match number.checked_sub(1) {
+        Some(index) => Ok(spans.as_slice().get(index).copied()),
+        None => Ok(None),
+    }
 }
 
 /// The bytes of a command without the newline after its last line.
@@ -87,17 +39,26 @@ pub(crate) fn without_newline(bytes: &[u8]) -> &[u8] {
 
 /// The first of some lines, without its newline.
 pub(crate) fn first_line(bytes: &[u8]) -> &[u8] {
-    before(bytes, place_of(bytes, b'\n'))
+    match next_line(bytes) {
+        Some((line, _)) => line,
+        None => bytes,
+    }
 }
 
-/// The span of the first line of a command alone.
+/// The bytes after the first of some lines.
+fn after_line(bytes: &[u8]) -> &[u8] {
+    match next_line(bytes) {
+        Some((_, rest)) => rest,
+        None => bytes,
+    }
+}
+
+/// The first line alone of those where a command stands.
 pub(crate) fn line_of_span(script: &[u8], span: Span) -> Span {
-    let bytes = between(script, span.low, span.high);
-    let len = place_of(bytes, b'\n').saturating_add(1).min(bytes.len());
+    let others = after_line(between(script, span.low, span.high)).len();
     Span {
-        line: span.line,
-        low: span.low,
-        high: span.low.saturating_add(len),
+        high: span.high.saturating_sub(others),
+        ..span
     }
 }
 
@@ -166,7 +127,7 @@ fn lines_down(script: &Script, place: Place) -> usize {
     }
 }
 
-/// The line at a place of a script, also one of a list; at the end there is none.
+/// Where the line stands at a place of a script, also one of a list; at the end there is none.
 pub(crate) fn line_at(
     alloc: Global,
     script: &[u8],
@@ -176,14 +137,16 @@ pub(crate) fn line_at(
         return Ok(None);
     };
     let down = lines_down(&read_script(alloc, script)?, place);
-    let line = span.line.saturating_add(down);
-    let low = place_of_line(script, line);
-    let whole = Span {
-        line,
-        low,
+    let mut left = between(script, span.low, span.high);
+    for _ in 0..down {
+        left = after_line(left);
+    }
+    let lines = Span {
+        line: span.line.saturating_add(down),
+        low: span.high.saturating_sub(left.len()),
         high: span.high,
     };
-    Ok(Some(line_of_span(script, whole)))
+    Ok(Some(line_of_span(script, lines)))
 }
 
 /// The last command of a script, where all of it can be read.
@@ -192,16 +155,4 @@ pub(crate) fn last_command(script: &Script) -> Option<&Command> {
         Some(_) => None,
         None => script.commands.as_slice().last(),
     }
-}
-
-/// The bytes of a script's last line, without its newline.
-pub(crate) fn last_line(script: &[u8]) -> &[u8] {
-    let lines = without_newline(script);
-    let mut start = 0;
-    for (index, byte) in lines.iter().enumerate() {
-        if *byte == b'\n' {
-            start = index.saturating_add(1);
-        }
-    }
-    from(lines, start)
 }

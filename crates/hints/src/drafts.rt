@@ -3,13 +3,12 @@
 ghost use Rattle.std.specs.Prelude.{◌≡◌, Some};
 
 use crate::bytes::{joined, replaced};
-use crate::commands::Span;
 use crate::following::{on_text, other_text};
 use crate::globals::{Reach, as_global};
 use crate::hint::Advice;
 use crate::words::quoted;
 use ed_base::Bytes;
-use ed_syntax::read_script;
+use ed_syntax::{Span, read_script};
 use std::alloc::{AllocError, Global};
 
 /// A script that may get past a place. It isn't tried yet.

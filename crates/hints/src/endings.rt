@@ -1,22 +1,21 @@
 //! Changes that would be lost: writing them first, ending anyway, and a text whose period is missing.
 
 use crate::bytes::{before, between, first, from, is_blank, joined, replaced};
-use crate::commands::{
-    Span, command_at, count_of_lines, first_line, last_command, last_line, span_of,
-};
+use crate::commands::{command_at, first_line, last_command, span_of, without_newline};
 use crate::drafts::{Draft, drafted};
 use crate::hint::Advice;
 use crate::words::quoted;
-use ed_base::Bytes;
-use ed_syntax::{Script, Verb, read_script};
+use ed_base::{Bytes, count_lines};
+use ed_syntax::{Script, Span, Verb, read_script};
 use std::alloc::{AllocError, Global};
 
 /// Whether a script ends in a text that no period closes.
 fn ends_in_text(script: &[u8], read: &Script) -> bool {
     match last_command(read) {
         Some(command) => match &command.verb {
-            Verb::Append(_) | Verb::Change(_) | Verb::Insert(_) => last_line(script)
-                != b".".as_slice(),
+            Verb::Append(_) | Verb::Change(_) | Verb::Insert(_) => {
+                !without_newline(script).ends_with(b"\n.")
+            }
             _ => false,
         },
         None => false,
@@ -131,7 +130,7 @@ fn no_period(
     side: &str,
 ) -> Result<String, AllocError> {
     let shown = quoted(alloc, first_line(command))?;
-    let line = count_of_lines(before(script, place)).saturating_add(1);
+    let line = count_lines(before(script, place)).saturating_add(1);
     let there = quoted(alloc, first_line(from(script, place)))?;
     Ok(format!(in alloc; "the text of {shown} has no `.`: write it {side} line {line}, {there}")?)
 }

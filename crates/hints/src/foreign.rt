@@ -1,14 +1,14 @@
 //! What GNU's `ed`, `ex` or another system spells otherwise than POSIX, read from the line that can't be read.
 
-use crate::bytes::{after_blanks, before, first, from, joined, place_of, replaced};
-use crate::commands::{command_at, place_of_line};
+use crate::bytes::{before, between, first, from, joined, replaced};
+use crate::commands::{command_at, line_of_span, span_of};
 use crate::drafts::{Draft, Spot, drafted, push_line, remark, spelled};
 use crate::escapes::push_patterns;
 use crate::hint::Advice;
 use crate::patterns::addresses_len;
 use crate::words::quoted;
 use ed_base::Bytes;
-use ed_syntax::{Verb, read_script};
+use ed_syntax::{Span, Verb, after_blanks, read_script};
 use std::alloc::{AllocError, Global};
 
 /// The script without a carriage return before any of its newlines from a place on, or at its end.
@@ -36,18 +36,14 @@ fn is_comment(line: &[u8]) -> bool {
 fn without_comments(alloc: Global, script: &[u8]) -> Result<Bytes, AllocError> {
     let mut left = Bytes::from_slice(alloc, script)?;
     for _ in 0..100 {
-        let Some(number) = read_script(alloc, left.as_slice())?.fault else {
+        let number = read_script(alloc, left.as_slice())?.commands.len();
+        let Some(span) = span_of(alloc, left.as_slice(), number.saturating_add(1))? else {
             return Ok(left);
         };
-        let low = place_of_line(left.as_slice(), number);
-        let line = from(left.as_slice(), low);
-        if !is_comment(line) {
+        let Span { low, high, .. } = line_of_span(left.as_slice(), span);
+        if !is_comment(between(left.as_slice(), low, high)) {
             return Ok(left);
         }
-        let high = low
-            .saturating_add(place_of(line, b'\n'))
-            .saturating_add(1)
-            .min(left.len());
         left = replaced(alloc, left.as_slice(), low, high, &[])?;
     }
     Ok(left)

@@ -1,12 +1,12 @@
 //! A command written as a global command, which can't fail where no line matches.
 
-use crate::bytes::{after_blanks, before, between, first, from, joined};
+use crate::bytes::{before, between, first, from, joined};
 use crate::commands::{first_line, pair, without_newline};
 use crate::following::is_also_from_here;
 use crate::patterns::{addresses_len, pattern_at};
 use ed_base::{Bytes, next_line};
 use ed_rules::KeptState;
-use ed_syntax::{Addresses, Base, Command, DefaultAddresses, Verb, read_script};
+use ed_syntax::{Addresses, Base, Command, DefaultAddresses, Verb, after_blanks, read_script};
 use std::alloc::{AllocError, Global};
 use zones::Name;
 

@@ -1,7 +1,8 @@
-//! Where patterns stand in a command's line.
+//! Where patterns stand in a command's line, also in one that can't be read.
 
 use crate::bytes::{first, from};
 use bre_parse::after_bracket;
+use ed_syntax::{address, addresses_end, after_blanks, pattern_end};
 use std::alloc::{AllocError, Global};
 
 /// The bytes of a pattern in a line.
@@ -25,118 +26,84 @@ pub(crate) fn part_len(alloc: Global, bytes: &[u8]) -> Result<usize, AllocError>
     }
 }
 
-/// How many bytes stand before a delimiter that isn't escaped and stands in no bracket expression.
-fn pattern_len(alloc: Global, delimiter: u8, bytes: &[u8]) -> Result<usize, AllocError> {
-    // The first byte that doesn't belong to the part before it.
-    let mut next: usize = 0;
-    for (index, byte) in bytes.iter().enumerate() {
-        if index < next {
-            continue;
-        }
-        if *byte == delimiter {
-            return Ok(index);
-        }
-        next = index.saturating_add(part_len(alloc, from(bytes, index))?);
-    }
-    Ok(bytes.len())
-}
-
 /// The pattern after the delimiter at a place of a line.
 pub(crate) fn pattern_at(
     alloc: Global,
     line: &[u8],
     place: usize,
 ) -> Result<Option<Quoted>, AllocError> {
-    let Some(delimiter) = first(from(line, place)) else {
+    let [delimiter, rest @ ..] = from(line, place) else {
         return Ok(None);
     };
     let low = place.saturating_add(1);
-    let len = pattern_len(alloc, delimiter, from(line, low))?;
-    Ok(Some(Quoted {
-        delimiter,
-        low,
-        high: low.saturating_add(len),
-    }))
+    match pattern_end(alloc, *delimiter, rest)? {
+        Some(len) => Ok(Some(Quoted {
+            delimiter: *delimiter,
+            low,
+            high: low.saturating_add(len),
+        })),
+        None => Ok(None),
+    }
 }
 
-/// What stands in front of the rest of a line.
-#[derive(Clone, Copy)]
-pub(crate) enum Front {
-    /// A part of an address, or a blank.
-    Address,
+/// What a line goes on with.
+enum Next<'a> {
+    /// Part of an address, or what goes with a target, before this.
+    Before(&'a [u8]),
     /// The delimiter of a search.
     Search,
-    /// A letter with a pattern after it: `s`, after whose pattern no other one stands, or `g` and `v`.
-    Substitute,
-    Global,
-    /// `'`, which goes with the letter after it.
-    Mark,
+    /// A letter with a pattern after it.
+    Letter,
     /// What has no pattern after it.
     Other,
 }
 
-/// What a byte of a line is, before the letter of its command and after one that takes a target.
-pub(crate) fn front_of(byte: u8) -> Front {
-    match byte {
-        b'/' | b'?' => Front::Search,
-        b's' => Front::Substitute,
-        b'g' | b'v' => Front::Global,
-        b'\'' => Front::Mark,
-        b' ' | b'\t' | b'.' | b'$' | b',' | b';' | b'+' | b'-' | b'0'..=b'9' | b'%' =>
-            Front::Address,
-        b'm' | b't' => Front::Address,
-        _ => Front::Other,
+/// What the rest of a line goes on with.
+fn next_part(alloc: Global, left: &[u8]) -> Result<Next<'_>, AllocError> {
+    match left {
+        [b'/' | b'?', ..] => Ok(Next::Search),
+        [b's' | b'g' | b'v', ..] => Ok(Next::Letter),
+        [b',' | b';' | b'm' | b't' | b'%', rest @ ..] => Ok(Next::Before(rest)),
+        _ => match address(alloc, left)? {
+            Some((Some(_), rest)) => Ok(Next::Before(rest)),
+            _ => Ok(Next::Other),
+        },
     }
 }
 
-/// The patterns of a line, in their order.
+/// The patterns of a line, in their order: after that of an `s` no other one stands, after that of a `g` or a `v` those of its list.
 pub(crate) fn patterns_of(alloc: Global, line: &[u8]) -> Result<Vec<Quoted>, AllocError> {
     let mut patterns = Vec::new(alloc);
-    let mut next: usize = 0;
-    for (index, byte) in line.iter().enumerate() {
-        if index < next {
-            continue;
-        }
-        let after = index.saturating_add(1);
-        let (place, ends) = match front_of(*byte) {
-            Front::Address => continue,
-            Front::Mark => {
-                next = index.saturating_add(2);
+    let mut left = line;
+    // Each time one byte is passed, or more.
+    for _ in 0..line.len() {
+        left = after_blanks(left);
+        let here = line.len().saturating_sub(left.len());
+        let place = match next_part(alloc, left)? {
+            Next::Before(rest) => {
+                left = rest;
                 continue;
             }
-            Front::Search => (index, false),
-            Front::Substitute => (after, true),
-            Front::Global => (after, false),
-            Front::Other => return Ok(patterns),
+            Next::Search => here,
+            Next::Letter => here.saturating_add(1),
+            Next::Other => return Ok(patterns),
         };
         let Some(quoted) = pattern_at(alloc, line, place)? else {
             return Ok(patterns);
         };
         patterns.push(quoted)?;
-        if ends {
+        if first(left) == Some(b's') {
             return Ok(patterns);
         }
-        next = quoted.high.saturating_add(1);
+        left = from(line, quoted.high.saturating_add(1));
     }
     Ok(patterns)
 }
 
-/// How many bytes the addresses in front of a line take, with the blanks after them.
+/// How many bytes the addresses in front of a line take, with the blanks after them; `%` is all lines in other systems.
 pub(crate) fn addresses_len(alloc: Global, line: &[u8]) -> Result<usize, AllocError> {
-    let mut next: usize = 0;
-    for (index, byte) in line.iter().enumerate() {
-        if index < next {
-            continue;
-        }
-        match front_of(*byte) {
-            Front::Address if *byte != b'm' && *byte != b't' => {}
-            Front::Mark => next = index.saturating_add(2),
-            Front::Search => match pattern_at(alloc, line, index)? {
-                Some(quoted) => next = quoted.high.saturating_add(1),
-                None => return Ok(index),
-            },
-            _ => return Ok(index),
-        }
+    if let [b'%', rest @ ..] = after_blanks(line) {
+        return Ok(line.len().saturating_sub(after_blanks(rest).len()));
     }
-    Ok(line.len())
+    Ok(addresses_end(alloc, line)?.unwrap_or(0))
 }

@@ -1,6 +1,6 @@
 //! What may help where a search finds nothing, or a line isn't there.
 
-use crate::bytes::{between, blanks, first, from, joined, replaced};
+use crate::bytes::{between, first, from, joined, replaced};
 use crate::commands::{command_at, first_line, span_of};
 use crate::drafts::{Draft, Spot, drafted, remark};
 use crate::following::{count_of_users, on_text, other_text, sets_line};
@@ -9,7 +9,7 @@ use crate::hint::Advice;
 use crate::patterns::{Quoted, pattern_at};
 use crate::words::quoted;
 use ed_base::Bytes;
-use ed_syntax::{Addresses, Base, Command, Script, Verb, read_script};
+use ed_syntax::{Addresses, Base, Command, Script, Verb, after_blanks, read_script};
 use std::alloc::{AllocError, Global};
 
 /// How many commands go into one list at most.
@@ -216,7 +216,7 @@ fn push_global(
 
 /// The patterns of two searches with a `,` between them, in front of a line.
 fn two_searches(alloc: Global, line: &[u8]) -> Result<Option<(Quoted, Quoted)>, AllocError> {
-    let place = blanks(line);
+    let place = line.len().saturating_sub(after_blanks(line).len());
     match first(from(line, place)) {
         Some(b'/' | b'?') => {}
         _ => return Ok(None),
@@ -321,7 +321,7 @@ pub(crate) fn push_blank(
 ) -> Result<(), AllocError> {
     let Spot { script, span, .. } = spot;
     let line = first_line(command_at(script, span));
-    if blanks(line) == line.len() {
+    if after_blanks(line).is_empty() {
         let read = read_script(alloc, script)?;
         let other = other_text(alloc, script, &read, spot.number, false, false)?;
         let text = format!(in alloc;

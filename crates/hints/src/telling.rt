@@ -4,7 +4,7 @@ ghost use Rattle.std.specs.Prelude.{◌≡◌, ◌≤◌, IfSome};
 ghost use Rattle.ed_rules.specs.LineBounds.{most_lines, IsAtMost};
 
 use crate::advising::{hints, remarks};
-use crate::commands::{Span, command_at, count_of_lines, line_at};
+use crate::commands::{command_at, line_at};
 use crate::hint::{Hint, Remark};
 use crate::known::state_at;
 use crate::reasons::reason;
@@ -12,7 +12,8 @@ use crate::refusing::Refusal;
 use crate::words::quoted;
 use analyser::Start;
 use cert_check::{Note, Place};
-use ed_base::Fault;
+use ed_base::{Fault, count_lines};
+use ed_syntax::Span;
 use std::alloc::{AllocError, Global};
 use zones::{Name, Zone};
 
@@ -66,7 +67,7 @@ fn end_text(
     why: Fault,
     notes: &[Note],
 ) -> Result<String, AllocError> {
-    let lines = count_of_lines(script);
+    let lines = count_lines(script);
     let before = Place {
         command: place.command.saturating_sub(1),
         inner: None,
