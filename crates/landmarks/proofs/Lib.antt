@@ -1,0 +1,5 @@
+mod Lines
+mod Firsts
+mod Placed
+mod OneAfterAnother
+mod Rising

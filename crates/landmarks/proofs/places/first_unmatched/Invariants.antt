@@ -1,0 +1,6 @@
+use Rattle.std.proofs.Common.{◌≡◌, true, All, take}
+use Rattle.ed_syntax.specs.meaning.Values.{matches}
+use Rattle.landmarks.proofs.places.first_unmatched.Given as goal
+
+abbrev pub invariant-loop-pattern : goal.invariant-loop-pattern
+invariant-loop-pattern l = All (λ pattern. matches pattern l.line ≡ true) (take l.pattern-index l.patterns)

@@ -1,0 +1,11 @@
+//! Tests of the public calls of `landmarks`.
+#![tactic(auto)]
+
+#[cfg(test)]
+mod placing;
+#[cfg(test)]
+mod sets;
+#[cfg(test)]
+mod written;
+#[cfg(test)]
+mod wrong;
