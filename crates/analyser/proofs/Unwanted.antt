@@ -95,11 +95,13 @@ module _ (text : List ℕ) where
       enters_match text lines ≡ false → Says (Lacks text) start → Says (Lacks text) s →
       AreSaid (Lacks text) (matches_after watched listed given lines start s)
   after watched listed given (verbs.Enters entered) start s g h k = (
-      with_texts-passes (is_other text) (gained watched entered) s.matches.has (lacks-gained text watched entered g) k.0,
-      (says-after (Lacks text) sets [] listed given (verbs.Enters entered) start s refl h k).1)
+    with_texts-passes (is_other text) (gained watched entered) s.matches.has (lacks-gained text watched entered g) k.0,
+    (says-after (Lacks text) sets [] listed given (verbs.Enters entered) start s refl h k).1,
+  )
   after watched listed given (verbs.Replaces entered) start s g h k = (
-      lacks-gained text watched entered g,
-      (says-after (Lacks text) sets [] listed given (verbs.Replaces entered) start s refl h k).1)
+    lacks-gained text watched entered g,
+    (says-after (Lacks text) sets [] listed given (verbs.Replaces entered) start s refl h k).1,
+  )
   after watched listed given verbs.Never start s g h k = says-after (Lacks text) sets [] listed given verbs.Never start s refl h k
   after watched listed given verbs.Deletes start s g h k = says-after (Lacks text) sets [] listed given verbs.Deletes start s refl h k
   after watched listed given verbs.Joins start s g h k = says-after (Lacks text) sets [] listed given verbs.Joins start s refl h k

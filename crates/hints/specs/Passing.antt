@@ -6,20 +6,17 @@ use Rattle.ed_syntax.specs.Commands.{Script}
 use Rattle.ed_rules.specs.LineBounds.{most_lines, IsAtMost}
 use Rattle.ed_rules.specs.Texts.{with_texts}
 use Rattle.cert_check.specs.declared.checker.verdict.Place.{Place}
-use Rattle.cert_check.specs.Certificates.{Note, Certificate}
+use Rattle.cert_check.specs.Certificates.{Note}
 use Rattle.analyser.specs.declared.analysis.Start.{Start}
 use Rattle.analyser.specs.Following.{stated_of}
-use Rattle.analyser.specs.Analysis.{IsCertificate, IsFailure}
+use Rattle.analyser.specs.Analysis.{IsFailure}
+pub use Rattle.analyser.specs.Judged.{IsVouched}
 
 -- the bounds of a start are those of some start file: in order, and at most most_lines
 pub record IsAllowed (start : Start) : Type 0 where
   pub ordered : IsAtMost start.min start.max
   pub low : start.min ≤ most_lines
   pub high : IfSome start.max (λ most. most ≤ most_lines)
-
--- no need of the script fails over this start, as some certificate shows
-abbrev pub IsVouched : Script → Start → Type 0
-IsVouched script start = (c : Certificate) × IsCertificate script start c
 
 -- the first need of the script that fails over this start is the one at the place, by some fault
 abbrev pub FailsAt : Script → Start → Place → Type 0

@@ -1,5 +1,5 @@
 -- The start that is found for a script of what is given of it: the fewest lines, and no pattern that isn't needed (our own).
-use Rattle.std.specs.Prelude.{◌≡◌, ◌<◌, ◌-◌, ℕ, List, [], length, All, Option, Some, None, IfSome, IfNone, remove}
+use Rattle.std.specs.Prelude.{◌≡◌, ◌<◌, ◌-◌, ℕ, zero, suc, List, [], length, All, Option, Some, None, IfSome, IfNone, remove}
 use Rattle.std.specs.List.{Contains}
 use Rattle.std.specs.Option.{unwrap_or}
 use Rattle.ed_syntax.specs.Commands.{Script}
@@ -26,14 +26,22 @@ searched script = with_texts (sought_in script) []
 abbrev pub fullest_min : Given → ℕ
 fullest_min given = unwrap_or given.min (most_of given.max)
 
--- the fullest start of what is given: with so many lines at least, and each pattern that the script's searches are given
+-- The patterns that may be stated beside those that are given: those that the script's searches are given, but none where there may be no
+-- line, since none could match then.
+abbrev pub addable : Script → (most : Option ℕ) → List (List ℕ)
+addable script None = searched script
+addable script (Some zero) = []
+addable script (Some (suc most)) = searched script
+
+-- the fullest start of what is given: with so many lines at least, and each pattern that may be stated
 abbrev pub fullest : Script → Given → Start
-fullest script given = start_with given (fullest_min given) (beside given (searched script))
+fullest script given = start_with given (fullest_min given) (beside given (addable script given.max))
 
 -- Patterns that are stated beside those that are given are needed: each is one that a search of the script is given, and without any one of
--- them the script isn't vouched for, nor with just what is given.
+-- them the script isn't vouched for, nor with just what is given. There is room for them: where there are any, there may be a line.
 pub record AreNeeded (script : Script) (given : Given) (min : ℕ) (added : List (List ℕ)) : Type 0 where
   pub sought : All (Contains (searched script)) added
+  pub room : 0 < length added → 0 < most_of given.max
   pub each : (place : ℕ) → place < length added → IsVouched script (start_with given min (beside given (remove added place))) → ⊥
   pub all : IsVouched script (start_with given min given.has) → ⊥
 

@@ -4,6 +4,8 @@ ghost use Rattle.std.specs.Prelude.{◌≡◌, ◌↔◌, ◌<◌, ◌≤◌, �
 ghost use Rattle.bre_parse.specs.Always.{text_is_always};
 ghost use Rattle.ed_syntax.specs.PublicScript.{script_value};
 ghost use Rattle.ed_rules.specs.LineBounds.{most_lines, IsAtMost};
+ghost use Rattle.ed_rules.specs.Texts.{is_member};
+ghost use Rattle.analyser.specs.Following.{stated_of};
 ghost use Rattle.hints.specs.Passing.{IsVouched};
 ghost use Rattle.hints.specs.Widest.{start_with, beside};
 ghost use Rattle.hints.specs.Narrowing.{AreEnough};
@@ -13,7 +15,7 @@ use crate::passing::is_vouched;
 use crate::sought::is_always;
 use crate::starts::{copy_of_has, copy_of_path};
 use crate::stating::stated_of;
-use analyser::Start;
+use analyser::{Start, wants};
 use ed_base::Bytes;
 use ed_rules::Texts;
 use ed_syntax::Script;
@@ -91,6 +93,41 @@ fn without(alloc: Global, patterns: &[Bytes], place: usize) -> Result<Vec<Bytes>
     Ok(others)
 }
 
+/// Whether a start states a pattern.
+fn is_stated(start: &Start, pattern: &[u8]) -> bool
+    ensures value { result ≡ is_member (stated_of start.now.has) pattern.now }
+{
+    match &start.has {
+        Some(has) => has.has(pattern),
+        None => false,
+    }
+}
+
+/// Whether a script is vouched for without the pattern at a place, beside the others and those that are given. A script that is seen to want
+/// the pattern isn't analysed.
+fn is_vouched_without(
+    alloc: Global,
+    script: &Script,
+    given: &Given,
+    min: u64,
+    patterns: &[Bytes],
+    place: usize,
+) -> Result<bool, AllocError>
+    requires ordered { IsAtMost min given.now.max }
+    requires low { min ≤ most_lines }
+    requires high { IfSome given.now.max (λ most. most ≤ most_lines) }
+    requires within { place < length patterns.now }
+    ensures exact { IfOk result (λ yes. IsTrue yes ↔ IsVouched (script_value script.now) (start_with given.now min (beside given.now (remove patterns.now place)))) }
+{
+    let pattern = patterns[place].as_slice();
+    let others = without(alloc, patterns, place)?;
+    let start = start_beside(alloc, given, min, others.as_slice())?;
+    if !is_stated(&start, pattern) && wants(alloc, script, pattern)? {
+        return Ok(false);
+    }
+    is_vouched(script, start)
+}
+
 /// The patterns but those that every line matches.
 fn without_always(alloc: Global, patterns: &[Bytes]) -> Result<Vec<Bytes>, AllocError>
     ensures value { IfOk result (λ others. others.items ≡ filter (λ text. not (text_is_always text)) patterns.now) }
@@ -126,23 +163,24 @@ pub(crate) fn fewer_at_once(
     copies(alloc, added)
 }
 
-/// What is left of some patterns that are enough, after each without which the others are enough was left out in its turn.
-pub(crate) fn left_of(
+/// What is left of some patterns that are enough, after each from a place on without which the others are enough was left out in its turn.
+fn left_of(
     alloc: Global,
     script: &Script,
     given: &Given,
     min: u64,
     added: Vec<Bytes>,
+    from: usize,
 ) -> Result<Vec<Bytes>, AllocError>
     requires enough { AreEnough (script_value script.now) given.now min added.items }
     ensures enough { IfOk result (λ left. AreEnough (script_value script.now) given.now min left.items) }
+    ensures fewer { IfOk result (λ left. length left.items ≤ length added.items) }
 {
     let mut left = added;
-    let mut place = 0;
+    let mut place = from;
     'places: while place < left.len() {
-        let fewer = without(alloc, left.as_slice(), place)?;
-        if is_vouched_beside(alloc, script, given, min, fewer.as_slice())? {
-            left = fewer;
+        if is_vouched_without(alloc, script, given, min, left.as_slice(), place)? {
+            left = without(alloc, left.as_slice(), place)?;
         } else {
             place += 1;
         }
@@ -150,8 +188,9 @@ pub(crate) fn left_of(
     Ok(left)
 }
 
-/// Patterns that are enough, one fewer than some others that are; none where each of these is needed.
-pub(crate) fn one_fewer(
+/// Patterns that are enough, fewer than some others that are; none where each of these is needed. Those before the first that isn't needed
+/// are kept, and each after it that the others don't need is left out.
+pub(crate) fn fewer_of(
     alloc: Global,
     script: &Script,
     given: &Given,
@@ -165,9 +204,9 @@ pub(crate) fn one_fewer(
         ¬ IsVouched (script_value script.now) (start_with given.now min (beside given.now (remove added.now place))))) }
 {
     for place in 0..added.len() {
-        let fewer = without(alloc, added, place)?;
-        if is_vouched_beside(alloc, script, given, min, fewer.as_slice())? {
-            return Ok(Some(fewer));
+        if is_vouched_without(alloc, script, given, min, added, place)? {
+            let fewer = without(alloc, added, place)?;
+            return Ok(Some(left_of(alloc, script, given, min, fewer, place)?));
         }
     }
     Ok(None)

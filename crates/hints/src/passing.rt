@@ -8,7 +8,7 @@ ghost use Rattle.hints.specs.Passing.{IsLaterInside, IsAfter, GetsPast, GetsPast
 ghost use Rattle.hints.specs.Sought.{GetsPastAll};
 
 use crate::starts::copy_of;
-use analyser::{Analysis, Start, analyse, answers_are_determined};
+use analyser::{Start, answers_are_determined, first_failure};
 use cert_check::Place;
 use ed_syntax::{Script, read_script};
 use std::alloc::{AllocError, Global};
@@ -43,9 +43,9 @@ pub(crate) fn is_vouched(script: &Script, start: Start) -> Result<bool, AllocErr
     ensures exact { IfOk result (λ yes. IsTrue yes ↔ IsVouched (script_value script.now) start) }
 {
     answers_are_determined();
-    match analyse(script, start)? {
-        Analysis::Vouched(_) => Ok(true),
-        Analysis::Cannot { .. } => Ok(false),
+    match first_failure(script, &start)? {
+        None => Ok(true),
+        Some(_) => Ok(false),
     }
 }
 
@@ -57,9 +57,9 @@ fn read_gets_past(script: &Script, start: Start, place: Place) -> Result<bool, A
     ensures exact { IfOk result (λ yes. IsTrue yes ↔ GetsPast (script_value script.now) start place) }
 {
     answers_are_determined();
-    match analyse(script, start)? {
-        Analysis::Vouched(_) => Ok(true),
-        Analysis::Cannot { place: next, .. } => Ok(is_after(next, place)),
+    match first_failure(script, &start)? {
+        None => Ok(true),
+        Some(failure) => Ok(is_after(failure.place, place)),
     }
 }
 

@@ -7,7 +7,7 @@ ghost use Rattle.ed_rules.specs.LineBounds.{most_lines, IsAtMost};
 ghost use Rattle.hints.specs.Passing.{FailsAt, with_min};
 
 use crate::starts::{copy_of, with_bounds};
-use analyser::{Analysis, Start, analyse};
+use analyser::{Start, first_failure};
 use cert_check::Place;
 use ed_base::Fault;
 use ed_syntax::{Script, read_script};
@@ -47,14 +47,9 @@ fn fails_with(
     requires high { IfSome start.now.max (λ most. most ≤ most_lines) }
     ensures sound { IfOk result (λ yes. IsTrue yes → FailsAt (script_value script.now) (with_min start.now min) place) }
 {
-    match analyse(script, with_bounds(start, min, start.max)?)? {
-        Analysis::Vouched(_) => Ok(false),
-        Analysis::Cannot {
-            place: at,
-            why: fault,
-            ..
-        } if is_same(at, place) => Ok(fault == why),
-        Analysis::Cannot { .. } => Ok(false),
+    match first_failure(script, &with_bounds(start, min, start.max)?)? {
+        Some(failure) if is_same(failure.place, place) => Ok(failure.why == why),
+        _ => Ok(false),
     }
 }
 

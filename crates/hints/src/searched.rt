@@ -6,7 +6,7 @@ ghost use Rattle.ed_syntax.specs.PublicScript.{script_value};
 ghost use Rattle.ed_syntax.specs.PublicTypes.{address_value, command_value, step_value};
 ghost use Rattle.ed_rules.specs.Texts.{with_texts};
 ghost use Rattle.ed_rules.specs.Matched.{sought, sought_at_target, sought_by_step};
-ghost use Rattle.hints.specs.Widest.{searched};
+ghost use Rattle.hints.specs.Widest.{searched, addable};
 
 use crate::commands::pair;
 use crate::sought::searched_by;
@@ -62,4 +62,18 @@ pub(crate) fn searched(alloc: Global, script: &Script) -> Result<Texts, AllocErr
         add_step(command, &mut patterns)?;
     }
     Ok(patterns)
+}
+
+/// The set of those that a start with so many lines at most may state: none where it has no line.
+pub(crate) fn addable(
+    alloc: Global,
+    script: &Script,
+    most: Option<u64>,
+) -> Result<Texts, AllocError>
+    ensures value { IfOk result (λ patterns. patterns ≡ addable (script_value script.now) most) }
+{
+    match most {
+        Some(0) => Ok(Texts::none(alloc)),
+        _ => searched(alloc, script),
+    }
 }

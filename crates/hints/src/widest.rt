@@ -9,11 +9,9 @@ ghost use Rattle.hints.specs.Widest.{start_with, fullest_min, fullest, IsWidest}
 ghost use Rattle.hints.specs.Narrowing.{AreEnough};
 
 use crate::given::Given;
-use crate::narrowing::{
-    as_given, fewer_at_once, is_vouched_beside, left_of, one_fewer, start_beside,
-};
+use crate::narrowing::{as_given, fewer_at_once, fewer_of, is_vouched_beside, start_beside};
 use crate::passing::is_vouched;
-use crate::searched::searched;
+use crate::searched::addable;
 use crate::starts::{is_vouched_within, least_between, top_of};
 use analyser::Start;
 use ed_base::Bytes;
@@ -51,8 +49,8 @@ fn widest_as_given(script: &Script, given: &Given, min: u64) -> Result<Start, Al
     as_given(given, fewest)
 }
 
-/// The start with the fewest lines and, of some patterns that are enough, those that are needed. A pattern that is left out may ask for
-/// more tries, since the script may then need fewer lines.
+/// The start with the fewest lines and, of some patterns that are enough, those that are needed. Where one is left out, the others are
+/// tried again, since the script may need fewer lines then, and others of them.
 fn widest_beside(
     alloc: Global,
     script: &Script,
@@ -71,7 +69,7 @@ fn widest_beside(
         if is_vouched(script, as_given(given, fewest)?)? {
             return widest_as_given(script, given, fewest);
         }
-        let Some(fewer) = one_fewer(alloc, script, given, fewest, left.as_slice())? else {
+        let Some(fewer) = fewer_of(alloc, script, given, fewest, left.as_slice())? else {
             return start_beside(alloc, given, fewest, left.as_slice());
         };
         most = fewest;
@@ -94,8 +92,7 @@ fn widest_of(
         return widest_as_given(script, given, min);
     }
     let fewer = fewer_at_once(alloc, script, given, min, added)?;
-    let left = left_of(alloc, script, given, min, fewer)?;
-    widest_beside(alloc, script, given, min, left)
+    widest_beside(alloc, script, given, min, fewer)
 }
 
 /// The fewest lines that are given, or else as many as there may be.
@@ -115,11 +112,11 @@ fn fullest_min(given: &Given) -> u64
 
 /// The start with which a script is vouched for and that allows the most files, as far as was tried: what isn't given of it is found. It
 /// has the fewest lines, so that the script isn't vouched for with one line less, and beside the patterns that are given just those that
-/// are needed, of those that the script's searches are given. None just where the script isn't vouched for with as many lines as there may
-/// be and all of these patterns.
+/// are needed, of those that the script's searches are given. It states such patterns only where there may be a line. None just where the
+/// script isn't vouched for with as many lines as there may be and all patterns that may be stated.
 ///
-/// That another start with fewer lines or other patterns would do isn't ruled out. The script is analysed about twice for each pattern that
-/// its searches are given, and some 40 times beside that.
+/// That another start with fewer lines or other patterns would do isn't ruled out. The script is analysed once for each pattern that its
+/// searches are given, up to its first need that fails, once more for each where some of them aren't needed, and some 40 times beside that.
 pub fn widest_start(
     alloc: Global,
     script: &[u8],
@@ -133,7 +130,7 @@ pub fn widest_start(
 {
     let read = read_script(alloc, script)?;
     let min = fullest_min(given);
-    let patterns = searched(alloc, &read)?;
+    let patterns = addable(alloc, &read, given.max)?;
     if !is_vouched_beside(alloc, &read, given, min, patterns.members())? {
         return Ok(None);
     }
@@ -141,7 +138,7 @@ pub fn widest_start(
 }
 
 /// The start over which a script is judged where no start of what is given is found: with as many lines at least as there may be, or as
-/// are given, and beside the patterns that are given all those that the script's searches are given.
+/// are given, and beside the patterns that are given all those that the script's searches are given, if there may be a line.
 pub fn fullest_start(alloc: Global, script: &[u8], given: &Given) -> Result<Start, AllocError>
     requires ordered { IfSome given.now.min (λ min. IsAtMost min given.now.max) }
     requires low { IfSome given.now.min (λ min. min ≤ most_lines) }
@@ -150,6 +147,6 @@ pub fn fullest_start(alloc: Global, script: &[u8], given: &Given) -> Result<Star
     ensures allowed { IfOk result IsAllowed }
 {
     let read = read_script(alloc, script)?;
-    let patterns = searched(alloc, &read)?;
+    let patterns = addable(alloc, &read, given.max)?;
     start_beside(alloc, given, fullest_min(given), patterns.members())
 }

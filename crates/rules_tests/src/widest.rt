@@ -47,7 +47,7 @@ macro_rules! found {
 pub(crate) const CONF: Option<&[u8]> = Some(b"conf");
 
 #[rattlefmt::skip]
-static ROWS: [Row; 38] = [
+static ROWS: [Row; 42] = [
     // The fewest lines: `$` is no line of an empty file, and a deleted line isn't there for a later command.
     Row { script: b"$d\nQ\n", path: CONF, min: None, max: None, has: None, found: found!(1, None, "any conf of at least 1 line") },
     Row { script: b"2,3d\nQ\n", path: CONF, min: None, max: None, has: None, found: found!(3, None, "any conf of at least 3 lines") },
@@ -85,6 +85,11 @@ static ROWS: [Row; 38] = [
     Row { script: b"/a/p\n/b/p\nQ\n", path: CONF, min: Some(3), max: None, has: None, found: found!(3, Some(&[b"a", b"b"]), "any conf of at least 3 lines, with lines that match `a` and `b`") },
     Row { script: b"$d\nQ\n", path: CONF, min: None, max: Some(0), has: None, found: None },
     Row { script: b"a\nx\n.\nQ\n", path: CONF, min: None, max: Some(0), has: None, found: found!(0, None, "any conf of no lines") },
+    // A file of no lines has none that matches: only a line that is entered does.
+    Row { script: b"/foo/p\nQ\n", path: CONF, min: None, max: Some(0), has: None, found: None },
+    Row { script: b"/foo/p\nQ\n", path: None, min: None, max: Some(0), has: None, found: None },
+    Row { script: b"a\nfoo\n.\n/foo/p\n/bar/p\nQ\n", path: CONF, min: None, max: Some(0), has: None, found: None },
+    Row { script: b"a\nfoo\n.\n/foo/p\nQ\n", path: CONF, min: None, max: Some(0), has: None, found: found!(0, Some(&[]), "any conf of no lines") },
     Row { script: b"/foo/p\nQ\n", path: CONF, min: None, max: None, has: Some(&[b"foo"]), found: found!(0, Some(&[b"foo"]), "any conf with a line that matches `foo`") },
     Row { script: b"$d\nQ\n", path: CONF, min: None, max: None, has: Some(&[]), found: found!(1, Some(&[]), "any conf of at least 1 line") },
     Row { script: b"$d\nQ\n", path: CONF, min: None, max: None, has: Some(&[b"zzz"]), found: found!(1, Some(&[b"zzz"]), "any conf of at least 1 line, one of which matches `zzz`") },

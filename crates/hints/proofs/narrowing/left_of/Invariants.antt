@@ -1,10 +1,13 @@
-use Rattle.std.proofs.Common.{◌-◌, length}
+use Rattle.std.proofs.Common.{◌-◌, ◌≤◌, length}
 use Rattle.ed_syntax.specs.PublicScript.{script_value}
 use Rattle.hints.specs.Narrowing.{AreEnough}
 use Rattle.hints.proofs.narrowing.left_of.Given as goal
 
 abbrev pub invariant-places : goal.invariant-places
-invariant-places l = AreEnough (script_value l.script) l.given l.min l.left.items
+invariant-places l = record {
+  enough : AreEnough (script_value l.script) l.given l.min l.left.items;
+  fewer : length l.left.items ≤ length l.fn.added.items;
+}
 
 abbrev pub decreases-places : goal.decreases-places
 decreases-places l = length l.left.items - l.place

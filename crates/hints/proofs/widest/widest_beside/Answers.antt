@@ -4,8 +4,8 @@ use Rattle.hints.specs.Widest.{start_with, beside}
 use Rattle.hints.proofs.Enough.{enough-lower, enough-other, not-over, widest-needed, widest-ok}
 use Rattle.hints.proofs.widest.widest_beside.Goals as goal
 
-pub one_fewer-requires : goal.one_fewer-requires
-one_fewer-requires c = record {
+pub fewer_of-requires : goal.fewer_of-requires
+fewer_of-requires c = record {
   enough = enough-other (script_value c.args.script.now) c.args.given.now c.in_ok-fewest.fewest c.fewer.left.items c.as_slice-in-fewer.result.now
       c.as_slice-in-fewer.ensures.value
       (enough-lower (script_value c.args.script.now) c.args.given.now c.in_ok-start.start c.fewer.most c.in_ok-fewest.fewest c.fewer.left.items c.as_slice.result.now

@@ -3,7 +3,7 @@ use Rattle.std.specs.List.{remove}
 use Rattle.ed_syntax.specs.PublicScript.{script_value}
 use Rattle.hints.specs.Passing.{IsVouched}
 use Rattle.hints.specs.Widest.{start_with, beside}
-use Rattle.hints.proofs.narrowing.one_fewer.Given as goal
+use Rattle.hints.proofs.narrowing.fewer_of.Given as goal
 
 -- without any of those before the place the script isn't vouched for
 abbrev pub invariant-loop-place : goal.invariant-loop-place
