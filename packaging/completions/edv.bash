@@ -19,7 +19,7 @@ _edv() {
     local words=
     case $job in
     edit) words="--vouched -n --dry-run -s -p -f --help" ;;
-    vouch) words="--min --max --all --patterns --has -f --help" ;;
+    vouch) words="--min --max --all -q --quiet --patterns --has -f --help" ;;
     check) words="-f --help" ;;
     run) words="-n --dry-run -s -f --help" ;;
     fits) words="--help" ;;

@@ -19,7 +19,7 @@ passed=0
 failed=0
 
 # The files that each run finds. Their time lies in the past, so that a write shows.
-declare -A before=([F]=$'a\nb\nc\n' [G]=$'uvw\nxyz')
+declare -A before=([F]=$'a\nb\nc\n' [G]=$'uvw\nxyz' [A]=$'1d\nw\nq\n' [B]=$'$p\nQ\n')
 declare -A has written met
 before[CERT]='ed-certificate 1
 path =F
@@ -280,6 +280,8 @@ on 'run -s' 0 '1d\nw\nq\n' 'run CERT -s F' \
 on 'run of another certificate' 1 '1d\nw\nq\n' 'run WRONG F' 'takes WRONG' 'says refused: command 4\n'
 on 'run over another file' 4 '1d\nw\nq\n' 'run CERT G' 'takes CERT' 'says start outside the certificate\n'
 on 'vouch that cannot' 1 '1d\nw\nq\n' 'vouch --min 0 --max 3 F' 'says cannot: command 1: invalid address\n'
+on 'vouch of two scripts' 0 '' 'vouch --min 1 --max 3 -f A -f B F' 'takes A' 'takes B'
+on 'vouch of two scripts that cannot for one' 1 '' 'vouch --min 1 --max 3 -f F -f B F' 'takes F' 'takes B'
 bytewise=
 on 'vouch' 0 '1d\nw\nq\n' 'vouch --min 1 --max 3 F' "says ${before[CERT]}"
 printf -v long '%0100000d' 0

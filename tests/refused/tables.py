@@ -1,4 +1,4 @@
-"""The runs in which each allocation is refused: a table for the editor, two for the verifier, and one for the search of patterns."""
+"""The runs in which each allocation is refused: a table for the editor, three for the verifier, and one for the search of patterns."""
 import typing
 
 AB = b'a\nb\n'
@@ -116,6 +116,29 @@ VOUCHED = [
     of_foo('a start of which the most lines are given', b'1d\n?b?p\nQ\n', '--max 9', False),
     of_foo('a start that is not found', b'/foo/p\n3d\n/b/s/b/d/\nw\nq\n', '', False),
     of_foo('lines of three that a global left out', b'v/foo/?foo?p\nQ\n', '--min 0 --max any --patterns', False),
+]
+
+
+class Judged(typing.NamedTuple):
+    """Scripts that are judged without certificates: what they are, the words of `vouch`, the files, the script on standard input, and the
+    status."""
+    name: str
+    words: str
+    files: typing.Mapping
+    script: bytes
+    status: int
+
+
+FIT = b'/foo/p\n2d\nw\nq\n'
+UNFIT = b'1d\n/b/s/b/d/\nw\nq\n'
+JUDGED = [
+    Judged('two scripts that are vouched for', '-f A -f A F', {'A': FIT}, b'', 0),
+    Judged('two scripts, of which one is vouched for', '-f A -f B F', {'A': FIT, 'B': UNFIT}, b'', 1),
+    Judged('two scripts with a stated pattern', '--min 2 --max any --has foo -f A -f B F', {'A': FIT, 'B': UNFIT}, b'', 1),
+    Judged('all that fails of two scripts', '--all -f B -f A F', {'A': FIT, 'B': UNFIT}, b'', 1),
+    Judged('two scripts, of which one is missing', '-f A -f C F', {'A': FIT}, b'', 3),
+    Judged('two scripts, quietly', '-q -f A -f B F', {'A': FIT, 'B': UNFIT}, b'', 1),
+    Judged('a script, quietly', '-q F', {}, FIT, 0),
 ]
 
 

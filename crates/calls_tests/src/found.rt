@@ -16,14 +16,14 @@ const MOST_LINES: u64 = 1_000_000_000_000;
 
 /// What is given of a start.
 #[derive(Clone, Copy)]
-struct Part {
-    path: Option<&'static [u8]>,
-    min: Option<u64>,
-    max: Option<u64>,
-    has: Option<&'static [u8]>,
+pub(crate) struct Part {
+    pub path: Option<&'static [u8]>,
+    pub min: Option<u64>,
+    pub max: Option<u64>,
+    pub has: Option<&'static [u8]>,
 }
 
-const F_ALONE: Part = Part {
+pub(crate) const F_ALONE: Part = Part {
     path: Some(b"F"),
     min: None,
     max: None,
@@ -31,7 +31,7 @@ const F_ALONE: Part = Part {
 };
 
 /// The start that is found of this part, which has at most so many lines; None where its bounds are none.
-fn sought(alloc: Global, part: Part) -> Result<Option<Starts>, AllocError>
+pub(crate) fn sought(alloc: Global, part: Part) -> Result<Option<Starts>, AllocError>
     ensures allowed { IfOk result (λ found. IfSome found AreAllowed) }
 {
     let (min, max) = (part.min, part.max);

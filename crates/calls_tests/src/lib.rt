@@ -18,6 +18,8 @@ mod fitting;
 #[cfg(test)]
 mod found;
 #[cfg(test)]
+mod judging;
+#[cfg(test)]
 mod runs;
 #[cfg(test)]
 mod vouching;

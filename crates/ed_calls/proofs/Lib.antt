@@ -2,6 +2,7 @@ mod Checks
 mod Correctness
 mod Gathering
 mod Joining
+mod Judgements
 mod Sayings
 mod StartTested
 mod StatedPatterns

@@ -6,6 +6,7 @@ pub mod Check
 pub mod Names
 pub mod Starts
 pub mod Vouch
+pub mod Judging
 pub mod Run
 pub mod Vouched
 pub mod Fits

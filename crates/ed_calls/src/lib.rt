@@ -1,4 +1,5 @@
-//! The program's calls: a script is run, vouched for, checked, or run by its certificate, over any files and any output; a start is tested.
+//! The program's calls: a script is run, vouched for, judged, checked, or run by its certificate, over any files and any output; a start is
+//! tested.
 #![tactic(auto)]
 
 mod checking;
@@ -6,6 +7,7 @@ mod editing;
 mod fitting;
 mod gathered;
 mod held_writes;
+mod judgement;
 mod judging;
 mod laws;
 mod names;
@@ -21,6 +23,7 @@ pub use checking::check_text;
 pub use editing::edit;
 pub use fitting::fit;
 pub use held_writes::show_held;
+pub use judgement::{Detail, judge_text};
 pub use laws::accepted_runs_end_well;
 pub use running::{Ran, run, run_checked};
 pub use starts::Starts;
@@ -28,7 +31,9 @@ pub use stderr::aside::Aside;
 pub use stderr::command_line::quoted;
 pub use stderr::file_name::{is_named_as_script, quoted_word};
 pub use stderr::pattern::wrong_in_pattern;
-pub use stderr::refusals::{Explains, Watched, show_input, show_memory, show_output, show_unread};
+pub use stderr::refusals::{
+    Explains, Watched, show_input, show_memory, show_output, show_unjudged, show_unread,
+};
 pub use stderr::shown::shown_lines;
 pub use vouched::edit_vouched;
 pub use vouching::vouch_text;

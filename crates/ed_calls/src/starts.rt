@@ -5,7 +5,8 @@ ghost use Rattle.ed_calls.specs.Starts.{AreAllowed, IsJudgedFor, path_of};
 
 use analyser::Start;
 use ed_base::Bytes;
-use hints::{Given, fullest_start, widest_start};
+use ed_rules::Texts;
+use hints::{Given, copy_of, fullest_start, widest_start};
 use std::alloc::{AllocError, Global};
 
 /// The start that a script is judged over.
@@ -28,6 +29,16 @@ impl Starts {
         }
     }
 
+    /// Equal starts.
+    pub fn try_copy(&self) -> Result<Starts, AllocError>
+        ensures value { IfOk result (λ copy. copy ≡ self.now) }
+    {
+        match self {
+            Starts::Given(start) => Ok(Starts::Given(copy_of(start)?)),
+            Starts::Widest(given) => Ok(Starts::Widest(copy_of_given(given)?)),
+        }
+    }
+
     /// Whether the start is to be found.
     pub(crate) fn are_sought(&self) -> bool {
         matches!(self, Starts::Widest(_))
@@ -39,6 +50,36 @@ impl Starts {
             Starts::Given(_) => false,
             Starts::Widest(given) => given.min.is_none(),
         }
+    }
+}
+
+/// What is given of a start, once more.
+fn copy_of_given(given: &Given) -> Result<Given, AllocError>
+    ensures value { IfOk result (λ copy. copy ≡ given.now) }
+{
+    Ok(Given {
+        path: copy_of_path(&given.path)?,
+        min: given.min,
+        max: given.max,
+        has: copy_of_has(&given.has)?,
+    })
+}
+
+fn copy_of_path(path: &Option<Bytes>) -> Result<Option<Bytes>, AllocError>
+    ensures value { IfOk result (λ copy. copy ≡ path.now) }
+{
+    match path {
+        Some(path) => Ok(Some(path.try_copy()?)),
+        None => Ok(None),
+    }
+}
+
+fn copy_of_has(has: &Option<Texts>) -> Result<Option<Texts>, AllocError>
+    ensures value { IfOk result (λ copy. copy ≡ has.now) }
+{
+    match has {
+        Some(has) => Ok(Some(has.try_copy()?)),
+        None => Ok(None),
     }
 }
 

@@ -21,7 +21,7 @@ use ed_session::Sink;
 use std::alloc::{AllocError, Global};
 
 /// The status of a script that is vouched for.
-const VOUCHED_STATUS: u8 = 0;
+pub(crate) const VOUCHED_STATUS: u8 = 0;
 
 /// The status of a script that isn't.
 pub(crate) const CANNOT_STATUS: u8 = 1;

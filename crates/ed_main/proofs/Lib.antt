@@ -2,6 +2,7 @@ mod Editing
 mod GivenPatterns
 mod Rehearsing
 mod Scripts
+mod Several
 mod StartLemmas
 mod SubcommandLemmas
 mod WordsLemmas

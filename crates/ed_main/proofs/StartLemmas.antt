@@ -1,11 +1,12 @@
 -- Starts that are allowed, and what two bounds say of them.
-use Rattle.std.proofs.Common.{◌≡◌, ◌≢◌, ◌≤◌, ◌∙◌, ℕ, true, List, [], ◌∷◌, Option, Some, None, refl, sym, lit≤}
+use Rattle.std.proofs.Common.{◌≡◌, ◌≢◌, ◌≤◌, ◌∙◌, ℕ, Bool, true, false, List, [], ◌∷◌, Option, Some, None, refl, sym, lit≤}
 use Rattle.std.specs.Prelude.{IfSome}
 use Rattle.std.proofs.lemmas.Bool.{leb-true}
 use Rattle.ed_rules.specs.LineBounds.{IsAtMost, is_within, most_lines}
 use Rattle.ed_calls.specs.Starts.{AreAllowed, path_of}
-use Rattle.ed_main.specs.Job.{AreStarts, any_start}
-use Rattle.ed_main.specs.Words.{are_in_order, is_path, starts_of}
+use Rattle.ed_calls.specs.declared.starts.Starts.{Starts}
+use Rattle.ed_main.specs.Job.{AreStarts, IsGiven, any_start}
+use Rattle.ed_main.specs.Words.{are_in_order, is_path, starts_of, vouching_of}
 
 -- any start with a file, or the empty buffer
 pub any_allowed : (path : Option (List ℕ)) (has : Option (List (List ℕ))) → AreAllowed (any_start path has)
@@ -53,3 +54,10 @@ starts_given path least most has order low high named =
       allowed = bounds_allowed path has least most order low high;
       path = λ is. path_has_bytes path named (sym (path_kept path has least most) ∙ is);
     }
+
+-- a job of `vouch` has the starts that it was made of
+pub vouching_given : (starts : Starts) (scripts : List (List ℕ)) (all quiet : Bool) → AreStarts starts → IsGiven (vouching_of starts scripts all quiet)
+vouching_given starts scripts all true given = given
+vouching_given starts [] all false given = given
+vouching_given starts (script ∷ []) all false given = given
+vouching_given starts (script ∷ next ∷ scripts) all false given = given

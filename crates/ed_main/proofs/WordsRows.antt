@@ -1,6 +1,8 @@
 -- Words and the jobs that they give.
 use Rattle.std.proofs.Common.{◌≡◌, ℕ, Bool, true, false, List, [], ◌∷◌, Option, Some, None, refl, codes}
 use Rattle.clap.proofs.OnLiterals.{clap_on_literals}
+use Rattle.ed_calls.specs.declared.judgement.Detail.{Detail}
+use Rattle.ed_calls.specs.declared.judgement.Detail.TheVariants.{Each, First, Nothing}
 use Rattle.ed_calls.specs.declared.starts.Starts.TheVariants.{Given, Widest}
 use Rattle.ed_main.specs.Subcommands.{program}
 use Rattle.ed_main.specs.Words.{job_of}
@@ -58,6 +60,10 @@ edit_from_file silent vouched = Some (job.Edit (record { silent = silent; prompt
 
 abbrev vouch_from_file : Option Job
 vouch_from_file = Some (job.Vouch (Widest (record { path = Some (codes "F"); min = None; max = None; has = None })) (Some (codes "S")) false)
+
+-- scripts that are judged without certificates
+abbrev judge : (scripts : List (List ℕ)) → Detail → Option Job
+judge scripts detail = Some (job.Judge (Widest (record { path = Some (codes "F"); min = None; max = None; has = None })) scripts detail)
 
 abbrev check_from_file : Option Job
 check_from_file = Some (job.Check (codes "C") (Some (codes "S")))
@@ -200,4 +206,15 @@ words =
     ∷ row (job_given (codes "edit" ∷ codes "-f" ∷ [] ∷ codes "F" ∷ []) ≡ None) refl  -- a script without a name
     ∷ row (job_given (codes "edit" ∷ codes "-f" ∷ codes "S" ∷ codes "-f" ∷ codes "T" ∷ codes "F" ∷ []) ≡ None) refl  -- two scripts
     ∷ row (job_given (codes "edit" ∷ codes "-f" ∷ []) ≡ None) refl  -- no script
+    ∷ row (job_given (codes "check" ∷ codes "-f" ∷ codes "S" ∷ codes "-f" ∷ codes "T" ∷ codes "C" ∷ []) ≡ None) refl  -- two checked scripts
+    ∷ row (job_given (codes "vouch" ∷ codes "-f" ∷ codes "T" ∷ codes "-f" ∷ codes "S" ∷ codes "F" ∷ []) ≡ judge (codes "T" ∷ codes "S" ∷ []) First) refl  -- two judged scripts
+    ∷ row (job_given (codes "vouch" ∷ codes "F" ∷ codes "-fS" ∷ codes "--all" ∷ codes "-fS" ∷ codes "-f=T" ∷ []) ≡ judge (codes "S" ∷ codes "S" ∷ codes "T" ∷ []) Each) refl  -- three, of which two are the same, and all refusals
+    ∷ row (job_given (codes "vouch" ∷ codes "-q" ∷ codes "F" ∷ []) ≡ judge [] Nothing) refl  -- quiet on standard input
+    ∷ row (job_given (codes "vouch" ∷ codes "-f" ∷ codes "S" ∷ codes "--quiet" ∷ codes "F" ∷ []) ≡ judge (codes "S" ∷ []) Nothing) refl  -- quiet on a file
+    ∷ row (job_given (codes "vouch" ∷ codes "--all" ∷ codes "-qf" ∷ codes "S" ∷ codes "-f" ∷ codes "T" ∷ codes "F" ∷ []) ≡ judge (codes "S" ∷ codes "T" ∷ []) Nothing) refl  -- quiet on two, and all refusals
+    ∷ row (job_given (codes "vouch" ∷ codes "-f" ∷ codes "S" ∷ codes "-f" ∷ codes "-" ∷ codes "F" ∷ []) ≡ None) refl  -- a judged hyphen as a second script
+    ∷ row (job_given (codes "vouch" ∷ codes "-f" ∷ [] ∷ codes "-f" ∷ codes "S" ∷ codes "F" ∷ []) ≡ None) refl  -- a judged script without a name
+    ∷ row (job_given (codes "vouch" ∷ codes "-f" ∷ codes "S" ∷ codes "-f" ∷ codes "T" ∷ codes "F" ∷ codes "G" ∷ []) ≡ None) refl  -- two judged scripts and two files
+    ∷ row (job_given (codes "vouch" ∷ codes "-q" ∷ codes "--quiet" ∷ codes "F" ∷ []) ≡ None) refl  -- twice quiet
+    ∷ row (job_given (codes "check" ∷ codes "-q" ∷ codes "C" ∷ []) ≡ None) refl  -- a quiet check
     ∷ []

@@ -13,6 +13,7 @@ pub record AreStarts (starts : Starts) : Type 0 where
 
 abbrev pub IsGiven : Job → Type 0
 IsGiven (job.Vouch starts script all) = AreStarts starts
+IsGiven (job.Judge starts scripts detail) = AreStarts starts
 IsGiven other = Unit {0}
 
 -- any start with the file at this path that states these patterns; without a file the buffer is empty, and no start is to be found

@@ -2,4 +2,5 @@
 pub mod Subcommands
 pub mod Words
 pub mod Job
+pub mod Several
 pub mod Program

@@ -7,7 +7,6 @@ use Rattle.ed_syntax.specs.declared.options.Options.{Options}
 use Rattle.ed_session.specs.Drives.{Log}
 use Rattle.ed_session.specs.Sinks.{SinkChange}
 use Rattle.sources.specs.declared.source.ReadFault.{ReadFault}
-use Rattle.sources.specs.declared.source.ReadFault.TheVariants as reading
 use Rattle.ed_calls.specs.Check.{Checks}
 use Rattle.ed_calls.specs.Edit.{Correct}
 use Rattle.ed_calls.specs.Fits.{Fits}
@@ -25,15 +24,17 @@ use Rattle.ed_main.specs.declared.task.Trust.TheVariants as trust
 use Rattle.ed_main.specs.declared.words.WordsFault.{WordsFault}
 use Rattle.ed_main.specs.declared.words.WordsFault.TheVariants as words
 use Rattle.ed_main.specs.Job.{IsGiven, any_start}
+use Rattle.ed_main.specs.Several.{Judges, names_none, status_of_unread}
 
 -- how many bytes of a script, and of a certificate, are read at most
 abbrev pub most_bytes : ℕ
 most_bytes = 2 ^ 30
 
--- a job wants a script: each does but the test of a start
+-- a job wants a script before it is begun: each does but the test of a start, and the judging of scripts in files
 abbrev pub wants_script : Job → Bool
 wants_script (job.Edit options script rehearsed vouched) = true
 wants_script (job.Vouch starts script all) = true
+wants_script (job.Judge starts scripts detail) = names_none scripts
 wants_script (job.Check certificate script) = true
 wants_script (job.Run certificate options script rehearsed) = true
 wants_script (job.Fits certificate path) = false
@@ -42,6 +43,7 @@ wants_script (job.Fits certificate path) = false
 abbrev pub script_named : Job → Option (List ℕ)
 script_named (job.Edit options script rehearsed vouched) = script
 script_named (job.Vouch starts script all) = script
+script_named (job.Judge starts scripts detail) = None
 script_named (job.Check certificate script) = script
 script_named (job.Run certificate options script rehearsed) = script
 script_named (job.Fits certificate path) = None
@@ -55,11 +57,6 @@ abbrev pub EndsWords : WordsFault → ℕ → Type 0
 EndsWords (words.Usage text) status = status ≡ 4
 EndsWords (words.Asked text) status = (status ≡ 0) ⊎ (status ≡ status_of fault.Output)
 EndsWords words.Memory status = status ≡ status_of fault.Memory
-
--- a script or a certificate that isn't read ends the program as a file does that is refused
-abbrev pub status_of_unread : ReadFault → ℕ
-status_of_unread reading.Refused = status_of fault.File
-status_of_unread reading.Memory = status_of fault.Memory
 
 -- What a job met: what it asked the files and was answered, the counts of their refusals before and after it, and the output.
 pub record Met : Type 0 where
@@ -114,10 +111,11 @@ pub data WithCertificate (Used : List ℕ → ℕ → Type 0) (status : ℕ) : T
   read : (certificate : List ℕ) → Used certificate status → WithCertificate Used status
   unread : (fault : ReadFault) → status ≡ status_of_unread fault → WithCertificate Used status
 
--- what a job comes to, for a script of these bytes; a test of a start has none
+-- what a job comes to, for a script of these bytes; a test of a start has none, and scripts in files are read as they are judged
 abbrev pub Does : List ℕ → Job → ℕ → Type 0
 Does script (job.Edit options named rehearsed vouched) = Somehow (EditsBy vouched script options rehearsed)
 Does script (job.Vouch starts named all) = Somehow (λ met. Says (Vouches script starts) met.sink)
+Does script (job.Judge starts scripts detail) = Judges script starts scripts
 Does script (job.Check path named) = WithCertificate (λ certificate. Somehow (λ met. Says (Checks script certificate) met.sink))
 Does script (job.Run path options named rehearsed) = WithCertificate (λ certificate. Somehow (RunsOn script certificate options rehearsed))
 Does script (job.Fits certificate path) = WithCertificate (λ bytes. Somehow (λ met. Fits bytes path met.log met.sink))

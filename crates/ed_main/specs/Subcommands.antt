@@ -28,6 +28,10 @@ file = record (new_rule (codes "file")) { action = Some Set; value_names = 1 }
 abbrev pub script : Rule
 script = record (new_rule (codes "script")) { short = Some 102; action = Some Set; value_names = 1 }
 
+-- `-f SCRIPT`, which may come more than once
+abbrev pub scripts : Rule
+scripts = record script { action = Some Append }
+
 -- `--min N`
 abbrev pub min : Rule
 min = record (new_rule (codes "min")) { long = Some (codes "min"); action = Some Set; value_names = 1 }
@@ -39,6 +43,10 @@ max = record (new_rule (codes "max")) { long = Some (codes "max"); action = Some
 -- `--all`
 abbrev pub all : Rule
 all = record (new_rule (codes "all")) { long = Some (codes "all"); action = Some SetTrue }
+
+-- `-q`, `--quiet`
+abbrev pub quiet : Rule
+quiet = record (new_rule (codes "quiet")) { short = Some 113; long = Some (codes "quiet"); action = Some SetTrue }
 
 -- `--patterns`
 abbrev pub patterns : Rule
@@ -60,9 +68,9 @@ subcommand name takes = on_top (λ s. record s { rules = takes }) (new_app name)
 abbrev pub edit : App
 edit = subcommand (codes "edit") (vouched ∷ rehearsed ∷ silent ∷ prompt ∷ script ∷ file ∷ [])
 
--- `vouch [--min N] [--max M] [--all] [--patterns] [--has RE] [-f SCRIPT] [FILE]`
+-- `vouch [--min N] [--max M] [--all] [-q] [--patterns] [--has RE] [-f SCRIPT] [FILE]`
 abbrev pub vouch : App
-vouch = subcommand (codes "vouch") (min ∷ max ∷ all ∷ patterns ∷ has ∷ script ∷ file ∷ [])
+vouch = subcommand (codes "vouch") (min ∷ max ∷ all ∷ quiet ∷ patterns ∷ has ∷ scripts ∷ file ∷ [])
 
 -- `check [-f SCRIPT] CERT`
 abbrev pub check : App

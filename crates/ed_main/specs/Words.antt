@@ -11,6 +11,8 @@ use Rattle.bre_parse.specs.Grammar.{pattern}
 use Rattle.ed_syntax.specs.declared.options.Options.{Options}
 use Rattle.ed_rules.specs.LineBounds.{is_few, is_within}
 use Rattle.ed_rules.specs.Texts.{with_texts}
+use Rattle.ed_calls.specs.declared.judgement.Detail.{Detail}
+use Rattle.ed_calls.specs.declared.judgement.Detail.TheVariants.{Nothing, First, Each}
 use Rattle.ed_calls.specs.declared.starts.Starts.{Starts}
 use Rattle.ed_calls.specs.declared.starts.Starts.TheVariants.{Given, Widest}
 use Rattle.clap.specs.declared.error.kind.ErrorKind.{ErrorKind}
@@ -35,6 +37,10 @@ is_path (Some []) = false
 is_path (Some (byte ∷ [])) = not (nat_eq byte 45)
 is_path (Some (byte ∷ next ∷ bytes)) = true
 
+-- each of these words may name a file
+abbrev pub are_paths : List (List ℕ) → Bool
+are_paths words = list_all (λ word. is_path (Some word)) words
+
 -- a flag was given
 abbrev pub is_given : Option (List ℕ) → Bool
 is_given text = option_map_or (λ t. bytes_eq t (codes "true")) text false
@@ -58,6 +64,10 @@ is_to_be_vouched rows = is_given (first_of (codes "vouched") rows)
 -- all refusals are to be shown
 abbrev pub shows_all : List Row → Bool
 shows_all rows = is_given (first_of (codes "all") rows)
+
+-- nothing is to be told
+abbrev pub is_quiet : List Row → Bool
+is_quiet rows = is_given (first_of (codes "quiet") rows)
 
 -- the file that a script is to be read from
 abbrev pub script_in : List Row → Option (List ℕ)
@@ -120,24 +130,49 @@ stated asked (text ∷ texts) = Some (with_texts (text ∷ texts) [])
 stated true [] = Some []
 stated false [] = None
 
--- a certificate for starts of these bounds, where the low one isn't above the high one
-abbrev pub vouching_within : (least : Option ℕ) → (most : Option (Option ℕ)) → (path script : Option (List ℕ)) → (asked : Bool) → (has : List (List ℕ)) → (all : Bool) → Option Job
-vouching_within least most path script asked has all = elim (are_in_order least most && (is_path path && (is_path script && are_patterns has))) [
-  | true ↦ Some (job.Vouch (starts_of path least most (stated asked has)) script all)
+-- how much is told of a script that isn't vouched for, where something is
+abbrev pub detail_of : (all : Bool) → Detail
+detail_of true = Each
+detail_of false = First
+
+-- a certificate is asked for of one script, in a file or on standard input; several are judged without
+abbrev pub telling_of : Starts → (scripts : List (List ℕ)) → (all : Bool) → Job
+telling_of starts [] all = job.Vouch starts None all
+telling_of starts (script ∷ []) all = job.Vouch starts (Some script) all
+telling_of starts (script ∷ next ∷ scripts) all = job.Judge starts (script ∷ next ∷ scripts) (detail_of all)
+
+-- where nothing is to be told, one is judged without, too
+abbrev pub vouching_of : Starts → (scripts : List (List ℕ)) → (all quiet : Bool) → Job
+vouching_of starts scripts all true = job.Judge starts scripts Nothing
+vouching_of starts scripts all false = telling_of starts scripts all
+
+-- what `vouch` is asked besides its bounds
+pub record Asked : Type 0 where
+  pub path : Option (List ℕ)
+  pub scripts : List (List ℕ)
+  pub patterns : Bool
+  pub has : List (List ℕ)
+  pub all : Bool
+  pub quiet : Bool
+
+-- it is vouched for starts of these bounds, where the low one isn't above the high one
+abbrev pub vouching_within : (least : Option ℕ) → (most : Option (Option ℕ)) → Asked → Option Job
+vouching_within least most asked = elim (are_in_order least most && (is_path asked.path && (are_paths asked.scripts && are_patterns asked.has))) [
+  | true ↦ Some (vouching_of (starts_of asked.path least most (stated asked.patterns asked.has)) asked.scripts asked.all asked.quiet)
   | false ↦ None
 ]
 
-abbrev pub vouching_from : (least : Option ℕ) → Option (Option (Option ℕ)) → (path script : Option (List ℕ)) → (asked : Bool) → (has : List (List ℕ)) → (all : Bool) → Option Job
-vouching_from least None path script asked has all = None
-vouching_from least (Some most) path script asked has all = vouching_within least most path script asked has all
+abbrev pub vouching_from : (least : Option ℕ) → Option (Option (Option ℕ)) → Asked → Option Job
+vouching_from least None asked = None
+vouching_from least (Some most) asked = vouching_within least most asked
 
-abbrev pub vouching_read : Option (Option ℕ) → Option (Option (Option ℕ)) → (path script : Option (List ℕ)) → (asked : Bool) → (has : List (List ℕ)) → (all : Bool) → Option Job
-vouching_read None most path script asked has all = None
-vouching_read (Some least) most path script asked has all = vouching_from least most path script asked has all
+abbrev pub vouching_read : Option (Option ℕ) → Option (Option (Option ℕ)) → Asked → Option Job
+vouching_read None most asked = None
+vouching_read (Some least) most asked = vouching_from least most asked
 
 -- the same by the texts of the bounds
-abbrev pub vouching : (min max : Option (List ℕ)) → (path script : Option (List ℕ)) → (asked : Bool) → (has : List (List ℕ)) → (all : Bool) → Option Job
-vouching min max path script asked has all = vouching_read (least_in min) (most_in max) path script asked has all
+abbrev pub vouching : (min max : Option (List ℕ)) → Asked → Option Job
+vouching min max asked = vouching_read (least_in min) (most_in max) asked
 
 -- a check of the certificate at a path that may be given
 abbrev pub checking : (certificate script : Option (List ℕ)) → Option Job
@@ -161,10 +196,19 @@ fitting (Some certificate) path = elim (is_path (Some certificate) && is_path pa
 abbrev pub edit_job : List Row → Option Job
 edit_job rows = editing (options_in rows) (script_in rows) (is_rehearsed rows) (is_to_be_vouched rows)
 
+-- what `vouch` was asked
+abbrev pub asked_in : List Row → Asked
+asked_in rows = record {
+  path = first_of (codes "file") rows;
+  scripts = texts_in (codes "script") rows;
+  patterns = is_given (first_of (codes "patterns") rows);
+  has = texts_in (codes "has") rows;
+  all = shows_all rows;
+  quiet = is_quiet rows;
+}
+
 abbrev pub vouch_job : List Row → Option Job
-vouch_job rows =
-    vouching (first_of (codes "min") rows) (first_of (codes "max") rows) (first_of (codes "file") rows) (script_in rows)
-    (is_given (first_of (codes "patterns") rows)) (texts_in (codes "has") rows) (shows_all rows)
+vouch_job rows = vouching (first_of (codes "min") rows) (first_of (codes "max") rows) (asked_in rows)
 
 abbrev pub check_job : List Row → Option Job
 check_job rows = checking (first_of (codes "certificate") rows) (script_in rows)

@@ -1,6 +1,7 @@
 //! What the program reads before it does a job: the bytes of a script, and of a certificate.
 ghost use Rattle.std.specs.Prelude.{◌≡◌, ◌<◌, ◌≤◌, ◌+◌, ◌-◌, ◌^◌, ◌⊎◌, [], Ok, Err, IfOk, IsTrue, IsFalse};
-ghost use Rattle.ed_main.specs.Program.{most_bytes, status_of_unread, wants_input, wants_script};
+ghost use Rattle.ed_main.specs.Program.{most_bytes, wants_input, wants_script};
+ghost use Rattle.ed_main.specs.Several.{status_of_unread};
 ghost use Rattle.sources.specs.Source.{HasMore, IsAll};
 
 use crate::job::Job;
@@ -49,7 +50,7 @@ where
     ensures status { result ≤ 4 }
     ensures value { result ≡ status_of_unread fault }
 {
-    if fault == ReadFault::Refused && job.wants_input() {
+    if fault == ReadFault::Refused && job.wants_input() && !job.is_quiet() {
         show_input(rt.alloc(), rt, reason);
     }
     status_of_read(fault)
@@ -71,20 +72,62 @@ pub fn bytes_at<R>(rt: &R, path: &Bytes) -> Result<Bytes, ReadFault>
 where
     R: Files<File = File> + Eprint + AllocGlobal,
 {
-    let path = path.as_slice();
-    let reason = match file_at(rt, path) {
+    match read_at(rt, path) {
+        Ok(bytes) => Ok(bytes),
+        Err(unread) => {
+            unread.show(rt, path);
+            Err(unread.fault)
+        }
+    }
+}
+
+/// Why the bytes of a file weren't read.
+#[derive(Drop)]
+pub struct Unread {
+    pub fault: ReadFault,
+    // The system's reason, where the file was refused and there is one.
+    reason: Option<io::Error>,
+}
+
+impl Unread {
+    fn without_memory() -> Unread {
+        Unread {
+            fault: ReadFault::Memory,
+            reason: None,
+        }
+    }
+
+    /// Shows that the file at this path was refused, where it was.
+    pub fn show<R: Eprint + AllocGlobal>(&self, rt: &R, path: &Bytes) {
+        if self.fault == ReadFault::Refused {
+            show_unread(rt.alloc(), rt, path.as_slice(), self.reason);
+        }
+    }
+}
+
+/// The bytes of the file at this path.
+pub fn read_at<R>(rt: &R, path: &Bytes) -> Result<Bytes, Unread>
+where
+    R: Files<File = File> + AllocGlobal,
+{
+    let reason = match file_at(rt, path.as_slice()) {
         Ok(file) => {
             let mut input = In::new(file);
             match read_all(rt.alloc(), &mut input, LIMIT) {
+                Ok(bytes) => return Ok(bytes),
                 Err(ReadFault::Refused) => input.reason(),
-                read => return read,
+                Err(ReadFault::Memory) => return Err(Unread::without_memory()),
             }
         }
-        Err(error) if error.kind() == io::ErrorKind::OutOfMemory => return Err(ReadFault::Memory),
+        Err(error) if error.kind() == io::ErrorKind::OutOfMemory => {
+            return Err(Unread::without_memory());
+        }
         Err(error) => Some(error),
     };
-    show_unread(rt.alloc(), rt, path, reason);
-    Err(ReadFault::Refused)
+    Err(Unread {
+        fault: ReadFault::Refused,
+        reason,
+    })
 }
 
 /// The file at this path, or why there is none.

@@ -3,8 +3,9 @@ ghost use Rattle.std.specs.Prelude.{◌≡◌};
 ghost use Rattle.std.specs.Option.{option_copied};
 ghost use Rattle.ed_main.specs.Program.{script_named, wants_input};
 
+use crate::paths::Paths;
 use ed_base::Bytes;
-use ed_calls::Starts;
+use ed_calls::{Detail, Starts};
 use ed_syntax::Options;
 
 /// What the program is to do. A script comes from the file at the path `script`, or without one from standard input.
@@ -22,6 +23,13 @@ pub enum Job {
         starts: Starts,
         script: Option<Bytes>,
         all: bool,
+    },
+    /// To judge the scripts in the files at these paths, or where there is none the one on standard input, without their certificates, and to tell
+    /// a person so much of those that aren't vouched for.
+    Judge {
+        starts: Starts,
+        scripts: Paths,
+        detail: Detail,
     },
     /// To check the certificate at a path for a script.
     Check {
@@ -43,7 +51,7 @@ pub enum Job {
 }
 
 impl Job {
-    /// The path of the file that the script is read from, where one is named.
+    /// The path of the file that the script is read from, where one is named for it alone.
     pub fn script(&self) -> Option<&Bytes>
         ensures value { option_copied result ≡ script_named self.now }
     {
@@ -52,8 +60,19 @@ impl Job {
             | Job::Vouch { script, .. }
             | Job::Check { script, .. }
             | Job::Run { script, .. } => script.as_ref(),
-            Job::Fits { .. } => None,
+            Job::Judge { .. } | Job::Fits { .. } => None,
         }
+    }
+
+    /// Whether a person is told nothing, whatever comes of it.
+    pub fn is_quiet(&self) -> bool {
+        matches!(
+            self,
+            Job::Judge {
+                detail: Detail::Nothing,
+                ..
+            }
+        )
     }
 
     /// Whether the script is read from standard input.
@@ -65,6 +84,7 @@ impl Job {
             | Job::Vouch { script, .. }
             | Job::Check { script, .. }
             | Job::Run { script, .. } => script.is_none(),
+            Job::Judge { scripts, .. } => scripts.are_none(),
             Job::Fits { .. } => false,
         }
     }

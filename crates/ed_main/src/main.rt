@@ -4,8 +4,10 @@
 mod any_start;
 mod inputs;
 mod job;
+mod paths;
 mod patterns;
 mod program;
+mod several;
 mod stderr;
 mod subcommands;
 mod task;

@@ -9,6 +9,7 @@ ghost use Rattle.ed_main.specs.Program.{Does, EditsBy, EndsWords, IsEnding, Runs
 
 use crate::inputs::{bytes_at, refuse_script, script_from, status_of_read};
 use crate::job::Job;
+use crate::several::judge_scripts;
 use crate::stderr::notes::{show_empty, show_terminal};
 use crate::stderr::usage::USAGE;
 use crate::task::{Task, Trust, do_task, files_of};
@@ -100,6 +101,11 @@ where
             ..
         } => edit_file(rt, script, options, rehearsed, vouched),
         Job::Vouch { starts, all, .. } => vouch_file(rt, script, starts, all),
+        Job::Judge {
+            starts,
+            scripts,
+            detail,
+        } => judge_scripts(rt, script, starts, &scripts, detail),
         Job::Check {
             certificate: path,
             ..

@@ -56,9 +56,10 @@ fn vouch<'a>(alloc: Global) -> Result<Command<'a>, AllocError>
             min(alloc),
             max(alloc),
             all(alloc),
+            quiet(alloc),
             patterns(alloc),
             has(alloc),
-            script(alloc),
+            scripts(alloc),
             file(alloc, "The file that the certificate is for"),
         ]?,
     )
@@ -178,6 +179,13 @@ fn script<'a>(alloc: Global) -> Arg<'a>
         .help("The file that the script is read from, in place of standard input")
 }
 
+fn scripts<'a>(alloc: Global) -> Arg<'a>
+    ensures value { rule_of result ≡ meaning.scripts }
+    ensures local { result.global ≡ false }
+{
+    script(alloc).action(ArgAction::Append)
+}
+
 fn file<'a>(alloc: Global, help: &'a str) -> Arg<'a>
     ensures value { rule_of result ≡ meaning.file }
     ensures local { result.global ≡ false }
@@ -218,6 +226,17 @@ fn all<'a>(alloc: Global) -> Arg<'a>
         .long("all")
         .action(ArgAction::SetTrue)
         .help("Shows all that may fail, each as if what comes before it were mended")
+}
+
+fn quiet<'a>(alloc: Global) -> Arg<'a>
+    ensures value { rule_of result ≡ meaning.quiet }
+    ensures local { result.global ≡ false }
+{
+    Arg::new(alloc, "quiet")
+        .short('q')
+        .long("quiet")
+        .action(ArgAction::SetTrue)
+        .help("Writes nothing: the status tells whether all scripts are vouched for")
 }
 
 fn patterns<'a>(alloc: Global) -> Arg<'a>

@@ -5,6 +5,7 @@ ghost use Rattle.ed_main.specs.Words as meaning;
 ghost use Rattle.ed_main.specs.Words.{IsAsked, MayAsk, OnlyAsk, job_of, job_named};
 ghost use Rattle.ed_main.specs.Job.{IsGiven};
 
+mod several;
 mod starts;
 mod texts;
 
@@ -17,6 +18,7 @@ use crate::subcommands::program;
 use clap::ArgMatches;
 use ed_base::Bytes;
 use ed_syntax::Options;
+use several::{are_paths, scripts_in, vouching};
 use starts::{are_in_order, least_in, most_in, patterns_in, starts_of};
 use std::alloc::{AllocError, Global};
 use texts::{bytes_of, is_given, is_path, is_prompt, text_of};
@@ -165,7 +167,7 @@ fn vouch_job(alloc: Global, given: &ArgMatches<'_>) -> Result<Job, WordsFault>
     ensures given { IfOk result IsGiven }
 {
     let path = text_of(given, "file");
-    let script = text_of(given, "script");
+    let scripts = scripts_in(given);
     let Some(least) = least_in(text_of(given, "min")) else {
         return Err(WordsFault::of(alloc, NO_MIN, VOUCH_USAGE));
     };
@@ -178,15 +180,14 @@ fn vouch_job(alloc: Global, given: &ArgMatches<'_>) -> Result<Job, WordsFault>
     if !is_path(path) {
         return Err(WordsFault::of(alloc, NO_FILE, VOUCH_USAGE));
     }
-    if !is_path(script) {
+    if !are_paths(scripts) {
         return Err(WordsFault::of(alloc, NO_SCRIPT, VOUCH_USAGE));
     }
     let has = patterns_in(alloc, given, is_given(text_of(given, "patterns")))?;
-    Ok(Job::Vouch {
-        starts: starts_of(bytes_of(alloc, path)?, least, most, has),
-        script: bytes_of(alloc, script)?,
-        all: is_given(text_of(given, "all")),
-    })
+    let starts = starts_of(bytes_of(alloc, path)?, least, most, has);
+    let all = is_given(text_of(given, "all"));
+    let quiet = is_given(text_of(given, "quiet"));
+    Ok(vouching(alloc, starts, scripts, all, quiet)?)
 }
 
 fn check_job(alloc: Global, given: &ArgMatches<'_>) -> Result<Job, WordsFault>

@@ -5,6 +5,7 @@ use crate::stderr::command_line::quoted;
 use crate::stderr::file_name::{shell_option, shell_word, start_name};
 use crate::stderr::found::{sought_text, start_text};
 use crate::stderr::hinted::{hinted_text, unusable_text};
+use crate::stderr::named::named_lines;
 use crate::stderr::shown::shown_lines;
 use crate::stderr::stopped::{listed_text, stopped_text};
 use crate::stderr::unread::unread_text;
@@ -50,6 +51,13 @@ impl<'a> Aside<'a> {
     pub fn show(&self, rt: &impl Eprint, status: u8) {
         if matches!(status, DONE_STATUS | FAULT_STATUS | OUTSIDE_STATUS) {
             let _ = rt.eprint(self.lines.as_str());
+        }
+    }
+
+    /// Shows the lines of one script among several, each after the script's name and the number of the script's line that it is about.
+    pub fn show_under(&self, rt: &impl Eprint, name: &[u8]) {
+        if let Ok(lines) = named_lines(self.alloc, name, self.lines.as_str()) {
+            let _ = rt.eprint(lines);
         }
     }
 

@@ -21,6 +21,8 @@ pub enum Wrong {
     Unread,
     /// It can't be written.
     Unwritten,
+    /// It is a script for whose judgement there was no memory.
+    Unjudged,
 }
 
 impl Wrong {
@@ -29,6 +31,7 @@ impl Wrong {
             Wrong::Missing => "no such file",
             Wrong::Unread => "can't be read",
             Wrong::Unwritten => "can't be written",
+            Wrong::Unjudged => "out of memory",
         }
     }
 }
@@ -216,6 +219,11 @@ pub fn show_unread(alloc: Global, rt: &impl Eprint, path: &[u8], reason: Option<
         }
     }
     show_file(alloc, rt, path, Wrong::Unread, reason);
+}
+
+/// Shows in one line that there was no memory to judge the script at a path.
+pub fn show_unjudged(alloc: Global, rt: &impl Eprint, path: &[u8]) {
+    show_file(alloc, rt, path, Wrong::Unjudged, None);
 }
 
 /// Shows in one line that standard input wasn't read, with the system's reason where there is one.

@@ -6,7 +6,7 @@ use std::alloc::{AllocError, Global};
 
 /// Shows that the script of a job comes from a terminal, where it does: else nobody would know what the program waits for.
 pub fn show_terminal(rt: &impl Eprint, job: &Job, is_terminal: bool) {
-    if is_terminal && job.wants_input() {
+    if is_terminal && job.wants_input() && !job.is_quiet() {
         let _ = rt.eprint("note: reading the script from the terminal, to its end\n");
     }
 }
@@ -14,7 +14,7 @@ pub fn show_terminal(rt: &impl Eprint, job: &Job, is_terminal: bool) {
 /// Shows that the script of a job is empty, where it wants one. Where none is named, and FILE may be the script that was meant, it is shown how
 /// that is given.
 pub fn show_empty(alloc: Global, rt: &impl Eprint, script: &[u8], job: &Job) {
-    if !script.is_empty() || matches!(job, Job::Fits { .. }) {
+    if !script.is_empty() || matches!(job, Job::Judge { .. } | Job::Fits { .. }) {
         return;
     }
     let _ = rt.eprint("note: the script is empty\n");
@@ -35,7 +35,7 @@ fn file_of(job: &Job) -> Option<&[u8]> {
     let path = match job {
         Job::Edit { options, .. } | Job::Run { options, .. } => &options.path,
         Job::Vouch { starts, .. } => starts.path(),
-        Job::Check { .. } | Job::Fits { .. } => return None,
+        Job::Judge { .. } | Job::Check { .. } | Job::Fits { .. } => return None,
     };
     match path {
         Some(path) => Some(path.as_slice()),

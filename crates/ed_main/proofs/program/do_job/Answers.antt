@@ -7,6 +7,9 @@ returns-in-Edit-clause-did g c = rw c.in-Edit.is c.edit_file.ensures.came
 pub returns-in-Vouch-clause-did : goal.returns-in-Vouch-clause-did
 returns-in-Vouch-clause-did g c = rw c.in-Vouch.is c.vouch_file.ensures.came
 
+pub returns-in-Judge-clause-did : goal.returns-in-Judge-clause-did
+returns-in-Judge-clause-did g c = rw c.in-Judge.is c.judge_scripts.ensures.judged
+
 pub returns-in-Ok-clause-did : goal.returns-in-Ok-clause-did
 returns-in-Ok-clause-did g c = rw c.in-Check.is (meaning.read c.as_slice.result.now c.check_file.ensures.came)
 

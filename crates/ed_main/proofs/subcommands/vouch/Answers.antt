@@ -16,10 +16,13 @@ subcommand-requires c =
           (
             c.all.ensures.local,
             (
-              c.patterns.ensures.local,
+              c.quiet.ensures.local,
               (
-                c.has.ensures.local,
-                (c.script.ensures.local, (c.file.ensures.local, tt)),
+                c.patterns.ensures.local,
+                (
+                  c.has.ensures.local,
+                  (c.scripts.ensures.local, (c.file.ensures.local, tt)),
+                ),
               ),
             ),
           ),
@@ -30,6 +33,6 @@ subcommand-requires c =
 pub returns-clause-value : goal.returns-clause-value
 returns-clause-value c =
     IfOk-weaker c.subcommand.result _ _ (λ command is. is ∙ ap (meaning.subcommand (codes "vouch")) (ap (map rule_of) c.in_ok-vec.ensures.items
-    ∙ and_rules c.min.ensures.value (and_rules c.max.ensures.value (and_rules c.all.ensures.value (and_rules
-    c.patterns.ensures.value (and_rules c.has.ensures.value (and_rules c.script.ensures.value (and_rules c.file.ensures.value
-    no_rules)))))))) c.subcommand.ensures.value
+    ∙ and_rules c.min.ensures.value (and_rules c.max.ensures.value (and_rules c.all.ensures.value (and_rules c.quiet.ensures.value (and_rules
+    c.patterns.ensures.value (and_rules c.has.ensures.value (and_rules c.scripts.ensures.value (and_rules c.file.ensures.value
+    no_rules))))))))) c.subcommand.ensures.value

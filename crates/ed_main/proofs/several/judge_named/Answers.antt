@@ -1,0 +1,14 @@
+-- The copy of the starts is what they are.
+use Rattle.std.proofs.Common.{sym, subst}
+use Rattle.ed_calls.specs.Judging.{no_memory}
+use Rattle.ed_main.specs.Job.{AreStarts}
+use Rattle.ed_main.proofs.several.judge_named.Goals as goal
+
+pub judge_bytes-requires : goal.judge_bytes-requires
+judge_bytes-requires g c = record { given = subst AreStarts (sym c.in-Ok.ensures.value) c.requires.given }
+
+pub returns-in-Ok-clause-judged : goal.returns-in-Ok-clause-judged
+returns-in-Ok-clause-judged g c = rw c.in-Ok.ensures.value at c.judge_bytes.ensures.judged
+
+pub returns-in-Err-clause-judged : goal.returns-in-Err-clause-judged
+returns-in-Err-clause-judged g c = no_memory c.status.ensures.value

@@ -1,0 +1,96 @@
+//! The scripts that `vouch` is given, and what it is to do with them.
+ghost use Rattle.std.specs.Prelude.{◌≡◌, codes, map, IfOk};
+ghost use Rattle.clap.specs.Words.{found_of, rows_of};
+ghost use Rattle.ed_main.specs.Words as meaning;
+ghost use Rattle.ed_main.specs.declared.job.Job.TheVariants as job;
+
+use crate::job::Job;
+use crate::paths::Paths;
+use crate::words::texts::is_path;
+use clap::ArgMatches;
+use ed_base::Bytes;
+use ed_calls::{Detail, Starts};
+use std::alloc::{AllocError, Global};
+
+/// The names of the scripts, in their order.
+pub fn scripts_in<'m, 'a>(given: &'m ArgMatches<'a>) -> &'m [&'a str]
+    ensures value { map (λ text. text.now) result.now ≡ meaning.texts_in (codes "script") (rows_of (found_of given.now)) }
+{
+    match given.get_strs("script") {
+        Some(names) => names,
+        None => &[],
+    }
+}
+
+/// Whether each of these may name a file.
+pub fn are_paths(names: &[&str]) -> bool
+    ensures value { result ≡ meaning.are_paths (map (λ text. text.now) names.now) }
+{
+    for name in names {
+        if !is_path(Some(*name)) {
+            return false;
+        }
+    }
+    true
+}
+
+/// The job of `vouch` with these scripts: a certificate, where there is one at most and something is to be told; else they are judged.
+pub fn vouching(
+    alloc: Global,
+    starts: Starts,
+    scripts: &[&str],
+    all: bool,
+    quiet: bool,
+) -> Result<Job, AllocError>
+    ensures value { IfOk result (λ job. job ≡ meaning.vouching_of starts (map (λ text. text.now) scripts.now) all quiet) }
+{
+    if quiet {
+        return judging(alloc, starts, scripts, Detail::Nothing);
+    }
+    match scripts {
+        [] => Ok(Job::Vouch {
+            starts,
+            script: None,
+            all,
+        }),
+        [script] => Ok(Job::Vouch {
+            starts,
+            script: Some(Bytes::from_slice(alloc, script.as_bytes())?),
+            all,
+        }),
+        _ => judging(alloc, starts, scripts, detail_of(all)),
+    }
+}
+
+/// These scripts are to be judged.
+fn judging(
+    alloc: Global,
+    starts: Starts,
+    scripts: &[&str],
+    detail: Detail,
+) -> Result<Job, AllocError>
+    ensures value { IfOk result (λ found. found ≡ job.Judge starts (map (λ text. text.now) scripts.now) detail) }
+{
+    Ok(Job::Judge {
+        starts,
+        scripts: paths_of(alloc, scripts)?,
+        detail,
+    })
+}
+
+/// How much is told of a script that isn't vouched for, where something is.
+fn detail_of(all: bool) -> Detail
+    ensures value { result ≡ meaning.detail_of all }
+{
+    if all { Detail::Each } else { Detail::First }
+}
+
+fn paths_of(alloc: Global, names: &[&str]) -> Result<Paths, AllocError>
+    ensures value { IfOk result (λ paths. paths ≡ map (λ text. text.now) names.now) }
+{
+    let mut paths = Paths::none(alloc);
+    for name in names {
+        paths.add(name)?;
+    }
+    Ok(paths)
+}
