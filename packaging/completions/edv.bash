@@ -18,10 +18,10 @@ _edv() {
   -*)
     local words=
     case $job in
-    edit) words="--vouched -n --dry-run -s -p -f --help" ;;
+    edit) words="--vouched --whole -n --dry-run -s -p -f --help" ;;
     vouch) words="--min --max --all -q --quiet --patterns --has -f --help" ;;
     check) words="-f --help" ;;
-    run) words="-n --dry-run -s -f --help" ;;
+    run) words="--whole -n --dry-run -s -f --help" ;;
     fits) words="--help" ;;
     esac
     mapfile -t COMPREPLY < <(compgen -W "$words" -- "$word")

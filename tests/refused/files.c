@@ -1,7 +1,7 @@
-/* To be preloaded. With REFUSE="KIND N" the Nth call of that kind, counted from 1, fails: open, stat, read, write, ftruncate, fsync or close.
-   "refused KIND WHERE PLACE" is said then on standard error: WHERE is `input`, `output`, or the number of the opened file, counted from
-   1 with those that couldn't be opened; PLACE is how many bytes lie before the place in it. With BYTES="KIND.." each read, write or both
-   take one byte at most. Calls on standard error are never refused. */
+/* To be preloaded. With REFUSE="KIND N" the Nth call of that kind, counted from 1, fails: open, stat, read, write, ftruncate, fsync, fchmod,
+   rename, unlink or close. "refused KIND WHERE PLACE" is said then on standard error: WHERE is `input`, `output`, or the number of the opened
+   file, counted from 1 with those that couldn't be opened; PLACE is how many bytes lie before the place in it. With BYTES="KIND.." each read,
+   write or both take one byte at most. Calls on standard error are never refused. */
 #define _GNU_SOURCE
 #include <errno.h>
 #include <fcntl.h>
@@ -87,6 +87,18 @@ int ftruncate(int fd, off_t size) {
 /* Nothing is really synced: that takes long and shows nothing here. */
 int fsync(int fd) {
     return is_refused("fsync", fd, 0, EIO) ? -1 : 0;
+}
+
+int fchmod(int fd, mode_t mode) {
+    return is_refused("fchmod", fd, 0, EIO) ? -1 : syscall(SYS_fchmod, fd, mode);
+}
+
+int rename(const char *from, const char *to) {
+    return is_refused("rename", -1, 0, EIO) ? -1 : syscall(SYS_renameat, AT_FDCWD, from, AT_FDCWD, to);
+}
+
+int unlink(const char *path) {
+    return is_refused("unlink", -1, 0, EIO) ? -1 : syscall(SYS_unlinkat, AT_FDCWD, path, 0);
 }
 
 /* A file is closed even where that is answered by an error. */

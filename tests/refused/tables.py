@@ -25,6 +25,8 @@ class Edit(typing.NamedTuple):
 
 # A script that is run only if it is vouched for and the file fits.
 VOUCHED_FOR = ('--vouched', '-s', 'F')
+# Files are replaced whole, when the script has come to its end.
+REPLACED_WHOLE = ('--whole', '-s', 'F')
 EDITS = [
     Edit('a line is appended, and the file written', b'$a\nd\n.\nw\nq\n', ('F',)),
     Edit('an empty match after a full one', b's/a*/x/gp\nQ\n', files={'F': b'baaac\n'}),
@@ -57,6 +59,8 @@ EDITS = [
     Edit('searches by one pattern', SEARCHES),
     Edit('vouched for, and run', b'/b/d\n1d\n,p\nw\nq\n', VOUCHED_FOR),
     Edit('vouched for by a line that is entered', b'$a\nx\n.\n/x/p\nw\nq\n', VOUCHED_FOR),
+    Edit('replaced whole', b'1d\nw\nw H\nr F\nw H\n,p\nw\nq\n', REPLACED_WHOLE),
+    Edit('a fault after a write that is held back', b'1d\nw\n9p\n', REPLACED_WHOLE),
     Edit('not vouched for', b'1d\n/b/s/c/d/\nw\nq\n', VOUCHED_FOR),
     Edit('vouched for over longer files', b'/b/p\n9d\nw\nq\n', VOUCHED_FOR),
     Edit('vouched for over files with a line that matches', b'/z/d\nw\nq\n', VOUCHED_FOR),

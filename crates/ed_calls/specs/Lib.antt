@@ -11,6 +11,7 @@ pub mod Run
 pub mod Vouched
 pub mod Fits
 pub mod Rehearsed
+pub mod HeldBack
 -- what serves clauses inside the crate
 pub mod Finding
 pub mod Gathering

@@ -35,5 +35,6 @@ pub use stderr::refusals::{
     Explains, Watched, show_input, show_memory, show_output, show_unjudged, show_unread,
 };
 pub use stderr::shown::shown_lines;
+pub use stderr::unput::show_unput;
 pub use vouched::edit_vouched;
 pub use vouching::vouch_text;

@@ -11,4 +11,5 @@ mod reasons;
 pub mod refusals;
 pub mod shown;
 mod stopped;
+pub mod unput;
 mod unread;

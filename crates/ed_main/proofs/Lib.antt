@@ -1,8 +1,10 @@
 mod Editing
 mod GivenPatterns
+mod Holding
+mod Made
 mod Rehearsing
 mod Scripts
-mod Several
+mod JudgedScripts
 mod StartLemmas
 mod SubcommandLemmas
 mod WordsLemmas

@@ -5,22 +5,27 @@ use Rattle.ed_calls.specs.declared.judgement.Detail.{Detail}
 use Rattle.ed_calls.specs.declared.judgement.Detail.TheVariants.{Each, First, Nothing}
 use Rattle.ed_calls.specs.declared.starts.Starts.TheVariants.{Given, Widest}
 use Rattle.ed_main.specs.Subcommands.{program}
-use Rattle.ed_main.specs.Words.{job_of}
+use Rattle.ed_main.specs.Words.{job_of, writing_of}
 use Rattle.ed_main.specs.declared.job.Job.{Job}
 use Rattle.ed_main.specs.declared.job.Job.TheVariants as job
+use Rattle.ed_main.specs.declared.writing.Writing.TheVariants as writing
 use Rattle.ed_main.proofs.Worked.{Row, row}
 
 -- a run with these options
 abbrev edit : Bool → Option (List ℕ) → Option (List ℕ) → Option Job
-edit silent prompt path = Some (job.Edit (record { silent = silent; prompt = prompt; path = path }) None false false)
+edit silent prompt path = Some (job.Edit (record { silent = silent; prompt = prompt; path = path }) None writing.AtOnce false)
 
 -- its rehearsal
 abbrev rehearsal : Bool → Option (List ℕ) → Option (List ℕ) → Option Job
-rehearsal silent prompt path = Some (job.Edit (record { silent = silent; prompt = prompt; path = path }) None true false)
+rehearsal silent prompt path = Some (job.Edit (record { silent = silent; prompt = prompt; path = path }) None writing.Never false)
 
 -- a run only if the script is vouched for, or its rehearsal
 abbrev edit_vouched : (rehearsed : Bool) → (path : Option (List ℕ)) → Option Job
-edit_vouched rehearsed path = Some (job.Edit (record { silent = false; prompt = None; path = path }) None rehearsed true)
+edit_vouched rehearsed path = Some (job.Edit (record { silent = false; prompt = None; path = path }) None (writing_of rehearsed false) true)
+
+-- a run that replaces a file F whole
+abbrev edit_whole : (vouched : Bool) → Option Job
+edit_whole vouched = Some (job.Edit (record { silent = false; prompt = None; path = Some (codes "F") }) None writing.AtTheEnd vouched)
 
 -- a certificate for these bounds
 abbrev vouch : ℕ → Option ℕ → Option (List ℕ) → Option Job
@@ -48,15 +53,19 @@ check certificate = Some (job.Check certificate None)
 
 -- a run that is checked first
 abbrev run : List ℕ → Bool → Option (List ℕ) → Option Job
-run certificate silent path = Some (job.Run certificate (record { silent = silent; prompt = None; path = path }) None false)
+run certificate silent path = Some (job.Run certificate (record { silent = silent; prompt = None; path = path }) None writing.AtOnce)
+
+-- one that replaces a file F whole
+abbrev run_whole : Option Job
+run_whole = Some (job.Run (codes "C") (record { silent = false; prompt = None; path = Some (codes "F") }) None writing.AtTheEnd)
 
 -- its rehearsal
 abbrev rehearsed_run : List ℕ → Bool → Option (List ℕ) → Option Job
-rehearsed_run certificate silent path = Some (job.Run certificate (record { silent = silent; prompt = None; path = path }) None true)
+rehearsed_run certificate silent path = Some (job.Run certificate (record { silent = silent; prompt = None; path = path }) None writing.Never)
 
 -- what each does with a file F and the script in a file S
 abbrev edit_from_file : (silent vouched : Bool) → Option Job
-edit_from_file silent vouched = Some (job.Edit (record { silent = silent; prompt = None; path = Some (codes "F") }) (Some (codes "S")) false vouched)
+edit_from_file silent vouched = Some (job.Edit (record { silent = silent; prompt = None; path = Some (codes "F") }) (Some (codes "S")) writing.AtOnce vouched)
 
 abbrev vouch_from_file : Option Job
 vouch_from_file = Some (job.Vouch (Widest (record { path = Some (codes "F"); min = None; max = None; has = None })) (Some (codes "S")) false)
@@ -69,7 +78,7 @@ abbrev check_from_file : Option Job
 check_from_file = Some (job.Check (codes "C") (Some (codes "S")))
 
 abbrev run_from_file : Option Job
-run_from_file = Some (job.Run (codes "C") (record { silent = false; prompt = None; path = Some (codes "F") }) (Some (codes "S")) false)
+run_from_file = Some (job.Run (codes "C") (record { silent = false; prompt = None; path = Some (codes "F") }) (Some (codes "S")) writing.AtOnce)
 
 -- a test of a start
 abbrev fits : (certificate : List ℕ) → (path : Option (List ℕ)) → Option Job
@@ -217,4 +226,11 @@ words =
     ∷ row (job_given (codes "vouch" ∷ codes "-f" ∷ codes "S" ∷ codes "-f" ∷ codes "T" ∷ codes "F" ∷ codes "G" ∷ []) ≡ None) refl  -- two judged scripts and two files
     ∷ row (job_given (codes "vouch" ∷ codes "-q" ∷ codes "--quiet" ∷ codes "F" ∷ []) ≡ None) refl  -- twice quiet
     ∷ row (job_given (codes "check" ∷ codes "-q" ∷ codes "C" ∷ []) ≡ None) refl  -- a quiet check
+    ∷ row (job_given (codes "edit" ∷ codes "--whole" ∷ codes "F" ∷ []) ≡ edit_whole false) refl  -- replaced whole
+    ∷ row (job_given (codes "edit" ∷ codes "F" ∷ codes "--vouched" ∷ codes "--whole" ∷ []) ≡ edit_whole true) refl  -- vouched for, and replaced whole
+    ∷ row (job_given (codes "edit" ∷ codes "--whole" ∷ codes "-n" ∷ codes "F" ∷ []) ≡ rehearsal false None (Some (codes "F"))) refl  -- replaced whole, rehearsed
+    ∷ row (job_given (codes "run" ∷ codes "--whole" ∷ codes "C" ∷ codes "F" ∷ []) ≡ run_whole) refl  -- run, and replaced whole
+    ∷ row (job_given (codes "edit" ∷ codes "--whole" ∷ codes "--whole" ∷ codes "F" ∷ []) ≡ None) refl  -- whole twice
+    ∷ row (job_given (codes "vouch" ∷ codes "--whole" ∷ codes "F" ∷ []) ≡ None) refl  -- vouched whole
+    ∷ row (job_given (codes "fits" ∷ codes "--whole" ∷ codes "C" ∷ []) ≡ None) refl  -- fits whole
     ∷ []

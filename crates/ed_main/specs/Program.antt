@@ -11,6 +11,7 @@ use Rattle.ed_calls.specs.Check.{Checks}
 use Rattle.ed_calls.specs.Edit.{Correct}
 use Rattle.ed_calls.specs.Fits.{Fits}
 use Rattle.ed_calls.specs.Headline.{MayFail}
+use Rattle.ed_calls.specs.HeldBack.{HeldBack}
 use Rattle.ed_calls.specs.Rehearsed.{Rehearsed}
 use Rattle.ed_calls.specs.Run.{Runs}
 use Rattle.ed_calls.specs.Told.{Says}
@@ -23,6 +24,8 @@ use Rattle.ed_main.specs.declared.task.Trust.{Trust}
 use Rattle.ed_main.specs.declared.task.Trust.TheVariants as trust
 use Rattle.ed_main.specs.declared.words.WordsFault.{WordsFault}
 use Rattle.ed_main.specs.declared.words.WordsFault.TheVariants as words
+use Rattle.ed_main.specs.declared.writing.Writing.{Writing}
+use Rattle.ed_main.specs.declared.writing.Writing.TheVariants as writing
 use Rattle.ed_main.specs.Job.{IsGiven, any_start}
 use Rattle.ed_main.specs.Several.{Judges, names_none, status_of_unread}
 
@@ -32,20 +35,20 @@ most_bytes = 2 ^ 30
 
 -- a job wants a script before it is begun: each does but the test of a start, and the judging of scripts in files
 abbrev pub wants_script : Job → Bool
-wants_script (job.Edit options script rehearsed vouched) = true
+wants_script (job.Edit options script writes vouched) = true
 wants_script (job.Vouch starts script all) = true
 wants_script (job.Judge starts scripts detail) = names_none scripts
 wants_script (job.Check certificate script) = true
-wants_script (job.Run certificate options script rehearsed) = true
+wants_script (job.Run certificate options script writes) = true
 wants_script (job.Fits certificate path) = false
 
 -- the file that is named for a job's script, if one is
 abbrev pub script_named : Job → Option (List ℕ)
-script_named (job.Edit options script rehearsed vouched) = script
+script_named (job.Edit options script writes vouched) = script
 script_named (job.Vouch starts script all) = script
 script_named (job.Judge starts scripts detail) = None
 script_named (job.Check certificate script) = script
-script_named (job.Run certificate options script rehearsed) = script
+script_named (job.Run certificate options script writes) = script
 script_named (job.Fits certificate path) = None
 
 -- a job wants standard input: it wants a script, and no file is named for it
@@ -69,30 +72,27 @@ pub record Met : Type 0 where
 abbrev pub Somehow : (Met → ℕ → Type 0) → ℕ → Type 0
 Somehow Came status = (met : Met) × Came met status
 
--- what `edit` came to with what it met, for a script of these bytes; nothing is written where it was rehearsed
-abbrev pub Edits : (script : List ℕ) → Options → (rehearsed : Bool) → Met → ℕ → Type 0
-Edits script options rehearsed met status =
-    Correct script options met.log met.refusals_before met.refusals met.sink status × (IsTrue rehearsed → Rehearsed met.log)
+-- what `edit` came to with what it met, for a script of these bytes
+abbrev pub Edits : (script : List ℕ) → Options → Met → ℕ → Type 0
+Edits script options met status = Correct script options met.log met.refusals_before met.refusals met.sink status
 
--- what `edit --vouched` came to with what it met, for a script of these bytes; nothing is written where it was rehearsed
-abbrev pub EditsVouched : (script : List ℕ) → Options → (rehearsed : Bool) → Met → ℕ → Type 0
-EditsVouched script options rehearsed met status =
+-- what `edit --vouched` came to with what it met, for a script of these bytes
+abbrev pub EditsVouched : (script : List ℕ) → Options → Met → ℕ → Type 0
+EditsVouched script options met status =
     RunsVouched script (any_start options.path (Some [])) options met.log (MayFail options.path met.log met.refusals_before met.refusals met.sink) met.sink status
-    × (IsTrue rehearsed → Rehearsed met.log)
 
 -- what came of the one or the other
-abbrev pub EditsBy : (vouched : Bool) → (script : List ℕ) → Options → (rehearsed : Bool) → Met → ℕ → Type 0
+abbrev pub EditsBy : (vouched : Bool) → (script : List ℕ) → Options → Met → ℕ → Type 0
 EditsBy true = EditsVouched
 EditsBy false = Edits
 
--- what `run` came to with what it met, for a script and a certificate of these bytes; nothing is written where it was rehearsed
-abbrev pub RunsOn : (script certificate : List ℕ) → Options → (rehearsed : Bool) → Met → ℕ → Type 0
-RunsOn script certificate options rehearsed met status =
+-- what `run` came to with what it met, for a script and a certificate of these bytes
+abbrev pub RunsOn : (script certificate : List ℕ) → Options → Met → ℕ → Type 0
+RunsOn script certificate options met status =
     Runs script certificate options met.log (MayFail options.path met.log met.refusals_before met.refusals met.sink) met.sink status
-    × (IsTrue rehearsed → Rehearsed met.log)
 
 -- what a script came to with what it met, by what its run rests on
-abbrev pub ComesBy : Trust → (script : List ℕ) → Options → (rehearsed : Bool) → Met → ℕ → Type 0
+abbrev pub ComesBy : Trust → (script : List ℕ) → Options → Met → ℕ → Type 0
 ComesBy trust.Unchecked script = Edits script
 ComesBy (trust.Certified name certificate) script = RunsOn script certificate.now
 ComesBy trust.Vouched script = EditsVouched script
@@ -102,9 +102,24 @@ abbrev pub trust_of : (vouched : Bool) → Trust
 trust_of true = trust.Vouched
 trust_of false = trust.Unchecked
 
+-- how the writes of a run were made that came to one status by itself, and the program's status then: each was made when it was asked for;
+-- or they were held back until the run had ended; or nothing was written
+abbrev pub AreMade : Writing → Log → (ran status : ℕ) → Type 0
+AreMade writing.AtOnce log ran status = status ≡ ran
+AreMade writing.AtTheEnd log ran status = HeldBack log ran status
+AreMade writing.Never log ran status = (status ≡ ran) × Rehearsed log
+
+-- a run came to this with what it met, and its writes were made so
+abbrev pub Writes : Writing → (Met → ℕ → Type 0) → Met → ℕ → Type 0
+Writes writes Came met status = (ran : ℕ) × (Came met ran × AreMade writes met.log ran status)
+
+-- what the run of a task came to by itself, with this log
+abbrev pub Ran : Task → Log → ℕ → Type 0
+Ran task log status = (met : Met) × ((met.log ≡ log) × ComesBy task.trust task.script.now task.options met status)
+
 -- what a task came to with what it met
 abbrev pub Comes : Task → Met → ℕ → Type 0
-Comes task = ComesBy task.trust task.script.now task.options task.rehearsed
+Comes task = Writes task.writing (ComesBy task.trust task.script.now task.options)
 
 -- a certificate was read and used so, or it wasn't read
 pub data WithCertificate (Used : List ℕ → ℕ → Type 0) (status : ℕ) : Type 0 where
@@ -113,11 +128,11 @@ pub data WithCertificate (Used : List ℕ → ℕ → Type 0) (status : ℕ) : T
 
 -- what a job comes to, for a script of these bytes; a test of a start has none, and scripts in files are read as they are judged
 abbrev pub Does : List ℕ → Job → ℕ → Type 0
-Does script (job.Edit options named rehearsed vouched) = Somehow (EditsBy vouched script options rehearsed)
+Does script (job.Edit options named writes vouched) = Somehow (Writes writes (EditsBy vouched script options))
 Does script (job.Vouch starts named all) = Somehow (λ met. Says (Vouches script starts) met.sink)
 Does script (job.Judge starts scripts detail) = Judges script starts scripts
 Does script (job.Check path named) = WithCertificate (λ certificate. Somehow (λ met. Says (Checks script certificate) met.sink))
-Does script (job.Run path options named rehearsed) = WithCertificate (λ certificate. Somehow (RunsOn script certificate options rehearsed))
+Does script (job.Run path options named writes) = WithCertificate (λ certificate. Somehow (Writes writes (RunsOn script certificate options)))
 Does script (job.Fits certificate path) = WithCertificate (λ bytes. Somehow (λ met. Fits bytes path met.log met.sink))
 
 -- the words weren't understood, the script wasn't read for a job that wants one, or a job was done for a script

@@ -16,6 +16,10 @@ rehearsed = record (new_rule (codes "rehearsed")) { short = Some 110; long = Som
 abbrev pub vouched : Rule
 vouched = record (new_rule (codes "vouched")) { long = Some (codes "vouched"); action = Some SetTrue }
 
+-- `--whole`
+abbrev pub whole : Rule
+whole = record (new_rule (codes "whole")) { long = Some (codes "whole"); action = Some SetTrue }
+
 -- `-p STRING`
 abbrev pub prompt : Rule
 prompt = record (new_rule (codes "prompt")) { short = Some 112; action = Some Set; value_names = 1 }
@@ -64,9 +68,9 @@ certificate = record (new_rule (codes "certificate")) { action = Some Set; value
 abbrev pub subcommand : List ℕ → List Rule → App
 subcommand name takes = on_top (λ s. record s { rules = takes }) (new_app name)
 
--- `edit [--vouched] [-n] [-s] [-p STRING] [-f SCRIPT] [FILE]`
+-- `edit [--vouched] [--whole] [-n] [-s] [-p STRING] [-f SCRIPT] [FILE]`
 abbrev pub edit : App
-edit = subcommand (codes "edit") (vouched ∷ rehearsed ∷ silent ∷ prompt ∷ script ∷ file ∷ [])
+edit = subcommand (codes "edit") (vouched ∷ whole ∷ rehearsed ∷ silent ∷ prompt ∷ script ∷ file ∷ [])
 
 -- `vouch [--min N] [--max M] [--all] [-q] [--patterns] [--has RE] [-f SCRIPT] [FILE]`
 abbrev pub vouch : App
@@ -76,9 +80,9 @@ vouch = subcommand (codes "vouch") (min ∷ max ∷ all ∷ quiet ∷ patterns �
 abbrev pub check : App
 check = subcommand (codes "check") (script ∷ certificate ∷ [])
 
--- `run [-n] [-s] [-f SCRIPT] CERT [FILE]`
+-- `run [--whole] [-n] [-s] [-f SCRIPT] CERT [FILE]`
 abbrev pub run : App
-run = subcommand (codes "run") (rehearsed ∷ silent ∷ script ∷ certificate ∷ file ∷ [])
+run = subcommand (codes "run") (whole ∷ rehearsed ∷ silent ∷ script ∷ certificate ∷ file ∷ [])
 
 -- `fits CERT [FILE]`
 abbrev pub fits : App

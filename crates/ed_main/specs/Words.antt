@@ -21,6 +21,8 @@ use Rattle.ed_main.specs.declared.words.WordsFault.{WordsFault}
 use Rattle.ed_main.specs.declared.words.WordsFault.TheVariants as words
 use Rattle.ed_main.specs.declared.job.Job.{Job}
 use Rattle.ed_main.specs.declared.job.Job.TheVariants as job
+use Rattle.ed_main.specs.declared.writing.Writing.{Writing}
+use Rattle.ed_main.specs.declared.writing.Writing.TheVariants as writing
 use Rattle.ed_main.specs.Job.{any_start}
 use Rattle.ed_main.specs.Subcommands.{program}
 
@@ -53,9 +55,14 @@ options_in rows = record {
   path = first_of (codes "file") rows;
 }
 
--- a run is only to be rehearsed
-abbrev pub is_rehearsed : List Row → Bool
-is_rehearsed rows = is_given (first_of (codes "rehearsed") rows)
+-- when the writes of a run are to be made: never where it is to be rehearsed, else at its end where files are to be replaced whole
+abbrev pub writing_of : (rehearsed whole : Bool) → Writing
+writing_of true whole = writing.Never
+writing_of false true = writing.AtTheEnd
+writing_of false false = writing.AtOnce
+
+abbrev pub writing_in : List Row → Writing
+writing_in rows = writing_of (is_given (first_of (codes "rehearsed") rows)) (is_given (first_of (codes "whole") rows))
 
 -- a script is only to be run if it is vouched for
 abbrev pub is_to_be_vouched : List Row → Bool
@@ -74,9 +81,9 @@ abbrev pub script_in : List Row → Option (List ℕ)
 script_in rows = first_of (codes "script") rows
 
 -- a run with these options, where they may be given
-abbrev pub editing : Options → (script : Option (List ℕ)) → (rehearsed vouched : Bool) → Option Job
-editing o script rehearsed vouched = elim (is_prompt o.prompt && (is_path o.path && is_path script)) [
-  | true ↦ Some (job.Edit o script rehearsed vouched)
+abbrev pub editing : Options → (script : Option (List ℕ)) → Writing → (vouched : Bool) → Option Job
+editing o script writes vouched = elim (is_prompt o.prompt && (is_path o.path && is_path script)) [
+  | true ↦ Some (job.Edit o script writes vouched)
   | false ↦ None
 ]
 
@@ -180,10 +187,10 @@ checking None script = None
 checking (Some path) script = elim (is_path (Some path) && is_path script) [ true ↦ Some (job.Check path script) | false ↦ None ]
 
 -- a run of a script that is checked first
-abbrev pub running : Option (List ℕ) → Options → (script : Option (List ℕ)) → (rehearsed : Bool) → Option Job
-running None o script rehearsed = None
-running (Some path) o script rehearsed = elim (is_path (Some path) && (is_path o.path && is_path script)) [
-  | true ↦ Some (job.Run path o script rehearsed)
+abbrev pub running : Option (List ℕ) → Options → (script : Option (List ℕ)) → Writing → Option Job
+running None o script writes = None
+running (Some path) o script writes = elim (is_path (Some path) && (is_path o.path && is_path script)) [
+  | true ↦ Some (job.Run path o script writes)
   | false ↦ None
 ]
 
@@ -194,28 +201,31 @@ fitting (Some certificate) path = elim (is_path (Some certificate) && is_path pa
 
 -- the job of each subcommand with what it was given
 abbrev pub edit_job : List Row → Option Job
-edit_job rows = editing (options_in rows) (script_in rows) (is_rehearsed rows) (is_to_be_vouched rows)
+edit_job rows = editing (options_in rows) (script_in rows) (writing_in rows) (is_to_be_vouched rows)
 
--- what `vouch` was asked
-abbrev pub asked_in : List Row → Asked
-asked_in rows = record {
+-- what `vouch` was asked, of these scripts
+abbrev pub asked_of : List Row → (scripts : List (List ℕ)) → Asked
+asked_of rows scripts = record {
   path = first_of (codes "file") rows;
-  scripts = texts_in (codes "script") rows;
+  scripts = scripts;
   patterns = is_given (first_of (codes "patterns") rows);
   has = texts_in (codes "has") rows;
   all = shows_all rows;
   quiet = is_quiet rows;
 }
 
+abbrev pub vouch_job_of : List Row → (scripts : List (List ℕ)) → Option Job
+vouch_job_of rows scripts = vouching (first_of (codes "min") rows) (first_of (codes "max") rows) (asked_of rows scripts)
+
 abbrev pub vouch_job : List Row → Option Job
-vouch_job rows = vouching (first_of (codes "min") rows) (first_of (codes "max") rows) (asked_in rows)
+vouch_job rows = vouch_job_of rows (texts_in (codes "script") rows)
 
 abbrev pub check_job : List Row → Option Job
 check_job rows = checking (first_of (codes "certificate") rows) (script_in rows)
 
 -- there is no prompt here
 abbrev pub run_job : List Row → Option Job
-run_job rows = running (first_of (codes "certificate") rows) (record (options_in rows) { prompt = None }) (script_in rows) (is_rehearsed rows)
+run_job rows = running (first_of (codes "certificate") rows) (record (options_in rows) { prompt = None }) (script_in rows) (writing_in rows)
 
 abbrev pub fits_job : List Row → Option Job
 fits_job rows = fitting (first_of (codes "certificate") rows) (first_of (codes "file") rows)

@@ -4,6 +4,7 @@ ghost use Rattle.std.specs.Option.{option_copied};
 ghost use Rattle.ed_main.specs.Program.{script_named, wants_input};
 
 use crate::paths::Paths;
+use crate::writing::Writing;
 use ed_base::Bytes;
 use ed_calls::{Detail, Starts};
 use ed_syntax::Options;
@@ -15,7 +16,7 @@ pub enum Job {
     Edit {
         options: Options,
         script: Option<Bytes>,
-        rehearsed: bool,
+        writing: Writing,
         vouched: bool,
     },
     /// To make a script's certificate for a start that is given or found, or to show its first refusal, or all of them.
@@ -41,7 +42,7 @@ pub enum Job {
         certificate: Bytes,
         options: Options,
         script: Option<Bytes>,
-        rehearsed: bool,
+        writing: Writing,
     },
     /// To tell whether the file at a path is one that the certificate at another path allows.
     Fits {

@@ -11,7 +11,9 @@ mod several;
 mod stderr;
 mod subcommands;
 mod task;
+mod whole_files;
 mod words;
+mod writing;
 
 use ed_calls::show_memory;
 use std::process::ExitCode;

@@ -5,7 +5,7 @@ ghost use Rattle.ed_calls.specs.Fits.{Fits};
 ghost use Rattle.ed_calls.specs.Told.{Says};
 ghost use Rattle.ed_calls.specs.Vouch.{Vouches};
 ghost use Rattle.ed_main.specs.Job.{AreStarts, IsGiven};
-ghost use Rattle.ed_main.specs.Program.{Does, EditsBy, EndsWords, IsEnding, RunsOn, Somehow, WithCertificate};
+ghost use Rattle.ed_main.specs.Program.{Does, EditsBy, EndsWords, IsEnding, RunsOn, Somehow, WithCertificate, Writes};
 
 use crate::inputs::{bytes_at, refuse_script, script_from, status_of_read};
 use crate::job::Job;
@@ -14,6 +14,7 @@ use crate::stderr::notes::{show_empty, show_terminal};
 use crate::stderr::usage::USAGE;
 use crate::task::{Task, Trust, do_task, files_of};
 use crate::words::{WordsFault, job_of_words};
+use crate::writing::Writing;
 use ed_base::{Bytes, Fault};
 use ed_calls::{Aside, Starts, check_text, fit, show_output, vouch_text};
 use ed_session::Out;
@@ -96,10 +97,10 @@ where
     match job {
         Job::Edit {
             options,
-            rehearsed,
+            writing,
             vouched,
             ..
-        } => edit_file(rt, script, options, rehearsed, vouched),
+        } => edit_file(rt, script, options, writing, vouched),
         Job::Vouch { starts, all, .. } => vouch_file(rt, script, starts, all),
         Job::Judge {
             starts,
@@ -116,9 +117,9 @@ where
         Job::Run {
             certificate: name,
             options,
-            rehearsed,
+            writing,
             ..
-        } => run_file(rt, script, &name, options, rehearsed),
+        } => run_file(rt, script, &name, options, writing),
         Job::Fits {
             certificate: path,
             path: start,
@@ -130,18 +131,18 @@ where
 }
 
 /// Runs a script on a file, or rehearses that; only if it is vouched for, where that is asked for.
-fn edit_file<R>(rt: &R, script: &[u8], options: Options, rehearsed: bool, vouched: bool) -> u8
+fn edit_file<R>(rt: &R, script: &[u8], options: Options, writing: Writing, vouched: bool) -> u8
 where
     R: Files<File = File> + Print + Eprint + AllocGlobal,
     ensures status { result ≤ 4 }
-    ensures came { Somehow (EditsBy vouched script.now options rehearsed) result }
+    ensures came { Somehow (Writes writing (EditsBy vouched script.now options)) result }
 {
     do_task(
         rt,
         Task {
             script,
             options,
-            rehearsed,
+            writing,
             trust: Trust::of(vouched),
         },
     )
@@ -184,12 +185,12 @@ fn run_file<'a, R>(
     script: &'a [u8],
     name: &'a Bytes,
     options: Options,
-    rehearsed: bool,
+    writing: Writing,
 ) -> u8
 where
     R: Files<File = File> + Print + Eprint + AllocGlobal,
     ensures status { result ≤ 4 }
-    ensures came { WithCertificate (λ certificate. Somehow (RunsOn script.now certificate options rehearsed)) result }
+    ensures came { WithCertificate (λ certificate. Somehow (Writes writing (RunsOn script.now certificate options))) result }
 {
     match bytes_at(rt, name) {
         Ok(certificate) => do_task(
@@ -197,7 +198,7 @@ where
             Task {
                 script,
                 options,
-                rehearsed,
+                writing,
                 trust: Trust::Certified {
                     name,
                     certificate: certificate.as_slice(),

@@ -34,6 +34,7 @@ fn edit<'a>(alloc: Global) -> Result<Command<'a>, AllocError>
         "Example: edv edit FILE <script.ed",
         vec![in alloc;
             vouched(alloc),
+            whole(alloc),
             rehearsed(alloc),
             silent(alloc),
             prompt(alloc),
@@ -88,6 +89,7 @@ fn run<'a>(alloc: Global) -> Result<Command<'a>, AllocError>
         "Runs a script on a file if a certificate for both is accepted",
         "Example: edv run CERT FILE <script.ed",
         vec![in alloc;
+            whole(alloc),
             rehearsed(alloc),
             silent(alloc),
             script(alloc),
@@ -134,6 +136,16 @@ fn vouched<'a>(alloc: Global) -> Arg<'a>
         .long("vouched")
         .action(ArgAction::SetTrue)
         .help("Runs the script only if it is vouched for and the file fits")
+}
+
+fn whole<'a>(alloc: Global) -> Arg<'a>
+    ensures value { rule_of result ≡ meaning.whole }
+    ensures local { result.global ≡ false }
+{
+    Arg::new(alloc, "whole")
+        .long("whole")
+        .action(ArgAction::SetTrue)
+        .help("Replaces each file that is written whole, when the script has come to its end")
 }
 
 fn rehearsed<'a>(alloc: Global) -> Arg<'a>

@@ -1,14 +1,15 @@
 //! A script that is to be run, and its run over the system's files, or over a rehearsal of them.
-ghost use Rattle.std.specs.Prelude.{◌≡◌, ◌<◌, ◌≤◌, ◌-◌, ◌^◌, [], Some, IfOk, IsTrue};
+ghost use Rattle.std.specs.Prelude.{◌≡◌, ◌<◌, ◌≤◌, ◌-◌, ◌^◌, [], Some, IfOk};
 ghost use Rattle.ed_session.specs.Drives.{added};
 ghost use Rattle.ed_session.specs.Sinks.{change};
 ghost use Rattle.ed_calls.specs.Headline.{MayFail};
-ghost use Rattle.ed_calls.specs.Rehearsed.{Rehearsed};
 ghost use Rattle.ed_calls.specs.Vouched.{RunsVouched};
 ghost use Rattle.ed_main.specs.Job as meaning;
-ghost use Rattle.ed_main.specs.Program.{Comes, Somehow, trust_of};
+ghost use Rattle.ed_main.specs.Program.{Comes, ComesBy, Ran, Somehow, trust_of};
 
 use crate::any_start::any_start;
+use crate::whole_files::replace_whole;
+use crate::writing::Writing;
 use ed_base::{Bytes, Fault};
 use ed_calls::{Aside, Explains, Starts, Watched, edit, edit_vouched, run, show_held};
 use ed_rules::Texts;
@@ -52,7 +53,7 @@ impl<'a> Trust<'a> {
 pub struct Task<'a> {
     pub script: &'a [u8],
     pub options: Options,
-    pub rehearsed: bool,
+    pub writing: Writing,
     pub trust: Trust<'a>,
 }
 
@@ -76,9 +77,9 @@ impl<'a> Task<'a> {
         requires count { (W.state sink.old).failures < 2 ^ 64 - 1 }
         ensures status { result ≤ 4 }
 
-        // Whether it was rehearsed, the files tell.
+        // How its writes are made, the files tell.
         ensures came { let log = added (O.log outside.old) (O.log outside.new) in
-            (IsTrue self.entry.rehearsed → Rehearsed log) → Comes self.entry
+            ComesBy self.entry.trust self.entry.script.now self.entry.options
             (record {
               log = log;
               refusals_before = O.failures outside.old;
@@ -142,17 +143,21 @@ where
     ensures status { result ≤ 4 }
     ensures came { Somehow (Comes task.entry) result }
 {
-    if task.rehearsed {
-        return rehearse(rt, task);
+    match task.writing {
+        Writing::AtOnce => {
+            let mut files = files_of(rt, &task.options.path);
+            do_over(rt, task, &mut files)
+        }
+        Writing::AtTheEnd => replace_whole(rt, task),
+        Writing::Never => rehearse(rt, task),
     }
-    let mut files = files_of(rt, &task.options.path);
-    do_over(rt, task, &mut files)
 }
 
 /// Does a task over the system's files, of which none is written, and shows what would have been.
 fn rehearse<R>(rt: &R, task: Task<'_>) -> u8
 where
     R: Files<File = File> + Print + Eprint + AllocGlobal,
+    requires writing { task.writing ≡ Writing.Never }
     ensures status { result ≤ 4 }
     ensures came { Somehow (Comes task.entry) result }
 {
@@ -168,13 +173,12 @@ where
 }
 
 /// Does a task over these files and the standard output.
-fn do_over<R, O>(rt: &R, task: Task<'_>, files: &mut Watched<O>) -> u8
+pub fn do_over<R, O>(rt: &R, task: Task<'_>, files: &mut Watched<O>) -> u8
 where
     R: Print + Eprint + AllocGlobal,
     O: Outside + Explains + Drop,
     ensures status { result ≤ 4 }
-    ensures came { (IsTrue task.entry.rehearsed → Rehearsed (added (O.log files.old.files) (O.log files.new.files)))
-        → Somehow (Comes task.entry) result }
+    ensures came { Ran task.entry (added (O.log files.old.files) (O.log files.new.files)) result }
 {
     let mut output = Out::new(io::writer(rt));
     let mut aside = task.aside(rt.alloc());

@@ -15,10 +15,11 @@ use crate::stderr::usage::{
     RUN_USAGE, USAGE, VOUCH_USAGE, refused,
 };
 use crate::subcommands::program;
+use crate::writing::Writing;
 use clap::ArgMatches;
 use ed_base::Bytes;
 use ed_syntax::Options;
-use several::{are_paths, scripts_in, vouching};
+use several::{are_paths, vouching};
 use starts::{are_in_order, least_in, most_in, patterns_in, starts_of};
 use std::alloc::{AllocError, Global};
 use texts::{bytes_of, is_given, is_path, is_prompt, text_of};
@@ -154,9 +155,18 @@ fn edit_job(alloc: Global, given: &ArgMatches<'_>) -> Result<Job, WordsFault>
     Ok(Job::Edit {
         options,
         script: bytes_of(alloc, script)?,
-        rehearsed: is_given(text_of(given, "rehearsed")),
+        writing: writing_in(given),
         vouched: is_given(text_of(given, "vouched")),
     })
+}
+
+/// When the writes of a run are to be made.
+fn writing_in(given: &ArgMatches<'_>) -> Writing
+    ensures value { result ≡ meaning.writing_in (rows_of (found_of given.now)) }
+{
+    let rehearsed = is_given(text_of(given, "rehearsed"));
+    let whole = is_given(text_of(given, "whole"));
+    Writing::of(rehearsed, whole)
 }
 
 fn vouch_job(alloc: Global, given: &ArgMatches<'_>) -> Result<Job, WordsFault>
@@ -166,8 +176,21 @@ fn vouch_job(alloc: Global, given: &ArgMatches<'_>) -> Result<Job, WordsFault>
     ensures unasked { IfErr result (λ fault. ¬ IsAsked fault) }
     ensures given { IfOk result IsGiven }
 {
+    match given.get_strs("script") {
+        Some(scripts) => vouch_job_of(alloc, given, scripts),
+        None => vouch_job_of(alloc, given, &[]),
+    }
+}
+
+/// The job of `vouch` with these scripts.
+fn vouch_job_of(alloc: Global, given: &ArgMatches<'_>, scripts: &[&str]) -> Result<Job, WordsFault>
+    ensures value { IfOk result (λ job. meaning.vouch_job_of (rows_of (found_of given.now)) (map (λ text. text.now) scripts.now) ≡ Some job) }
+    ensures only_if_refused { IfErr result (λ fault. fault ≢ WordsFault.Memory →
+        meaning.vouch_job_of (rows_of (found_of given.now)) (map (λ text. text.now) scripts.now) ≡ None) }
+    ensures unasked { IfErr result (λ fault. ¬ IsAsked fault) }
+    ensures given { IfOk result IsGiven }
+{
     let path = text_of(given, "file");
-    let scripts = scripts_in(given);
     let Some(least) = least_in(text_of(given, "min")) else {
         return Err(WordsFault::of(alloc, NO_MIN, VOUCH_USAGE));
     };
@@ -239,7 +262,7 @@ fn run_job(alloc: Global, given: &ArgMatches<'_>) -> Result<Job, WordsFault>
         certificate,
         options,
         script: bytes_of(alloc, script)?,
-        rehearsed: is_given(text_of(given, "rehearsed")),
+        writing: writing_in(given),
     })
 }
 

@@ -3,7 +3,7 @@ use Rattle.std.proofs.Common.{◌≡◌, ℕ, List, [], ◌∷◌, ◌++◌, Boo
 use Rattle.std.proofs.lemmas.List.{get_or_default, map-append, take_more}
 use Rattle.std.proofs.lemmas.List.Concat.{flat_map-append}
 use Rattle.std.proofs.lemmas.List.Elements.{All-head, All-tail}
-use Rattle.whole.specs.Deeds.{Deed, NothingPut, discarded_path, entry_of, holds_back, put_path, ready_path, run_log, tried_path}
+use Rattle.whole.specs.Deeds.{Deed, GoesOn, NothingPut, discarded_path, entry_of, holds_back, put_path, ready_path, run_log, tried_path}
 use Rattle.whole.specs.Insides.{discard_deeds, last_deeds, put_deeds, ready_deeds}
 use Rattle.whole.specs.declared.outcome.Outcome.{Outcome}
 use Rattle.whole.specs.declared.outcome.Outcome.TheVariants as outcome
@@ -123,6 +123,14 @@ last-asked o ps =
 pub same-asked : (deeds : List Deed) (o : Outcome) (ps : List (List ℕ)) → run_log (deeds ++ last_deeds o ps) ≡ run_log deeds
 same-asked deeds o ps =
     flat_map-append entry_of deeds (last_deeds o ps) ∙ ap (λ l. run_log deeds ++ l) (last-asked o ps) ∙ append-nil (run_log deeds)
+
+-- calls that come after others
+drop-front : (front last : List Deed) → drop (length front) (front ++ last) ≡ last
+drop-front [] last = refl
+drop-front (deed ∷ deeds) last = drop-front deeds last
+
+pub goes-after : (front all last : List Deed) → all ≡ front ++ last → GoesOn front all
+goes-after front all last e = e ∙ ap (λ l. front ++ l) (sym (drop-front front last) ∙ sym (ap (drop (length front)) e))
 
 -- one more call of a loop over paths
 pub map-more : (f : List ℕ → Deed) (before log more : List Deed) (paths : List (List ℕ)) (i : ℕ) (path : List ℕ) →

@@ -4,3 +4,4 @@ pub mod FileLemmas
 pub mod Keeping
 pub mod EndLemmas
 pub mod Reasoning
+pub mod Drafted

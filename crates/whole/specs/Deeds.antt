@@ -1,5 +1,5 @@
 -- Files that are replaced whole, and the drafts beside them: what is asked of them, and what a run has asked (our choice).
-use Rattle.std.specs.Prelude.{ℕ, Bool, true, false, ◌≡◌, List, [], ◌∷◌, All, count_by, flat_map}
+use Rattle.std.specs.Prelude.{ℕ, Bool, true, false, ◌≡◌, List, [], ◌∷◌, ◌++◌, drop, length, All, count_by, flat_map}
 use Rattle.ed_syntax.specs.declared.request.Answer.{Answer}
 use Rattle.ed_syntax.specs.declared.request.Request.{Request}
 use Rattle.ed_syntax.specs.declared.request.Request.TheVariants as request
@@ -44,6 +44,10 @@ holds_back (Deed.Discard path) = false
 -- nothing was put, or made ready, or discarded: files and drafts were read, and drafts were given their bytes
 abbrev pub NothingPut : List Deed → Type 0
 NothingPut deeds = All (λ deed. holds_back deed ≡ true) deeds
+
+-- these calls and more after them
+abbrev pub GoesOn : (before after : List Deed) → Type 0
+GoesOn before after = after ≡ before ++ drop (length before) after
 
 -- the path whose draft a call has made ready, if it has
 abbrev pub ready_path : Deed → List (List ℕ)

@@ -4,6 +4,8 @@ use Rattle.std.proofs.Props.{props}
 use Rattle.whole.specs.Deeds.{Deed, NothingPut, refusals, run_log}
 use Rattle.whole.specs.Paths.{written_paths}
 use Rattle.whole.specs.Reads.{ReadsHeld}
+use Rattle.whole.specs.OneFile.{AreDifferent}
+use Rattle.whole.specs.declared.file_identity.FileIdentity.{FileIdentity}
 use Rattle.whole.specs.declared.outcome.Outcome.{Outcome}
 use Rattle.whole.specs.declared.outcome.Outcome.TheVariants as outcome
 
@@ -52,3 +54,8 @@ discard_deeds (outcome.Stopped place) paths = map (λ path. Deed.Discard path) (
 -- the calls that end a run
 abbrev pub last_deeds : Outcome → List (List ℕ) → List Deed
 last_deeds ended paths = ready_deeds ended paths ++ (put_deeds ended paths ++ discard_deeds ended paths)
+
+-- that files are different has one proof at most
+pub AreDifferent-prop : (files : List FileIdentity) → IsProp (AreDifferent files)
+AreDifferent-prop [] = Prim.hlevel props
+AreDifferent-prop (file ∷ files) = Prim.hlevel (props, AreDifferent-prop files)

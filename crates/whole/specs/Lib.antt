@@ -6,5 +6,6 @@ pub mod LeftFiles
 pub mod Endings
 pub mod SeenDeeds
 pub mod Reasons
+pub mod OneFile
 -- what serves clauses inside the crate
 pub mod Insides

@@ -1,9 +1,14 @@
 //! Files on a disk and the drafts beside them, found by their paths. What the system does, no clause knows.
-ghost use Rattle.std.specs.Prelude.{◌≡◌, ◌≢◌, ◌⊎◌, None, not, is_some, IfOk, OnErr};
+ghost use Rattle.std.specs.Prelude.{◌≡◌, ◌≢◌, ◌<◌, ◌⊎◌, ◌∷◌, ◌++◌, [], None, All, not, is_some, vec_len, vec_capacity, IfOk, OnErr, IsFalse};
 ghost use Rattle.ed_syntax.specs.declared.request.Answer.TheVariants as answer;
 ghost use Rattle.ed_session.specs.Drives.{is_refusal};
+ghost use Rattle.whole.specs.OneFile.{AreDifferent, files_of};
+ghost use Rattle.whole.specs.Insides.{AreDifferent-prop};
 
-use crate::plain_files::{Beside, make_draft, make_ready, put, refusal, remove};
+use crate::file_identity::FileIdentity;
+use crate::plain_files::{
+    Beside, file_to_read, file_to_replace, make_draft, make_ready, put, refusal, remove,
+};
 use ed_base::Pieces;
 use ed_session::{DiskFiles, Outside};
 use ed_syntax::Answer;
@@ -22,6 +27,7 @@ pub(crate) struct Disk<R: Files<File = File> + Copy + Drop> {
     drafts: Vec<Beside>,
     // Why the call was refused that came last, if it was.
     reason: Option<io::Error>,
+    ghost different: { AreDifferent (files_of drafts.items) } by { AreDifferent-prop (files_of drafts.items) },
 }
 
 impl<R: Files<File = File> + Copy + Drop> Disk<R> {
@@ -48,6 +54,18 @@ impl<R: Files<File = File> + Copy + Drop> Disk<R> {
         ensures reason { IfOk result (λ a. is_some self.new.reason ≡ is_refusal a) }
         ensures unchanged { OnErr result (self.new.reason ≡ self.old.reason) }
     {
+        match is_drafted(self.alloc, &self.system, self.drafts.as_slice(), path) {
+            Ok(false) => {}
+            Ok(true) => {
+                self.reason = Some(other_name());
+                return Ok(Answer::Refused);
+            }
+            Err(error) if error.kind() == ErrorKind::OutOfMemory => return Err(AllocError),
+            Err(error) => {
+                self.reason = Some(error);
+                return Ok(Answer::Refused);
+            }
+        }
         let answer = self.files.read(path)?;
         self.reason = reason_of(&self.files, &answer);
         Ok(answer)
@@ -73,59 +91,42 @@ impl<R: Files<File = File> + Copy + Drop> Disk<R> {
         ensures reason { IfOk result (λ a. is_some self.new.reason ≡ is_refusal a) }
         ensures unchanged { OnErr result (self.new.reason ≡ self.old.reason) }
     {
-        if find(self.drafts.as_slice(), path).is_some() {
-            return self.write(path, bytes);
+        if let Some(draft) = find(self.drafts.as_slice(), path) {
+            let answer = self.files.write(draft.name.as_str().as_bytes(), bytes)?;
+            self.reason = reason_of(&self.files, &answer);
+            return Ok(answer);
         }
-        match self.make(path) {
-            Ok(()) => {}
-            Err(error) if error.kind() == ErrorKind::OutOfMemory => return Err(AllocError),
+        self.drafts.reserve(1)?;
+        match draft_of(self.alloc, &self.system, self.drafts.as_slice(), path) {
+            Ok(draft) => self.write_first(draft, bytes),
+            Err(error) if error.kind() == ErrorKind::OutOfMemory => Err(AllocError),
             Err(error) => {
                 self.reason = Some(error);
-                return Ok(Answer::Refused);
+                Ok(Answer::Refused)
             }
         }
-        let written = self.write(path, bytes);
-        if written.is_err() {
-            self.unmake();
-        }
-        written
     }
 
-    /// Makes an empty draft of a path.
-    fn make(&mut self, path: &[u8]) -> io::Result<()>
-        ensures same_reason { self.new.reason ≡ self.old.reason }
-    {
-        let Ok(path) = str::from_utf8(path) else {
-            return Err(refusal("a name that isn't UTF-8"));
-        };
-        self.drafts.reserve(1)?;
-        let draft = make_draft(self.alloc, &self.system, path)?;
-        self.drafts.push_reserved(draft);
-        Ok(())
-    }
-
-    /// Removes the draft that was made last.
-    fn unmake(&mut self)
-        ensures same_reason { self.new.reason ≡ self.old.reason }
-    {
-        if let Some(draft) = self.drafts.pop() {
-            remove(&self.system, &draft);
-        }
-    }
-
-    /// Gives the draft of a path these bytes, if there is one.
-    fn write(&mut self, path: &[u8], bytes: &Pieces) -> Result<Answer, AllocError>
+    /// Gives a draft that was made just now these bytes, and keeps it; or removes it, if there is no memory to write it.
+    fn write_first(&mut self, draft: Beside, bytes: &Pieces) -> Result<Answer, AllocError>
+        requires room { vec_len self.old.drafts < vec_capacity self.old.drafts }
+        requires other { All (λ other. other.file ≢ draft.file) self.old.drafts.items }
         ensures done_or_refused { IfOk result (λ a. (a ≡ answer.Done) ⊎ (a ≡ answer.Refused)) }
         ensures reason { IfOk result (λ a. is_some self.new.reason ≡ is_refusal a) }
         ensures unchanged { OnErr result (self.new.reason ≡ self.old.reason) }
+        ensures added { IfOk result (λ a. self.new.drafts.items ≡ self.old.drafts.items ++ draft ∷ []) }
     {
-        let Some(draft) = find(self.drafts.as_slice(), path) else {
-            self.reason = Some(no_draft());
-            return Ok(Answer::Refused);
-        };
-        let answer = self.files.write(draft.name.as_str().as_bytes(), bytes)?;
-        self.reason = reason_of(&self.files, &answer);
-        Ok(answer)
+        match self.files.write(draft.name.as_str().as_bytes(), bytes) {
+            Ok(answer) => {
+                self.reason = reason_of(&self.files, &answer);
+                self.drafts.push_reserved(draft);
+                Ok(answer)
+            }
+            Err(AllocError) => {
+                remove(&self.system, &draft);
+                Err(AllocError)
+            }
+        }
     }
 
     pub(crate) fn ready(&mut self, path: &[u8]) -> bool
@@ -173,6 +174,71 @@ fn reason_of<R: Files<File = File> + Drop>(
 /// Why nothing can be done with a draft.
 fn no_draft() -> io::Error {
     refusal("no draft beside it")
+}
+
+/// Why a file can't be read or written by this name.
+fn other_name() -> io::Error {
+    refusal("another name of a file that was written")
+}
+
+/// Makes an empty draft of a path, unless the file there has a draft by another name.
+fn draft_of<R: Files<File = File>>(
+    alloc: Global,
+    system: &R,
+    drafts: &[Beside],
+    path: &[u8],
+) -> io::Result<Beside>
+    ensures other { IfOk result (λ made. All (λ other. other.file ≢ made.file) drafts.now) }
+{
+    let Ok(path) = str::from_utf8(path) else {
+        return Err(refusal("a name that isn't UTF-8"));
+    };
+    let path = String::from_str(alloc, path)?;
+    let (file, old) = file_to_replace(alloc, system, path.as_str())?;
+    if has_draft(drafts, &file) {
+        return Err(other_name());
+    }
+    let (name, draft) = make_draft(alloc, system, path.as_str(), old.as_ref())?;
+    Ok(Beside {
+        path,
+        name,
+        file,
+        draft,
+    })
+}
+
+/// Whether a path leads to a file that has a draft, or to a draft itself. A link that leads to nothing counts as one that does, if some draft
+/// is of a file that wasn't there.
+fn is_drafted<R: Files>(
+    alloc: Global,
+    system: &R,
+    drafts: &[Beside],
+    path: &[u8],
+) -> io::Result<bool> {
+    if drafts.is_empty() {
+        return Ok(false);
+    }
+    let Ok(path) = str::from_utf8(path) else {
+        return Ok(false);
+    };
+    match file_to_read(alloc, system, path) {
+        Ok(Some(file)) => Ok(has_draft(drafts, &file)),
+        Ok(None) => Ok(drafts.iter().any(|draft| !draft.file.is_there())),
+        Err(error) if error.kind() == ErrorKind::NotFound => Ok(false),
+        Err(error) => Err(error),
+    }
+}
+
+/// Whether a file has a draft, or is one.
+fn has_draft(drafts: &[Beside], file: &FileIdentity) -> bool
+    ensures other { IsFalse result → All (λ draft. draft.file ≢ file.now) drafts.now }
+{
+    'drafts: for draft in drafts {
+        if draft.file.is(file) || draft.draft.is(file) {
+            return true;
+        }
+    }
+    false
 }
 
 /// The draft of a path, if one was made.

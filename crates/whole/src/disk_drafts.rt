@@ -2,6 +2,7 @@
 ghost use Rattle.std.specs.Prelude.{◌≡◌, [], is_some};
 ghost use Rattle.whole.specs.Reasons.{last_refused};
 ghost use Rattle.whole.specs.SeenDeeds.{deeds_seen};
+ghost use Rattle.whole.specs.OneFile.{AreDifferent, files_of};
 
 use crate::Drafting;
 use crate::deed_log::DeedLog;
@@ -18,8 +19,9 @@ use std::snapshot::Snapshot;
 /// The system's files, and drafts beside them.
 ///
 /// The draft of `dir/NAME` is the new file `dir/.NAME.edv-N`, with the first number N at which there is none. A path can be replaced where
-/// there is a plain file with one link that can be written, or nothing; a symbolic link is no plain file. A draft is synced, and gets the
-/// mode and the owner of the file, when it is made ready. One whose bytes were refused may have some of them. A call that finds no memory
+/// there is a plain file with one link that can be written, or nothing; a symbolic link is no plain file. A draft has the owner of the file; it
+/// is synced, and gets the mode of the file, when it is made ready. Another name of a file that has a draft, and the name of a draft itself,
+/// are refused, to be read and to be written. One whose bytes were refused may have some of them. A call that finds no memory
 /// has made no draft and changed no file.
 #[derive(Drop)]
 pub struct DiskDrafts<R: Files<File = File> + Copy + Drop> {
@@ -46,6 +48,12 @@ impl<R: Files<File = File> + Copy + Drop> DiskDrafts<R> {
     {
         self.disk.reason()
     }
+
+    /// No two drafts are of one file, by what the system told when they were made: a path that is another name of a file with a draft is
+    /// refused.
+    pub fn each_draft_is_of_a_file_of_its_own(&self)
+        ensures different { AreDifferent (files_of self.now.disk.drafts.items) }
+    {}
 }
 
 impl<R: Files<File = File> + Copy + Drop> Drafting for DiskDrafts<R> {

@@ -6,6 +6,7 @@ mod disk;
 mod disk_drafts;
 mod drafting;
 mod ending;
+mod file_identity;
 mod mem_drafts;
 mod outcome;
 mod plain_files;

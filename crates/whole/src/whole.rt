@@ -2,7 +2,7 @@
 ghost use Rattle.std.specs.Prelude.{◌≡◌, ◌≢◌, ◌<◌, ◌≤◌, ◌⊎◌, [], ◌∷◌, ◌++◌, false, length, IfOk, OnErr};
 ghost use Rattle.ed_syntax.specs.declared.request.Answer.TheVariants as answer;
 ghost use Rattle.ed_syntax.specs.declared.request.Request.TheVariants as request;
-ghost use Rattle.whole.specs.Deeds.{Deed, NothingPut, refusals, run_log};
+ghost use Rattle.whole.specs.Deeds.{Deed, GoesOn, NothingPut, refusals, run_log};
 ghost use Rattle.whole.specs.Paths.{is_in, written_paths};
 ghost use Rattle.whole.specs.Reads.{ReadsHeld, read_of};
 ghost use Rattle.whole.specs.LeftFiles.{LeavesFiles, OldOrNew};
@@ -80,7 +80,8 @@ impl<D: Drafting + Drop> Whole<D> {
         // At each moment of the run and of its end, each file is as it was or as the run leaves it.
         ensures each_moment { OldOrNew (D.log result.drafts) }
 
-        // Nothing more was asked for the run.
+        // What was done comes after the run, and nothing more was asked for that.
+        ensures goes_on { GoesOn (D.log self.drafts) (D.log result.drafts) }
         ensures same_run { run_log (D.log result.drafts) ≡ run_log (D.log self.drafts) }
     {
         let Whole {

@@ -48,3 +48,9 @@ pub(crate) fn reads<O: Outside>(
     let answer = files.read(path).expect(rt, "memory");
     same(rt, answer, Answer::Bytes(bytes(rt, alloc, text)), path);
 }
+
+/// A read is answered so.
+pub(crate) fn answers<O: Outside>(rt: &impl Abort, files: &mut O, path: &[u8], expected: Answer) {
+    let answer = files.read(path).expect(rt, "memory");
+    same(rt, answer, expected, path);
+}

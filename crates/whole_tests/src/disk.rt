@@ -1,7 +1,8 @@
 //! Runs over files on a disk. What the system answers, no clause says.
-use crate::asserting::{reads, same, writes};
+use crate::asserting::{answers, reads, same, writes};
 use ed_syntax::Answer;
 use std::alloc::Global;
+use std::fs::File;
 use std::os::unix::fs::{MetadataExt, PermissionsExt, symlink};
 use std::path::PathBuf;
 use std::process::Abort;
@@ -104,5 +105,78 @@ fn a_path_that_is_no_plain_file_or_has_several_links_is_refused(rt: HostRuntime)
     same(&rt, end.outcome, Outcome::Discarded, "the outcome");
     for each in [&path, &link, &other] {
         fs::remove_file(&rt, each.as_str()).expect(&rt, "removed");
+    }
+}
+
+/// A run over the disk in which the file of this name was written.
+fn written<'a, R>(rt: &'a R, alloc: Global, name: &[u8]) -> Whole<DiskDrafts<&'a R>>
+where
+    R: Abort + Files<File = File>,
+{
+    let mut files = Whole::new(alloc, DiskDrafts::new(alloc, rt));
+    writes(rt, alloc, &mut files, name, b"new\n", Answer::Done);
+    files
+}
+
+#[test]
+fn a_file_by_two_names_is_refused(rt: HostRuntime) {
+    let alloc = rt.alloc();
+    let path = free_path(&rt, alloc, "whole_tests_names");
+    let other = free_path(&rt, alloc, "./whole_tests_names");
+    let link = free_path(&rt, alloc, "whole_tests_named");
+    symlink(&rt, path.as_str(), link.as_str()).expect(&rt, "a link");
+    let (name, other) = (path.as_str().as_bytes(), other.as_str().as_bytes());
+    let link_name = link.as_str().as_bytes();
+    // First there is no file, and then one.
+    for text in ["", "old\n"] {
+        let mut files = written(&rt, alloc, name);
+        writes(&rt, alloc, &mut files, other, b"other\n", Answer::Refused);
+        same(&rt, files.drafts().reason().is_some(), true, "a reason");
+        let end = files.finish(true);
+        same(&rt, end.outcome, Outcome::Discarded, "the outcome");
+        for read in [other, link_name] {
+            let mut files = written(&rt, alloc, name);
+            answers(&rt, &mut files, read, Answer::Refused);
+            reads(&rt, alloc, &mut files, name, b"new\n");
+            let end = files.finish(true);
+            same(&rt, end.outcome, Outcome::Discarded, "the outcome");
+        }
+        let there = fs::read_to_string(&rt, path.as_str());
+        same(&rt, there.as_deref().unwrap_or(""), text, "the file");
+        fs::write(&rt, path.as_str(), "old\n").expect(&rt, "written");
+    }
+    for each in [&path, &link] {
+        fs::remove_file(&rt, each.as_str()).expect(&rt, "removed");
+    }
+}
+
+#[test]
+fn other_files_are_read_and_written_after_a_write(rt: HostRuntime) {
+    let alloc = rt.alloc();
+    let path = free_path(&rt, alloc, "whole_tests_first");
+    let second = free_path(&rt, alloc, "whole_tests_second");
+    let draft = draft_of(&rt, alloc, "whole_tests_first");
+    fs::write(&rt, second.as_str(), "old\n").expect(&rt, "written");
+    let mut files = written(&rt, alloc, path.as_str().as_bytes());
+    let name = second.as_str().as_bytes();
+    reads(&rt, alloc, &mut files, name, b"old\n");
+    writes(&rt, alloc, &mut files, name, b"newer\n", Answer::Done);
+    // A draft is no file of the run.
+    answers(&rt, &mut files, draft.as_str().as_bytes(), Answer::Refused);
+    let end = files.finish(true);
+    same(&rt, end.outcome, Outcome::Discarded, "the outcome");
+    let text = fs::read_to_string(&rt, second.as_str()).expect(&rt, "read");
+    same(&rt, text.as_str(), "old\n", "the second file");
+    fs::remove_file(&rt, second.as_str()).expect(&rt, "removed");
+}
+
+#[test]
+fn a_path_that_names_no_plain_file_is_refused(rt: HostRuntime) {
+    let alloc = rt.alloc();
+    for name in ["whole_tests_none/", "whole_tests_none/."] {
+        let path = free_path(&rt, alloc, name);
+        let mut files = Whole::new(alloc, DiskDrafts::new(alloc, &rt));
+        let path = path.as_str().as_bytes();
+        writes(&rt, alloc, &mut files, path, b"new\n", Answer::Refused);
     }
 }

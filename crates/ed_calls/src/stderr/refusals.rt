@@ -11,6 +11,7 @@ use std::alloc::{AllocError, Global};
 use std::fs::File;
 use std::rt::Files;
 use std::{io, mem};
+use whole::{DiskDrafts, Whole};
 
 /// What is wrong with a file that was asked for.
 #[derive(Clone, Copy, Debug, PartialEq, Eq)]
@@ -52,6 +53,12 @@ impl<R: Files<File = File> + Drop> Explains for DiskFiles<R> {
 impl<O: Outside + Explains + Drop> Explains for Rehearsal<O> {
     fn reason(&self) -> Option<io::Error> {
         self.real().reason()
+    }
+}
+
+impl<R: Files<File = File> + Copy + Drop> Explains for Whole<DiskDrafts<R>> {
+    fn reason(&self) -> Option<io::Error> {
+        self.drafts().reason()
     }
 }
 
@@ -106,6 +113,13 @@ impl<O: Outside + Explains + Drop> Watched<O> {
         ensures value { result.now ≡ self.now.files }
     {
         &self.files
+    }
+
+    /// The files, watched no more.
+    pub fn into_files(self) -> O
+        ensures value { result ≡ self.files }
+    {
+        self.files
     }
 
     /// Remembers that the call that came last was refused, or found no file.
@@ -224,6 +238,11 @@ pub fn show_unread(alloc: Global, rt: &impl Eprint, path: &[u8], reason: Option<
 /// Shows in one line that there was no memory to judge the script at a path.
 pub fn show_unjudged(alloc: Global, rt: &impl Eprint, path: &[u8]) {
     show_file(alloc, rt, path, Wrong::Unjudged, None);
+}
+
+/// Shows in one line that the file at a path wasn't written, with the system's reason where there is one.
+pub fn show_unwritten(alloc: Global, rt: &impl Eprint, path: &[u8], reason: Option<io::Error>) {
+    show_file(alloc, rt, path, Wrong::Unwritten, reason);
 }
 
 /// Shows in one line that standard input wasn't read, with the system's reason where there is one.

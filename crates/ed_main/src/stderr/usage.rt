@@ -10,22 +10,22 @@ use std::alloc::{AllocError, Global};
 
 /// How the program is used.
 pub const USAGE: &str = "\
-usage: edv edit [--vouched] [-n] [-s] [-p STRING] [-f SCRIPT] [FILE] <SCRIPT
+usage: edv edit [--vouched] [--whole] [-n] [-s] [-p STRING] [-f SCRIPT] [FILE] <SCRIPT
        edv vouch [--min N] [--max M] [--all] [-q] [--patterns] [--has RE] [-f SCRIPT] [FILE] <SCRIPT
        edv check [-f SCRIPT] CERT <SCRIPT
-       edv run [-n] [-s] [-f SCRIPT] CERT [FILE] <SCRIPT
+       edv run [--whole] [-n] [-s] [-f SCRIPT] CERT [FILE] <SCRIPT
        edv fits CERT [FILE]
 ";
 
 pub const EDIT_USAGE: &str =
-    "usage: edv edit [--vouched] [-n] [-s] [-p STRING] [-f SCRIPT] [FILE] <SCRIPT\n";
+    "usage: edv edit [--vouched] [--whole] [-n] [-s] [-p STRING] [-f SCRIPT] [FILE] <SCRIPT\n";
 
 pub const VOUCH_USAGE: &str =
     "usage: edv vouch [--min N] [--max M] [--all] [-q] [--patterns] [--has RE] [-f SCRIPT] [FILE] <SCRIPT\n";
 
 pub const CHECK_USAGE: &str = "usage: edv check [-f SCRIPT] CERT <SCRIPT\n";
 
-pub const RUN_USAGE: &str = "usage: edv run [-n] [-s] [-f SCRIPT] CERT [FILE] <SCRIPT\n";
+pub const RUN_USAGE: &str = "usage: edv run [--whole] [-n] [-s] [-f SCRIPT] CERT [FILE] <SCRIPT\n";
 
 pub const FITS_USAGE: &str = "usage: edv fits CERT [FILE]\n";
 

@@ -1,26 +1,14 @@
 //! The scripts that `vouch` is given, and what it is to do with them.
-ghost use Rattle.std.specs.Prelude.{◌≡◌, codes, map, IfOk};
-ghost use Rattle.clap.specs.Words.{found_of, rows_of};
+ghost use Rattle.std.specs.Prelude.{◌≡◌, map, IfOk};
 ghost use Rattle.ed_main.specs.Words as meaning;
 ghost use Rattle.ed_main.specs.declared.job.Job.TheVariants as job;
 
 use crate::job::Job;
 use crate::paths::Paths;
 use crate::words::texts::is_path;
-use clap::ArgMatches;
 use ed_base::Bytes;
 use ed_calls::{Detail, Starts};
 use std::alloc::{AllocError, Global};
-
-/// The names of the scripts, in their order.
-pub fn scripts_in<'m, 'a>(given: &'m ArgMatches<'a>) -> &'m [&'a str]
-    ensures value { map (λ text. text.now) result.now ≡ meaning.texts_in (codes "script") (rows_of (found_of given.now)) }
-{
-    match given.get_strs("script") {
-        Some(names) => names,
-        None => &[],
-    }
-}
 
 /// Whether each of these may name a file.
 pub fn are_paths(names: &[&str]) -> bool

@@ -1,7 +1,7 @@
 -- The script of the bytes was judged, or those in the files.
 use Rattle.std.proofs.Common.{ℕ, List, ap, length, subst}
 use Rattle.ed_main.specs.Several.{AreJudged}
-use Rattle.ed_main.proofs.Several.{each_judged, input_judged}
+use Rattle.ed_main.proofs.JudgedScripts.{each_judged, input_judged}
 use Rattle.ed_main.proofs.several.judge_scripts.Goals as goal
 
 pub returns-then-are_none-clause-judged : goal.returns-then-are_none-clause-judged

@@ -1,10 +1,10 @@
 use Rattle.ed_main.proofs.task.Task.perform.Goals as goal
 
 pub returns-in-Unchecked-clause-came : goal.returns-in-Unchecked-clause-came
-returns-in-Unchecked-clause-came g c = λ rehearsed. rw c.in-Unchecked.is (c.edit.ensures.correct, rehearsed)
+returns-in-Unchecked-clause-came g c = rw c.in-Unchecked.is c.edit.ensures.correct
 
 pub returns-in-Certified-clause-came : goal.returns-in-Certified-clause-came
-returns-in-Certified-clause-came g c = λ rehearsed. rw c.in-Certified.is (c.run.ensures.came, rehearsed)
+returns-in-Certified-clause-came g c = rw c.in-Certified.is c.run.ensures.came
 
 pub returns-in-Vouched-clause-came : goal.returns-in-Vouched-clause-came
-returns-in-Vouched-clause-came g c = λ rehearsed. rw c.in-Vouched.is (c.edit_if_vouched.ensures.came, rehearsed)
+returns-in-Vouched-clause-came g c = rw c.in-Vouched.is c.edit_if_vouched.ensures.came

@@ -5,7 +5,7 @@ use Rattle.whole.specs.LeftFiles.{OldOrNew}
 use Rattle.whole.specs.Endings.{EndsSo, IsPlace}
 use Rattle.whole.proofs.Keeping.{ends-why, fault-ends, refusal-ends}
 use Rattle.whole.proofs.EndLemmas.{ended-moments, ends, same-written}
-use Rattle.whole.proofs.DeedLemmas.{same-asked}
+use Rattle.whole.proofs.DeedLemmas.{goes-after, same-asked}
 use Rattle.whole.proofs.whole.Whole.finish.Goals as goal
 
 pub returns : goal.returns
@@ -26,5 +26,6 @@ returns g c =
       at_a_refusal = λ f. e.discarded (refusal-ends c.args.ended_well s.refused _ _ w.refused_is well f);
       only_then = λ f. ends-why c.args.ended_well s.refused _ _ w.refused_is well (e.only_then f);
       each_moment = subst OldOrNew (sym e.log) (ended-moments deeds o ps w.unput);
+      goes_on = goes-after deeds _ _ e.log;
       same_run = ap run_log e.log ∙ same-asked deeds o ps;
     }

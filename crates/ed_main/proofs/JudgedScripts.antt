@@ -1,5 +1,6 @@
 -- What came of scripts that were judged one after another.
-use Rattle.std.proofs.Common.{◌≡◌, ◌+◌, ℕ, List, [], ◌∷◌, Bool, true, false, length, refl, sym, ap, arith, ◌==◌}
+use Rattle.std.proofs.Common.{◌≡◌, ◌+◌, ℕ, List, [], ◌∷◌, Bool, true, false, length, refl, ap, ◌∙◌, true≢false, arith}
+use Rattle.std.proofs.Math.Dec.{eqb-suc-zero}
 use Rattle.std.specs.Prelude.{All}
 use Rattle.std.proofs.lemmas.List.Elements.{All-nil, All-cons}
 use Rattle.ed_calls.specs.declared.starts.Starts.{Starts}
@@ -21,7 +22,7 @@ module _ (starts : Starts) where
 
   pub input_judged : (script : List ℕ) (scripts : List (List ℕ)) (status : ℕ) → true ≡ names_none scripts → IsJudgement script starts status → Judges script starts scripts status
   input_judged script [] status none came = came
-  input_judged script (path ∷ paths) status none came = absurd cc
+  input_judged script (path ∷ paths) status none came = absurd (true≢false (none ∙ eqb-suc-zero (length paths)))
 
   pub each_judged : (script : List ℕ) (scripts : List (List ℕ)) (status : ℕ) → false ≡ names_none scripts → AreJudged starts (length scripts) status → Judges script starts scripts status
   each_judged script [] status some came = absurd cc

@@ -1,0 +1,14 @@
+-- Which files drafts are of (our choice: a file is told by the numbers of its device and of itself; one that isn't there by those of its
+-- folder and by its name in it).
+use Rattle.std.specs.Prelude.{◌≢◌, List, [], ◌∷◌, All, map}
+use Rattle.whole.specs.declared.file_identity.FileIdentity.{FileIdentity}
+use Rattle.whole.specs.declared.plain_files.Beside.{Beside}
+
+-- the files that drafts are of, as the system told of them when the drafts were made
+abbrev pub files_of : List Beside → List FileIdentity
+files_of drafts = map (λ draft. draft.file) drafts
+
+-- no two of these are one file
+abbrev pub AreDifferent : List FileIdentity → Type 0
+AreDifferent [] = Unit {0}
+AreDifferent (file ∷ files) = All (λ other. other ≢ file) files × AreDifferent files
