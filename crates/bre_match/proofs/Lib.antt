@@ -17,6 +17,8 @@ pub mod Each
 pub mod Outlooks
 pub mod LeftTells
 pub mod Hopeless
+pub mod Spreads
+pub mod SpreadSteps
 pub mod Starts
 pub mod PartKinds
 pub mod Columns

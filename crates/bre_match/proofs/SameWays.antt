@@ -117,7 +117,7 @@ even_after asked least k p again even v w e =
 pub place_alike : (asked : List Bool) (p : ℕ) (g h : Groups) → same_asked asked g h ≡ true → alike asked (p, g) (p, h) ≡ true
 place_alike asked p g h e = alike_made asked (p, g) (p, h) refl e
 
-even_turns : (asked : List Bool) (fuel : ℕ) (body : Body) (least : ℕ) (most : Option ℕ) (k : ℕ) → Even asked body → Even asked (turns fuel body least most k)
+pub even_turns : (asked : List Bool) (fuel : ℕ) (body : Body) (least : ℕ) (most : Option ℕ) (k : ℕ) → Even asked body → Even asked (turns fuel body least most k)
 even_turns asked zero body least most k even p g h e = alike_if asked (leb least k) (p, g) (p, h) (place_alike asked p g h e)
 even_turns asked (suc f) body least most k even p g h e =
     alike_by_end asked _ _ (alike_append asked _ _ (only_if (leb least k) (p, g)) (only_if (leb least k) (p, h))

@@ -15,6 +15,7 @@ pub mod Order
 pub mod Turns
 pub mod Meeting
 pub mod Outlooks
+pub mod Spreads
 pub mod Starts
 pub mod Needs
 pub mod RowEnds

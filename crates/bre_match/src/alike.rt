@@ -59,7 +59,7 @@ pub(crate) fn number_of(asked: &Asked, way: &Way) -> usize {
 }
 
 /// Whether one of the ways is like this one, as far as the index has them.
-fn has_alike(ways: &[Way], index: &Index, asked: &Asked, way: &Way) -> bool
+pub(crate) fn has_alike(ways: &[Way], index: &Index, asked: &Asked, way: &Way) -> bool
     ensures sound { IsTrue result → HasAlike asked.now ways.now way.now }
 {
     let mut after = index.last(number_of(asked, way));

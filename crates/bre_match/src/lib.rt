@@ -19,6 +19,7 @@ mod ending;
 mod grouping;
 mod index;
 mod join;
+mod kinds;
 pub mod laws;
 mod learned;
 mod narrow;
@@ -26,6 +27,7 @@ mod needed;
 mod order;
 mod outlook;
 mod pace;
+mod prospect;
 mod row;
 mod row_end;
 mod row_search;
@@ -35,6 +37,7 @@ mod search;
 mod searcher;
 mod seen;
 mod span;
+mod spread;
 mod start;
 mod state;
 mod table;
@@ -47,6 +50,7 @@ use crate::grouping::set_row;
 use crate::join::first_meeting_of_starts;
 use crate::needed::{first_start, lacks_needed};
 use crate::outlook::Outlook;
+use crate::prospect::{is_worth_asking, later_start};
 use crate::row::{is_quick_row, is_told_in_order, is_too_wide};
 use crate::row_search::{RowMatch, row_match};
 use crate::seen::Seen;
@@ -209,6 +213,7 @@ fn searched_match(
     let mut left = Vec::new(alloc);
     let mut seen = Seen::new(alloc);
     let mut outlook = Outlook::new(alloc, items, &asked);
+    let mut is_told = is_worth_asking(items, &asked);
     let mut start = first_start(items, text, from);
     while start <= text.len() {
         seen.keep_at_most(MOST_SEEN);
@@ -218,7 +223,10 @@ fn searched_match(
                 let groups = way.1;
                 return Ok(Some(Match { start, end, groups }));
             }
-            None => start += 1 + starts_without(items, text, start),
+            None => {
+                let next = start + (1 + starts_without(items, text, start));
+                start = later_start(&mut is_told, alloc, items, text, &asked, next)?;
+            }
         }
     }
     Ok(None)

@@ -38,7 +38,7 @@ pub(crate) struct Outlook {
 }
 
 /// Whether a part is a repeat of more than a byte set.
-fn is_turned(part: &Node) -> bool {
+pub(crate) fn is_turned(part: &Node) -> bool {
     match part {
         Node::Repeat(_, _, content) => match &**content {
             Node::Set(_) => false,
@@ -52,7 +52,7 @@ fn is_turned(part: &Node) -> bool {
 
 /// The place of the first item that is such a repeat, or their number where there is none, or where a group that is asked for stands before
 /// it, whose span tells the turns of each start from those of any other.
-fn first_turned(items: &[Node], asked: &Asked) -> usize {
+pub(crate) fn first_turned(items: &[Node], asked: &Asked) -> usize {
     for at in 0..items.len() {
         if is_turned(&items[at]) {
             if any_sets_asked(&items[..at], asked) {

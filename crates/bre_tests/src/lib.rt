@@ -9,3 +9,5 @@ mod reading;
 mod resuming;
 #[cfg(test)]
 mod searching;
+#[cfg(test)]
+mod starting;

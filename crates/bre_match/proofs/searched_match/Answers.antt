@@ -4,6 +4,7 @@ use Rattle.bre_parse.specs.Tree.{sequence_of}
 use Rattle.bre_match.specs.Meeting.{LeadNowhere}
 use Rattle.bre_match.proofs.Needs.{passed_to}
 use Rattle.bre_match.proofs.Starts.{skip_starts, longest_within}
+use Rattle.bre_match.proofs.SpreadSteps.{starts_passed}
 use Rattle.bre_match.proofs.searched_match.Goals as goal
 
 pub loop-start-init : goal.loop-start-init
@@ -24,13 +25,15 @@ returns-in-Some-clause-within c =
 pub loop-start-preserved : goal.loop-start-preserved
 loop-start-preserved c =
     record {
-      passed = omega arith;
-      within = omega arith;
+      passed = omega (arith, c.in_ok-start-in-None.ensures.after);
+      within = c.in_ok-start-in-None.ensures.within;
       left =
           c.loop-start.invariant.left
           ∙ skip_starts c.starts_without.result (length c.args.text.now + 1 - (c.loop-start.start + (1 + c.starts_without.result))) (length c.args.text.now + 1 - c.loop-start.start) (sequence_of c.args.items.now) c.args.text.now c.loop-start.start (c.loop-start.start + (1 + c.starts_without.result))
           (omega arith) (omega arith)
-          (c.starts_without.ensures.sound (sym c.in_ok-way.ensures.value ∙ c.in-None.is));
+          (c.starts_without.ensures.sound (sym c.in_ok-way.ensures.value ∙ c.in-None.is))
+          ∙ starts_passed (sequence_of c.args.items.now) c.args.text.now (c.loop-start.start + (1 + c.starts_without.result)) c.in_ok-start-in-None.start
+          c.in_ok-start-in-None.ensures.after c.in_ok-start-in-None.ensures.within c.in_ok-start-in-None.ensures.sound;
       nowhere = c.in_ok-way.ensures.seen c.in-None.is;
       nothing = c.in_ok-way.ensures.nothing;
     }
