@@ -39,3 +39,5 @@ pub mod PassedLemmas
 pub mod StepEnds
 pub mod SpanLemmas
 pub mod EndPlaces
+pub mod ListSpanLemmas
+pub mod ListStartLemmas

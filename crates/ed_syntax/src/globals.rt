@@ -144,7 +144,7 @@ fn list_after_pattern<'a>(
 }
 
 /// The list that begins with what is left of a line, as whole lines: a backslash at a line's end joins the next one to it.
-fn joined<'a>(
+pub fn joined<'a>(
     alloc: Global,
     bytes: &'a [u8],
     later: &mut ScriptLines<'a>,
@@ -192,7 +192,7 @@ fn list_of(alloc: Global, list: &[u8]) -> Result<Option<Vec<Command>>, AllocErro
 }
 
 /// An empty line and no more.
-fn is_newline(bytes: &[u8]) -> bool
+pub fn is_newline(bytes: &[u8]) -> bool
     ensures value { result ≡ is_newline bytes.now }
 {
     bytes == b"\n".as_slice()

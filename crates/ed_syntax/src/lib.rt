@@ -9,6 +9,7 @@ mod flags;
 mod globals;
 mod heading;
 mod laws;
+mod list_spans;
 mod naming;
 mod offsets;
 mod options;
@@ -37,6 +38,7 @@ pub use laws::{
     lists_add_no_flags, lists_note_changes, runs_end_for_a_cause, searches_are_globals_of_one_line,
     spelled_scripts_are_readable, unnamed_letters_change_nothing,
 };
+pub use list_spans::list_places;
 pub use options::{Ending, Options};
 pub use pattern::Pattern;
 pub use quoting::{Parsed, pattern_at};

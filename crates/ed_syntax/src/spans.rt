@@ -48,10 +48,10 @@ pub fn places(alloc: Global, script: &[u8]) -> Result<Vec<Span>, AllocError>
     Ok(spans)
 }
 
-/// What is left after so many lines, which are there.
-fn after_lines(bytes: &[u8], count: usize) -> &[u8]
-    requires there { count ≤ length (lines_of bytes.now) }
-    ensures passed { Passes bytes.now result.now count }
+/// What is left after so many lines, or nothing where they aren't there.
+pub fn after_lines(bytes: &[u8], count: usize) -> &[u8]
+    ensures passed { count ≤ length (lines_of bytes.now) → Passes bytes.now result.now count }
+    ensures shorter { length result.now ≤ length bytes.now }
 {
     let mut left = bytes;
     let mut passed = 0;

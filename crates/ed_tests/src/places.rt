@@ -1,6 +1,6 @@
 //! Where the commands of a script stand, and where the parts of a line end.
 use crate::asserting::same;
-use ed_syntax::{Span, addresses_end, pattern_end, places};
+use ed_syntax::{Span, addresses_end, list_places, pattern_end, places};
 use std::alloc::Global;
 use std::process::Abort;
 
@@ -35,6 +35,51 @@ fn check_places(rt: &impl Abort, alloc: Global, row: &PlacesRow) {
 fn each_command_stands_where_the_one_before_it_ends(rt: HostRuntime) {
     for row in &PLACES {
         check_places(&rt, rt.alloc(), row);
+    }
+}
+
+// A line of a list begins after the backslash and the newline that join it to the one before.
+#[rattlefmt::skip]
+static LISTS: [PlacesRow; 13] = [
+    PlacesRow { script: b"", spans: &[] },
+    PlacesRow { script: b"1,$p\n", spans: &[] },
+    PlacesRow { script: b"s/g/x/\n", spans: &[] },
+    PlacesRow { script: b"g/x/d\n", spans: &[Span { line: 1, low: 4, high: 6 }] },
+    PlacesRow { script: b"1,$v,[/,]\\,,-d", spans: &[Span { line: 1, low: 12, high: 14 }] },
+    PlacesRow { script: b"g/x", spans: &[Span { line: 1, low: 3, high: 3 }] },
+    PlacesRow { script: b"g/x/ \n", spans: &[Span { line: 1, low: 4, high: 6 }] },
+    PlacesRow { script: b"g/x/d\\\n", spans: &[Span { line: 1, low: 4, high: 7 }] },
+    PlacesRow {
+        script: b"g/x/s//y/\\\nd\n",
+        spans: &[Span { line: 1, low: 4, high: 11 }, Span { line: 2, low: 11, high: 13 }],
+    },
+    PlacesRow {
+        script: b"g/x/\\\n\\\np\n",
+        spans: &[Span { line: 1, low: 4, high: 6 }, Span { line: 2, low: 6, high: 8 }, Span { line: 3, low: 8, high: 10 }],
+    },
+    PlacesRow {
+        script: b"g/x/a\\\ny\\\n\\\n.\\\n-p\n",
+        spans: &[Span { line: 1, low: 4, high: 15 }, Span { line: 5, low: 15, high: 18 }],
+    },
+    PlacesRow {
+        script: b"v/x/d\\\ni\\\ny\n",
+        spans: &[Span { line: 1, low: 4, high: 7 }, Span { line: 2, low: 7, high: 12 }],
+    },
+    PlacesRow {
+        script: b"g/x/s/a/\\\\/\\\np\\\n",
+        spans: &[Span { line: 1, low: 4, high: 13 }, Span { line: 2, low: 13, high: 16 }],
+    },
+];
+
+fn check_list(rt: &impl Abort, alloc: Global, row: &PlacesRow) {
+    let spans = list_places(alloc, row.script).expect(rt, "memory");
+    same(rt, spans.as_slice() == row.spans, true, row.script);
+}
+
+#[test]
+fn each_command_of_a_list_stands_where_the_one_before_it_ends(rt: HostRuntime) {
+    for row in &LISTS {
+        check_list(&rt, rt.alloc(), row);
     }
 }
 

@@ -91,19 +91,19 @@ global-sound line (b ∷ bs) letter given which later are addressed sensed =
     (λ good. global_by-sound line bs letter b given which later are addressed sensed good) (λ bad r is. absurd (none_some is))
 
 -- the letter of a global command
-record ReadsSense (own : List ℕ) (g : Sense × List ℕ) : Type 0 where
+pub record ReadsSense (own : List ℕ) (g : Sense × List ℕ) : Type 0 where
   pub letter : ℕ
   pub split : own ≡ letter ∷ g.1
   pub spells : SpellsSense letter g.0
 
-abbrev SenseRead : List ℕ → Parsed Sense → Type 0
+abbrev pub SenseRead : List ℕ → Parsed Sense → Type 0
 SenseRead own read = (g : Sense × List ℕ) → read ≡ Some g → ReadsSense own g
 
 sense_known : (b code : ℕ) (bs : List ℕ) (which : Sense) → SpellsSense code which → nat_eq b code ≡ true → SenseRead (b ∷ bs) (Some (which, bs))
 sense_known b code bs which spells same g is =
     subst (ReadsSense (b ∷ bs)) (Some-same (which, bs) g is) (record { letter = code; split = ap (λ b. b ∷ bs) (eqb-true b code same); spells = spells })
 
-sense-sound : (own : List ℕ) → SenseRead own (sense_at own)
+pub sense-sound : (own : List ℕ) → SenseRead own (sense_at own)
 sense-sound [] = λ g is. absurd (none_some is)
 sense-sound (b ∷ bs) =
     either (SenseRead (b ∷ bs)) (nat_eq b letter_g) _ _ (sense_known b letter_g bs sense.Matching SpellsSense.matching)
@@ -125,7 +125,7 @@ step-sound line later r are is =
     step_by-sound line given.0.1 given.0.0 later are (addresses-sound line given.0 given.1) (sense_at given.0.1) refl r given.2
 
 -- the letter of a global command that is spelled so is read
-sense-complete : {letter : ℕ} {which : Sense} → SpellsSense letter which → (bs : List ℕ) → sense_at (letter ∷ bs) ≡ Some (which, bs)
+pub sense-complete : {letter : ℕ} {which : Sense} → SpellsSense letter which → (bs : List ℕ) → sense_at (letter ∷ bs) ≡ Some (which, bs)
 sense-complete SpellsSense.matching bs = refl
 sense-complete SpellsSense.others bs = refl
 

@@ -1,5 +1,6 @@
 -- One span more.
-use Rattle.std.proofs.Common.{◌≡◌, length, Some, None, sym, ap, ◌∙◌, arith, rules}
+use Rattle.std.proofs.Common.{◌≡◌, ◌+◌, ◌-◌, ◌≤◌, length, Some, None, sym, ap, ◌∙◌, arith, rules}
+use Rattle.ed_base.specs.Lines.{lines_of}
 use Rattle.ed_syntax.specs.PublicTypes.{step_value}
 use Rattle.ed_syntax.specs.reading.Reading.{step_at}
 use Rattle.ed_syntax.specs.reading.ReadParts.{step_before}
@@ -14,7 +15,7 @@ pub overflow_sub-low : goal.overflow_sub-low
 overflow_sub-low c = omega (arith, passed-short c.commands.invariant.passed)
 
 pub overflow_sub-high : goal.overflow_sub-high
-overflow_sub-high c = omega (arith, passed-short c.commands.invariant.passed, passed-short c.after_lines-rest.ensures.passed)
+overflow_sub-high c = omega (arith, passed-short c.commands.invariant.passed, c.after_lines-rest.ensures.shorter)
 
 pub commands-preserved : goal.commands-preserved
 commands-preserved c =
@@ -23,10 +24,12 @@ commands-preserved c =
     let others = c.read_step.new.later.lines in
     let is : step_at first later ≡ Some (step_value c.in-Some-2.command, others) = sym c.in_ok-command.ensures.value ∙ ap (λ o. step_before o others) c.in-Some-2.is in
     let split = c.in-Some.ensures.lines in
+    let few : c.number.result - c.number-line.result + 1 ≤ length (lines_of c.commands.left.now) =
+    omega (arith, c.read_step.ensures.number, c.read_step.ensures.later, c.in-Some.ensures.number, ap length split, ap length c.commands.invariant.here) in
     told-more c.commands.invariant first later others (step_value c.in-Some-2.command) c.after_lines-rest.result.now _ c.read_step.new.later.number _ _ split is
     (omega (arith, c.read_step.ensures.number, c.in-Some.ensures.number, ap length split))
     (omega (arith, c.read_step.ensures.number, c.read_step.ensures.later, c.in-Some.ensures.number, ap length split))
-    c.after_lines-rest.ensures.passed (omega (arith, c.in-Some.ensures.number)) (omega arith) (omega arith) c.in_ok-push.ensures.items
+    (c.after_lines-rest.ensures.passed few) (omega (arith, c.in-Some.ensures.number)) (omega arith) (omega arith) c.in_ok-push.ensures.items
 
 -- no step can be read here
 pub returns-in-None : goal.returns-in-None
