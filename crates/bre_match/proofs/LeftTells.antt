@@ -1,5 +1,6 @@
 -- What is left to take up tells what comes of the start, step by step of the search.
-use Rattle.std.proofs.Common.{◌≡◌, ◌⊎◌, inl, inr, ℕ, zero, suc, ◌+◌, ◌<◌, ◌≤◌, List, [], ◌∷◌, ◌++◌, map, flat_map, length, drop, get_or, None, Bool, true, false, leb, eqb, refl, ap, sym, subst, arith}
+use Rattle.std.proofs.Common.{◌≡◌, ◌⊎◌, inl, inr, ℕ, zero, suc, ◌+◌, ◌<◌, ◌≤◌, List, [], ◌∷◌, ◌++◌, map, flat_map, length, drop, get_or, None, Bool, true, false, leb, eqb, refl, ap, sym, ◌∙◌, subst, arith}
+use Rattle.std.specs.Prelude.{slice_set}
 use Rattle.std.proofs.lemmas.Bool.Decides.{nat_tests}
 use Rattle.bre_parse.specs.declared.tree.Node.{Node}
 use Rattle.bre_parse.specs.Tree.{Tree, Repeat, tree_of, sequence_of}
@@ -12,7 +13,7 @@ use Rattle.bre_match.specs.declared.turn.Bounds.{Bounds}
 use Rattle.bre_match.specs.declared.turn.Turn.{Turn}
 use Rattle.bre_match.specs.declared.turn.Turn.TheVariants as turn
 use Rattle.bre_match.specs.Alike.{RefersWithin, alike}
-use Rattle.bre_match.specs.Meeting.{TakenAhead, mark_of, others_of, ways_through}
+use Rattle.bre_match.specs.Meeting.{MayMark, TakenAhead, from_place, mark_of, others_of, ways_through}
 use Rattle.bre_match.specs.Outlooks.{Before, Within, Begun, first_part, after_begun, ended_or_begun, next_stages, Each, IsRepeat, NothingWithin}
 use Rattle.bre_match.specs.Runs.{groups_at, ways_of, at_item, tasks}
 use Rattle.bre_match.specs.Turns.{turn_if, after_way, rank, same_turn, HasTurn, TakenUp}
@@ -61,6 +62,16 @@ marked : (P : Mark → Type 0) (mark : Mark) (old new : List Mark) → (new ≡ 
 marked P mark old new (inl e) p h = subst (Each P) (sym e) h
 marked P mark old new (inr e) p h = subst (Each P) (sym e) (each_append P old (mark ∷ []) h (p, tt))
 
+each_set : (P : Mark → Type 0) (ms : List Mark) (k : ℕ) (mark : Mark) → Each P ms → P mark → Each P (slice_set ms k mark)
+each_set P [] k mark h p = tt
+each_set P (m ∷ ms) zero mark h p = (p, h.1)
+each_set P (m ∷ ms) (suc k) mark h p = (h.0, each_set P ms k mark h.1 p)
+
+may_marked : (P : Mark → Type 0) (mark : Mark) (old new : List Mark) → MayMark mark old new → P mark → Each P old → Each P new
+may_marked P mark old new (inl e) p h = subst (Each P) (sym e) h
+may_marked P mark old new (inr (inl e)) p h = subst (Each P) (sym e) (each_append P old (mark ∷ []) h (p, tt))
+may_marked P mark old new (inr (inr e)) p h = subst (Each P) (sym e.1) (each_set P old e.0 mark h p)
+
 same_ranks : (b : Bounds) (asked : List Bool) (m u : Mark) → same_turn b asked m u ≡ true → rank b m.done ≡ rank b u.done
 same_ranks b asked m u e = let f = both_left (eqb (rank b m.done) (rank b u.done)) (alike asked m.way u.way) e in grind (arith, nat_tests)
 
@@ -106,10 +117,89 @@ way_followed asked items at s start part next seen seen' begun left left' turns 
     (subst (λ t. Each (NothingWithin n items at s) (map (Before (i + 1)) (by_end (ways t s w.0 w.1)))) (sym is) children) in
     let here : NothingWithin (suc n) items at s (Before i w) = (lt, steps) in
     let old = told n (subst (Each P) (sym (opened next (tasks left))) (fewer items at s n (Before i w) here, others)) ts in
-    let met = marked (λ mark. NothingWithin (suc n) items at s (Before mark.done mark.way)) (mark_of next) seen.marks.items
+    let met = may_marked (λ mark. NothingWithin (suc n) items at s (Before mark.done mark.way)) (mark_of next) seen.marks.items
     seen'.marks.items up.0 here old.1.0 in
     (old.0, (met, old.1.1))
-way_followed asked items at s start part next seen seen' begun left left' turns within lt there apart (inr up) told n ws ts =
+way_followed asked items at s start part next seen seen' begun left left' turns within lt there apart (inr (inr up)) told n ws ts =
+    let old = told n (put n (comes_to n ws ts) (others_left n ws)) ts in
+    let here = one_more n ws old.1.0 in
+    let met = may_marked (λ mark. NothingWithin (suc n) items at s (Before mark.done mark.way)) (mark_of next) seen.marks.items
+    seen'.marks.items up.0 here old.1.0 in
+    (old.0, (met, old.1.1))
+  where
+    i : ℕ
+    i = next.item
+
+    w : Way
+    w = (mark_of next).way
+
+    v : Way
+    v = (up.1.0, w.1)
+
+    earlier : Mark
+    earlier = from_place up.1.0 (mark_of next)
+
+    shared : List Way
+    shared = up.1.1
+
+    own : List Way
+    own = up.1.2
+
+    before : List (ℕ × Way)
+    before = others_of next ++ tasks left
+
+    b : Bounds
+    b = up.1.4.0
+
+    put : (n : ℕ) → NothingWithin n items at s (Before i w) → NoWays n items at s before
+        → NoWays n items at s (map (at_item i) (ways_of next.run) ++ tasks left)
+    put n h others = subst (λ l. NoWays n items at s l) (sym (opened next (tasks left))) (h, others)
+
+    others_left : (n : ℕ) → NoWays n items at s (tasks left') → NoWays n items at s before
+    others_left n ws = each_rest (λ way. NothingWithin n items at s (Before way.0 way.1)) (map (at_item (i + 1)) own) before
+        (subst (λ l. NoWays n items at s l) up.1.7 ws)
+
+    own_left : (n : ℕ) → NoWays n items at s (tasks left') → Each (λ x. NothingWithin n items at s (Before (i + 1) x)) own
+    own_left n ws =
+        each_before_map (λ way. NothingWithin n items at s (Before way.0 way.1)) (at_item (i + 1)) own
+        (each_head (λ way. NothingWithin n items at s (Before way.0 way.1)) (map (at_item (i + 1)) own) before
+        (subst (λ l. NoWays n items at s l) up.1.7 ws))
+
+    steps_of : (x : Way) → next_stages items at s (Before i x) ≡ map (Before (i + 1)) (by_end (ways (tree_of part) s x.0 x.1))
+    steps_of x =
+        ap (λ b. elim b [
+          | true ↦ Within (turn.Next 0 x) ∷ []
+          | false ↦ map (Before (i + 1)) (by_end (ways (first_part (drop i items)) s x.0 x.1))
+        ]) apart
+        ∙ ap (λ t. map (Before (i + 1)) (by_end (ways t s x.0 x.1))) (ap first_part (items_left items i part lt there))
+
+    one_more : (n : ℕ) → NoWays n items at s (tasks left') → NoMet (suc n) items at s seen.marks.items
+        → NothingWithin (suc n) items at s (Before i w)
+    one_more n ws met =
+        let Q : Way → Type 0 = λ x. NothingWithin n items at s (Before (i + 1) x) in
+        let m = each_turn (λ mark. NothingWithin (suc n) items at s (Before mark.done mark.way)) b asked seen.marks.items earlier
+        up.1.4.2 met in
+        let one = one_number b m.0.done i up.1.4.1 (of_one_rank b m.0.done i (same_ranks b asked m.0 earlier m.1)) in
+        let found : NothingWithin (suc n) items at s (Before i v) = nothing_same asked items at s within (suc n)
+        (Before m.0.done m.0.way) (Before i v) (one, same_ways b asked m.0 earlier m.1) m.2 in
+        let each : Each (NothingWithin n items at s) (map (Before (i + 1)) (shared ++ up.1.3)) =
+        subst (Each (NothingWithin n items at s)) (steps_of v ∙ ap (map (Before (i + 1))) up.1.6) found.1 in
+        let some = each_head Q shared up.1.3
+        (each_before_map (NothingWithin n items at s) (Before (i + 1)) (shared ++ up.1.3) each) in
+        let all = each_append Q shared own some (own_left n ws) in (
+          lt,
+          subst (Each (NothingWithin n items at s)) (sym (steps_of w ∙ ap (map (Before (i + 1))) up.1.5))
+              (each_of_map (NothingWithin n items at s) (Before (i + 1)) (shared ++ own) all),
+        )
+
+    comes_to : (n : ℕ) → NoWays n items at s (tasks left') → NoTurns n items at s turns → NothingWithin n items at s (Before i w)
+    comes_to zero ws ts = tt
+    comes_to (suc n) ws ts =
+        let ws' = fewer_ways n items at s (tasks left') ws in
+        let ts' = fewer_turns n items at s turns ts in
+        let old = told n (put n (comes_to n ws' ts') (others_left n ws')) ts' in
+        one_more n ws' old.1.0
+way_followed asked items at s start part next seen seen' begun left left' turns within lt there apart (inr (inl up)) told n ws ts =
     let left_n = subst (λ l. NoWays n items at s l) up.2 ws in
     let old = told n (in_front n left_n ts) ts in
     (old.0, (subst (λ l. NoMet (suc n) items at s l) (sym up.1) old.1.0, old.1.1))

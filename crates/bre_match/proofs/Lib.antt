@@ -20,6 +20,7 @@ pub mod Hopeless
 pub mod Spreads
 pub mod SpreadSteps
 pub mod Starts
+pub mod InRows
 pub mod PartKinds
 pub mod Columns
 pub mod WaysReach

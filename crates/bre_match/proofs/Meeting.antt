@@ -1,6 +1,6 @@
 -- The ways of a sequence, of which none is taken up that is like one that met the same item before.
-use Rattle.std.proofs.Common.{◌≡◌, inl, inr, ℕ, ◌+◌, ◌<◌, ◌≤◌, List, [], ◌∷◌, ◌++◌, map, flat_map, length, get_or, drop, Bool, true, false, leb, ltb, eqb, max, refl, ap, sym, ◌∙◌, subst, append_assoc, append-nil, arith}
-use Rattle.std.specs.Prelude.{◌&&◌}
+use Rattle.std.proofs.Common.{◌≡◌, inl, inr, ℕ, zero, suc, ◌+◌, ◌<◌, ◌≤◌, List, [], ◌∷◌, ◌++◌, map, flat_map, length, get_or, drop, Bool, true, false, leb, ltb, eqb, max, refl, ap, sym, ◌∙◌, subst, append_assoc, append-nil, arith}
+use Rattle.std.specs.Prelude.{◌&&◌, slice_set}
 use Rattle.std.proofs.lemmas.Bool.Decides.{nat_tests}
 use Rattle.std.proofs.lemmas.Grind.{flat_map-append}
 use Rattle.std.proofs.lemmas.List.{drop_all}
@@ -140,27 +140,52 @@ later_and_here : (m : Mark) (i j : ℕ) (kept ws : List Way) → ltb m.done i �
 later_and_here m i j kept ws e le = beyond_append m (map (at_item j) kept) (map (at_item i) ws)
     (beyond_here m j kept (grind (arith, nat_tests))) (beyond_here m i ws e)
 
+each_set : (P : Mark → Type 0) (ms : List Mark) (i : ℕ) (m : Mark) → EachMark P ms → P m → EachMark P (slice_set ms i m)
+each_set P [] i m h p = tt
+each_set P (x ∷ ms) zero m h p = (p, h.1)
+each_set P (x ∷ ms) (suc i) m h p = (h.0, each_set P ms i m h.1 p)
+
+covers_head : (asked : List Bool) (out xs ys : List Way) → Covers asked out (xs ++ ys) → Covers asked out xs
+covers_head asked out [] ys c = tt
+covers_head asked out (x ∷ xs) ys c = (c.0, covers_head asked out xs ys c.1)
+
+covers_joined : (asked : List Bool) (out xs ys : List Way) → Covers asked out xs → Covers asked out ys → Covers asked out (xs ++ ys)
+covers_joined asked out [] ys c d = d
+covers_joined asked out (x ∷ xs) ys c d = (c.0, covers_joined asked out xs ys c.1 d)
+
 -- what was marked, with one more mark
 may_mark : (asked : List Bool) (items : List Node) (s : List ℕ) (whole out : List Way) (left : List (ℕ × Way)) (mark : Mark)
     (old new : List Mark) → MayMark mark old new → IsThere asked items s out left mark → Met asked items s whole out left old
     → Met asked items s whole out left new
 may_mark asked items s whole out left mark old new (inl e) here h = subst (λ l. Met asked items s whole out left l) (sym e) h
-may_mark asked items s whole out left mark old new (inr e) here h = subst (λ l. Met asked items s whole out left l) (sym e) (record {
+may_mark asked items s whole out left mark old new (inr (inl e)) here h = subst (λ l. Met asked items s whole out left l) (sym e) (record {
   kept = h.kept;
   there = each_push (IsThere asked items s out left) old mark h.there here;
 })
+may_mark asked items s whole out left mark old new (inr (inr e)) here h =
+    let set : Met asked items s whole out left (slice_set old e.0 mark) = record {
+      kept = h.kept;
+      there = each_set (IsThere asked items s out left) old e.0 mark h.there here;
+    } in
+    subst (λ l. Met asked items s whole out left l) (sym e.1) set
 
--- a way like one that met the same item before leads to what that one led to
-covers_met : (asked : List Bool) (items : List Node) (s : List ℕ) (out : List Way) (i : ℕ) (w : Way) (ws : List Way)
+both_lists : (f : Way → ℕ × Way) (T : ℕ × Way → List Way) (xs ys : List Way)
+    → flat_map T (map f (xs ++ ys)) ≡ flat_map T (map f xs) ++ flat_map T (map f ys)
+both_lists f T [] ys = refl
+both_lists f T (x ∷ xs) ys = ap (λ l. T (f x) ++ l) (both_lists f T xs ys)
+    ∙ sym (append_assoc (T (f x)) (flat_map T (map f xs)) (flat_map T (map f ys)))
+
+-- a way like one that met the same item before leads to what that one led to, the way that is taken up or another one
+covers_here : (asked : List Bool) (items : List Node) (s : List ℕ) (out : List Way) (i : ℕ) (w v : Way) (ws : List Way)
     (rest : List (ℕ × Way)) (marks : List Mark) → RefersWithin asked (sequence_of items)
-    → HasMet asked marks (record { done = i; way = w })
-    → EachMark (IsThere asked items s out (map (at_item i) (w ∷ ws) ++ rest)) marks → Covers asked out (task_ways items s (i, w))
-covers_met asked items s out i w ws rest marks r has there =
+    → HasMet asked marks (record { done = i; way = v })
+    → EachMark (IsThere asked items s out (map (at_item i) (w ∷ ws) ++ rest)) marks → Covers asked out (task_ways items s (i, v))
+covers_here asked items s out i w v ws rest marks r has there =
     let b = has.0 in
-    let u : Mark = record { done = i; way = w } in
+    let u : Mark = record { done = i; way = v } in
     let m = each_has (IsThere asked items s out (map (at_item i) (w ∷ ws) ++ rest)) b asked marks u has.2 there in
-    let same = both_left (eqb (rank b m.0.done) (rank b i)) (alike asked m.0.way w) m.1 in
-    let like = both_right (eqb (rank b m.0.done) (rank b i)) (alike asked m.0.way w) m.1 in
+    let same = both_left (eqb (rank b m.0.done) (rank b i)) (alike asked m.0.way v) m.1 in
+    let like = both_right (eqb (rank b m.0.done) (rank b i)) (alike asked m.0.way v) m.1 in
     let one : m.0.done ≡ i = one_item b m.0.done i has.1 same in
     let apart : ltb m.0.done i ≡ false = grind (arith, nat_tests) in
     let none : beyond m.0 (map (at_item i) (w ∷ ws) ++ rest) ≡ [] = ap
@@ -169,9 +194,9 @@ covers_met asked items s out i w ws rest marks r has there =
     (subst (λ l. Covers asked (out ++ flat_map (task_ways items s) l) (follows items s m.0)) none m.2) in
     let at : Covers asked out (task_ways items s (i, m.0.way)) = subst (λ k. Covers asked out (task_ways items s (k, m.0.way))) one alone
     in
-    covers_like asked out (task_ways items s (i, m.0.way)) (task_ways items s (i, w))
+    covers_like asked out (task_ways items s (i, m.0.way)) (task_ways items s (i, v))
     (even_at asked (ways (sequence_of (drop i items)) s) (even_ways asked (sequence_of (drop i items)) (rest_within asked items i r) s)
-    m.0.way w like) at
+    m.0.way v like) at
   where
     as_it_is : (b : Bounds) (k : ℕ) → b.unbounded ≡ false → rank b k ≡ k
     as_it_is b k e = ap (λ u. elim (u && (leb b.least k && ltb 0 k)) [ true ↦ max b.least 1 | false ↦ k ]) e
@@ -182,6 +207,12 @@ covers_met asked items s out i w ws rest marks r has there =
         let other = as_it_is b l e in
         let f : rank b k ≡ rank b l = grind (arith, nat_tests) in
         sym one ∙ f ∙ other
+
+covers_met : (asked : List Bool) (items : List Node) (s : List ℕ) (out : List Way) (i : ℕ) (w : Way) (ws : List Way)
+    (rest : List (ℕ × Way)) (marks : List Mark) → RefersWithin asked (sequence_of items)
+    → HasMet asked marks (record { done = i; way = w })
+    → EachMark (IsThere asked items s out (map (at_item i) (w ∷ ws) ++ rest)) marks → Covers asked out (task_ways items s (i, w))
+covers_met asked items s out i w ws rest marks r has there = covers_here asked items s out i w w ws rest marks r has there
 
 -- The steps of the search
 
@@ -226,7 +257,7 @@ taken_ahead asked items s part next left rest new whole out seen seen' r h at po
     (subst (λ l. Covers asked l (T (i, w))) (sym split) there)) in
     may_mark asked items s whole out (tasks new) mark seen.marks.items seen'.marks.items up.0 here
     (subst (λ l. Met asked items s whole out l seen.marks.items) is stepped)
-taken_ahead asked items s part next left rest new whole out seen seen' r h at popped (inr up) met =
+taken_ahead asked items s part next left rest new whole out seen seen' r h at popped (inr (inl up)) met =
     let T = task_ways items s in
     let i = next.item in
     let w = (mark_of next).way in
@@ -238,6 +269,51 @@ taken_ahead asked items s part next left rest new whole out seen seen' r h at po
     (λ m e. beyond_here m i ws e) front_way in
     subst (λ l. Met asked items s whole out (tasks new) l) (sym up.1)
     (subst (λ l. Met asked items s whole out l seen.marks.items) (sym up.2) stepped)
+taken_ahead asked items s part next left rest new whole out seen seen' r h at popped (inr (inr up)) met =
+    let T = task_ways items s in
+    let i = next.item in
+    let w = (mark_of next).way in
+    let ws = rest_of next in
+    let mark : Mark = record { done = i; way = w } in
+    let v : Way = (up.1.0, w.1) in
+    let shared = up.1.1 in
+    let own = up.1.2 in
+    let ones = up.1.3 in
+    let S = flat_map T (map (at_item (i + 1)) shared) in
+    let O = flat_map T (map (at_item (i + 1)) own) in
+    let gives : T (i, w) ≡ S ++ O = followed items s i part w h at ∙ ap (λ l. flat_map T (map (at_item (i + 1)) l)) up.1.5
+    ∙ both_lists (at_item (i + 1)) T shared own in
+    let given : T (i, v) ≡ S ++ flat_map T (map (at_item (i + 1)) ones) = followed items s i part v h at
+    ∙ ap (λ l. flat_map T (map (at_item (i + 1)) l)) up.1.6 ∙ both_lists (at_item (i + 1)) T shared ones in
+    let front_way = subst (λ l. Met asked items s whole out l seen.marks.items) (opened next left rest popped) met in
+    let covered : Covers asked out S = covers_head asked out S (flat_map T (map (at_item (i + 1)) ones))
+    (subst (λ l. Covers asked out l) given
+    (covers_here asked items s out i w v ws (tasks rest) seen.marks.items r up.1.4 front_way.there)) in
+    let children = map (at_item (i + 1)) own in
+    let front = front_of asked items s out out i w ws children
+    (λ Y. subst (λ l. KeepsFirsts asked (out ++ l) (out ++ (O ++ Y)))
+    (sym (append_assoc S O Y) ∙ ap (λ l. l ++ Y) (sym gives)) (keeps_uncovered asked out S (O ++ Y) covered)) in
+    let stepped = met_step asked items s whole out out i w ws (children ++ map (at_item i) ws) (tasks rest) seen.marks.items front
+    (λ xs c. c) (λ m e. later_and_here m i (i + 1) own ws e (omega arith)) front_way in
+    let is : (children ++ map (at_item i) ws) ++ tasks rest ≡ tasks new = append_assoc children (map (at_item i) ws) (tasks rest)
+    ∙ sym up.1.7 in
+    let first : AllBeyond mark children = beyond_here mark (i + 1) own (grind (arith, nat_tests)) in
+    let split : flat_map T (beyond mark (children ++ (map (at_item i) ws ++ tasks rest))) ≡ O ++ flat_map T
+    (beyond mark (map (at_item i) ws ++ tasks rest)) =
+    ap (flat_map T) (beyond_all mark children (map (at_item i) ws ++ tasks rest) first)
+    ∙ flat_map-append T children (beyond mark (map (at_item i) ws ++ tasks rest)) in
+    let there : Covers asked (out ++ flat_map T (beyond mark (children ++ (map (at_item i) ws ++ tasks rest)))) O =
+    covers_after asked out (flat_map T (beyond mark (children ++ (map (at_item i) ws ++ tasks rest)))) O
+    (subst (λ l. Covers asked l O) (sym split)
+    (covers_more asked O (flat_map T (beyond mark (map (at_item i) ws ++ tasks rest))) O (covers_itself asked O))) in
+    let whole_there : Covers asked (out ++ flat_map T (beyond mark (children ++ (map (at_item i) ws ++ tasks rest)))) (T (i, w)) =
+    subst (λ l. Covers asked (out ++ flat_map T (beyond mark (children ++ (map (at_item i) ws ++ tasks rest)))) l) (sym gives)
+    (covers_joined asked (out ++ flat_map T (beyond mark (children ++ (map (at_item i) ws ++ tasks rest)))) S O
+    (covers_more asked out (flat_map T (beyond mark (children ++ (map (at_item i) ws ++ tasks rest)))) S covered) there) in
+    let here : IsThere asked items s out (tasks new) mark =
+    subst (λ l. Covers asked (out ++ flat_map T (beyond mark l)) (T (i, w))) (sym up.1.7) whole_there in
+    may_mark asked items s whole out (tasks new) mark seen.marks.items seen'.marks.items up.0 here
+    (subst (λ l. Met asked items s whole out l seen.marks.items) is stepped)
 
 -- a way that has met all items gives itself
 task_done : (items : List Node) (s : List ℕ) (i : ℕ) (w : Way) → length items ≤ i → task_ways items s (i, w) ≡ w ∷ []
@@ -362,7 +438,24 @@ pub taken_falls : (asked : List Bool) (items : List Node) (s : List ℕ) (part :
     → weight (task_steps items s) (tasks new) < weight (task_steps items s) (tasks left)
 taken_falls asked items s part next left rest new seen seen' h at popped (inl up) = followed_falls asked items s part next left rest new h
     at popped up.1
-taken_falls asked items s part next left rest new seen seen' h at popped (inr up) =
+taken_falls asked items s part next left rest new seen seen' h at popped (inr (inr up)) =
+    let F = task_steps items s in
+    let before = map (at_item next.item) (other_ways next.run.end next.run.shorter (groups_at next.run)) ++ tasks rest in
+    let all = by_end (ways (tree_of part) s next.run.end (groups_at next.run next.run.end)) in
+    let f = at_item (next.item + 1) in
+    let falls = follow_falls items s part next left rest h at popped in
+    let a = weight-append F (map f all) before in
+    let b = ap (weight F) up.1.7 in
+    let c = ap (λ l. weight F (map f l)) up.1.5 in
+    let d = weight-two F f up.1.1 up.1.2 in
+    let e = weight-append F (map f up.1.2) before in
+    omega (arith, falls, a, b, c, d, e)
+  where
+    weight-two : (F : ℕ × Way → ℕ) (f : Way → ℕ × Way) (xs ys : List Way)
+        → weight F (map f (xs ++ ys)) ≡ weight F (map f xs) + weight F (map f ys)
+    weight-two F f [] ys = omega arith
+    weight-two F f (x ∷ xs) ys = let h = weight-two F f xs ys in omega (arith, h)
+taken_falls asked items s part next left rest new seen seen' h at popped (inr (inl up)) =
     let F = task_steps items s in
     let before = map (at_item next.item) (other_ways next.run.end next.run.shorter (groups_at next.run)) ++ tasks rest in
     let found = map (at_item (next.item + 1)) (by_end (ways (tree_of part) s next.run.end (groups_at next.run next.run.end))) in

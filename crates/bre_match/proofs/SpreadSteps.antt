@@ -2,16 +2,16 @@
 use Rattle.std.proofs.Common.{◌≡◌, ℕ, zero, suc, ◌+◌, ◌-◌, ◌*◌, ◌<◌, ◌≤◌, List, [], ◌∷◌, ◌++◌, map, length, take, drop, get_or, Option, None, Some, IfSome, Bool, true, false, leb, ltb, refl, ap, sym, ◌∙◌, subst, append_assoc, eqb, arith}
 use Rattle.std.proofs.lemmas.Bool.Decides.{nat_tests}
 use Rattle.bre_parse.specs.declared.tree.Node.{Node}
-use Rattle.bre_parse.specs.Tree.{Tree, Empty, Then, Repeat, tree_of, sequence_of}
+use Rattle.bre_parse.specs.Tree.{Tree, Empty, Repeat, tree_of, sequence_of}
 use Rattle.bre_parse.specs.Groups.{no_groups}
 use Rattle.bre_parse.specs.Match.{first, longest_from, match_among}
-use Rattle.bre_parse.specs.Ways.{Way, Body, ways, turns, fresh_turn, by_end, below}
+use Rattle.bre_parse.specs.Ways.{Way, Body, ways, turns, fresh_turn, by_end}
 use Rattle.bre_parse.proofs.Sequences.{sequence_of-drop, sequence_of-all}
 use Rattle.bre_match.specs.Alike.{RefersWithin, HasAlike}
 use Rattle.bre_match.specs.Outlooks.{Each}
 use Rattle.bre_match.specs.Spreads.{AreKnown, Leads, begun, NoneBetween}
 use Rattle.bre_match.proofs.Asking.{rest_within}
-use Rattle.bre_match.proofs.Each.{each_map, each_append, each_head, each_rest}
+use Rattle.bre_match.proofs.Each.{each_map, each_head, each_rest}
 use Rattle.bre_match.proofs.SameWays.{Even, even_fresh, even_ways}
 use Rattle.bre_match.proofs.Spreads.{each_taken, each_whole, known_itself, known_before, known_known, one_known, leads_more, led_known, fresh_led, then_leads, needed_turn, repeat_leads, later_turn, last_turn}
 use Rattle.bre_match.proofs.Starts.{skip_starts}

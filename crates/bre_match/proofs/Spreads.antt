@@ -1,16 +1,15 @@
 -- Where ways come to, order apart: item after item, and turn after turn.
-use Rattle.std.proofs.Common.{◌≡◌, ◌⊎◌, inl, inr, ℕ, zero, suc, ◌+◌, ◌-◌, ◌<◌, ◌≤◌, List, [], ◌∷◌, ◌++◌, map, flat_map, length, take, get_or, Option, None, Bool, true, false, leb, eqb, refl, ap, sym, ◌∙◌, subst, arith}
+use Rattle.std.proofs.Common.{◌≡◌, ◌⊎◌, inl, inr, ℕ, zero, suc, ◌+◌, ◌<◌, ◌≤◌, List, [], ◌∷◌, ◌++◌, map, flat_map, length, take, get_or, Option, Bool, true, false, leb, eqb, refl, ap, sym, ◌∙◌, subst, arith}
 use Rattle.std.specs.Prelude.{◌&&◌, slice_index_or, slice_set}
 use Rattle.bre_parse.specs.Tree.{Tree, Then, Group, Repeat}
 use Rattle.bre_parse.specs.Groups.{Groups}
-use Rattle.bre_parse.specs.Match.{first, longest_from}
 use Rattle.bre_parse.specs.Ways.{Way, Body, ways, turns, fresh_turn, next_turn, after_turn, stopped_or_on, from_way, with_group, below, only_if, by_end, enough}
-use Rattle.bre_match.specs.Alike.{RefersWithin, same_span, same_asked, alike, HasAlike, AreAlike}
+use Rattle.bre_match.specs.Alike.{RefersWithin, same_span, same_asked, HasAlike, AreAlike}
 use Rattle.bre_match.specs.Outlooks.{Each}
 use Rattle.bre_match.specs.Spreads.{AreKnown, Leads, begun}
 use Rattle.bre_match.proofs.Each.{each_map, each_append, each_of_map, each_before_map, each_of_all, each_for_all, each_by_end, each_like}
 use Rattle.bre_match.proofs.Likeness.{both_right, both, span_itself, asked_itself, alike_itself, alike_made}
-use Rattle.bre_match.proofs.SameWays.{Even, even_at, even_turns, even_fresh, even_ways, with_group_alike, has_like}
+use Rattle.bre_match.proofs.SameWays.{Even, even_at, even_turns, even_ways, with_group_alike, has_like}
 
 -- Lists that are gone through
 

@@ -46,10 +46,15 @@ pub(crate) fn alike(asked: &Asked, one: &Way, other: &Way) -> bool
 
 /// A number that ways have in common which are alike, and others seldom.
 pub(crate) fn number_of(asked: &Asked, way: &Way) -> usize {
-    let mut number = way.0;
+    number_of_groups(asked, way.0, &way.1)
+}
+
+/// A number that groups have in common which are the same as far as they are asked for, with the same number before them.
+pub(crate) fn number_of_groups(asked: &Asked, before: usize, groups: &Groups) -> usize {
+    let mut number = before;
     for group in 0..9 {
         if asked[group] {
-            number = match way.1[group] {
+            number = match groups[group] {
                 Some(span) => mixed(mixed(number, span.0), span.1),
                 None => mixed(number, usize::MAX),
             };

@@ -3,6 +3,7 @@
 
 use crate::asked::Asked;
 use crate::run::{Run, only_item};
+use crate::start::any_number_of;
 use bre_parse::tree::Node;
 
 /// Whether a group that is asked for stands in a part.
@@ -93,7 +94,13 @@ pub(crate) fn first_meeting_of_starts(items: &[Node], asked: &Asked, is_wanted: 
     }
 }
 
-/// Whether a way that has passed so many items may be like one that was there, where ways may meet after so many.
+/// Whether an item takes any number of bytes of a set.
+fn is_row(items: &[Node], item: usize) -> bool {
+    item < items.len() && any_number_of(&items[item]).is_some()
+}
+
+/// Whether a way that has passed so many items may be like one that was there, where ways may meet after so many. Those that meet before a
+/// row of bytes are told there, and not after it once more.
 pub(crate) fn may_meet(
     items: &[Node],
     first_meeting: usize,
@@ -101,7 +108,10 @@ pub(crate) fn may_meet(
     run: &Run,
     asked: &Asked,
 ) -> bool {
-    if passed < first_meeting || passed == 0 || passed > items.len() {
+    if is_row(items, passed) {
+        return first_meeting <= passed.saturating_add(1);
+    }
+    if passed < first_meeting || passed == 0 || passed > items.len() || is_row(items, passed - 1) {
         return false;
     }
     match run.closes {

@@ -1,14 +1,17 @@
 //! The turns of a repeat that were taken up, so that none is taken up twice; and the ways of a sequence, by the item that each
 //! meets next in place of the turns that are done.
 
-ghost use Rattle.std.specs.Prelude.{◌≡◌, ℕ, ◌<◌, ◌⊎◌, ◌++◌, ◌∷◌, [], IsTrue, OnOk, IfOk, true, false};
+ghost use Rattle.std.specs.Prelude.{◌≡◌, ℕ, ◌<◌, ◌⊎◌, ◌++◌, ◌∷◌, [], IsTrue, OnOk, IfOk, IfSome, None, true, false, length, get_or, drop};
+ghost use Rattle.bre_match.specs.Meeting.{AreInRow, HasMet, MayMark, from_place};
+ghost use Rattle.bre_match.specs.Runs.{members};
 ghost use Rattle.bre_match.specs.Turns.{same_turn, HasTurn, rank};
 
-use crate::alike::{alike, number_of};
+use crate::alike::{alike, number_of, number_of_groups};
 use crate::asked::Asked;
 use crate::index::{Index, mixed};
-use crate::run::Way;
+use crate::run::{Way, count_members};
 use crate::turn::Bounds;
+use bre_parse::tree::ByteSet;
 use std::alloc::{AllocError, Global};
 
 /// How many turns were done before one, where it begins and with which groups.
@@ -77,6 +80,50 @@ fn has_turn(
     false
 }
 
+/// Whether two places lie in one row of bytes of a set, of which there are `more` from the other one on.
+fn are_in_row(set: &ByteSet, text: &[u8], one: usize, other: usize, more: usize) -> bool
+    requires more { more ≡ members None 0 set.now.negated set.now.ranges.items (drop other text.now) }
+    ensures sound { IsTrue result → AreInRow set.now.negated set.now.ranges.items text.now one other }
+{
+    if one <= other {
+        other - one <= count_members(set, None, text, one)
+    } else {
+        one - other <= more
+    }
+}
+
+/// Where among those that were taken up a way is that met the same item in one row with this one, as far as the index has them. There are
+/// `more` bytes of the set from the way's place on.
+fn place_in_row(
+    marks: &[Mark],
+    index: &Index,
+    number: usize,
+    asked: &Asked,
+    mark: &Mark,
+    set: &ByteSet,
+    text: &[u8],
+    more: usize,
+) -> Option<usize>
+    requires more { more ≡ members None 0 set.now.negated set.now.ranges.items (drop mark.now.way.0 text.now) }
+    ensures within { IfSome result (λ at. at < length marks.now) }
+    ensures met { IfSome result (λ at. HasMet asked.now marks.now (from_place (get_or marks.now at mark.now).way.0 mark.now)) }
+    ensures row { IfSome result (λ at. AreInRow set.now.negated set.now.ranges.items text.now (get_or marks.now at mark.now).way.0 mark.now.way.0) }
+{
+    let mut after = index.last(number);
+    while after > 0 {
+        if after <= marks.len() {
+            let done = mark.done;
+            let way = (marks[after - 1].way.0, mark.way.1);
+            let is_like = same_turn(items_apart(), asked, &marks[after - 1], &Mark { done, way });
+            if is_like && are_in_row(set, text, way.0, mark.way.0, more) {
+                return Some(after - 1);
+            }
+        }
+        after = index.before(after);
+    }
+    None
+}
+
 impl Seen {
     pub(crate) fn new(alloc: Global) -> Self
         ensures value { result.marks.items ≡ [] }
@@ -104,6 +151,15 @@ impl Seen {
         }
     }
 
+    /// Keeps a mark in mind, to be found by this number.
+    fn keep(&mut self, number: usize, mark: Mark) -> Result<(), AllocError>
+        ensures value { OnOk result (self.new.marks.items ≡ self.old.marks.items ++ mark ∷ []) }
+    {
+        self.index.add(number)?;
+        self.marks.push(mark)?;
+        Ok(())
+    }
+
     /// Whether a turn wasn't taken up before, as far as this is known; it counts as taken up from now on.
     pub(crate) fn is_new(
         &mut self,
@@ -118,8 +174,44 @@ impl Seen {
         if has_turn(&self.marks, &self.index, number, bounds, asked, &mark) {
             return Ok(false);
         }
-        self.index.add(number)?;
-        self.marks.push(mark)?;
+        self.keep(number, mark)?;
         Ok(true)
+    }
+
+    /// The place of a way that met the same item in one row of bytes of a set with this one, with the same groups that are asked for, if
+    /// one is known. Of the two the one with the earlier place is kept in mind from now on, whose ends are those of both.
+    pub(crate) fn met_in_row(
+        &mut self,
+        asked: &Asked,
+        mark: Mark,
+        set: &ByteSet,
+        text: &[u8],
+    ) -> Result<Option<usize>, AllocError>
+        ensures met { IfOk result (λ found. IfSome found (λ place. HasMet asked.now self.old.marks.items (from_place place mark))) }
+        ensures row { IfOk result (λ found. IfSome found (λ place. AreInRow set.now.negated set.now.ranges.items text.now place mark.way.0)) }
+        ensures marked { IfOk result (λ found. MayMark mark self.old.marks.items self.new.marks.items) }
+    {
+        let place = mark.way.0;
+        let more = count_members(set, None, text, place);
+        let end = place.saturating_add(more);
+        let number = mixed(number_of_groups(asked, end, &mark.way.1), mark.done);
+        if let Some(at) = place_in_row(
+            &self.marks,
+            &self.index,
+            number,
+            asked,
+            &mark,
+            set,
+            text,
+            more,
+        ) {
+            let met = self.marks[at].way.0;
+            if place < met {
+                self.marks[at] = mark;
+            }
+            return Ok(Some(met));
+        }
+        self.keep(number, mark)?;
+        Ok(None)
     }
 }

@@ -15,7 +15,7 @@ struct Row {
 
 // Worked out by hand from the definition of a match.
 #[rattlefmt::skip]
-static ROWS: [Row; 13] = [
+static ROWS: [Row; 17] = [
     // What stands before the comma stands at the end again.
     Row { pattern: b"\\([^,]*\\),\\(.*,\\)*\\1$", text: b"ab,cd,ab", spans: Some((0, 8)), first: Some((0, 2)), second: Some((3, 6)) },
     Row { pattern: b"\\([^,]*\\),\\(.*,\\)*\\1$", text: b"x,ab,cd,ab", spans: Some((2, 10)), first: Some((2, 4)), second: Some((5, 8)) },
@@ -32,6 +32,11 @@ static ROWS: [Row; 13] = [
     // Two ways that end at one place and differ in the group: only the later one leads on.
     Row { pattern: b"b\\(a*\\)\\(a\\)*c\\1$", text: b"baacbaaca", spans: Some((4, 9)), first: Some((5, 6)), second: Some((6, 7)) },
     Row { pattern: b"\\(\\(a*\\)a*\\)*b\\2c", text: b"aacaabac", spans: Some((3, 8)), first: Some((3, 5)), second: Some((3, 4)) },
+    // Rows of one byte, one after another: of the ways that meet in a row the first keeps its groups.
+    Row { pattern: b"\\(a*\\)a*a*\\(b\\)\\2", text: b"aaabb", spans: Some((0, 5)), first: Some((0, 3)), second: Some((3, 4)) },
+    Row { pattern: b"\\(a*\\)a*ab\\(b\\)\\2", text: b"aaabbb", spans: Some((0, 6)), first: Some((0, 2)), second: Some((4, 5)) },
+    Row { pattern: b"a*\\(a*\\)a*a*b\\1c", text: b"aaabac", spans: Some((0, 6)), first: Some((2, 3)), second: None },
+    Row { pattern: b"[ab]*\\(a*\\)a*b*c\\1$", text: b"abaabcaa", spans: Some((0, 8)), first: Some((2, 4)), second: None },
     // The first start at once, and the last one, at the end of the text.
     Row { pattern: b"\\(ab\\)*c\\(x*\\)\\2$", text: b"abababc", spans: Some((0, 7)), first: Some((4, 6)), second: Some((7, 7)) },
     Row { pattern: b"\\(ab\\)*\\(x*\\)\\2$", text: b"abac", spans: Some((4, 4)), first: None, second: Some((4, 4)) },
@@ -70,6 +75,22 @@ fn many_hopeless_starts_end_soon(rt: HostRuntime) -> Result<(), Fail> {
         b"\\(\\(a*a*\\)\\(a*a*\\)\\)*b\\1bb",
     ];
     let line = line_of(rt.alloc(), 60, b"b")?;
+    for bytes in patterns.as_slice() {
+        let pattern = pattern(rt.alloc(), bytes)?;
+        assert!(rt; !matches(rt.alloc(), &pattern, &line)?, "{:?}", bytes);
+    }
+    Ok(())
+}
+
+// Where rows follow a group that is referred to, no place of a row is followed twice with the same span of the group.
+#[test]
+fn rows_after_a_group_that_is_referred_to_end_soon(rt: HostRuntime) -> Result<(), Fail> {
+    #[rattlefmt::skip]
+    let patterns: [&[u8]; 2] = [
+        b"a*\\(a*\\)a*a*\\1bbb",
+        b"\\(a*\\)a*a*a*a*\\1bbb",
+    ];
+    let line = line_of(rt.alloc(), 60, b"bb")?;
     for bytes in patterns.as_slice() {
         let pattern = pattern(rt.alloc(), bytes)?;
         assert!(rt; !matches(rt.alloc(), &pattern, &line)?, "{:?}", bytes);

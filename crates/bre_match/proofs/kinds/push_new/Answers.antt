@@ -1,4 +1,4 @@
-use Rattle.std.proofs.Common.{◌≡◌, ◌∙◌, ap, Vec, Global}
+use Rattle.std.proofs.Common.{◌∙◌, ap, Vec, Global}
 use Rattle.bre_parse.specs.Ways.{Way}
 use Rattle.bre_match.proofs.SpreadSteps.{knows_new, knows_old, put_new}
 use Rattle.bre_match.proofs.kinds.push_new.Goals.{then-not-has_alike+in_ok-add+in_ok-push+in_ok-push-2, else-not-has_alike}

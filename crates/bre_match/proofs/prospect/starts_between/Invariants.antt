@@ -1,4 +1,4 @@
-use Rattle.std.proofs.Common.{◌≡◌, [], ℕ, ◌≤◌, ◌<◌}
+use Rattle.std.proofs.Common.{◌≡◌, []}
 use Rattle.bre_parse.specs.Tree.{sequence_of}
 use Rattle.bre_parse.specs.Ways.{ways}
 use Rattle.bre_match.specs.Outlooks.{Each}

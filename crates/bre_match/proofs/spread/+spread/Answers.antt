@@ -1,5 +1,5 @@
-use Rattle.std.proofs.Common.{◌≡◌, ℕ, ◌+◌, ◌*◌, ◌≤◌, ◌<◌, ◌++◌, [], length, ap, ◌∙◌, subst, sym, refl, arith, Some, None}
-use Rattle.bre_parse.specs.Tree.{tree_of, sequence_of, Group}
+use Rattle.std.proofs.Common.{◌≡◌, ℕ, ◌≤◌, ◌++◌, ap, ◌∙◌, subst, sym, arith, Some, None}
+use Rattle.bre_parse.specs.Tree.{tree_of, Group}
 use Rattle.bre_parse.specs.Ways.{ways, turns, fresh_turn}
 use Rattle.bre_parse.proofs.tree.Node.TheLaws.{the_size}
 use Rattle.bre_match.specs.Spreads.{AreKnown, Leads}

@@ -1,7 +1,5 @@
-use Rattle.std.proofs.Common.{◌≡◌, ◌++◌, [], ap, ◌∙◌, subst, sym}
 use Rattle.bre_parse.specs.Tree.{tree_of}
 use Rattle.bre_parse.specs.Ways.{ways}
-use Rattle.bre_match.specs.Spreads.{AreKnown}
 use Rattle.bre_match.proofs.SpreadSteps.{leads_next, found_known}
 use Rattle.bre_match.proofs.spread.spread_simply.Goals as goal
 
