@@ -1,7 +1,8 @@
 /* To be preloaded. With REFUSE="KIND N" the Nth call of that kind, counted from 1, fails: open, stat, read, write, ftruncate, fsync, fchmod,
    rename, unlink or close. "refused KIND WHERE PLACE" is said then on standard error: WHERE is `input`, `output`, or the number of the opened
-   file, counted from 1 with those that couldn't be opened; PLACE is how many bytes lie before the place in it. With BYTES="KIND.." each read,
-   write or both take one byte at most. Calls on standard error are never refused. */
+   file, counted from 1 with those that couldn't be opened; PLACE is how many bytes lie before the place in it, which is that of the call, or
+   where the last write ended. With UNCUT set each ftruncate fails too, and nothing is said of it. With BYTES="KIND.." each read, write or both
+   take one byte at most. Calls on standard error are never refused. */
 #define _GNU_SOURCE
 #include <errno.h>
 #include <fcntl.h>
@@ -15,6 +16,7 @@
 
 static long opened;
 static long numbers[1024];
+static long places[1024];
 
 /* The number is that of a file that isn't open yet, or 0 for what a descriptor stands for. */
 static void say_refused(const char *kind, int fd, long number) {
@@ -26,6 +28,8 @@ static void say_refused(const char *kind, int fd, long number) {
     else
         snprintf(where, sizeof where, "%ld", number);
     long place = fd < 0 ? 0 : lseek(fd, 0, SEEK_CUR);
+    if (fd >= 0 && fd < 1024 && places[fd] > place)
+        place = places[fd];
     int size = snprintf(said, sizeof said, "refused %s %s %ld\n", kind, where, place);
     syscall(SYS_write, 2, said, size);
 }
@@ -58,7 +62,7 @@ int open(const char *path, int flags, ...) {
         return -1;
     int fd = syscall(SYS_openat, AT_FDCWD, path, flags, mode);
     if (fd >= 0 && fd < 1024)
-        numbers[fd] = opened;
+        numbers[fd] = opened, places[fd] = 0;
     return fd;
 }
 
@@ -80,7 +84,22 @@ ssize_t write(int fd, const void *piece, size_t size) {
     return syscall(SYS_write, fd, piece, taken_at_once("write", size));
 }
 
+ssize_t pwrite(int fd, const void *piece, size_t size, off_t place) {
+    if (fd >= 0 && fd < 1024)
+        places[fd] = place;
+    if (is_refused("write", fd, 0, ENOSPC))
+        return -1;
+    ssize_t taken = syscall(SYS_pwrite64, fd, piece, taken_at_once("write", size), place);
+    if (fd >= 0 && fd < 1024 && taken > 0)
+        places[fd] = place + taken;
+    return taken;
+}
+
 int ftruncate(int fd, off_t size) {
+    if (getenv("UNCUT")) {
+        errno = EIO;
+        return -1;
+    }
     return is_refused("ftruncate", fd, 0, EIO) ? -1 : syscall(SYS_ftruncate, fd, size);
 }
 

@@ -1,9 +1,9 @@
 #!/usr/bin/env bash
 # Refuses each call on files in turn, and lets reads and writes take one byte at a time. Each run tells by hand what it says, reads and
 # writes, in that order. From this follows what each refusal has to leave, byte for byte: status 3; the output up to there, with the
-# report of a file; a file with a front of its new bytes and after it what it had there; all else as it was, modes and times too. Where
-# none is refused, the whole run. It runs the program that `make` built, from anywhere, and needs a C compiler. The last line counts
-# the runs, by whole calls and by single bytes.
+# report of a file; a file that becomes longer as it was, while its new end is refused; else a file with a front of its new bytes and
+# after it what it had there, and its new end; all else as it was, modes and times too. Where none is refused, the whole run. It runs the
+# program that `make` built, from anywhere, and needs a C compiler. The last line counts the runs, by whole calls and by single bytes.
 set -uo pipefail
 export LC_ALL=C TZ=UTC
 cd "$(dirname "$0")" || exit 1
@@ -19,7 +19,7 @@ passed=0
 failed=0
 
 # The files that each run finds. Their time lies in the past, so that a write shows.
-declare -A before=([F]=$'a\nb\nc\n' [G]=$'uvw\nxyz' [A]=$'1d\nw\nq\n' [B]=$'$p\nQ\n')
+declare -A before=([F]=$'a\nb\nc\n' [E]='' [G]=$'uvw\nxyz' [A]=$'1d\nw\nq\n' [B]=$'$p\nQ\n')
 declare -A has written met
 before[CERT]='ed-certificate 1
 path =F
@@ -106,15 +106,37 @@ writes() { # NAME TEXT
   local name=${1%% *} text
   printf -v text "${1#* }"
   size=$((size + ${#text}))
-  if ! meets_refusal || [ "$kind" = fsync ]; then
+  local old=${has[$name]-}
+  local end=${#old}
+  syncs=$((syncs + 1))
+  if [ "$end" -gt 0 ] && [ "$end" -lt ${#text} ]; then syncs=$((syncs + 1)); fi
+  if ! meets_refusal; then
     has[$name]=$text
     written[$name]=yes
-  elif [ "$kind" != open ]; then
-    local old=${has[$name]-}
-    has[$name]=${text:0:place}${old:place}
+  elif [ "$kind" != open ] && [ "$kind" != stat ]; then
+    has[$name]=$(leaves && echo .)
+    has[$name]=${has[$name]%.}
     written[$name]=yes
+  elif [ "$kind" = stat ]; then
+    [ "${has[$name]+there}" ] || written[$name]=yes
+    has[$name]=$old
   fi
   if [ "$over" ]; then output+=$report; fi
+}
+
+# What a file with the bytes `old` has when a write of `text` was refused.
+leaves() {
+  if [ ${#text} -le "$end" ]; then
+    if [ "$kind" = fsync ]; then printf '%s' "$text"; else printf '%s' "${text:0:place}${old:place}"; fi
+  elif [ "$kind" = fsync ] && [ "$place" = "$end" ]; then
+    printf '%s' "$text"
+  elif [ "$place" -lt "$end" ]; then
+    printf '%s' "${text:0:place}${old:place}${text:end}"
+  elif [ "$uncut" ]; then
+    printf '%s' "$old${text:end:place-end}"
+  else
+    printf '%s' "$old"
+  fi
 }
 
 # Help mode is turned on.
@@ -127,6 +149,7 @@ foresee() { # KIND WHERE PLACE
   local kind=$1 where=$2 place=$3 number=0 over= report=$'?\n' step name
   output=
   size=0
+  syncs=0
   has=()
   written=()
   for name in "${!before[@]}"; do has[$name]=${before[$name]}; done
@@ -181,7 +204,8 @@ each_is_refused() { # KIND BYTES
   done
 }
 
-# Whether each call was really met: a file is opened once for each step on it, and synced once for each that writes it.
+# Whether each call was really met: a file is opened once for each step on it, and synced once for each that writes it, or twice where it
+# becomes longer.
 are_all_met() {
   local step files=0 writes=0
   for step in "${steps[@]}"; do
@@ -190,14 +214,14 @@ are_all_met() {
     reads\ * | takes\ *) files=$((files + 1)) ;;
     esac
   done
-  [ "${met[open]} ${met[fsync]}" = "$files $writes" ] && [ "${met[read]}" -gt 0 ] && [ "${met[write]}" -ge "$writes" ]
+  [ "${met[open]} ${met[fsync]}" = "$files $syncs" ] && [ "${met[read]}" -gt 0 ] && [ "${met[write]}" -ge "$writes" ]
 }
 
 # Whole calls first, then by single bytes.
 is_told_right() {
   local kind
   met=()
-  for kind in open stat read write ftruncate fsync close; do
+  for kind in $kinds; do
     each_is_refused "$kind" '' || return 1
     met[$kind]=$calls
   done
@@ -230,14 +254,20 @@ on() {
   fi
 }
 
-# The kinds of calls that are refused by single bytes too.
+# The kinds of calls that are refused, and those that are by single bytes too.
+kinds='open stat read write ftruncate fsync close'
 bytewise='read write'
+uncut=
 on 'w of all lines' 0 '2d\nw\n,p\nq\n' 'edit F' \
   'reads F' 'says 6\n' 'writes F a\nc\n' 'says 4\na\nc\n'
 on 'w of fewer bytes' 0 '1,2c\nz\n.\nw\n1p\nq\n' 'edit -s F' \
   'reads F' 'writes F z\nc\n' 'says z\n'
 on 'w of more bytes' 0 '$a\nmore\n.\nw\nq\n' 'edit -s G' \
   'reads G' 'writes G uvw\nxyz\nmore\n'
+on 'w of one byte more' 0 '1s/$/!/\nw\nq\n' 'edit -s F' \
+  'reads F' 'writes F a!\nb\nc\n'
+on 'w to an empty file' 0 'f\n1w E\nq\n' 'edit F' \
+  'reads F' 'says 6\nF\n' 'writes E a\n' 'says 2\n'
 on 'w of a range to a new file' 0 '2,3w H\nq\n' 'edit F' \
   'reads F' 'says 6\n' 'writes H b\nc\n' 'says 4\n'
 on 'w of a range over another file' 0 '1p\n1,2w G\n3p\nq\n' 'edit -s F' \
@@ -268,6 +298,18 @@ on 'changes that are not written' 1 '1d\nq\n' 'edit F' \
   'reads F' 'says 6\n?\n'
 on 'a prompt' 0 '2d\nw\nq\n' 'edit -p > F' \
   'reads F' 'says 6\n>>' 'writes F a\nc\n' 'says 4\n>'
+
+# A new end that is refused and can't be cut off.
+export UNCUT=yes
+uncut=yes
+kinds=${kinds/ftruncate /}
+on 'w of more bytes that stay' 0 '$a\nmore\n.\nw\n,p\nq\n' 'edit -s G' \
+  'reads G' 'writes G uvw\nxyz\nmore\n' 'says uvw\nxyz\nmore\n'
+on 'w to a new file that stays' 0 '2,3w H\nq\n' 'edit F' \
+  'reads F' 'says 6\n' 'writes H b\nc\n' 'says 4\n'
+unset UNCUT
+uncut=
+kinds='open stat read write ftruncate fsync close'
 
 # A certificate has too many bytes to refuse each.
 bytewise=write

@@ -13,3 +13,4 @@ mod RunningLists
 mod Causes
 mod Rounds
 mod Refusing
+pub mod Overwritten

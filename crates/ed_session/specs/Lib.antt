@@ -11,6 +11,7 @@ pub mod MemSinks
 pub mod KeptAnswers
 -- what serves clauses inside the crate
 pub mod Chunks
+pub mod Overwrites
 pub mod Agendas
 pub mod Insides
 pub mod Rounds

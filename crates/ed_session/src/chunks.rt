@@ -1,5 +1,5 @@
 //! Bytes in pieces given out in chunks, so that short pieces don't cost a call of the system each.
-ghost use Rattle.std.specs.Prelude.{◌≡◌, ◌<◌, ◌≤◌, ◌+◌, ◌++◌, ◌↔◌, [], length, vec_len, IsTrue, IfNone, IfSome};
+ghost use Rattle.std.specs.Prelude.{◌≡◌, ◌<◌, ◌≤◌, ◌+◌, ◌++◌, ◌↔◌, [], drop, length, vec_len, IsTrue, IfNone, IfSome};
 ghost use Rattle.std.specs.Borrow.{sem};
 ghost use Rattle.std.specs.Io.BufRead.{Rests};
 ghost use Rattle.ed_session.specs.Chunks.{left};
@@ -44,6 +44,20 @@ impl<'a> Chunks<'a> {
         Chunks { piece, walk, room }
     }
 
+    /// All bytes but the first so many are left.
+    pub(crate) fn after(bytes: &'a Pieces, count: usize, room: Vec<u8>) -> Self
+        ensures value { result ≡ drop count bytes.now }
+    {
+        let mut walk = bytes.walk();
+        let piece = skip(&mut walk, count);
+        Chunks { piece, walk, room }
+    }
+
+    /// The room in which chunks were gathered, for others.
+    pub(crate) fn into_room(self) -> Vec<u8> {
+        self.room
+    }
+
     /// The next chunk, which isn't empty; none after the last one.
     pub(crate) fn next_chunk(&mut self) -> Option<&[u8]>
         ensures ended { IfNone result (self.old ≡ []) }
@@ -73,6 +87,20 @@ fn take_piece<'a>(walk: &mut Walk<'a>) -> &'a [u8]
         Some(piece) => piece,
         None => &[],
     }
+}
+
+/// What is left of the next piece when so many bytes of a walk were skipped; an empty one where no byte is left.
+fn skip<'a>(walk: &mut Walk<'a>, count: usize) -> &'a [u8]
+    ensures rest { drop count walk.old ≡ left result.now walk.new }
+{
+    let mut more = count;
+    'pieces: while let Some(piece) = walk.next_piece() {
+        if more < piece.len() {
+            return &piece[more..];
+        }
+        more -= piece.len();
+    }
+    &[]
 }
 
 /// Gathers this piece and those after it in an empty room, as far as they fit, or none where not even two of them do. It hands

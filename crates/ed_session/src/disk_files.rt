@@ -7,6 +7,8 @@ ghost use Rattle.ed_session.specs.Seen.{log_seen};
 
 use crate::Outside;
 use crate::chunks::{Chunks, ROOM};
+use crate::file_places::OpenedFile;
+use crate::overwriting::overwrite;
 use crate::seen::{SeenAnswer, SeenBytes, SeenRequest};
 use ed_base::{Bytes, Pieces};
 use ed_syntax::Answer;
@@ -20,9 +22,14 @@ use std::snapshot::Snapshot;
 /// An outside whose files are those of the system.
 ///
 /// A file that isn't there is missing. One that can't be read or written is refused, and so is a path that isn't UTF-8 or
-/// holds a zero byte. A write gives the file that is there other bytes and leaves its owner, mode and links. One that is
-/// refused midway leaves a front of the new bytes, and after it what the file had there. A call that finds no memory has
-/// changed no file.
+/// holds a zero byte. A write gives the file that is there other bytes and leaves its owner, mode and links.
+///
+/// Where a file becomes longer, what lies beyond its old end is written and synced first. If that is refused, as on a full disk, it is cut
+/// off again and the file has its old bytes; if the cut is refused too, a part of the new end stays after them, and the first refusal is the
+/// reason. Then come the bytes before the old end, which take no new room where the disk writes in place and the file has no holes. A write
+/// that is refused there, or that makes a file no longer, leaves a front of the new bytes, and after it what the file had there; if it was
+/// to become longer, then the new end. A new file is left empty. What isn't a file on a disk, as a pipe, has taken a front of the bytes.
+/// A call that finds no memory has changed no file.
 #[derive(Drop)]
 pub struct DiskFiles<R: Files<File = File> + Drop> {
     alloc: Global,
@@ -165,7 +172,7 @@ fn write_answer<R: Files<File = File>>(
         .create(true)
         .open(files, path)
     {
-        Ok(file) => match overwrite(file, bytes, room) {
+        Ok(file) => match give_bytes(file, bytes, room) {
             Ok(()) => Ok(Answer::Done),
             Err(error) => {
                 *reason = Some(error);
@@ -181,14 +188,15 @@ fn write_answer<R: Files<File = File>>(
 }
 
 /// Gives an open file just these bytes. They are synced, since a disk that can't take them may say so only then, and closing a file
-/// tells nothing. What isn't a file on a disk, as a pipe or a terminal, has nothing to be cut off or synced.
-fn overwrite(mut file: File, bytes: &Pieces, room: Vec<u8>) -> io::Result<()> {
-    write_pieces(&mut file, bytes, room)?;
-    if file.metadata()?.is_file() {
-        file.set_len(bytes.len() as u64)?;
-        file.sync_all()?;
+/// tells nothing. What isn't a file on a disk, as a pipe or a terminal, is written from the front on: it has no places, and nothing to be
+/// cut off or synced.
+fn give_bytes(mut file: File, bytes: &Pieces, room: Vec<u8>) -> io::Result<()> {
+    let found = file.metadata()?;
+    if found.is_file() {
+        overwrite(&mut OpenedFile::new(file), found.len(), bytes, room)
+    } else {
+        write_pieces(&mut file, bytes, room)
     }
-    Ok(())
 }
 
 /// Writes all bytes, short pieces gathered in the capacity of a vector.
