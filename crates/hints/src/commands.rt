@@ -8,7 +8,7 @@ ghost use Rattle.hints.specs.Sought.{first_of, second_of, command_at};
 use crate::bytes::between;
 use cert_check::Place;
 use ed_base::next_line;
-use ed_syntax::{Address, Addresses, Command, Script, Span, Verb, places, read_script};
+use ed_syntax::{Address, Addresses, Command, Script, Span, list_places, places};
 use std::alloc::{AllocError, Global};
 
 /// Where a command stands; commands count from 1. None where the script has no such command, readable or not.
@@ -93,37 +93,31 @@ pub(crate) fn addresses_of(command: &Command) -> [Option<&Address>; 3] {
     [first, second, command.verb.takes().target]
 }
 
-/// How many lines a command of a list takes: one, and those of its text with the period after it.
-fn lines_of_listed(command: &Command) -> usize {
-    match &command.verb {
-        Verb::Append(text) | Verb::Change(text) | Verb::Insert(text) => {
-            text.len().saturating_add(2)
-        }
-        _ => 1,
+/// Where a command of a list stands in its global command's bytes; the list's commands count from 1.
+fn span_in_list(alloc: Global, command: &[u8], inner: usize) -> Result<Option<Span>, AllocError> {
+    let spans = list_places(alloc, command)?;
+    match inner.checked_sub(1) {
+        Some(index) => Ok(spans.as_slice().get(index).copied()),
+        None => Ok(None),
     }
 }
 
-/// How many lines the commands of a list take before one of them; these count from 1.
-fn lines_before(list: &[Command], inner: usize) -> usize {
-    let mut lines: usize = 0;
-    for (index, command) in list.iter().enumerate() {
-        if index.saturating_add(1) >= inner {
-            return lines;
-        }
-        lines = lines.saturating_add(lines_of_listed(command));
-    }
-    lines
-}
-
-/// How many lines after its global command's first line a command of a list begins.
-fn lines_down(script: &Script, place: Place) -> usize {
-    let Some(inner) = place.inner else {
-        return 0;
-    };
-    let index = place.command.saturating_sub(1);
-    match script.commands.as_slice().get(index) {
-        Some(command) => lines_before(command.list(), inner),
-        None => 0,
+/// Where the lines of a command of a list stand in the script, whose global command has this span. A command that begins amid the global
+/// command's own line has that line.
+fn lines_in_list(
+    alloc: Global,
+    script: &[u8],
+    span: Span,
+    inner: usize,
+) -> Result<Span, AllocError> {
+    let command = between(script, span.low, span.high);
+    match span_in_list(alloc, command, inner)? {
+        Some(listed) if listed.line > 1 => Ok(Span {
+            line: span.line.saturating_add(listed.line - 1),
+            low: span.low.saturating_add(listed.low),
+            high: span.low.saturating_add(listed.high),
+        }),
+        _ => Ok(span),
     }
 }
 
@@ -136,15 +130,9 @@ pub(crate) fn line_at(
     let Some(span) = span_of(alloc, script, place.command)? else {
         return Ok(None);
     };
-    let down = lines_down(&read_script(alloc, script)?, place);
-    let mut left = between(script, span.low, span.high);
-    for _ in 0..down {
-        left = after_line(left);
-    }
-    let lines = Span {
-        line: span.line.saturating_add(down),
-        low: span.high.saturating_sub(left.len()),
-        high: span.high,
+    let lines = match place.inner {
+        Some(inner) => lines_in_list(alloc, script, span, inner)?,
+        None => span,
     };
     Ok(Some(line_of_span(script, lines)))
 }

@@ -1,24 +1,36 @@
 //! Changes that would be lost: writing them first, ending anyway, and a text whose period is missing.
 
 use crate::bytes::{before, between, first, from, is_blank, joined, replaced};
-use crate::commands::{command_at, first_line, last_command, span_of, without_newline};
+use crate::commands::{command_at, first_line, last_command, span_of};
 use crate::drafts::{Draft, drafted};
 use crate::hint::Advice;
 use crate::words::quoted;
-use ed_base::{Bytes, count_lines};
-use ed_syntax::{Script, Span, Verb, read_script};
+use ed_base::{Bytes, Text, count_lines, next_line};
+use ed_syntax::{Command, Script, Span, Verb, read_script};
 use std::alloc::{AllocError, Global};
 
-/// Whether a script ends in a text that no period closes.
-fn ends_in_text(script: &[u8], read: &Script) -> bool {
-    match last_command(read) {
-        Some(command) => match &command.verb {
-            Verb::Append(_) | Verb::Change(_) | Verb::Insert(_) => {
-                !without_newline(script).ends_with(b"\n.")
-            }
-            _ => false,
-        },
-        None => false,
+/// The text of a command that has one.
+fn text_of(command: &Command) -> Option<&Text> {
+    match &command.verb {
+        Verb::Append(text) | Verb::Change(text) | Verb::Insert(text) => Some(text),
+        _ => None,
+    }
+}
+
+/// Whether a script ends in a text that no period closes: its last command has no other lines than its own and those of its text.
+fn ends_in_text(alloc: Global, script: &[u8], read: &Script) -> Result<bool, AllocError> {
+    let Some(command) = last_command(read) else {
+        return Ok(false);
+    };
+    let Some(text) = text_of(command) else {
+        return Ok(false);
+    };
+    match span_of(alloc, script, read.commands.len())? {
+        Some(span) => {
+            let lines = count_lines(between(script, span.low, span.high));
+            Ok(lines <= text.len().saturating_add(1))
+        }
+        None => Ok(false),
     }
 }
 
@@ -59,12 +71,10 @@ fn are_last_commands(alloc: Global, lines: &[u8]) -> Result<bool, AllocError> {
 /// Where each of some bytes' lines begins.
 fn starts_of_lines(alloc: Global, bytes: &[u8]) -> Result<Vec<usize>, AllocError> {
     let mut starts = Vec::new(alloc);
-    starts.push(0)?;
-    for (index, byte) in bytes.iter().enumerate() {
-        let next = index.saturating_add(1);
-        if *byte == b'\n' && next < bytes.len() {
-            starts.push(next)?;
-        }
+    let mut left = bytes;
+    'lines: while let Some((_line, rest)) = next_line(left) {
+        starts.push(bytes.len().saturating_sub(left.len()))?;
+        left = rest;
     }
     Ok(starts)
 }
@@ -173,7 +183,7 @@ pub(crate) fn push_end(
     script: &[u8],
 ) -> Result<(), AllocError> {
     let read = read_script(alloc, script)?;
-    if !ends_in_text(script, &read) {
+    if !ends_in_text(alloc, script, &read)? {
         push_last(drafts, alloc, script, WRITE, false, b"w")?;
         return push_last(drafts, alloc, script, GIVE_UP, false, b"Q");
     }

@@ -1,7 +1,8 @@
 //! The line of a script that a command begins on, as a person reads it.
 
 use crate::stderr::shown::{escaped, shown};
-use ed_syntax::{Command, Verb, first_lines, read_script};
+use ed_base::next_line;
+use ed_syntax::{Span, list_places, places};
 use std::alloc::{AllocError, Global};
 
 /// A line of a script on which a command begins.
@@ -20,11 +21,11 @@ pub fn line_of_command(
     script: &[u8],
     number: usize,
 ) -> Result<Option<CommandLine>, AllocError> {
-    let numbers = first_lines(alloc, script)?;
-    match numbers.get(number.wrapping_sub(1)) {
-        Some(line) => Ok(Some(CommandLine {
-            number: *line,
-            text: quoted(alloc, line_at(script, *line))?,
+    let spans = places(alloc, script)?;
+    match spans.get(number.wrapping_sub(1)) {
+        Some(span) => Ok(Some(CommandLine {
+            number: span.line,
+            text: quoted(alloc, first_line(script, *span))?,
         })),
         None => Ok(None),
     }
@@ -41,61 +42,55 @@ pub enum Listed {
     Later(CommandLine),
 }
 
-/// Where the command begins with which so many are left in the list of a global command, which begins on this line and has this number
-/// among the script's commands, counted from 1. None where there is no such command.
+/// Where the command begins with which so many are left in the list of the global command that has this number among the script's
+/// commands, counted from 1. None where there is no such command.
 pub fn line_in_list(
     alloc: Global,
     script: &[u8],
-    line: usize,
     number: usize,
     left: usize,
 ) -> Result<Option<Listed>, AllocError> {
-    let read = read_script(alloc, script)?;
-    match read.commands.get(number.wrapping_sub(1)) {
-        Some(global) => listed_at(alloc, script, line, global.list(), left),
+    let spans = places(alloc, script)?;
+    match spans.get(number.wrapping_sub(1)) {
+        Some(global) => listed_at(alloc, between(script, *global), global.line, left),
         None => Ok(None),
     }
 }
 
-/// Where the command begins with which so many are left in this list, whose global command begins on this line.
+/// Where the command begins with which so many are left in the list of a global command, which has these bytes and begins on this line.
 fn listed_at(
     alloc: Global,
-    script: &[u8],
+    command: &[u8],
     line: usize,
-    list: &[Command],
     left: usize,
 ) -> Result<Option<Listed>, AllocError> {
-    match list.len().checked_sub(left) {
+    let spans = list_places(alloc, command)?;
+    match spans.len().checked_sub(left) {
         Some(0) if left == 1 => Ok(Some(Listed::Alone)),
         Some(0) => Ok(Some(Listed::First)),
-        Some(before) => {
-            let number = line.saturating_add(lines_of(list, before));
-            let text = quoted(alloc, line_at(script, number))?;
-            Ok(Some(Listed::Later(CommandLine { number, text })))
-        }
+        Some(before) => match spans.get(before) {
+            Some(listed) => {
+                let number = line.saturating_add(listed.line.saturating_sub(1));
+                let text = quoted(alloc, first_line(command, *listed))?;
+                Ok(Some(Listed::Later(CommandLine { number, text })))
+            }
+            None => Ok(None),
+        },
         None => Ok(None),
     }
 }
 
-/// How many lines the first commands of a list take, so many as are asked for.
-fn lines_of(list: &[Command], count: usize) -> usize {
-    let mut lines: usize = 0;
-    for (index, command) in list.iter().enumerate() {
-        if index >= count {
-            return lines;
-        }
-        lines = lines.saturating_add(lines_of_listed(command));
-    }
-    lines
+/// The bytes of a span, or all where there are none.
+fn between(bytes: &[u8], span: Span) -> &[u8] {
+    bytes.get(span.low..span.high).unwrap_or(bytes)
 }
 
-/// How many lines a command of a list takes: one, and those of its text with the period after it.
-fn lines_of_listed(command: &Command) -> usize {
-    match &command.verb {
-        Verb::Append(text) | Verb::Change(text) | Verb::Insert(text) => {
-            text.len().saturating_add(2)
-        }
-        _ => 1,
+/// The line on which a span begins, from there on and without its newline.
+fn first_line(bytes: &[u8], span: Span) -> &[u8] {
+    let own = between(bytes, span);
+    match next_line(own) {
+        Some((line, _rest)) => line,
+        None => own,
     }
 }
 

@@ -19,7 +19,7 @@ pub fn listed_text(
     };
     let line = global.number;
     let list = global.text.as_str();
-    match line_in_list(alloc, script, line, number, left)? {
+    match line_in_list(alloc, script, number, left)? {
         Some(Listed::Later(command)) => {
             let line = command.number;
             let text = command.text.as_str();
