@@ -3,3 +3,10 @@ mod Firsts
 mod Placed
 mod OneAfterAnother
 mod Rising
+mod Ends
+mod Keys
+mod Determined
+mod Chains
+mod WordReads
+mod PartReads
+mod Told

@@ -3,5 +3,10 @@ pub mod Patterns
 pub mod Places
 pub mod Misplaced
 pub mod Placings
+pub mod Words
+pub mod Spelled
+pub mod ChainFaults
 -- what serves clauses inside the crate
 pub mod Looking
+pub mod Stops
+pub mod FaultPlaces

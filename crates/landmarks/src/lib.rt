@@ -1,16 +1,24 @@
 //! Landmarks: lines of a file that a start condition names, and where they are.
 #![tactic(auto)]
 
+mod chain;
+mod chain_fault;
+mod key_text;
 mod landmark;
 mod laws;
 mod looking;
 mod misplaced;
+mod never;
+mod parts;
 mod patterns;
 mod places;
 mod which;
+mod words;
 
+pub use chain::read_chain;
+pub use chain_fault::{ChainFault, ChainWrong, Never};
 pub use landmark::Landmark;
-pub use laws::landmarks_have_one_place;
+pub use laws::{chains_are_spelled_once, landmarks_have_one_place};
 pub use misplaced::{Misfit, Misplaced};
 pub use patterns::Patterns;
 pub use places::{Placing, find_places};

@@ -2,7 +2,11 @@
 #![tactic(auto)]
 
 #[cfg(test)]
+mod chains;
+#[cfg(test)]
 mod placing;
+#[cfg(test)]
+mod refused;
 #[cfg(test)]
 mod sets;
 #[cfg(test)]

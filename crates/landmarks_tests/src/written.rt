@@ -49,13 +49,16 @@ macro_rules! mark {
         }
     };
     ($which:expr, none $none:expr) => {
+        mark!($which, none $none, gap 1, tail 0, also &[], lacks &[])
+    };
+    ($which:expr, none $none:expr, gap $gap:expr, tail $tail:expr, also $also:expr, lacks $lacks:expr) => {
         Mark {
             which: $which,
             none: $none,
-            gap: 1,
-            tail: 0,
-            also: &[],
-            lacks: &[],
+            gap: $gap,
+            tail: $tail,
+            also: $also,
+            lacks: $lacks,
         }
     };
 }
