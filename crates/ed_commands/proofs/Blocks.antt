@@ -1,12 +1,12 @@
 -- Blocks of lists: exchanged for other elements, carried to another place, and brought back.
-use Rattle.std.proofs.Common.{◌≡◌, ℕ, refl, ◌+◌, ◌-◌, ◌<◌, ◌≤◌, List, [], ◌∷◌, ◌++◌, take, drop, length, get_or, set, sym, ap, ◌∙◌, arith, append_assoc}
+use Rattle.std.proofs.Common.{◌≡◌, ℕ, ◌+◌, ◌-◌, ◌<◌, ◌≤◌, List, [], ◌∷◌, ◌++◌, take, drop, length, get_or, set, sym, ap, ◌∙◌, arith, append_assoc}
 use Rattle.std.specs.Prelude.{Option, Some}
 use Rattle.std.specs.Option.{option_to_list}
 use Rattle.std.specs.List.{concat}
-use Rattle.std.proofs.lemmas.List.{get_or_append_left, get_or-append_right, get_or-take, get_or-drop, take_at, drop_at, take-take, take-append-drop, drop-append-le, length-take-le, length-drop, length-append, take_more, map-append, append-nil, take-set, drop-set}
+use Rattle.std.proofs.lemmas.List.{take_at, drop_at, take-append-drop, drop-append-le, length-take-le, length-drop, length-append, take_more, map-append, append-nil, take-set, drop-set}
 use Rattle.std.proofs.lemmas.List.Folds.{concat-append}
 use Rattle.ed_base.specs.Buffer.{Line, plain_line, texts}
-use Rattle.ed_base.specs.Parts.{block, exchanged, inserted, carried}
+use Rattle.ed_base.specs.Parts.{block, exchanged, carried}
 pub use Rattle.ed_base.proofs.PartLemmas.{whole}
 pub use Rattle.line_store.proofs.Ranges.{length-block, block-none}
 
@@ -79,41 +79,6 @@ carried-back a b place xs h k l =
     ∙ ap (exchanged a a moved) others
     ∙ put-there a b moved xs (omega arith)
     ∙ whole a b xs h
-
--- an element of a list into which others were put: one in front of them, and one after them
-pub get_or-before : {X : Type 0} (a i : ℕ) (new xs : List X) (d : X) → i < a → a ≤ length xs →
-    get_or (inserted a new xs) i d ≡ get_or xs i d
-get_or-before a i new xs d h k =
-    get_or_append_left (take a xs) (new ++ drop a xs) d i (omega (arith, length-take-le a xs k)) ∙ get_or-take a xs i d h
-
-pub get_or-after : {X : Type 0} (a i j : ℕ) (new xs : List X) (d : X) → a ≤ i → a ≤ length xs → j ≡ i + length new →
-    get_or (inserted a new xs) j d ≡ get_or xs i d
-get_or-after a i j new xs d h k e =
-    get_or-append_right (take a xs) (new ++ drop a xs) a j d (length-take-le a xs k) (omega arith)
-    ∙ get_or-append_right new (drop a xs) (length new) (j - a) d refl (omega arith)
-    ∙ get_or-drop a xs (j - a - length new) d
-    ∙ ap (λ n. get_or xs n d) (let f : a + (j - a - length new) ≡ i = omega arith in f)
-
--- elements that were put between others, taken out again
-pub taken-out : {X : Type 0} (a n : ℕ) (removed new after xs : List X) → removed ≡ [] → after ≡ inserted a new xs →
-    a ≤ length xs → length new ≡ n → exchanged a (a + n) removed after ≡ xs
-taken-out a n removed new after xs none put h k =
-    ap (λ t. exchanged a (a + n) t after) none
-    ∙ ap (exchanged a (a + n) []) put
-    ∙ ap (λ t. exchanged a (a + n) t (inserted a new xs)) (sym (block-none a xs))
-    ∙ put-back a a n new xs (omega arith) h k
-
--- elements put after a part, which is the same and is then taken out
-pub block-before : {X : Type 0} (a b : ℕ) (new xs : List X) → b ≤ length xs → block a b (inserted b new xs) ≡ block a b xs
-block-before a b new xs h = ap (drop a) (take_at (take b xs) (new ++ drop b xs) b (length-take-le b xs h))
-
-pub taken-before : {X : Type 0} (a b : ℕ) (new xs : List X) → a ≤ b → b ≤ length xs →
-    exchanged a b [] (inserted b new xs) ≡ exchanged a b new xs
-taken-before a b new xs h k =
-    let mid = inserted b new xs in
-    ap (λ t. t ++ drop b mid)
-    (sym (take-take a b mid h) ∙ ap (take a) (take_at (take b xs) (new ++ drop b xs) b (length-take-le b xs k)) ∙ take-take a b xs h)
-    ∙ ap (λ t. take a xs ++ t) (drop_at (take b xs) (new ++ drop b xs) b (length-take-le b xs k))
 
 -- what comes out of a list of one is all that was in it
 pub only-one : {X : Type 0} (xs ys : List X) (out : Option X) (x : X) → xs ≡ ys ++ option_to_list out → out ≡ Some x →

@@ -6,8 +6,8 @@ use crate::asserting::same;
 use crate::expected::{bytes, letter};
 use ed_base::Bytes;
 use ed_commands::Editor;
-use line_store::{ChunkStore, FileLines, GapStore, Line, LineStore, PlainStore};
-use std::alloc::Global;
+use line_store::{Block, ChunkStore, FileLines, GapStore, Line, LineStore, PlainStore};
+use std::alloc::{AllocError, Global};
 use std::process::Abort;
 
 fn next(rt: &impl Abort, file: &mut FileLines) -> Line {
@@ -91,7 +91,14 @@ fn put<S: LineStore>(rt: &impl Abort, alloc: Global, store: &mut S, place: usize
 {
     assert!(rt; place <= store.len());
     let line = Line::new(alloc, bytes).expect(rt, "memory");
-    assert!(rt; store.put(place, line).is_ok(), "the line was handed back");
+    let taken = store.exchange_block(place, place, Block::of(line));
+    assert!(rt; taken.is_ok(), "the line was handed back");
+}
+
+/// A block of a single line of these bytes went out.
+fn check_taken(rt: &impl Abort, taken: Result<Block, Block>, bytes: &[u8]) {
+    let line = taken.ok().expect(rt, "taken").into_line();
+    check_line(rt, &line.ok().expect(rt, "a single line"), bytes);
 }
 
 /// Lines come in before the first line, after the last and between, and the first one goes.
@@ -105,7 +112,8 @@ fn check_places<S: LineStore>(rt: &impl Abort, alloc: Global) {
     put(rt, alloc, &mut store, 2, b"z");
     check_texts(rt, alloc, &store, b"x\na\nz\nb\nc\ny\n", "six lines");
     assert!(rt; store.len() > 0);
-    check_line(rt, &store.take(0), b"x");
+    let taken = store.exchange_block(0, 1, Block::new(alloc));
+    check_taken(rt, taken, b"x");
     check_texts(rt, alloc, &store, b"a\nz\nb\nc\ny\n", "five lines");
 }
 
@@ -114,4 +122,72 @@ fn lines_come_in_at_either_end_and_between(rt: HostRuntime) {
     check_places::<PlainStore>(&rt, rt.alloc());
     check_places::<GapStore>(&rt, rt.alloc());
     check_places::<ChunkStore>(&rt, rt.alloc());
+}
+
+/// A block of the lines of a file of these bytes.
+fn file_block(alloc: Global, bytes: &[u8]) -> Result<Block, AllocError> {
+    Block::of_file(FileLines::new(alloc, Bytes::from_slice(alloc, bytes)?)?)
+}
+
+/// So many lines, each of which is `a`, with their newlines.
+fn many(alloc: Global, count: usize) -> Result<Bytes, AllocError> {
+    let mut lines = Bytes::new(alloc);
+    for _ in 0..count {
+        lines.extend_from_slice(b"a\n")?;
+    }
+    Ok(lines)
+}
+
+/// The lines of `new` come in place of some of `count`, and no others; or the store is as before, and they are handed back.
+fn check_exchange<S: LineStore>(
+    rt: &impl Abort,
+    alloc: Global,
+    count: usize,
+    new: &[u8],
+) -> Result<(), AllocError> {
+    let earlier = many(alloc, count)?;
+    let mut store = S::empty(alloc)?;
+    let filled = store.exchange_block(0, 0, file_block(alloc, earlier.as_slice())?);
+    if filled.is_err() {
+        return Ok(());
+    }
+    let entering = file_block(alloc, new)?;
+    assert!(rt; store.len() == count && count > 2);
+    let (texts, what) = match store.exchange_block(1, count - 1, entering) {
+        Ok(taken) => {
+            let mut texts = bytes(rt, alloc, b"a\n");
+            texts.extend_from_slice(new).expect(rt, "memory");
+            texts.extend_from_slice(b"a\n").expect(rt, "memory");
+            drop(taken);
+            (texts, "exchanged")
+        }
+        Err(back) => {
+            let mut other = S::empty(alloc).expect(rt, "memory");
+            assert!(rt; other.exchange_block(0, 0, back).is_ok());
+            check_texts(rt, alloc, &other, new, "handed back");
+            (earlier, "as before")
+        }
+    };
+    check_texts(rt, alloc, &store, texts.as_slice(), what);
+    Ok(())
+}
+
+/// Few lines for few, few for many, many for few and many for many.
+fn check_exchanges<S: LineStore>(rt: &impl Abort, alloc: Global) -> Result<(), AllocError> {
+    let block = many(alloc, 1500)?;
+    for count in [4, 2000] {
+        check_exchange::<S>(rt, alloc, count, b"x\n")?;
+        check_exchange::<S>(rt, alloc, count, b"x\ny\nz\n")?;
+        check_exchange::<S>(rt, alloc, count, block.as_slice())?;
+    }
+    Ok(())
+}
+
+#[test]
+fn blocks_are_exchanged_or_the_store_is_as_before(rt: HostRuntime) {
+    let alloc = rt.alloc();
+    // Where one allocation is refused, what was to be tried may lack memory itself.
+    let _ = check_exchanges::<PlainStore>(&rt, alloc);
+    let _ = check_exchanges::<GapStore>(&rt, alloc);
+    let _ = check_exchanges::<ChunkStore>(&rt, alloc);
 }

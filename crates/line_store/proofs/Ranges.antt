@@ -1,7 +1,7 @@
 -- Lists into which elements are put, and out of which a range is taken, place by place.
 use Rattle.std.proofs.Common.{◌≡◌, ℕ, suc, ◌+◌, ◌-◌, ◌<◌, ◌≤◌, List, [], ◌∷◌, ◌++◌, take, drop, length, get_or, reverse, refl, sym, ap, ◌∙◌, arith, append_assoc}
 use Rattle.std.specs.Prelude.{remove, insert}
-use Rattle.std.proofs.lemmas.List.{drop_all, drop_more, length-append, length-drop, length-take, length-take-le, take-append-drop, take_at, reverse-append, take-append-le, drop_at, take-take, get_or_append_left, get_or-take}
+use Rattle.std.proofs.lemmas.List.{drop_all, drop_more, drop-append-le, take_more, length-append, length-drop, length-take, length-take-le, take-append-drop, take_at, reverse-append, take-append-le, drop_at, take-take, get_or_append_left, get_or-take}
 use Rattle.std.proofs.lemmas.List.Edits.{insert-append_right}
 use Rattle.ed_base.specs.Parts.{block, inserted}
 
@@ -58,3 +58,10 @@ taken-more taken part x i j d e h r k =
     ∙ ap (λ t. x ∷ t) (r ∙ ap (λ n. drop n part) e)
     ∙ ap (λ t. t ∷ drop (i + 1) part) k
     ∙ sym (drop_more part i d h)
+
+-- one element more of a range
+pub block-more : {X : Type 0} (a i : ℕ) (xs : List X) (d : X) → a ≤ i → i < length xs →
+    block a (i + 1) xs ≡ block a i xs ++ get_or xs i d ∷ []
+block-more a i xs d h k =
+    ap (drop a) (take_more xs i d k)
+    ∙ drop-append-le a (take i xs) (get_or xs i d ∷ []) (omega (arith, length-take-le i xs (omega arith)))

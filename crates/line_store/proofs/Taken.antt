@@ -1,7 +1,7 @@
 -- Blocks that go out and come in: of a list, of chunks, and of lines with their letters and flags.
-use Rattle.std.proofs.Common.{◌≡◌, ℕ, zero, suc, ◌+◌, ◌-◌, ◌<◌, ◌≤◌, List, [], ◌∷◌, ◌++◌, Bool, true, false, cond, take, drop, length, map, min, get_or, Option, Some, None, refl, sym, ap, ◌∙◌, arith, append_assoc, append-nil, ⊎_elim}
+use Rattle.std.proofs.Common.{◌≡◌, ℕ, zero, suc, ◌+◌, ◌-◌, ◌<◌, ◌≤◌, List, [], ◌∷◌, ◌++◌, Bool, true, false, cond, take, drop, length, map, get_or, remove, Option, Some, None, refl, sym, ap, ◌∙◌, arith, append_assoc, append-nil, ⊎_elim}
 use Rattle.std.proofs.lemmas.Bool.{cases_lt}
-use Rattle.std.proofs.lemmas.List.{take_at, drop_at, take_all, take-take, take-append-drop, length-take, length-take-le, length-drop, length-append, length-map, take-map, drop-map, get_or_append_left, get_or-take}
+use Rattle.std.proofs.lemmas.List.{take_at, drop_at, take_all, take-take, take-append-drop, length-take, length-take-le, length-drop, length-append, length-map, take-map, drop-map, get_or_append_left, get_or-append_right, get_or-drop, get_or-take}
 use Rattle.std.proofs.lemmas.List.Sums.{sum_by-append, sum_by-cons}
 use Rattle.ed_base.specs.Buffer.{Line, plain_line, no_letters, texts}
 use Rattle.ed_base.specs.Parts.{block, exchanged, inserted}
@@ -10,14 +10,15 @@ use Rattle.line_store.specs.Chunks.{joined, lines_before}
 use Rattle.line_store.specs.Kept.{Unflagged, flag_count}
 use Rattle.line_store.specs.Lettered.{none_marked}
 use Rattle.line_store.specs.Marks.{is_at, letters_at, lettered, AllBelow}
-use Rattle.line_store.specs.Shifts.{places_below, places_swapped}
+use Rattle.line_store.specs.Shifts.{places_below, places_exchanged, places_swapped}
 use Rattle.line_store.specs.Swaps.{swapped}
-use Rattle.line_store.proofs.Joined.{joined-append, before-take, before-later, before-most}
-use Rattle.line_store.proofs.Lettered.{line_with, length-lettered, letters_at-are, lettered-below}
+use Rattle.line_store.proofs.Flags.{none-flagged}
+use Rattle.line_store.proofs.Joined.{joined-append, before-take, before-later}
+use Rattle.line_store.proofs.Lettered.{line_with, length-lettered, letters_at-are, lettered-below, places-below}
 use Rattle.line_store.proofs.Places.{not_at}
 use Rattle.line_store.proofs.Ranges.{length-block}
 use Rattle.line_store.proofs.Swapped.{swapped-parts}
-use Rattle.line_store.proofs.SwappedMarks.{lettered-swapped}
+use Rattle.line_store.proofs.SwappedMarks.{lettered-swapped, places_swapped-below}
 
 -- where a block has gone to the end, the others come first
 pub others-first : {X : Type 0} (from to count : ℕ) (xs : List X) → from ≤ to → to ≤ count → count ≡ length xs →
@@ -111,40 +112,12 @@ exchanged-there low high from to new chunks lines a b same =
     ∙ ap (λ n. exchanged from n (joined new) (joined chunks)) b
     ∙ ap (exchanged from to (joined new)) same
 
--- how many lines are left once chunks have gone out, and there once some have come in
-pub lines-left : {X : Type 0} (low high count : ℕ) (chunks : List (List X)) → low ≤ high →
-    lines_before low chunks + count ≡ lines_before high chunks →
-    length (joined (exchanged low high [] chunks)) + count ≡ length (joined chunks)
-lines-left low high count chunks h e =
-    let most = before-most high chunks in
-    let left = length-left (lines_before low chunks) (lines_before high chunks) (length (joined chunks)) (joined chunks)
-    (before-later low high chunks h) most refl in
-    omega (arith, ap length (joined-exchanged low high [] chunks))
-
-pub lines-entered : {X : Type 0} (at : ℕ) (new chunks : List (List X)) →
-    length (joined (inserted at new chunks)) ≡ length (joined chunks) + length (joined new)
-lines-entered at new chunks =
-    ap length (joined-exchanged at at new chunks)
-    ∙ length-entered (lines_before at chunks) (joined new) (joined chunks) (before-most at chunks)
-
--- how many chunks
-pub chunks-left : {X : Type 0} (low high : ℕ) (xs : List X) → low ≤ high → length (exchanged low high [] xs) ≤ length xs
-chunks-left low high xs h =
-    omega (
-      arith,
-      length-append (take low xs) (drop high xs),
-      ap length (take-append-drop low xs),
-      length-append (take low xs) (drop low xs),
-      length-drop low xs,
-      length-drop high xs,
-    )
-
 pub length-there : {X : Type 0} (from to : ℕ) (part lines : List X) → part ≡ block from to lines → to ≤ length lines →
     to - from ≡ length part
 length-there from to part lines is h = sym (ap length is ∙ length-block from to lines h)
 
 -- how many lines have the flag
-flags-append : (xs ys : List Line) → flag_count (xs ++ ys) ≡ flag_count xs + flag_count ys
+pub flags-append : (xs ys : List Line) → flag_count (xs ++ ys) ≡ flag_count xs + flag_count ys
 flags-append xs ys = sum_by-append (λ line. cond line.flag 1 0) xs ys
 
 pub flags-block : (from to : ℕ) (lines : List Line) → from ≤ to → flag_count lines ≡ 0 → flag_count (block from to lines) ≡ 0
@@ -156,36 +129,6 @@ flags-block from to lines h none =
       ap flag_count (front from to lines h),
       flags-append (take from lines) (block from to lines),
     )
-
-pub flags-left : (from to : ℕ) (lines : List Line) → flag_count lines ≡ 0 → flag_count (exchanged from to [] lines) ≡ 0
-flags-left from to lines none =
-    omega (
-      arith,
-      ap flag_count (take-append-drop to lines),
-      flags-append (take to lines) (drop to lines),
-      ap flag_count (take-append-drop from lines),
-      flags-append (take from lines) (drop from lines),
-      flags-append (take from lines) (drop to lines),
-    )
-
-pub flags-entered : (at : ℕ) (new lines : List Line) → flag_count new ≡ 0 → flag_count (inserted at new lines) ≡ flag_count lines
-flags-entered at new lines none =
-    omega (
-      arith,
-      ap flag_count (take-append-drop at lines),
-      flags-append (take at lines) (drop at lines),
-      flags-append (take at lines) (new ++ drop at lines),
-      flags-append new (drop at lines),
-    )
-
--- no line before a place had the flag, nor has one before that where others came in
-pub unflagged-entered : (place at : ℕ) (new lines : List Line) → at ≤ length lines → Unflagged place lines →
-    Unflagged (min place at) (inserted at new lines)
-unflagged-entered place at new lines h none k l =
-    ap (λ line. line.flag)
-    (get_or_append_left (take at lines) (new ++ drop at lines) (plain_line []) k (omega (arith, length-take-le at lines h))
-    ∙ get_or-take at lines k (plain_line []) (omega arith))
-    ∙ none k (omega arith)
 
 -- the letters of some of the first lines, and of lines that follow others
 lettered-take : (marks : List (Option ℕ)) (place count : ℕ) (lines : List Line) →
@@ -212,7 +155,7 @@ none-after marks count place below h =
     letters_at-are place marks no_letters refl
     (λ letter l. not-there count place (get_or marks letter None) (below letter) h ∙ sym (none_marked 26 letter))
 
-bare-flag : (flag : Bool) → cond flag 1 0 ≤ 0 → flag ≡ false
+pub bare-flag : (flag : Bool) → cond flag 1 0 ≤ 0 → flag ≡ false
 bare-flag true h = absurd (omega arith)
 bare-flag false h = refl
 
@@ -255,8 +198,109 @@ lettered-entered at count all marks new lines h e f below none =
     ∙ carried-in at count all (map plain_line (texts new)) (lettered marks 0 lines) h (e ∙ sym (length-lettered marks 0 lines))
     (omega arith)
 
+-- others in place of a block are others put where it was
+exchanged-twice : {X : Type 0} (from to : ℕ) (new xs : List X) → from ≤ length xs →
+    exchanged from to new xs ≡ inserted from new (exchanged from to [] xs)
+exchanged-twice from to new xs h =
+    let long = length-take-le from xs h in
+    sym (ap (λ t. t ++ (new ++ drop from (take from xs ++ drop to xs))) (take_at (take from xs) (drop to xs) from long)
+    ∙ ap (λ t. take from xs ++ (new ++ t)) (drop_at (take from xs) (drop to xs) from long))
+
+-- others put after a block, which is the same and is then taken out
+pub block-before : {X : Type 0} (a b : ℕ) (new xs : List X) → b ≤ length xs → block a b (inserted b new xs) ≡ block a b xs
+block-before a b new xs h = ap (drop a) (take_at (take b xs) (new ++ drop b xs) b (length-take-le b xs h))
+
+pub taken-before : {X : Type 0} (a b : ℕ) (new xs : List X) → a ≤ b → b ≤ length xs →
+    exchanged a b [] (inserted b new xs) ≡ exchanged a b new xs
+taken-before a b new xs h k =
+    let mid = inserted b new xs in
+    ap (λ t. t ++ drop b mid)
+    (sym (take-take a b mid h) ∙ ap (take a) (take_at (take b xs) (new ++ drop b xs) b (length-take-le b xs k)) ∙ take-take a b xs h)
+    ∙ ap (λ t. take a xs ++ t) (drop_at (take b xs) (new ++ drop b xs) b (length-take-le b xs k))
+
+pub removed-one : {X : Type 0} (i j : ℕ) (xs : List X) → j ≡ i + 1 → remove xs i ≡ exchanged i j [] xs
+removed-one i j xs e = ap (λ n. take i xs ++ drop n xs) (let f : suc i ≡ j = omega arith in f)
+
+pub length-replaced : {X : Type 0} (from to count : ℕ) (new xs : List X) → from ≤ to → to ≤ count → count ≡ length xs →
+    length (exchanged from to new xs) ≡ count - (to - from) + length new
+length-replaced from to count new xs h k e =
+    let left = exchanged from to [] xs in
+    omega (
+      arith,
+      ap length (exchanged-twice from to new xs (omega arith)),
+      length-entered from new left (omega (arith, length-left from to count xs h k e)),
+      length-left from to count xs h k e,
+    )
+
+-- lines without letters have come in place of a block, whose letters mark no line
+pub lettered-replaced : (from to count entered : ℕ) (marks : List (Option ℕ)) (new lines : List Line) → from ≤ to → to ≤ count →
+    count ≡ length lines → entered ≡ length new → flag_count new ≡ 0 →
+    lettered (places_exchanged from to count entered marks) 0 (exchanged from to new lines) ≡ exchanged from to
+    (map plain_line (texts new)) (lettered marks 0 lines)
+lettered-replaced from to count entered marks new lines h k e f none =
+    let n = count - (to - from) in
+    let now = places_below n (places_swapped from to count marks) in
+    let left = exchanged from to [] lines in
+    let plain = map plain_line (texts new) in
+    ap (lettered (places_exchanged from to count entered marks) 0) (exchanged-twice from to new lines (omega arith))
+    ∙ lettered-entered from n (n + entered) now new left (omega arith) (sym (length-left from to count lines h k e)) (omega arith)
+    (places-below n (places_swapped from to count marks)) none
+    ∙ ap (inserted from plain) (lettered-left from to count marks lines h k e)
+    ∙ sym (exchanged-twice from to plain (lettered marks 0 lines) (omega (arith, length-lettered marks 0 lines)))
+
 pub below-later : (count all : ℕ) (marks : List (Option ℕ)) → count ≤ all → AllBelow count marks → AllBelow all marks
 below-later count all marks h below letter place e = let l = below letter place e in omega arith
+
+pub below-replaced : (from to count entered : ℕ) (marks : List (Option ℕ)) → from ≤ to → to ≤ count →
+    AllBelow (count - (to - from) + entered) (places_exchanged from to count entered marks)
+below-replaced from to count entered marks h k =
+    let n = count - (to - from) in
+    let now = places_below n (places_swapped from to count marks) in
+    places_swapped-below from n (n + entered) (n + entered) now (omega arith) (omega arith) (omega arith)
+    (below-later n (n + entered) now (omega arith) (places-below n (places_swapped from to count marks)))
+
+-- as many lines have the flag as in the others
+pub flags-replaced : (from to : ℕ) (new lines : List Line) → from ≤ to → flag_count new ≡ 0 →
+    flag_count (exchanged from to new lines) + flag_count (block from to lines) ≡ flag_count lines
+flags-replaced from to new lines h none =
+    omega (
+      arith,
+      ap flag_count (take-append-drop to lines),
+      flags-append (take to lines) (drop to lines),
+      ap flag_count (front from to lines h),
+      flags-append (take from lines) (block from to lines),
+      flags-append (take from lines) (new ++ drop to lines),
+      flags-append new (drop to lines),
+    )
+
+-- no line before a place had the flag, nor has one before where that is now
+pub unflagged-front : (place from to : ℕ) (new lines : List Line) → place ≤ from → from ≤ length lines → Unflagged place lines →
+    Unflagged place (exchanged from to new lines)
+unflagged-front place from to new lines h k none i l =
+    ap (λ line. line.flag)
+    (get_or_append_left (take from lines) (new ++ drop to lines) (plain_line []) i (omega (arith, length-take-le from lines k))
+    ∙ get_or-take from lines i (plain_line []) (omega arith))
+    ∙ none i l
+
+pub unflagged-past : (place from to next : ℕ) (new lines : List Line) → from ≤ place → from ≤ to → to ≤ length lines →
+    flag_count new ≡ 0 → next ≤ from + (place - to) + length new → Unflagged place lines →
+    Unflagged next (exchanged from to new lines)
+unflagged-past place from to next new lines h k m bare far none i l =
+    let d = plain_line [] in
+    let first = length-take-le from lines (omega arith) in
+    ⊎_elim
+    (λ low. unflagged-front from from to new lines (omega arith) (omega arith) (λ j b. none j (omega arith)) i low)
+    (λ high.
+    let second = get_or-append_right (take from lines) (new ++ drop to lines) from i d first high in
+    ⊎_elim
+    (λ among. ap (λ line. line.flag) (second ∙ get_or_append_left new (drop to lines) d (i - from) among)
+    ∙ none-flagged new bare (length new) refl (i - from) among)
+    (λ after. ap (λ line. line.flag)
+    (second ∙ get_or-append_right new (drop to lines) (length new) (i - from) d refl after
+    ∙ get_or-drop to lines (i - from - length new) d)
+    ∙ none (to + (i - from - length new)) (omega arith))
+    (cases_lt (i - from) (length new)))
+    (cases_lt i from)
 
 -- letters change no text
 texts-lettered : (marks : List (Option ℕ)) (place : ℕ) (lines : List Line) → texts (lettered marks place lines) ≡ texts lines
@@ -282,6 +326,11 @@ pub texts-drop_plain : (n : ℕ) (lines : List Line) → texts (drop n (map plai
 texts-drop_plain zero lines = texts-plain (texts lines)
 texts-drop_plain (suc n) [] = refl
 texts-drop_plain (suc n) (line ∷ lines) = texts-drop_plain n lines
+
+-- no new line has the flag
+pub plain-bare : (text : List (List ℕ)) → flag_count (map plain_line text) ≡ 0
+plain-bare [] = refl
+plain-bare (line ∷ more) = omega (arith, sum_by-cons (λ line. cond line.flag 1 0) (plain_line line) (map plain_line more), plain-bare more)
 
 -- a new line after others
 pub plain-push : (lines : List Line)

@@ -15,7 +15,7 @@ pub record Written (a b : ℕ) (lines : List Line) (old new : List ℕ) : Type 0
   pub bytes : new ≡ old ++ bytes_of (texts (block a b lines))
   pub are : AreLines (texts (block a b lines))
 
-block-one : {X : Type 0} (i : ℕ) (xs : List X) (x : X) → i < length xs → x ≡ get_or xs i x → block i (i + 1) xs ≡ x ∷ []
+pub block-one : {X : Type 0} (i : ℕ) (xs : List X) (x : X) → i < length xs → x ≡ get_or xs i x → block i (i + 1) xs ≡ x ∷ []
 block-one i xs x h is =
     ap (drop i) (take_more xs i x h)
     ∙ drop_at (take i xs) (get_or xs i x ∷ []) i (length-take-le i xs (omega arith))

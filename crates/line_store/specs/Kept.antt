@@ -3,11 +3,10 @@ use Rattle.std.specs.Prelude.{ℕ, ◌<◌, ◌≡◌, List, [], Option, false, 
 use Rattle.ed_base.specs.Buffer.{Line, plain_line}
 use Rattle.line_store.specs.Marks.{lettered}
 
--- its lines without letters, the place of each letter's line, and for how many lines it has room
+-- its lines without letters, and the place of each letter's line
 pub record StoreValue : Type 0 where
   pub items : List Line
   pub marks : List (Option ℕ)
-  pub room : ℕ
 
 -- its lines
 abbrev pub lines_of : StoreValue → List Line

@@ -40,3 +40,8 @@ place_swapped low middle high (Some place) =
 -- where the letters are then
 abbrev pub places_swapped : (low middle high : ℕ) → List (Option ℕ) → List (Option ℕ)
 places_swapped low middle high marks = map (λ letter. place_swapped low middle high (slice_index_or marks letter None)) all_letters
+
+-- where the letters are after the lines from place `from` up to `to` of so many have given way to others, which no letter marks
+abbrev pub places_exchanged : (from to count entered : ℕ) → List (Option ℕ) → List (Option ℕ)
+places_exchanged from to count entered marks =
+    places_swapped from (count - (to - from)) (count - (to - from) + entered) (places_below (count - (to - from)) (places_swapped from to count marks))

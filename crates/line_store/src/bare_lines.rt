@@ -1,9 +1,9 @@
 //! Lists of lines without letters, however they are kept.
-ghost use Rattle.std.specs.Prelude.{◌≡◌, ◌+◌, ◌<◌, ◌≤◌, ◌++◌, ℕ, List, [], length, insert, remove, slice_index_or, slice_set, IfOk, IfErr, IfNone, IfSome, OnOk, OnErr, OnSome, IsOk};
+ghost use Rattle.std.specs.Prelude.{◌≡◌, ◌+◌, ◌<◌, ◌≤◌, ◌++◌, ◌∷◌, ℕ, List, [], true, false, length, insert, remove, slice_index_or, slice_set, IfOk, IfErr, OnOk, OnErr, IsOk};
 ghost use Rattle.std.specs.Bool.{OnTrue, OnFalse};
-ghost use Rattle.ed_base.specs.Buffer.{Line, flagged_at, texts};
-ghost use Rattle.ed_base.specs.Lines.{AreLines, bytes_of};
-ghost use Rattle.ed_base.specs.Parts.{block, exchanged};
+ghost use Rattle.ed_base.specs.Buffer.{Line, flagged_at, plain_line, texts};
+ghost use Rattle.ed_base.specs.Lines.{AreLines, IsLine, bytes_of, newline};
+ghost use Rattle.ed_base.specs.Parts.{block};
 ghost use Rattle.line_store.specs.Blocks.{CameIn};
 ghost use Rattle.line_store.specs.Flagged.{FirstFlagged};
 ghost use Rattle.line_store.specs.Kept.{flag_count};
@@ -30,10 +30,23 @@ pub trait BareLines: Drop {
     fn len(&self) -> usize
         ensures value { result ≡ length (items self.now) };
 
-    /// A line.
-    fn line(&self, i: usize) -> &BareLine
+    /// The bytes of a line.
+    fn text(&self, i: usize) -> &[u8]
         requires place { i < length (items self.now) }
-        ensures value { result.now ≡ slice_index_or (items self.now) i result.now };
+        ensures value { result.now ≡ (slice_index_or (items self.now) i (plain_line [])).bytes }
+        ensures line { IsLine result.now };
+
+    /// A new line of a line's bytes, which both share, without the flag.
+    fn plain_copy(&self, i: usize) -> Result<BareLine, AllocError>
+        requires place { i < length (items self.now) }
+        ensures value { IfOk result (λ line. line ≡ plain_line (slice_index_or (items self.now) i (plain_line [])).bytes) };
+
+    /// Appends the bytes of a line and a newline.
+    fn push_line(&self, i: usize, output: &mut Pieces) -> Result<(), AllocError>
+        requires place { i < length (items self.now) }
+        ensures appended { OnOk result
+            (output.new ≡ output.old ++ ((slice_index_or (items self.now) i (plain_line [])).bytes ++ newline ∷ [])) }
+        ensures line { OnOk result (IsLine (slice_index_or (items self.now) i (plain_line [])).bytes) };
 
     /// Appends the bytes of the lines from place `from` up to `to`, each with a newline.
     fn push_lines(&self, from: usize, to: usize, output: &mut Pieces) -> Result<(), AllocError>
@@ -43,7 +56,7 @@ pub trait BareLines: Drop {
         ensures lines { OnOk result (AreLines (texts (block from to (items self.now)))) }
     {
         for i in from..to {
-            self.line(i).push_to(output)?;
+            self.push_line(i, output)?;
         }
         Ok(())
     }
@@ -79,18 +92,30 @@ pub trait BareLines: Drop {
         ensures removed { items self.new ≡ remove (items self.old) i }
         ensures keeps_room { spare self.old ≤ spare self.new };
 
-    /// Puts a line in place of another, which comes back.
-    fn exchange(&mut self, i: usize, line: BareLine) -> BareLine
+    /// Puts a line in place of another, which comes back. Where there is no memory for that the new line comes back, and the list is as
+    /// before.
+    fn exchange(&mut self, i: usize, line: BareLine) -> Result<BareLine, BareLine>
         requires place { i < length (items self.old) }
-        ensures value { result ≡ slice_index_or (items self.old) i result }
-        ensures exchanged { items self.new ≡ slice_set (items self.old) i line }
-        ensures keeps_room { spare self.old ≤ spare self.new };
+        ensures value { IfOk result (λ before. before ≡ slice_index_or (items self.old) i before) }
+        ensures exchanged { OnOk result (items self.new ≡ slice_set (items self.old) i line) }
+        ensures handed_back { IfErr result (λ back. back ≡ line) }
+        ensures unchanged { OnErr result (items self.new ≡ items self.old) };
 
-    /// Flags a line, or takes its flag.
-    fn set_flag(&mut self, i: usize, flag: bool)
+    /// Whether a line has the flag.
+    fn flagged(&self, i: usize) -> bool
+        requires place { i < length (items self.now) }
+        ensures value { result ≡ (slice_index_or (items self.now) i (plain_line [])).flag };
+
+    /// Flags a line.
+    fn flag(&mut self, i: usize) -> Result<(), AllocError>
         requires place { i < length (items self.old) }
-        ensures flagged { items self.new ≡ flagged_at i flag (items self.old) }
-        ensures keeps_room { spare self.old ≤ spare self.new };
+        ensures flagged { OnOk result (items self.new ≡ flagged_at i true (items self.old)) }
+        ensures unchanged { OnErr result (items self.new ≡ items self.old) };
+
+    /// Takes the flag of a line.
+    fn unflag(&mut self, i: usize)
+        requires place { i < length (items self.old) }
+        ensures unflagged { items self.new ≡ flagged_at i false (items self.old) };
 
     /// The first place from `from` on where a line has the flag, or the number of lines where none has it.
     fn first_flagged(&self, from: usize) -> usize
@@ -99,7 +124,7 @@ pub trait BareLines: Drop {
     {
         let count = self.len();
         let mut next = from;
-        while next < count && !self.line(next).flag() {
+        while next < count && !self.flagged(next) {
             next += 1;
         }
         next
@@ -112,25 +137,23 @@ pub trait BareLines: Drop {
         requires second { middle ≤ high }
         requires last { high ≤ length (items self.old) }
         ensures swapped { OnTrue result (items self.new ≡ swapped low middle high (items self.old)) }
-        ensures unchanged { OnFalse result (items self.new ≡ items self.old) }
-        ensures keeps_room { spare self.old ≤ spare self.new };
+        ensures unchanged { OnFalse result (items self.new ≡ items self.old) };
 
-    /// Takes the lines from place `from` up to `to` out at once, where it has a shorter way to do so than line by line. No line
-    /// has the flag.
-    fn take_whole(&mut self, from: usize, to: usize) -> Option<Block>
+    /// Puts the lines of a block in place of those from place `from` up to `to` at once, which are handed back, where it has a shorter
+    /// way to do so than line by line. No line has the flag. Otherwise the block comes back, and the list is as before.
+    fn exchange_whole(
+        &mut self,
+        alloc: Global,
+        from: usize,
+        to: usize,
+        new: Block,
+    ) -> Result<Block, Block>
         requires order { from ≤ to }
         requires last { to ≤ length (items self.old) }
         requires unflagged { flag_count (items self.old) ≡ 0 }
-        ensures taken { IfSome result (λ taken. taken ≡ texts (block from to (items self.old))) }
-        ensures left { OnSome result (items self.new ≡ exchanged from to [] (items self.old)) }
-        ensures unchanged { IfNone result (items self.new ≡ items self.old) };
-
-    /// Puts the lines of a block before place `at` at once, where it has a shorter way to do so than line by line. Otherwise the
-    /// block comes back, and the list is as before.
-    fn put_whole(&mut self, at: usize, lines: Block) -> Result<(), Block>
-        requires place { at ≤ length (items self.old) }
-        ensures put { OnOk result (CameIn at lines (items self.old) (items self.new)) }
-        ensures handed_back { IfErr result (λ back. back ≡ lines) }
+        ensures taken { IfOk result (λ taken. taken ≡ texts (block from to (items self.old))) }
+        ensures put { OnOk result (CameIn from to new (items self.old) (items self.new)) }
+        ensures handed_back { IfErr result (λ back. back ≡ new) }
         ensures unchanged { OnErr result (items self.new ≡ items self.old) };
 
     /// The same lines once more, which share their bytes.
@@ -154,8 +177,16 @@ impl BareLines for Vec<BareLine> {
         self.as_slice().len()
     }
 
-    fn line(&self, i: usize) -> &BareLine {
-        &self[i]
+    fn text(&self, i: usize) -> &[u8] {
+        self[i].as_slice()
+    }
+
+    fn plain_copy(&self, i: usize) -> Result<BareLine, AllocError> {
+        self[i].plain_copy()
+    }
+
+    fn push_line(&self, i: usize, output: &mut Pieces) -> Result<(), AllocError> {
+        self[i].push_to(output)
     }
 
     fn reserve(&mut self, n: usize) -> Result<(), AllocError> {
@@ -173,12 +204,21 @@ impl BareLines for Vec<BareLine> {
         Vec::remove(self, i)
     }
 
-    fn exchange(&mut self, i: usize, line: BareLine) -> BareLine {
-        replace(&mut self[i], line)
+    fn exchange(&mut self, i: usize, line: BareLine) -> Result<BareLine, BareLine> {
+        Ok(replace(&mut self[i], line))
     }
 
-    fn set_flag(&mut self, i: usize, flag: bool) {
-        self[i].set_flag(flag);
+    fn flagged(&self, i: usize) -> bool {
+        self[i].flag()
+    }
+
+    fn flag(&mut self, i: usize) -> Result<(), AllocError> {
+        self[i].set_flag(true);
+        Ok(())
+    }
+
+    fn unflag(&mut self, i: usize) {
+        self[i].set_flag(false);
     }
 
     fn swap_blocks(&mut self, low: usize, middle: usize, high: usize) -> bool {
@@ -186,12 +226,14 @@ impl BareLines for Vec<BareLine> {
         true
     }
 
-    fn take_whole(&mut self, _from: usize, _to: usize) -> Option<Block> {
-        None
-    }
-
-    fn put_whole(&mut self, _at: usize, lines: Block) -> Result<(), Block> {
-        Err(lines)
+    fn exchange_whole(
+        &mut self,
+        _alloc: Global,
+        _from: usize,
+        _to: usize,
+        new: Block,
+    ) -> Result<Block, Block> {
+        Err(new)
     }
 
     fn try_copy(&self) -> Result<Self, AllocError> {

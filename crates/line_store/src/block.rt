@@ -1,11 +1,11 @@
 //! Blocks of lines outside a store.
-ghost use Rattle.std.specs.Prelude.{◌≡◌, [], ◌∷◌, length, IfErr, IfOk};
+ghost use Rattle.std.specs.Prelude.{◌≡◌, ◌≤◌, [], ◌∷◌, length, vec_capacity, IfErr, IfOk};
 ghost use Rattle.ed_base.specs.Buffer.{plain_line, texts};
 ghost use Rattle.ed_base.specs.Lines.{lines_of};
 ghost use Rattle.line_store.specs.Chunks.{joined};
 ghost use Rattle.line_store.specs.Kept.{flag_count};
 
-use crate::chunk::Chunk;
+use crate::chunk::{Chunk, FULL};
 use crate::{BareLine, BareLines, FileLines, Line};
 use std::alloc::{AllocError, Global};
 use std::marker::Model;
@@ -63,6 +63,14 @@ impl Block {
         }
     }
 
+    pub(crate) fn of_bare(line: BareLine) -> Self
+        ensures value { result ≡ line.bytes ∷ [] }
+    {
+        Block {
+            kind: Kind::One(line.plain()),
+        }
+    }
+
     pub(crate) fn of_lines(lines: Vec<BareLine>) -> Self
         ensures value { result ≡ texts lines.items }
     {
@@ -81,8 +89,46 @@ impl Block {
         }
     }
 
-    /// The lines of a file, which share its bytes, chunk by chunk. An `Err` comes where there is no memory for a chunk or a line.
-    pub(crate) fn of_file(mut file: FileLines) -> Result<Self, AllocError>
+    /// New lines, in order.
+    pub fn from_lines(alloc: Global, mut lines: Vec<Line>) -> Result<Self, AllocError>
+        ensures value { IfOk result (λ block. block ≡ texts lines.items) }
+    {
+        if lines.as_slice().len() == 1 {
+            let Some(line) = lines.pop() else {
+                unreachable!()
+            };
+            return Ok(Block::of(line));
+        }
+        let mut bare = Vec::with_capacity(alloc, lines.as_slice().len())?;
+        for line in lines {
+            bare.push(line.into_bare())?;
+        }
+        Ok(Block::of_lines(bare))
+    }
+
+    /// The lines of a file, which share its bytes. An `Err` comes where there is no memory for them.
+    pub fn of_file(file: FileLines) -> Result<Self, AllocError>
+        ensures value { IfOk result (λ block. block ≡ lines_of file) }
+    {
+        // A few lines don't take a chunk, which has room for many.
+        if file.fill_chunk() {
+            Block::in_chunks(file)
+        } else {
+            Block::one_by_one(file)
+        }
+    }
+
+    fn one_by_one(mut file: FileLines) -> Result<Self, AllocError>
+        ensures value { IfOk result (λ block. block ≡ lines_of file) }
+    {
+        let mut lines = Vec::new(file.allocator());
+        while let Some(line) = file.next_line()? {
+            lines.push(line.into_bare())?;
+        }
+        Ok(Block::of_lines(lines))
+    }
+
+    fn in_chunks(mut file: FileLines) -> Result<Self, AllocError>
         ensures value { IfOk result (λ block. block ≡ lines_of file) }
     {
         let mut chunks = Vec::new(file.allocator());
@@ -127,23 +173,73 @@ impl Block {
         }
     }
 
-    /// Its lines one by one.
-    pub(crate) fn into_lines(self, alloc: Global) -> Result<Vec<BareLine>, AllocError>
+    pub(crate) fn is_in_chunks(&self) -> bool {
+        matches!(&self.kind, Kind::Chunks { .. })
+    }
+
+    /// Its lines one by one. Where there is no memory for that it comes back.
+    pub(crate) fn into_lines(self, alloc: Global) -> Result<Vec<BareLine>, Block>
         ensures value { IfOk result (λ lines. texts lines.items ≡ self) }
+        ensures handed_back { IfErr result (λ back. back ≡ self) }
     {
         let Block { kind } = self;
         match kind {
-            Kind::One(bare) => {
-                let mut lines = Vec::with_capacity(alloc, 1)?;
-                lines.push_reserved(bare);
-                Ok(lines)
-            }
+            Kind::One(bare) => match Vec::with_capacity(alloc, 1) {
+                Ok(mut lines) => {
+                    lines.push_reserved(bare);
+                    Ok(lines)
+                }
+                Err(_no_memory) => Err(Block {
+                    kind: Kind::One(bare),
+                }),
+            },
             Kind::Lines(lines) => Ok(lines),
-            Kind::Chunks {
-                chunks,
-                count: _count,
-            } => lines_of_chunks(alloc, chunks),
+            Kind::Chunks { chunks, count } => match Vec::with_capacity(alloc, count) {
+                Ok(mut lines) => {
+                    unload_chunks(chunks, &mut lines);
+                    Ok(lines)
+                }
+                Err(_no_memory) => Err(Block::of_chunks(chunks, count)),
+            },
         }
+    }
+
+    /// Its lines in chunks, without flags, and how many they are. Where there is no memory for that, or it has more lines than a
+    /// chunk holds and keeps them otherwise, it comes back.
+    pub(crate) fn into_chunks(self, alloc: Global) -> Result<(Vec<Chunk>, usize), Block>
+        ensures value { IfOk result (λ made. texts (joined made.0.items) ≡ self) }
+        ensures unflagged { IfOk result (λ made. flag_count (joined made.0.items) ≡ 0) }
+        ensures count { IfOk result (λ made. made.1 ≡ length (joined made.0.items)) }
+        ensures handed_back { IfErr result (λ back. back ≡ self) }
+    {
+        let Block { kind } = self;
+        match kind {
+            Kind::Chunks { chunks, count } => Ok((chunks, count)),
+            kind => chunk_of_lines(alloc, Block { kind }.into_lines(alloc)?),
+        }
+    }
+}
+
+/// The same for lines that a chunk holds.
+fn chunk_of_lines(alloc: Global, lines: Vec<BareLine>) -> Result<(Vec<Chunk>, usize), Block>
+    ensures value { IfOk result (λ made. texts (joined made.0.items) ≡ texts lines.items) }
+    ensures unflagged { IfOk result (λ made. flag_count (joined made.0.items) ≡ 0) }
+    ensures count { IfOk result (λ made. made.1 ≡ length (joined made.0.items)) }
+    ensures handed_back { IfErr result (λ back. back ≡ texts lines.items) }
+{
+    let count = lines.as_slice().len();
+    if count > FULL {
+        return Err(Block::of_lines(lines));
+    }
+    let Ok(mut chunks) = Vec::with_capacity(alloc, 1) else {
+        return Err(Block::of_lines(lines));
+    };
+    match Chunk::of_lines(alloc, lines) {
+        Ok(chunk) => {
+            chunks.push_reserved(chunk);
+            Ok((chunks, count))
+        }
+        Err(lines) => Err(Block::of_lines(lines)),
     }
 }
 
@@ -158,13 +254,13 @@ fn copy_chunks(alloc: Global, chunks: &Vec<Chunk>) -> Result<Vec<Chunk>, AllocEr
     Ok(copies)
 }
 
-/// The lines of all chunks.
-fn lines_of_chunks(alloc: Global, chunks: Vec<Chunk>) -> Result<Vec<BareLine>, AllocError>
-    ensures value { IfOk result (λ lines. lines.items ≡ joined chunks.items) }
+/// Puts the lines of all chunks after others, among which there is room for them.
+fn unload_chunks(chunks: Vec<Chunk>, lines: &mut Vec<BareLine>)
+    requires none { lines.old.items ≡ [] }
+    requires room { length (joined chunks.items) ≤ vec_capacity lines.old }
+    ensures unloaded { lines.new.items ≡ joined chunks.items }
 {
-    let mut lines = Vec::new(alloc);
     for chunk in chunks {
-        chunk.unload(&mut lines)?;
+        chunk.unload(lines);
     }
-    Ok(lines)
 }

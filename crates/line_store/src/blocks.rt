@@ -1,101 +1,140 @@
-//! Blocks of lines that go out of a store and come in, in the shortest way that there is.
-ghost use Rattle.std.specs.Prelude.{◌≡◌, ◌≤◌, [], length, map, IfOk, OnErr, OnOk};
+//! Blocks of lines that are exchanged line by line, in a list of any kind.
+ghost use Rattle.std.specs.Prelude.{◌≡◌, ◌+◌, ◌≤◌, [], length, map, vec_capacity, IfErr, IfOk, OnErr, OnOk};
 ghost use Rattle.ed_base.specs.Buffer.{plain_line, texts};
-ghost use Rattle.ed_base.specs.Lines.{lines_of};
 ghost use Rattle.ed_base.specs.Parts.{block, exchanged, inserted};
+ghost use Rattle.line_store.specs.Blocks.{CameIn};
+ghost use Rattle.line_store.specs.Kept.{flag_count};
 
-use crate::{BareLine, Block, FileLines, Line, LineStore};
+use crate::block::Kind;
+use crate::{BareLine, BareLines, Block};
 use std::alloc::{AllocError, Global};
 
-/// Takes the lines from place `from` up to `to` out. The letters that mark them mark no line then. Where there is no room to
-/// hand them back, the store is as before.
-pub fn take_block<S: LineStore>(
+/// Puts the lines of a block, without flags, in place of those from place `from` up to `to`, which are handed back. Where there is
+/// no memory for that the block comes back, and the list is as before.
+pub(crate) fn exchange_each<L: BareLines>(
     alloc: Global,
     from: usize,
     to: usize,
-    store: &mut S,
-) -> Result<Block, AllocError>
+    new: Block,
+    lines: &mut L,
+) -> Result<Block, Block>
     requires order { from ≤ to }
-    requires last { to ≤ length (S.lines store.old) }
-    ensures taken { IfOk result (λ taken. taken ≡ texts (block from to (S.lines store.old))) }
-    ensures left { OnOk result (S.lines store.new ≡ exchanged from to [] (S.lines store.old)) }
-    ensures unchanged { OnErr result (S.lines store.new ≡ S.lines store.old) }
+    requires last { to ≤ length (L.items lines.old) }
+    ensures taken { IfOk result (λ taken. taken ≡ texts (block from to (L.items lines.old))) }
+    ensures put { OnOk result (CameIn from to new (L.items lines.old) (L.items lines.new)) }
+    ensures handed_back { IfErr result (λ back. back ≡ new) }
+    ensures unchanged { OnErr result (L.items lines.new ≡ L.items lines.old) }
 {
-    match store.take_whole(from, to) {
-        Some(taken) => Ok(taken),
-        None => take_each(alloc, from, to, store),
+    let room = if to - from == 1 { 0 } else { to - from };
+    let Ok(mut taken) = Vec::with_capacity(alloc, room) else {
+        return Err(new);
+    };
+    // A line that went out may leave less room, so the new lines come in first, after the others.
+    put_lines(alloc, to, new, lines)?;
+    if to - from == 1 {
+        return Ok(Block::of_bare(lines.remove(from)));
     }
-}
-
-/// The same line by line, the last one first, so that at the end of a store nothing has to move.
-fn take_each<S: LineStore>(
-    alloc: Global,
-    from: usize,
-    to: usize,
-    store: &mut S,
-) -> Result<Block, AllocError>
-    requires order { from ≤ to }
-    requires last { to ≤ length (S.lines store.old) }
-    ensures taken { IfOk result (λ taken. taken ≡ texts (block from to (S.lines store.old))) }
-    ensures left { OnOk result (S.lines store.new ≡ exchanged from to [] (S.lines store.old)) }
-    ensures unchanged { OnErr result (S.lines store.new ≡ S.lines store.old) }
-{
-    let mut taken = Vec::with_capacity(alloc, to - from)?;
-    for i in (from..to).rev() {
-        taken.push_reserved(store.take(i).into_bare());
-    }
-    taken.reverse();
+    take_each(from, to, &mut taken, lines);
     Ok(Block::of_lines(taken))
 }
 
-/// Puts the lines of a block before place `at`, without letters. Where there is no room for them, the store is as before.
-pub fn put_block<S: LineStore>(
-    alloc: Global,
-    at: usize,
-    new: Block,
-    store: &mut S,
-) -> Result<(), AllocError>
-    requires place { at ≤ length (S.lines store.old) }
-    ensures put { OnOk result (S.lines store.new ≡ inserted at (map plain_line new) (S.lines store.old)) }
-    ensures unchanged { OnErr result (S.lines store.new ≡ S.lines store.old) }
+/// Takes the lines from place `from` up to `to` out, without flags, the last one first, so that at the end of a list nothing has
+/// to move. There is room for them.
+fn take_each<L: BareLines>(from: usize, to: usize, taken: &mut Vec<BareLine>, lines: &mut L)
+    requires order { from ≤ to }
+    requires last { to ≤ length (L.items lines.old) }
+    requires none { taken.old.items ≡ [] }
+    requires room { to ≤ vec_capacity taken.old + from }
+    ensures taken { texts taken.new.items ≡ texts (block from to (L.items lines.old)) }
+    ensures left { L.items lines.new ≡ exchanged from to [] (L.items lines.old) }
 {
-    match store.put_whole(at, new) {
-        Ok(()) => Ok(()),
-        Err(new) => {
-            let lines = new.into_lines(alloc)?;
-            store.reserve(lines.len())?;
-            put_each(lines, at, store);
-            Ok(())
-        }
+    for i in (from..to).rev() {
+        taken.push_reserved(lines.remove(i).plain());
+    }
+    taken.reverse();
+}
+
+/// Puts the lines of a block before place `at`, without flags. Otherwise the block comes back, and the list is as before.
+fn put_lines<L: BareLines>(alloc: Global, at: usize, new: Block, lines: &mut L) -> Result<(), Block>
+    requires place { at ≤ length (L.items lines.old) }
+    ensures put { OnOk result (L.items lines.new ≡ inserted at (map plain_line new) (L.items lines.old)) }
+    ensures handed_back { IfErr result (λ back. back ≡ new) }
+    ensures unchanged { OnErr result (L.items lines.new ≡ L.items lines.old) }
+{
+    let Block { kind } = new;
+    match kind {
+        // A single line takes no memory for a list of its own.
+        Kind::One(line) => match lines.insert(at, line.plain()) {
+            Ok(()) => Ok(()),
+            Err(line) => Err(Block::of_bare(line)),
+        },
+        kind => put_all(alloc, at, Block { kind }, lines),
     }
 }
 
-/// Puts the lines of a file before place `at`, as one block. Where there is no room for them, the store is as before.
-pub fn put_file_block<S: LineStore>(
-    file: FileLines,
-    at: usize,
-    store: &mut S,
-) -> Result<(), AllocError>
-    requires place { at ≤ length (S.lines store.old) }
-    ensures put { OnOk result (S.lines store.new ≡ inserted at (map plain_line (lines_of file)) (S.lines store.old)) }
-    ensures unchanged { OnErr result (S.lines store.new ≡ S.lines store.old) }
+/// The same for any lines.
+fn put_all<L: BareLines>(alloc: Global, at: usize, new: Block, lines: &mut L) -> Result<(), Block>
+    requires place { at ≤ length (L.items lines.old) }
+    ensures put { OnOk result (L.items lines.new ≡ inserted at (map plain_line new) (L.items lines.old)) }
+    ensures handed_back { IfErr result (λ back. back ≡ new) }
+    ensures unchanged { OnErr result (L.items lines.new ≡ L.items lines.old) }
 {
-    let alloc = file.allocator();
-    put_block(alloc, at, Block::of_file(file)?, store)
+    let list = new.into_lines(alloc)?;
+    match lines.reserve(list.as_slice().len()) {
+        Ok(()) => {
+            put_each(list, at, lines);
+            Ok(())
+        }
+        Err(_no_memory) => Err(Block::of_lines(list)),
+    }
 }
 
-/// Puts lines before place `at`, the first one first. There is room for them.
-fn put_each<S: LineStore>(lines: Vec<BareLine>, at: usize, store: &mut S)
-    requires place { at ≤ length (S.lines store.old) }
-    requires room { length lines.items ≤ S.spare store.old }
-    ensures put { S.lines store.new ≡ inserted at (map plain_line (texts lines.items)) (S.lines store.old) }
+/// Puts lines before place `at`, without flags, the first one first. There is room for them.
+fn put_each<L: BareLines>(list: Vec<BareLine>, at: usize, lines: &mut L)
+    requires place { at ≤ length (L.items lines.old) }
+    requires room { length list.items ≤ L.spare lines.old }
+    ensures put { L.items lines.new ≡ inserted at (map plain_line (texts list.items)) (L.items lines.old) }
 {
     // Places are counted from the end, where no sum can be too great.
-    let after = store.len() - at;
-    for line in lines {
-        match store.put(store.len() - after, Line::of(line.plain())) {
+    let after = lines.len() - at;
+    for line in list {
+        match lines.insert(lines.len() - after, line.plain()) {
             Ok(()) => {}
             Err(_refused) => unreachable!(),
         }
     }
+}
+
+/// New lines of the texts of those from place `from` up to `to`.
+pub(crate) fn copy_lines<L: BareLines>(
+    alloc: Global,
+    from: usize,
+    to: usize,
+    lines: &L,
+) -> Result<Block, AllocError>
+    requires order { from ≤ to }
+    requires last { to ≤ length (L.items lines.now) }
+    ensures value { IfOk result (λ copies. copies ≡ texts (block from to (L.items lines.now))) }
+{
+    if to - from == 1 {
+        return Ok(Block::of_bare(lines.plain_copy(from)?));
+    }
+    let mut copies = Vec::with_capacity(alloc, to - from)?;
+    for i in from..to {
+        copies.push(lines.plain_copy(i)?)?;
+    }
+    Ok(Block::of_lines(copies))
+}
+
+/// How many lines from place `from` up to `to` have the flag.
+pub(crate) fn flags_among<L: BareLines>(from: usize, to: usize, lines: &L) -> usize
+    requires order { from ≤ to }
+    requires last { to ≤ length (L.items lines.now) }
+    ensures value { result ≡ flag_count (block from to (L.items lines.now)) }
+{
+    let mut flags = 0;
+    for i in from..to {
+        flags += usize::from(lines.flagged(i));
+    }
+    flags
 }

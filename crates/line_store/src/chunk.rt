@@ -1,6 +1,6 @@
 //! A chunk of lines.
-ghost use Rattle.std.specs.Prelude.{◌≡◌, ◌+◌, ◌<◌, ◌≤◌, [], ◌∷◌, ◌++◌, length, insert, min, remove, slice_index_or, slice_set, IfOk, OnOk};
-ghost use Rattle.ed_base.specs.Buffer.{flagged_at, texts};
+ghost use Rattle.std.specs.Prelude.{◌≡◌, ◌+◌, ◌<◌, ◌≤◌, [], ◌∷◌, ◌++◌, length, insert, map, min, remove, slice_index_or, slice_set, vec_capacity, IfErr, IfOk, OnOk};
+ghost use Rattle.ed_base.specs.Buffer.{flagged_at, plain_line, texts};
 ghost use Rattle.ed_base.specs.Lines.{AreLines, bytes_of, lines_of};
 ghost use Rattle.ed_base.specs.Parts.{block};
 ghost use Rattle.line_store.specs.Chunks.{full};
@@ -61,6 +61,32 @@ impl Chunk {
             ring: file.next_ring()?,
             flags: 0,
         })
+    }
+
+    /// New lines of the texts of others. Where there is no memory for the chunk they come back.
+    pub(crate) fn of_lines(alloc: Global, lines: Vec<BareLine>) -> Result<Self, Vec<BareLine>>
+        requires fits { length lines.items ≤ full }
+        ensures value { IfOk result (λ chunk. chunk ≡ map plain_line (texts lines.items)) }
+        ensures handed_back { IfErr result (λ back. back.items ≡ lines.items) }
+    {
+        match Chunk::new(alloc) {
+            Ok(mut chunk) => {
+                chunk.load(lines);
+                Ok(chunk)
+            }
+            Err(_no_memory) => Err(lines),
+        }
+    }
+
+    /// Takes in new lines of the texts of others, where it has none.
+    fn load(&mut self, lines: Vec<BareLine>)
+        requires empty { self.old ≡ [] }
+        requires fits { length lines.items ≤ full }
+        ensures loaded { self.new ≡ map plain_line (texts lines.items) }
+    {
+        for line in lines {
+            self.push(line.plain());
+        }
     }
 
     /// How many lines it has.
@@ -192,18 +218,19 @@ impl Chunk {
         self.pass(0, other);
     }
 
-    /// Puts its lines after others, one by one. After an `Err` some of them are lost.
-    pub(crate) fn unload(self, lines: &mut Vec<BareLine>) -> Result<(), AllocError>
-        ensures unloaded { OnOk result (lines.new.items ≡ lines.old.items ++ self) }
+    /// Puts its lines after others, among which there is room for them.
+    pub(crate) fn unload(self, lines: &mut Vec<BareLine>)
+        requires room { length lines.old.items + length self ≤ vec_capacity lines.old }
+        ensures unloaded { lines.new.items ≡ lines.old.items ++ self }
+        ensures capacity { vec_capacity lines.new ≡ vec_capacity lines.old }
     {
         let mut ring = self.ring;
         'moves: while ring.len() > 0 {
             let Some(line) = ring.pop_front() else {
                 unreachable!()
             };
-            lines.push(line)?;
+            lines.push_reserved(line);
         }
-        Ok(())
     }
 
     /// Puts a line in place of another, which comes back.

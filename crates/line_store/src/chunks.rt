@@ -311,6 +311,25 @@ impl ChunkLines {
             self.set_aside(k);
         }
     }
+
+    /// A line.
+    fn line(&self, i: usize) -> &BareLine
+        requires place { i < length (joined self.now.chunks) }
+        ensures value { result.now ≡ slice_index_or (joined self.now.chunks) i result.now }
+    {
+        let k = self.chunk_of(i);
+        self.chunks[k].line(i - self.start(k))
+    }
+
+    /// Flags a line, or takes its flag.
+    fn set_flag(&mut self, i: usize, flag: bool)
+        requires place { i < length (joined self.old.chunks) }
+        ensures flagged { joined self.new.chunks ≡ flagged_at i flag (joined self.old.chunks) }
+    {
+        let k = self.chunk_of(i);
+        let place = i - self.start(k);
+        self.flag_in(k, place, flag);
+    }
 }
 
 impl BareLines for ChunkLines {
@@ -333,9 +352,16 @@ impl BareLines for ChunkLines {
         self.count
     }
 
-    fn line(&self, i: usize) -> &BareLine {
-        let k = self.chunk_of(i);
-        self.chunks[k].line(i - self.start(k))
+    fn text(&self, i: usize) -> &[u8] {
+        self.line(i).as_slice()
+    }
+
+    fn plain_copy(&self, i: usize) -> Result<BareLine, AllocError> {
+        self.line(i).plain_copy()
+    }
+
+    fn push_line(&self, i: usize, output: &mut Pieces) -> Result<(), AllocError> {
+        self.line(i).push_to(output)
     }
 
     fn push_lines(&self, from: usize, to: usize, output: &mut Pieces) -> Result<(), AllocError> {
@@ -389,16 +415,23 @@ impl BareLines for ChunkLines {
         line
     }
 
-    fn exchange(&mut self, i: usize, line: BareLine) -> BareLine {
+    fn exchange(&mut self, i: usize, line: BareLine) -> Result<BareLine, BareLine> {
         let k = self.chunk_of(i);
         let place = i - self.start(k);
-        self.exchange_in(k, place, line)
+        Ok(self.exchange_in(k, place, line))
     }
 
-    fn set_flag(&mut self, i: usize, flag: bool) {
-        let k = self.chunk_of(i);
-        let place = i - self.start(k);
-        self.flag_in(k, place, flag);
+    fn flagged(&self, i: usize) -> bool {
+        self.line(i).flag()
+    }
+
+    fn flag(&mut self, i: usize) -> Result<(), AllocError> {
+        self.set_flag(i, true);
+        Ok(())
+    }
+
+    fn unflag(&mut self, i: usize) {
+        self.set_flag(i, false);
     }
 
     fn first_flagged(&self, from: usize) -> usize {
@@ -430,16 +463,19 @@ impl BareLines for ChunkLines {
         }
     }
 
-    fn take_whole(&mut self, from: usize, to: usize) -> Option<Block> {
-        // Where few lines go out, it is not worth it to split chunks.
-        if to - from < FULL {
-            return None;
+    fn exchange_whole(
+        &mut self,
+        alloc: Global,
+        from: usize,
+        to: usize,
+        new: Block,
+    ) -> Result<Block, Block> {
+        // Where few lines go out and come in, it is not worth it to split chunks.
+        if to - from < FULL && !new.is_in_chunks() {
+            return Err(new);
         }
-        self.take_range(from, to).ok()
-    }
-
-    fn put_whole(&mut self, at: usize, lines: Block) -> Result<(), Block> {
-        self.put_block(at, lines)
+        let (chunks, count) = new.into_chunks(alloc)?;
+        self.exchange_all(from, to, chunks, count)
     }
 
     fn try_copy(&self) -> Result<Self, AllocError> {

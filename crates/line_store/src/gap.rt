@@ -1,7 +1,9 @@
 //! Lines with a gap among them.
-ghost use Rattle.std.specs.Prelude.{◌≡◌, ◌+◌, ◌-◌, ◌<◌, ◌≤◌, if◌then◌else◌, length, nat_lt};
+ghost use Rattle.std.specs.Prelude.{◌≡◌, ◌+◌, ◌-◌, ◌<◌, ◌≤◌, if◌then◌else◌, length, nat_lt, slice_index_or};
+ghost use Rattle.ed_base.specs.Buffer.{flagged_at};
 
 use crate::{BareLine, BareLines, Block, Store};
+use ed_base::Pieces;
 use std::alloc::{AllocError, Global};
 use std::collections::VecDeque;
 use std::marker::Model;
@@ -58,6 +60,23 @@ impl GapLines {
             self.after -= at - gap;
         }
     }
+
+    /// A line.
+    fn line(&self, i: usize) -> &BareLine
+        requires place { i < length self.now.items }
+        ensures value { result.now ≡ slice_index_or self.now.items i result.now }
+    {
+        &self.ring[place_in_ring(self.after, self.ring.len(), i)]
+    }
+
+    /// Flags a line, or takes its flag.
+    fn set_flag(&mut self, i: usize, flag: bool)
+        requires place { i < length self.old.items }
+        ensures flagged { self.new.items ≡ flagged_at i flag self.old.items }
+    {
+        let place = place_in_ring(self.after, self.ring.len(), i);
+        self.ring[place].set_flag(flag);
+    }
 }
 
 impl BareLines for GapLines {
@@ -76,8 +95,16 @@ impl BareLines for GapLines {
         self.ring.len()
     }
 
-    fn line(&self, i: usize) -> &BareLine {
-        &self.ring[place_in_ring(self.after, self.ring.len(), i)]
+    fn text(&self, i: usize) -> &[u8] {
+        self.line(i).as_slice()
+    }
+
+    fn plain_copy(&self, i: usize) -> Result<BareLine, AllocError> {
+        self.line(i).plain_copy()
+    }
+
+    fn push_line(&self, i: usize, output: &mut Pieces) -> Result<(), AllocError> {
+        self.line(i).push_to(output)
     }
 
     fn reserve(&mut self, n: usize) -> Result<(), AllocError> {
@@ -101,26 +128,36 @@ impl BareLines for GapLines {
         line
     }
 
-    fn exchange(&mut self, i: usize, line: BareLine) -> BareLine {
+    fn exchange(&mut self, i: usize, line: BareLine) -> Result<BareLine, BareLine> {
         let place = place_in_ring(self.after, self.ring.len(), i);
-        replace(&mut self.ring[place], line)
+        Ok(replace(&mut self.ring[place], line))
     }
 
-    fn set_flag(&mut self, i: usize, flag: bool) {
-        let place = place_in_ring(self.after, self.ring.len(), i);
-        self.ring[place].set_flag(flag);
+    fn flagged(&self, i: usize) -> bool {
+        self.line(i).flag()
+    }
+
+    fn flag(&mut self, i: usize) -> Result<(), AllocError> {
+        self.set_flag(i, true);
+        Ok(())
+    }
+
+    fn unflag(&mut self, i: usize) {
+        self.set_flag(i, false);
     }
 
     fn swap_blocks(&mut self, _low: usize, _middle: usize, _high: usize) -> bool {
         false
     }
 
-    fn take_whole(&mut self, _from: usize, _to: usize) -> Option<Block> {
-        None
-    }
-
-    fn put_whole(&mut self, _at: usize, lines: Block) -> Result<(), Block> {
-        Err(lines)
+    fn exchange_whole(
+        &mut self,
+        _alloc: Global,
+        _from: usize,
+        _to: usize,
+        new: Block,
+    ) -> Result<Block, Block> {
+        Err(new)
     }
 
     fn try_copy(&self) -> Result<Self, AllocError> {

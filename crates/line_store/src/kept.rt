@@ -1,10 +1,13 @@
 //! Stores: a list of lines without letters, and apart from it where each letter's line is.
-ghost use Rattle.std.specs.Prelude.{◌≡◌, ℕ, ◌<◌, ◌≤◌, ◌-◌, ◌^◌, Bool, List, [], length, min, true, IsOk, OnErr, OnOk, insert, remove, slice_index_or, slice_set};
-ghost use Rattle.ed_base.specs.Buffer.{Line, plain_line};
+ghost use Rattle.std.specs.Prelude.{◌≡◌, ℕ, ◌<◌, ◌≤◌, ◌-◌, ◌^◌, Bool, List, [], length, true, IfErr, IfOk, OnErr, OnOk, slice_index_or, slice_set};
+ghost use Rattle.ed_base.specs.Buffer.{Line, plain_line, texts};
+ghost use Rattle.ed_base.specs.Parts.{block, exchanged};
+ghost use Rattle.line_store.specs.Blocks.{CameIn};
 ghost use Rattle.line_store.specs.Kept.{Unflagged, flag_count, lines_of};
 ghost use Rattle.line_store.specs.Swaps.{swapped};
 
-use crate::flag_counts::{flags_exchanged, flags_with, flags_without};
+use crate::blocks::{copy_lines, exchange_each, flags_among};
+use crate::flag_counts::flags_exchanged;
 use crate::marks::Marks;
 use crate::swaps::swap_blocks;
 use crate::{BareLine, BareLines, Block, Line, LineStore};
@@ -16,6 +19,7 @@ use std::marker::Model;
 /// doesn't mark, and no call looks through the lines for it.
 #[derive(Drop)]
 pub struct Store<L: BareLines> {
+    alloc: Global,
     lines: L,
     marks: Marks,
     // No line before this place has the flag, so the search for the next one goes on from here.
@@ -35,38 +39,29 @@ impl<L: BareLines> Model for Store<L> {
 
     ghost Value = { StoreValue };
 
-    ghost view = { λ s. record { items = L.items s.lines; marks = s.marks; room = L.spare s.lines } };
+    ghost view = { λ s. record { items = L.items s.lines; marks = s.marks } };
 
     ghost invariant = { λ s. AllBelow (length (L.items s.lines)) s.marks × Unflagged s.unflagged (L.items s.lines)
         × (s.flags ≡ flag_count (L.items s.lines)) };
 }
 
-/// Before which place no line has the flag, once a line has come in at `at`.
-fn place_with(place: usize, at: usize, flag: bool) -> usize
-    ensures { (lines : List Line) (new : Line) → new.flag ≡ flag → at ≤ length lines → Unflagged place lines →
-        Unflagged result (insert lines at new) }
-{
-    if place < at {
-        return place;
-    }
-    if flag {
-        return at;
-    }
-    place.saturating_add(1)
-}
-
-/// The same, once a line has gone out.
-fn place_without(place: usize, i: usize) -> usize
-    ensures { (lines : List Line) → i < length lines → Unflagged place lines → Unflagged result (remove lines i) }
-{
-    if i < place { place - 1 } else { place }
-}
-
-/// The same, once a line has come in place of another.
+/// Before which place no line has the flag, once a line has come in place of another.
 fn place_exchanged(place: usize, i: usize, flag: bool) -> usize
     ensures { (lines : List Line) (new : Line) → new.flag ≡ flag → Unflagged place lines → Unflagged result (slice_set lines i new) }
 {
     if flag { place.min(i) } else { place }
+}
+
+/// The same, once so many lines without the flag have come in place of those from place `from` up to `to`.
+fn place_replaced(place: usize, from: usize, to: usize, entered: usize) -> usize
+    requires order { from ≤ to }
+    ensures { (lines new : List Line) → to ≤ length lines → length new ≡ entered → flag_count new ≡ 0 → Unflagged place lines →
+        Unflagged result (exchanged from to new lines) }
+{
+    if place < from {
+        return place;
+    }
+    (from + place.saturating_sub(to)).saturating_add(entered)
 }
 
 /// The same, once the lines from place `low` up to `middle` and those from there up to `high` have changed places.
@@ -87,6 +82,33 @@ fn place_swapped(place: usize, low: usize, middle: usize, high: usize) -> usize
     place
 }
 
+/// Puts the lines of a block in place of others of a list of which so many lines have the flag.
+fn exchange_lines<L: BareLines>(
+    alloc: Global,
+    flags: usize,
+    from: usize,
+    to: usize,
+    new: Block,
+    lines: &mut L,
+) -> Result<Block, Block>
+    requires order { from ≤ to }
+    requires last { to ≤ length (L.items lines.old) }
+    requires flags { flags ≡ flag_count (L.items lines.old) }
+    ensures taken { IfOk result (λ taken. taken ≡ texts (block from to (L.items lines.old))) }
+    ensures put { OnOk result (CameIn from to new (L.items lines.old) (L.items lines.new)) }
+    ensures handed_back { IfErr result (λ back. back ≡ new) }
+    ensures unchanged { OnErr result (L.items lines.new ≡ L.items lines.old) }
+{
+    // Lines that have the flag are taken one by one, without it.
+    if flags > 0 {
+        return exchange_each(alloc, from, to, new, lines);
+    }
+    match lines.exchange_whole(alloc, from, to, new) {
+        Ok(taken) => Ok(taken),
+        Err(new) => exchange_each(alloc, from, to, new, lines),
+    }
+}
+
 impl<L: BareLines> Store<L> {
     /// The lines from place `low` up to `middle` and those from there up to `high` change places, with their letters and flags.
     fn swap_blocks(&mut self, low: usize, middle: usize, high: usize) -> Result<(), AllocError>
@@ -95,13 +117,23 @@ impl<L: BareLines> Store<L> {
         requires last { high ≤ length self.old.items }
         ensures swapped { OnOk result (lines_of self.new ≡ swapped low middle high (lines_of self.old)) }
         ensures unchanged { OnErr result (lines_of self.new ≡ lines_of self.old) }
-        ensures keeps_room { OnErr result (self.old.room ≤ self.new.room) }
-        ensures room { min (middle - low) (high - middle) ≤ self.old.room → IsOk result }
     {
         swap_blocks(&mut self.lines, low, middle, high)?;
         self.marks.swap_places(low, middle, high);
         self.unflagged = place_swapped(self.unflagged, low, middle, high);
         Ok(())
+    }
+
+    /// How many lines from place `from` up to `to` have the flag.
+    fn flags_among(&self, from: usize, to: usize) -> usize
+        requires order { from ≤ to }
+        requires last { to ≤ length self.now.items }
+        ensures value { result ≡ flag_count (block from to self.now.items) }
+    {
+        if self.flags == 0 {
+            return 0;
+        }
+        flags_among(from, to, &self.lines)
     }
 }
 
@@ -111,14 +143,13 @@ impl<L: BareLines> LineStore for Store<L> {
 
     ghost lines = { lines_of };
 
-    ghost spare = { λ s. s.room };
-
     ghost once = { λ s. lettered-once s.marks s.items };
 
     ghost known = { λ s. lettered-known s.marks 0 s.items };
 
     fn empty(alloc: Global) -> Result<Self, AllocError> {
         Ok(Store {
+            alloc,
             lines: L::empty(alloc)?,
             marks: Marks::none(),
             unflagged: 0,
@@ -131,57 +162,45 @@ impl<L: BareLines> LineStore for Store<L> {
     }
 
     fn text(&self, i: usize) -> &[u8] {
-        self.lines.line(i).as_slice()
+        self.lines.text(i)
     }
 
     fn push_lines(&self, from: usize, to: usize, output: &mut Pieces) -> Result<(), AllocError> {
         self.lines.push_lines(from, to, output)
     }
 
-    fn reserve(&mut self, n: usize) -> Result<(), AllocError> {
-        self.lines.reserve(n)
-    }
-
-    fn put(&mut self, at: usize, line: Line) -> Result<(), Line> {
-        let count = self.lines.len();
+    fn exchange(&mut self, i: usize, line: Line) -> Result<Line, Line> {
         let Line { bare, letters } = line;
         let flag = bare.flag();
-        match self.lines.insert(at, bare) {
-            Ok(()) => {
-                self.marks.open_among(at, count, &letters);
-                self.unflagged = place_with(self.unflagged, at, flag);
+        match self.lines.exchange(i, bare) {
+            Ok(before) => {
+                self.unflagged = place_exchanged(self.unflagged, i, flag);
+                let letters = self.marks.pass_on(i, &letters);
                 // The proof reads off the count of lines that the count of flags fits.
                 let _ = self.lines.len();
-                self.flags = flags_with(self.flags, flag);
-                Ok(())
+                self.flags = flags_exchanged(self.flags, before.flag(), flag);
+                Ok(Line {
+                    bare: before,
+                    letters,
+                })
             }
             Err(bare) => Err(Line { bare, letters }),
         }
     }
 
-    fn take(&mut self, i: usize) -> Line {
-        self.unflagged = place_without(self.unflagged, i);
-        let bare = self.lines.remove(i);
-        self.flags = flags_without(self.flags, bare.flag());
-        Line {
-            bare,
-            letters: self.marks.close(i),
-        }
+    fn exchange_block(&mut self, from: usize, to: usize, new: Block) -> Result<Block, Block> {
+        let count = self.lines.len();
+        let flags = self.flags_among(from, to);
+        let taken = exchange_lines(self.alloc, self.flags, from, to, new, &mut self.lines)?;
+        let entered = self.lines.len() - (count - (to - from));
+        self.marks.exchange_places(from, to, count, entered);
+        self.unflagged = place_replaced(self.unflagged, from, to, entered);
+        self.flags -= flags;
+        Ok(taken)
     }
 
-    fn exchange(&mut self, i: usize, line: Line) -> Line {
-        let Line { bare, letters } = line;
-        let flag = bare.flag();
-        self.unflagged = place_exchanged(self.unflagged, i, flag);
-        let letters = self.marks.pass_on(i, &letters);
-        // The proof reads off the count of lines that the count of flags fits.
-        let _ = self.lines.len();
-        let before = self.lines.exchange(i, bare);
-        self.flags = flags_exchanged(self.flags, before.flag(), flag);
-        Line {
-            bare: before,
-            letters,
-        }
+    fn copy_block(&self, from: usize, to: usize) -> Result<Block, AllocError> {
+        copy_lines(self.alloc, from, to, &self.lines)
     }
 
     fn carry(&mut self, from: usize, to: usize, place: usize) -> Result<(), AllocError> {
@@ -193,27 +212,6 @@ impl<L: BareLines> LineStore for Store<L> {
             return self.swap_blocks(place, from, to);
         }
         self.swap_blocks(from, to, place + (to - from))
-    }
-
-    fn take_whole(&mut self, from: usize, to: usize) -> Option<Block> {
-        // Lines that have the flag are taken one by one, without it.
-        if self.flags > 0 {
-            return None;
-        }
-        let count = self.lines.len();
-        let taken = self.lines.take_whole(from, to)?;
-        self.marks.swap_places(from, to, count);
-        self.marks = self.marks.among(count - (to - from));
-        self.unflagged = 0;
-        Some(taken)
-    }
-
-    fn put_whole(&mut self, at: usize, new: Block) -> Result<(), Block> {
-        let count = self.lines.len();
-        self.lines.put_whole(at, new)?;
-        self.marks.swap_places(at, count, self.lines.len());
-        self.unflagged = self.unflagged.min(at);
-        Ok(())
     }
 
     fn mark(&mut self, i: usize, letter: Letter) {
@@ -228,16 +226,27 @@ impl<L: BareLines> LineStore for Store<L> {
         self.marks = marks.among(self.lines.len());
     }
 
-    fn set_flag(&mut self, i: usize, flag: bool) {
+    fn flag(&mut self, i: usize) -> Result<(), AllocError> {
+        let before = self.lines.flagged(i);
+        self.lines.flag(i)?;
+        self.unflagged = place_exchanged(self.unflagged, i, true);
         // The proof reads off the count of lines that the count of flags fits.
         let _ = self.lines.len();
-        self.flags = flags_exchanged(self.flags, self.lines.line(i).flag(), flag);
-        self.unflagged = place_exchanged(self.unflagged, i, flag);
-        self.lines.set_flag(i, flag);
+        self.flags = flags_exchanged(self.flags, before, true);
+        Ok(())
+    }
+
+    fn unflag(&mut self, i: usize) {
+        let before = self.lines.flagged(i);
+        self.lines.unflag(i);
+        self.unflagged = place_exchanged(self.unflagged, i, false);
+        // The proof reads off the count of lines that the count of flags fits.
+        let _ = self.lines.len();
+        self.flags = flags_exchanged(self.flags, before, false);
     }
 
     fn flagged(&self, i: usize) -> bool {
-        self.lines.line(i).flag()
+        self.lines.flagged(i)
     }
 
     fn flag_count(&self) -> usize {
@@ -259,12 +268,9 @@ impl<L: BareLines> LineStore for Store<L> {
         }
     }
 
-    fn copy_of(&self, i: usize) -> Result<Line, AllocError> {
-        Ok(Line::of(self.lines.line(i).plain_copy()?))
-    }
-
     fn try_copy(&self) -> Result<Self, AllocError> {
         Ok(Store {
+            alloc: self.alloc,
             lines: self.lines.try_copy()?,
             marks: self.marks.copy(),
             unflagged: self.unflagged,

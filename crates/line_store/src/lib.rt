@@ -20,7 +20,6 @@ mod swaps;
 
 pub use bare_lines::BareLines;
 pub use block::Block;
-pub use blocks::{put_block, put_file_block, take_block};
 pub use chunks::{ChunkLines, ChunkStore};
 pub use gap::{GapLines, GapStore};
 pub use kept::{PlainStore, Store};

@@ -1,8 +1,8 @@
 //! Where the lines are that letters mark.
-ghost use Rattle.std.specs.Prelude.{◌≡◌, ◌-◌, ◌<◌, ◌≤◌, ◌^◌, ◌↔◌, Some, None, length, replicate, slice_index_or, slice_set, IfSome, IsTrue};
+ghost use Rattle.std.specs.Prelude.{◌≡◌, ◌+◌, ◌-◌, ◌<◌, ◌≤◌, ◌^◌, ◌↔◌, Some, None, length, replicate, slice_index_or, slice_set, IsTrue};
 ghost use Rattle.ed_base.specs.Buffer.{no_letters};
 ghost use Rattle.line_store.specs.Marks.{AllBelow, lettered, letters_at, marks_of};
-ghost use Rattle.line_store.specs.Shifts.{below, closed, opened, place_swapped, places_below, places_swapped, with_line, without_line};
+ghost use Rattle.line_store.specs.Shifts.{below, closed, opened, place_swapped, places_below, places_exchanged, places_swapped, with_line, without_line};
 
 use crate::LineStore;
 use ed_base::Letter;
@@ -42,31 +42,6 @@ fn has_no_places(places: &[Option<usize>; LETTERS]) -> bool
     ensures exact { IsTrue result ↔ (places.now ≡ replicate 26 None) }
 {
     *places == [None; LETTERS]
-}
-
-/// Where a letter is after a line has come in with it or without it.
-fn place_opened(at: usize, comes: bool, place: Option<usize>) -> Option<usize>
-    requires bound { IfSome place (λ other. other < 2 ^ 64 - 1) }
-    ensures value { result ≡ opened at comes place }
-{
-    if comes {
-        return Some(at);
-    }
-    match place {
-        Some(other) if at <= other => Some(other + 1),
-        _ => place,
-    }
-}
-
-/// Where a letter is after a line has gone out.
-fn place_closed(at: usize, place: Option<usize>) -> Option<usize>
-    ensures value { result ≡ closed at place }
-{
-    match place {
-        Some(other) if other == at => None,
-        Some(other) if at < other => Some(other - 1),
-        _ => place,
-    }
 }
 
 /// Where a letter is after the line at a place has given way to one that comes with it or without it.
@@ -191,59 +166,25 @@ impl Marks {
         }
     }
 
+    /// The lines from place `from` up to `to` of so many have given way to others, which no letter marks.
+    pub(crate) fn exchange_places(&mut self, from: usize, to: usize, count: usize, entered: usize)
+        requires order { from ≤ to }
+        requires last { to ≤ count }
+        requires room { count - (to - from) + entered < 2 ^ 64 }
+        ensures value { self.new ≡ places_exchanged from to count entered self.old }
+    {
+        let left = count - (to - from);
+        self.swap_places(from, to, count);
+        *self = self.among(left);
+        self.swap_places(from, left, left + entered);
+    }
+
     /// Whether no letter is known to mark a line, and none of these is set.
     fn none_with(&self, letters: &[bool; LETTERS]) -> bool
         ensures places { IsTrue result → self.now ≡ replicate 26 None }
         ensures letters { IsTrue result → letters.now ≡ no_letters }
     {
         self.unused && has_no_letters(letters)
-    }
-
-    /// A line has come in at this place, which these letters mark.
-    pub(crate) fn open(&mut self, at: usize, letters: &[bool; LETTERS])
-        requires bound { AllBelow (2 ^ 64 - 1) self.old }
-        ensures value { self.new ≡ with_line at letters.now self.old }
-    {
-        if self.none_with(letters) {
-            return;
-        }
-        for letter in 0..LETTERS {
-            self.places[letter] = place_opened(at, letters[letter], self.places[letter]);
-        }
-        self.unused = false;
-    }
-
-    /// A line has come in at this place among `count` others. After them all it moves no letter, so that one without letters,
-    /// as each of a file that is read, costs no look at the places.
-    pub(crate) fn open_among(&mut self, at: usize, count: usize, letters: &[bool; LETTERS])
-        requires bound { AllBelow count self.old }
-        ensures value { self.new ≡ with_line at letters.now self.old }
-    {
-        // The proof reads off the places how many they are.
-        let _ = &self.places;
-        if at < count || !has_no_letters(letters) {
-            self.open(at, letters);
-        }
-    }
-
-    /// The line at this place has gone out, with the letters that are told.
-    pub(crate) fn close(&mut self, at: usize) -> [bool; LETTERS]
-        ensures letters { result ≡ letters_at at self.old }
-        ensures value { self.new ≡ without_line at self.old }
-    {
-        let mut letters = [false; LETTERS];
-        if self.unused {
-            return letters;
-        }
-        for letter in 0..LETTERS {
-            // Most letters mark no line, and then mark none afterwards.
-            if self.places[letter].is_some() {
-                letters[letter] = self.places[letter] == Some(at);
-                self.places[letter] = place_closed(at, self.places[letter]);
-            }
-        }
-        self.unused = has_no_places(&self.places);
-        letters
     }
 
     /// The line at this place has given way to one that these letters mark, and those of the old one are told.

@@ -1,5 +1,5 @@
 //! Blocks of lines that change places, in a list of any kind.
-ghost use Rattle.std.specs.Prelude.{◌≡◌, ◌-◌, ◌≤◌, length, min, IsOk, OnErr, OnOk};
+ghost use Rattle.std.specs.Prelude.{◌≡◌, ◌-◌, ◌≤◌, length, OnErr, OnOk};
 ghost use Rattle.line_store.specs.Swaps.{swapped};
 
 use crate::BareLines;
@@ -17,10 +17,6 @@ pub(crate) fn swap_blocks<L: BareLines>(
     requires last { high ≤ length (L.items lines.old) }
     ensures swapped { OnOk result (L.items lines.new ≡ swapped low middle high (L.items lines.old)) }
     ensures unchanged { OnErr result (L.items lines.new ≡ L.items lines.old) }
-    ensures keeps_room { OnErr result (L.spare lines.old ≤ L.spare lines.new) }
-
-    // Where there is room for the lines of the shorter block, nothing is refused.
-    ensures room { min (middle - low) (high - middle) ≤ L.spare lines.old → IsOk result }
 {
     if lines.swap_blocks(low, middle, high) {
         return Ok(());
@@ -40,8 +36,6 @@ fn swap_each<L: BareLines>(
     requires last { high ≤ length (L.items lines.old) }
     ensures swapped { OnOk result (L.items lines.new ≡ swapped low middle high (L.items lines.old)) }
     ensures unchanged { OnErr result (L.items lines.new ≡ L.items lines.old) }
-    ensures keeps_room { OnErr result (L.spare lines.old ≤ L.spare lines.new) }
-    ensures room { min (middle - low) (high - middle) ≤ L.spare lines.old → IsOk result }
 {
     lines.reserve((middle - low).min(high - middle))?;
     if middle - low <= high - middle {

@@ -10,7 +10,7 @@ ghost use Rattle.ed_commands.specs.Editors.{AreNew, place_beside, span_value};
 use crate::editor::addressing::Span;
 use crate::substitution::is_one_line;
 use ed_base::{Bytes, Pieces};
-use line_store::{Block, FileLines, Line, LineStore, put_block, take_block};
+use line_store::{Block, FileLines, Line, LineStore};
 use std::alloc::{AllocError, Global};
 
 /// The bytes of a file that has the lines of a block. They are shared with the lines as far as these lie in blocks.
@@ -103,49 +103,39 @@ pub fn exchange<S: LineStore>(
     ensures unchanged { OnErr result (S.lines store.new ≡ S.lines store.old) }
 {
     if to - from == 1 && lines.len() == 1 {
-        return Ok(exchange_one(from, lines, store));
+        return exchange_one(from, lines, store);
     }
-    store.reserve(lines.len())?;
-    // A block that went out may leave less room, so the new lines come in first, after it.
-    let after = store.len() - to;
-    put_lines(lines, to, store);
-    match take_block(alloc, from, to, store) {
+    let new = Block::from_lines(alloc, lines)?;
+    match store.exchange_block(from, to, new) {
         Ok(taken) => Ok(taken),
-        Err(no_memory) => {
-            drop_lines(to, store.len() - after, store);
-            Err(no_memory)
-        }
+        Err(_refused) => Err(AllocError),
     }
 }
 
 /// Puts one new line in place of another, which is handed back. No other line moves.
-fn exchange_one<S: LineStore>(at: usize, mut lines: Vec<Line>, store: &mut S) -> Block
+fn exchange_one<S: LineStore>(
+    at: usize,
+    mut lines: Vec<Line>,
+    store: &mut S,
+) -> Result<Block, AllocError>
     requires place { at < length (S.lines store.old) }
     requires one { length lines.items ≡ 1 }
     requires new { AreNew lines.items }
-    ensures taken { result ≡ texts (block at (at + 1) (S.lines store.old)) }
-    ensures put { S.lines store.new ≡ exchanged at (at + 1) lines.items (S.lines store.old) }
+    ensures taken { IfOk result (λ taken. taken ≡ texts (block at (at + 1) (S.lines store.old))) }
+    ensures put { OnOk result (S.lines store.new ≡ exchanged at (at + 1) lines.items (S.lines store.old)) }
+    ensures unchanged { OnErr result (S.lines store.new ≡ S.lines store.old) }
 {
     let Some(line) = lines.pop() else {
         unreachable!()
     };
-    Block::of(store.exchange(at, line))
-}
-
-/// Takes a block out and drops it, its last line first.
-fn drop_lines<S: LineStore>(from: usize, to: usize, store: &mut S)
-    requires order { from ≤ to }
-    requires last { to ≤ length (S.lines store.old) }
-    ensures left { S.lines store.new ≡ exchanged from to [] (S.lines store.old) }
-{
-    for i in (from..to).rev() {
-        let _ = store.take(i);
+    match store.exchange(at, line) {
+        Ok(before) => Ok(Block::of(before)),
+        Err(_refused) => Err(AllocError),
     }
 }
 
-/// Puts the lines of a block in place of another, which is handed back. After an `Err` the store may have the lines of both.
+/// Puts the lines of a block in place of another, which is handed back. Where there is no room for that, the store is as before.
 pub fn exchange_block<S: LineStore>(
-    alloc: Global,
     from: usize,
     to: usize,
     new: Block,
@@ -155,16 +145,16 @@ pub fn exchange_block<S: LineStore>(
     requires last { to ≤ length (S.lines store.old) }
     ensures taken { IfOk result (λ taken. taken ≡ texts (block from to (S.lines store.old))) }
     ensures put { OnOk result (S.lines store.new ≡ exchanged from to (map plain_line new) (S.lines store.old)) }
+    ensures unchanged { OnErr result (S.lines store.new ≡ S.lines store.old) }
 {
     if to - from == 1 {
-        return exchange_line(alloc, from, to, new, store);
+        return exchange_line(from, to, new, store);
     }
-    exchange_whole(alloc, from, to, new, store)
+    exchange_whole(from, to, new, store)
 }
 
 /// The same for one line: no other line moves where another single one comes in its place.
 fn exchange_line<S: LineStore>(
-    alloc: Global,
     from: usize,
     to: usize,
     new: Block,
@@ -174,16 +164,19 @@ fn exchange_line<S: LineStore>(
     requires last { to ≤ length (S.lines store.old) }
     ensures taken { IfOk result (λ taken. taken ≡ texts (block from to (S.lines store.old))) }
     ensures put { OnOk result (S.lines store.new ≡ exchanged from to (map plain_line new) (S.lines store.old)) }
+    ensures unchanged { OnErr result (S.lines store.new ≡ S.lines store.old) }
 {
     match new.into_line() {
-        Ok(line) => Ok(Block::of(store.exchange(from, line))),
-        Err(new) => exchange_whole(alloc, from, to, new, store),
+        Ok(line) => match store.exchange(from, line) {
+            Ok(before) => Ok(Block::of(before)),
+            Err(_refused) => Err(AllocError),
+        },
+        Err(new) => exchange_whole(from, to, new, store),
     }
 }
 
 /// The same for any lines.
 fn exchange_whole<S: LineStore>(
-    alloc: Global,
     from: usize,
     to: usize,
     new: Block,
@@ -193,30 +186,16 @@ fn exchange_whole<S: LineStore>(
     requires last { to ≤ length (S.lines store.old) }
     ensures taken { IfOk result (λ taken. taken ≡ texts (block from to (S.lines store.old))) }
     ensures put { OnOk result (S.lines store.new ≡ exchanged from to (map plain_line new) (S.lines store.old)) }
+    ensures unchanged { OnErr result (S.lines store.new ≡ S.lines store.old) }
 {
-    put_block(alloc, to, new, store)?;
-    take_block(alloc, from, to, store)
-}
-
-/// Puts new lines after line `at`, the first one first. There is room for them.
-fn put_lines<S: LineStore>(lines: Vec<Line>, at: usize, store: &mut S)
-    requires place { at ≤ length (S.lines store.old) }
-    requires new { AreNew lines.items }
-    requires room { length lines.items ≤ S.spare store.old }
-    ensures put { S.lines store.new ≡ inserted at lines.items (S.lines store.old) }
-{
-    // Places are counted from the end, where no sum can be too great.
-    let after = store.len() - at;
-    for line in lines {
-        match store.put(store.len() - after, line) {
-            Ok(()) => {}
-            Err(_refused) => unreachable!(),
-        }
+    match store.exchange_block(from, to, new) {
+        Ok(taken) => Ok(taken),
+        Err(_refused) => Err(AllocError),
     }
 }
 
 /// Puts copies of the lines of a block, which share their bytes, after line `target`, which may be one of them. After an `Err`
-/// the store may have some of the copies.
+/// the store is as before.
 pub fn copy_block<S: LineStore>(
     from: usize,
     to: usize,
@@ -230,22 +209,8 @@ pub fn copy_block<S: LineStore>(
         (S.lines store.new ≡ inserted target (map plain_line (texts (block from to (S.lines store.old)))) (S.lines store.old)) }
     ensures no_fewer { length (S.lines store.old) ≤ length (S.lines store.new) }
 {
-    store.reserve(to - from)?;
-    // Places after the target are counted from the end: copies that came in have moved them.
-    let count = store.len();
-    let after = count - target;
-    for i in from..to {
-        let place = if i < target {
-            i
-        } else {
-            store.len() - (count - i)
-        };
-        let copy = store.copy_of(place)?;
-        match store.put(store.len() - after, copy) {
-            Ok(()) => {}
-            Err(_refused) => unreachable!(),
-        }
-    }
+    let copies = store.copy_block(from, to)?;
+    exchange_whole(target, target, copies, store)?;
     Ok(())
 }
 

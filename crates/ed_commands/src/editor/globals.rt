@@ -1,6 +1,7 @@
 //! Global commands: the lines that they take, and what comes before and after their lists (XCU ed, "Global Command", "Global
 //! Non-Matched Command").
-ghost use Rattle.std.specs.Prelude.{◌≡◌, ◌+◌, ◌-◌, ◌≤◌, None, Err, length, map, is_some, unwrap_or, IfSome, IsTrue, OnOk};
+ghost use Rattle.std.specs.Prelude.{◌≡◌, ◌+◌, ◌-◌, ◌<◌, ◌≤◌, None, Err, length, map, is_some, unwrap_or, IfSome, IsTrue, OnErr, OnOk};
+ghost use Rattle.ed_base.specs.Buffer.{flagged_at};
 ghost use Rattle.ed_base.specs.Parts.{block, exchanged};
 ghost use Rattle.ed_syntax.specs.PublicTypes.{command_value};
 ghost use Rattle.ed_syntax.specs.meaning.States.{last};
@@ -37,6 +38,19 @@ fn is_wanted(sense: Sense, matched: bool) -> bool
     }
 }
 
+/// Flags a line, or takes its flag.
+fn set_flag<S: LineStore>(i: usize, flag: bool, store: &mut S) -> Result<(), AllocError>
+    requires place { i < length (S.lines store.old) }
+    ensures flagged { OnOk result (S.lines store.new ≡ flagged_at i flag (S.lines store.old)) }
+    ensures unchanged { OnErr result (S.lines store.new ≡ S.lines store.old) }
+{
+    if flag {
+        return store.flag(i);
+    }
+    store.unflag(i);
+    Ok(())
+}
+
 /// Flags those lines of a block that are taken, and takes the flag of the others.
 fn flag_block<S: LineStore>(
     alloc: Global,
@@ -57,7 +71,7 @@ fn flag_block<S: LineStore>(
     let mut searcher = pattern.searcher(learned);
     for i in from..to {
         let matched = searcher.matches(store.text(i))?;
-        store.set_flag(i, is_wanted(sense, matched));
+        set_flag(i, is_wanted(sense, matched), store)?;
     }
     let learned = searcher.leave();
     pattern.put_back(learned);
@@ -113,7 +127,7 @@ impl<S: LineStore> Editor<S> {
         let Some(place) = self.store.next_flagged() else {
             return false;
         };
-        self.store.set_flag(place, false);
+        self.store.unflag(place);
         self.current = place + 1;
         true
     }

@@ -10,7 +10,7 @@ use crate::editor::addressing::Span;
 use crate::editor::forms::push_line;
 use ed_base::{Bytes, Pieces};
 use ed_syntax::Form;
-use line_store::{FileLines, LineStore, put_file_block};
+use line_store::{Block, FileLines, LineStore};
 use std::alloc::{AllocError, Global};
 
 /// Appends the lines of a span, as the form writes them. Plain lines share their bytes with the store, unless they are short and
@@ -78,9 +78,9 @@ pub fn file_store<S: LineStore>(alloc: Global, bytes: Bytes) -> Result<S, AllocE
     Ok(store)
 }
 
-/// Puts the lines of a file after line `place`. After an `Err` the store may have some of them.
+/// Puts the lines of a file after line `place`. After an `Err` the store is as before.
 pub fn put_file<S: LineStore>(
-    mut file: FileLines,
+    file: FileLines,
     place: usize,
     store: &mut S,
 ) -> Result<(), AllocError>
@@ -88,16 +88,9 @@ pub fn put_file<S: LineStore>(
     ensures put { OnOk result (S.lines store.new ≡ inserted place (map plain_line (lines_of file)) (S.lines store.old)) }
     ensures no_fewer { length (S.lines store.old) ≤ length (S.lines store.new) }
 {
-    if file.fill_chunk() {
-        return put_file_block(file, place, store);
+    let new = Block::of_file(file)?;
+    match store.exchange_block(place, place, new) {
+        Ok(_none) => Ok(()),
+        Err(_refused) => Err(AllocError),
     }
-    // Places are counted from the end, where no sum can be too great.
-    let after = store.len() - place;
-    while let Some(line) = file.next_line()? {
-        match store.put(store.len() - after, line) {
-            Ok(()) => {}
-            Err(_refused) => return Err(AllocError),
-        }
-    }
-    Ok(())
 }

@@ -74,7 +74,7 @@ fn put_back<S: LineStore>(
     let from = from.min(last);
     let to = from.saturating_add(entered).min(last);
     let new = removed.try_copy(alloc)?;
-    let removed = exchange_block(alloc, from, to, new, store)?;
+    let removed = exchange_block(from, to, new, store)?;
     let reached = store.len() - (last - to);
     let entered = reached - from;
     Ok(Change::Replaced {
@@ -112,7 +112,7 @@ pub fn take_flags<S: LineStore>(store: &mut S)
     ensures taken { S.lines store.new ≡ unflagged (S.lines store.old) }
 {
     while let Some(place) = store.next_flagged() {
-        store.set_flag(place, false);
+        store.unflag(place);
     }
 }
 

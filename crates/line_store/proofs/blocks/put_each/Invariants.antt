@@ -6,9 +6,9 @@ use Rattle.line_store.proofs.blocks.put_each.Given as goal
 
 abbrev pub invariant-loop-line : goal.invariant-loop-line
 invariant-loop-line g l =
-    let lines = g.S.LineStore.lines in
+    let items = g.L.BareLines.items in
     record {
-      put : lines l.store ≡ inserted l.at (map plain_line (texts l.yielded)) (lines l.fn.store);
-      place : length (lines l.store) ≡ l.at + (length l.yielded + l.after);
-      room : length l.fn.lines.items ≤ g.S.LineStore.spare l.store + length l.yielded;
+      put : items l.lines ≡ inserted l.at (map plain_line (texts l.yielded)) (items l.fn.lines);
+      place : length (items l.lines) ≡ l.at + (length l.yielded + l.after);
+      room : length l.fn.list.items ≤ g.L.BareLines.spare l.lines + length l.yielded;
     }

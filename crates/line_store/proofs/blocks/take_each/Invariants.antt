@@ -6,10 +6,10 @@ use Rattle.line_store.proofs.blocks.take_each.Given as goal
 
 abbrev pub invariant-loop-i : goal.invariant-loop-i
 invariant-loop-i g l =
-    let lines = g.S.LineStore.lines in
+    let items = g.L.BareLines.items in
     record {
-      left : lines l.store ≡ take l.i (lines l.fn.store) ++ drop l.fn.to (lines l.fn.store);
-      taken : reverse l.taken.items ≡ drop l.i (map plain_line (texts (take l.fn.to (lines l.fn.store))));
+      left : items l.lines ≡ take l.i (items l.fn.lines) ++ drop l.fn.to (items l.fn.lines);
+      taken : reverse l.taken.items ≡ drop l.i (map plain_line (texts (take l.fn.to (items l.fn.lines))));
       least : l.fn.from ≤ l.i;
       count : vec_len l.taken + l.i ≡ l.fn.to;
       room : l.fn.to ≤ vec_capacity l.taken + l.fn.from;

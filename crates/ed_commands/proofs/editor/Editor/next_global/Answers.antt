@@ -18,7 +18,7 @@ returns-clause-taken g c =
     let e = c.self.inside in
     let lines = g.S.LineStore.lines e.store in
     let s = held lines e.current e.pattern e.replacement e.name e.changed e.past in
-    next-one s c.args.self.now.state e.past c.in-Some.place c.next_flagged.result (g.S.LineStore.lines c.set_flag.new.self)
+    next-one s c.args.self.now.state e.past c.in-Some.place c.next_flagged.result (g.S.LineStore.lines c.unflag.new.self)
     (ap (λ v. v.state) c.self.view_is) refl
     c.next_flagged.ensures.value c.in-Some.is
-    (c.set_flag.ensures.flagged ∙ ap (flagged_at c.in-Some.place false) c.next_flagged.ensures.unchanged)
+    (c.unflag.ensures.unflagged ∙ ap (flagged_at c.in-Some.place false) c.next_flagged.ensures.unchanged)

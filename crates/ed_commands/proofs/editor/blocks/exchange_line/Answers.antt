@@ -10,13 +10,13 @@ pub exchange-requires-clause-letters : goal.exchange-requires-clause-letters
 exchange-requires-clause-letters g c =
     rw c.in-Ok.ensures.new (plain_shares_none c.in-Ok.line.bytes (remove (g.S.LineStore.lines c.args.store.now) c.args.from))
 
-pub returns-in-Ok-clause-put : goal.returns-in-Ok-clause-put
-returns-in-Ok-clause-put g c =
+pub returns-in-Ok-exchange-clause-put : goal.returns-in-Ok-exchange-clause-put
+returns-in-Ok-exchange-clause-put g c =
     let old = g.S.LineStore.lines c.args.store.now in
     let from = c.args.from in
     let line = c.in-Ok.line in
     let within : from < length old = omega (arith, c.requires.one, c.requires.last) in
-    c.exchange.ensures.exchanged
+    c.in-Ok-exchange.ensures.exchanged
     ∙ set-one from line old within
     ∙ ap (λ t. exchanged from (from + 1) (t ∷ []) old) c.in-Ok.ensures.new
     ∙ ap (λ t. exchanged from (from + 1) (map plain_line t) old) (sym c.in-Ok.ensures.line)

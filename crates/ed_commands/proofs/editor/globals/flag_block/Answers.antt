@@ -18,7 +18,7 @@ loop-i-preserved g c =
     let pattern = c.args.pattern.now in
     let flag = c.is_wanted.result in
     let below : i < length old = omega (arith, c.requires.last) in
-    let after = c.set_flag.ensures.flagged in
+    let after = c.in_ok-set_flag.ensures.flagged in
     let matches =
     told pattern (searched c.loop-i.searcher) now i c.text.result.now c.in_ok-matched.matched c.loop-i.invariant.searches
     c.text.ensures.value c.in_ok-matched.ensures.value in

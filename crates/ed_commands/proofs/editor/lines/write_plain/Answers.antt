@@ -1,5 +1,5 @@
 -- The lines of a span, each with its newline.
-use Rattle.std.proofs.Common.{◌≡◌, ℕ, ◌+◌, ◌-◌, ◌∙◌, ◌++◌, List, [], ◌∷◌, refl, ap, sym, subst, append_assoc}
+use Rattle.std.proofs.Common.{◌≡◌, ℕ, ◌+◌, ◌∙◌, ◌++◌, List, [], ◌∷◌, refl, ap, sym, subst, append_assoc}
 use Rattle.std.specs.Result.{OnOk}
 use Rattle.ed_base.specs.Buffer.{Line, texts}
 use Rattle.ed_base.specs.Lines.{newline, bytes_of}

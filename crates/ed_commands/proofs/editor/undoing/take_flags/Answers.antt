@@ -12,7 +12,7 @@ loop-place-smaller g c =
     let place = c.in-Some.place in
     omega (
       arith,
-      ap (count_by (λ line. line.flag)) (c.set_flag.ensures.flagged ∙ ap (flagged_at place false) c.next_flagged.ensures.unchanged),
+      ap (count_by (λ line. line.flag)) (c.unflag.ensures.unflagged ∙ ap (flagged_at place false) c.next_flagged.ensures.unchanged),
       fewer-flags lines place (sym c.next_flagged.ensures.value ∙ c.in-Some.is),
     )
 
@@ -20,7 +20,7 @@ pub loop-place-preserved : goal.loop-place-preserved
 loop-place-preserved g c =
     let lines = g.S.LineStore.lines c.loop-place.store in
     let place = c.in-Some.place in
-    ap unflagged (c.set_flag.ensures.flagged ∙ ap (flagged_at place false) c.next_flagged.ensures.unchanged)
+    ap unflagged (c.unflag.ensures.unflagged ∙ ap (flagged_at place false) c.next_flagged.ensures.unchanged)
     ∙ unflagged-taken place lines ∙ c.loop-place.invariant
 
 pub returns : goal.returns

@@ -12,10 +12,13 @@ invariant_of-self g c =
     let place : c.args.i < length lines = omega (arith, c.requires.place, length-lettered e.marks 0 lines, ap (λ v. length (lines_of v)) c.self.view_is) in
     rw c.set.ensures.value (set-below e.marks _ c.args.letter c.args.i c.self.invariant.0 place, c.self.invariant.1, c.self.invariant.2)
 
-pub returns-clause-marked : goal.returns-clause-marked
-returns-clause-marked g c =
+pub returns : goal.returns
+returns g c =
     let e = c.self.inside in
     let lines = g.L.BareLines.items e.lines in
     let place : c.args.i < length lines = omega (arith, c.requires.place, length-lettered e.marks 0 lines, ap (λ v. length (lines_of v)) c.self.view_is) in
-    rw c.set.ensures.value (lettered-set e.marks 0 c.args.i c.args.i c.args.letter lines (omega (arith, c.set.ensures.letter, c.set.ensures.count)) c.set.ensures.count (omega arith) place)
-    ∙ ap (λ v. marked_at c.args.i c.args.letter (lines_of v)) c.self.view_is
+    record {
+      marked =
+          rw c.set.ensures.value (lettered-set e.marks 0 c.args.i c.args.i c.args.letter lines (omega (arith, c.set.ensures.letter, c.set.ensures.count)) c.set.ensures.count (omega arith) place)
+          ∙ ap (λ v. marked_at c.args.i c.args.letter (lines_of v)) c.self.view_is;
+    }

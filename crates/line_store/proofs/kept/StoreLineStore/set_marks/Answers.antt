@@ -13,12 +13,15 @@ invariant_of-self g c =
     let is = c.among-self-inside.ensures.value ∙ ap (λ n. places_below n c.args.marks.now) c.len.ensures.value in
     (subst (AllBelow count) (sym is) (places-below count c.args.marks.now), c.self.invariant.1, c.self.invariant.2)
 
-pub returns-clause-marked : goal.returns-clause-marked
-returns-clause-marked g c =
+pub returns : goal.returns
+returns g c =
     let e = c.self.inside in
     let lines = g.L.BareLines.items e.lines in
     let is = c.among-self-inside.ensures.value ∙ ap (λ n. places_below n c.args.marks.now) c.len.ensures.value in
-    ap (λ m. lettered m 0 lines) is
-    ∙ lettered-below (length lines) c.args.marks.now 0 lines (omega arith)
-    ∙ sym (lettered-lettered c.args.marks.now e.marks 0 lines)
-    ∙ ap (λ v. lettered c.args.marks.now 0 (lines_of v)) c.self.view_is
+    record {
+      marked =
+          ap (λ m. lettered m 0 lines) is
+          ∙ lettered-below (length lines) c.args.marks.now 0 lines (omega arith)
+          ∙ sym (lettered-lettered c.args.marks.now e.marks 0 lines)
+          ∙ ap (λ v. lettered c.args.marks.now 0 (lines_of v)) c.self.view_is;
+    }

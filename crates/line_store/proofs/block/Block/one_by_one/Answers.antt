@@ -1,0 +1,15 @@
+-- No line is left.
+use Rattle.std.proofs.Common.{◌≡◌, ◌++◌, [], ◌∙◌, refl, sym, ap, subst, map, append-nil}
+use Rattle.std.specs.Prelude.{◌↔◌, IsNone}
+use Rattle.ed_base.specs.Lines.{lines_of}
+use Rattle.ed_base.specs.Buffer.{plain_line, texts}
+use Rattle.line_store.proofs.Taken.{texts-plain}
+use Rattle.line_store.proofs.block.Block.one_by_one.Goals as goal
+
+pub returns : goal.returns
+returns c =
+    let lines = c.loop-lines.lines.items in
+    let ended = subst (λ next. IsNone next ↔ (c.loop-lines.file ≡ [])) c.in_default.is c.in_ok-line.ensures.ended in
+    let all : lines ≡ map plain_line (lines_of c.args.file) =
+    sym (ap (λ b. lines ++ map plain_line (lines_of b)) (ended.0 refl) ∙ append-nil lines) ∙ c.loop-lines.invariant in
+    record { value = c.of_lines.ensures.value ∙ ap texts all ∙ texts-plain (lines_of c.args.file) }
