@@ -27,9 +27,8 @@ use Rattle.analyser.proofs.Sets.{append-all}
 -- the laws that this rests on
 pub record Laws : Type 0 where
   pub same : (s : State) → Covers s s
-  pub through : (a b c : State) → Covers a b → Covers b c → Covers a c
-  pub join : (one other : State) → Covers (join one other) one
-  pub widen : (old new : State) → Covers (widen old new) old
+  pub join_on : (one other strong : State) → Covers one strong → Covers (join one other) strong
+  pub widen_on : (old new strong : State) → Covers old strong → Covers (widen old new) strong
   pub decided : (weak strong : State) → IsTrue (covers weak strong) ↔ Covers weak strong
 
 pub covers-same : Laws → (weak s : State) → weak ≡ s → covers weak s ≡ true
@@ -44,7 +43,7 @@ round-covers k w x first (suc n) =
     let left : State = turned w x invariant in
     let before : Covers invariant first = round-covers k w x first n in
     either (λ (u : State). Covers u first) (nat_lt n 2) (join invariant left) (widen invariant left)
-    (k.through (join invariant left) invariant first (k.join invariant left) before) (k.through (widen invariant left) invariant first (k.widen invariant left) before)
+    (k.join_on invariant left first before) (k.widen_on invariant left first before)
 
 settled-covers : Laws → (w : Sight) (x : Step) (first invariant : State) → IsSettled w x first invariant → covers invariant first ≡ true
 settled-covers k w x first invariant s =

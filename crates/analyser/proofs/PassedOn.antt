@@ -18,7 +18,7 @@ use Rattle.analyser.specs.declared.walk.End.{End}
 use Rattle.analyser.specs.declared.walk.End.TheVariants.{Leaves, Stops}
 use Rattle.analyser.specs.declared.walk.Outcome.TheVariants.{Left, Fails}
 use Rattle.analyser.specs.declared.passing.Passage.{Passage}
-use Rattle.analyser.specs.Following.{paths_from, result_from, sight_over, begun, end_fault, version_of, stated_of}
+use Rattle.analyser.specs.Following.{paths_from, sight_over, begun, end_fault, version_of, stated_of}
 use Rattle.analyser.specs.Analysis.{low_of, high_of}
 use Rattle.analyser.specs.Judged.{IsVouched, FailsBy}
 use Rattle.analyser.specs.Walking.{with_paths, IsTaken}

@@ -23,12 +23,14 @@ use Rattle.ed_rules.specs.Marks.{is_sure, both_sure}
 use Rattle.ed_rules.specs.Texts.{is_member, are_members, both_texts}
 use Rattle.ed_rules.specs.KnownMatches.{old_has_of_both}
 use Rattle.ed_rules.specs.Order.{old_of_both, united, join, widen, CoversOld, Covers}
+use Rattle.ed_rules.specs.facts.Facts.{Facts}
+use Rattle.ed_rules.specs.facts.FactOrder.{says_line, says_clear, both_facts, cover_facts}
 use Rattle.ed_rules.proofs.Choosing.{choice-itself, same-choices}
 use Rattle.ed_rules.proofs.Texting.{member-passes, members-both, members-both_other}
 use Rattle.cert_check.specs.checker.Covering.{zone_covers, allows, are_among, old_covers, old_has_covers, covers}
 use Rattle.cert_check.proofs.verdicts.Covering.{below-each, says-zone}
 use Rattle.analyser.specs.Rounds.{next_invariant}
-use Rattle.analyser.specs.Walking.{OldIsZone, HasZones}
+use Rattle.analyser.specs.Walking.{AreCountable, OldIsZone, HasZones}
 use Rattle.analyser.proofs.Results.{either}
 
 -- the laws that this rests on: what is joined or widened covers both
@@ -210,13 +212,17 @@ falls-set cs one other both within has_one has_other = record {
 
 -- UNDO
 
+-- how many facts of lines there are
+abbrev pub fact_room : Facts → ℕ
+fact_room facts = length facts.lines + length facts.clear
+
 -- no room of an earlier buffer is as large
 abbrev pub most_room : ℕ
-most_room = 2048000000000001051
+most_room = 38941488147419104283
 
 abbrev pub old_room : Option Old → ℕ
 old_room None = most_room
-old_room (Some old) = total_room old.zone + sure_room 26 old.marks
+old_room (Some old) = total_room old.zone + (sure_room 26 old.marks + fact_room old.facts)
 
 room-most : (b : Option ℤ) → IsKept b → room b ≤ 2000000000000001
 room-most None h = omega arith
@@ -241,30 +247,19 @@ sure-most (suc n) marks =
     let later = sure-most n marks in
     omega arith
 
-old-most : (old : Old) → IsZone old.zone → total_room old.zone + sure_room 26 old.marks < most_room
-old-most old h =
+old-most : (old : Old) → IsZone old.zone → AreCountable old.facts →
+    total_room old.zone + (sure_room 26 old.marks + fact_room old.facts) < most_room
+old-most old h few =
+    let lines = few.0 in
+    let clear = few.1 in
     let size = h.size in
     let zone : total_room old.zone ≤ 1024 * 2000000000000001 =
     subst (λ (n : ℕ). total_room old.zone ≤ n * 2000000000000001) size (total-most old.zone h.kept) in
     let marks = sure-most 26 old.marks in
     omega arith
 
-falls-old : (one other : Option Old) → OldIsZone one → OldIsZone other → CoversOld (old_of_both one other) one →
-    CoversOld (old_of_both one other) other → Falls (old_covers one other) (old_room (old_of_both one other)) (old_room one)
-falls-old None None h k c d = record { no_more = omega arith; fewer = λ e. absurd cc }
-falls-old (Some one) None h k c d = record { no_more = omega arith; fewer = λ e. absurd cc }
-falls-old None (Some other) h k c d = let f = old-most other k in record { no_more = omega arith; fewer = λ e. f }
-falls-old (Some one) (Some other) h k c d =
-    falls-and (zone_covers one.zone other.zone) (are_among one.marks other.marks) (total_room (join_of one.zone other.zone))
-    (total_room one.zone)
-    (sure_room 26 (both_sure one.marks other.marks)) (sure_room 26 one.marks)
-    (falls-zone one.zone other.zone (join_of one.zone other.zone) h (IsZone-join_of one.zone other.zone h k) c.0 d.0)
-    (falls-marks one.marks other.marks)
-
--- TEXTS
-
 -- those of a set that pass a test are fewer where not all do
-filter-length : (p : List ℕ → Bool) (set : List (List ℕ)) →
+filter-length : {A : Type 0} (p : A → Bool) (set : List A) →
     (length (filter p set) ≤ length set) × (list_all p set ≡ false → length (filter p set) < length set)
 filter-length p [] = (omega arith, λ e. absurd cc)
 filter-length p (t ∷ set) =
@@ -275,6 +270,26 @@ filter-length p (t ∷ set) =
       | true ↦ (omega arith, λ e. let fewer = later.1 e in omega arith)
       | false ↦ (omega arith, λ e. omega arith)
     ]
+
+-- facts that the other side doesn't say are lost
+falls-facts : (one : Facts) (zone : Bounds) (other : Facts) →
+    Falls (cover_facts one zone other) (fact_room (both_facts one zone other)) (fact_room one)
+falls-facts one zone other =
+    let lines = filter-length (says_line zone other) one.lines in
+    let clear = filter-length (says_clear zone other) one.clear in
+    falls-and _ _ _ _ _ _ (record { no_more = lines.0; fewer = lines.1 }) (record { no_more = clear.0; fewer = clear.1 })
+
+falls-old : (one other : Option Old) → OldIsZone one → OldIsZone other → CoversOld (old_of_both one other) one →
+    CoversOld (old_of_both one other) other → Falls (old_covers one other) (old_room (old_of_both one other)) (old_room one)
+falls-old None None h k c d = record { no_more = omega arith; fewer = λ e. absurd cc }
+falls-old (Some one) None h k c d = record { no_more = omega arith; fewer = λ e. absurd cc }
+falls-old None (Some other) h k c d = let f = old-most other k.0 k.1 in record { no_more = omega arith; fewer = λ e. f }
+falls-old (Some one) (Some other) h k c d =
+    falls-and _ _ _ _ _ _
+    (falls-zone one.zone other.zone (join_of one.zone other.zone) h.0 (IsZone-join_of one.zone other.zone h.0 k.0) c.0 d.0)
+    (falls-and _ _ _ _ _ _ (falls-marks one.marks other.marks) (falls-facts one.facts other.zone other.facts))
+
+-- TEXTS
 
 falls-has : (one other : List (List ℕ)) → Falls (are_members one other) (length (both_texts one other)) (length one)
 falls-has one other = let h = filter-length (is_member other) one in record { no_more = h.0; fewer = h.1 }
@@ -374,7 +389,7 @@ state_room patterns names texts s =
     total_room s.zone + (sure_room 26 s.marks + (lacking patterns s.patterns
     + ((flag_room s.replacements.none + (flag_room s.replacements.plain + flag_room s.replacements.split)) + (lacking names s.names
     + ((flag_room s.changed.no + flag_room s.changed.yes) + ((flag_room s.undo.nothing + (flag_room s.undo.same + old_room s.undo.was))
-    + (length s.matches.has + old_has_room texts s.undo.was s.matches.old_has)))))))
+    + ((length s.matches.has + old_has_room texts s.undo.was s.matches.old_has) + fact_room s.facts)))))))
 
 module _ (patterns names : List Choice) (texts : List (List ℕ)) where
   falls-united : (one other : State) (zone : Bounds) → HasZones one → HasZones other →
@@ -395,8 +410,10 @@ module _ (patterns names : List Choice) (texts : List (List ℕ)) where
       (falls-and _ _ _ _ _ _ (falls-flag one.changed.no other.changed.no) (falls-flag one.changed.yes other.changed.yes)) (
       falls-and _ _ _ _ _ _ (falls-and _ _ _ _ _ _ (falls-flag one.undo.nothing other.undo.nothing) (
       falls-and _ _ _ _ _ _ (falls-flag one.undo.same other.undo.same) (falls-old one.undo.was other.undo.was h.old k.old c.was d.was)))
+      (falls-and _ _ _ _ _ _
       (falls-and _ _ _ _ _ _ (falls-has one.matches.has other.matches.has)
-      (falls-old_has texts one.undo.was other.undo.was one.matches.old_has other.matches.old_has o))))))))
+      (falls-old_has texts one.undo.was other.undo.was one.matches.old_has other.matches.old_has o))
+      (falls-facts one.facts other.zone other.facts))))))))
 
   falls-join : Laws → (one other : State) → HasZones one → HasZones other → are_choices other.patterns patterns ≡ true →
       are_choices other.names names ≡ true → are_members one.matches.old_has texts ≡ true →

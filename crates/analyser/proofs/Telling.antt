@@ -1,6 +1,6 @@
 -- What is known is formed, as far as it is told: it can be written down.
 use Rattle.std.proofs.Common.{◌≡◌, ℕ, zero, suc, Bool, true, false, List, [], ◌∷◌, Option, None, Some, Result, Ok, Err, refl, ◌∙◌, sym, ap, subst}
-use Rattle.std.specs.Prelude.{nat_lt, IfOk}
+use Rattle.std.specs.Prelude.{nat_lt, is_some, ◌||◌, IfOk}
 use Rattle.std.specs.List.{All}
 use Rattle.std.proofs.lemmas.List.Elements.{All-nil, All-cons, All-head, All-tail}
 use Rattle.ed_base.specs.declared.fault.Fault.{Fault}
@@ -13,10 +13,16 @@ use Rattle.ed_rules.specs.Choices.{Choice}
 use Rattle.ed_rules.specs.Matched.{watched}
 use Rattle.ed_rules.specs.States as states
 use Rattle.ed_rules.specs.KnownMatches.{no_matches, matches_of_both}
-use Rattle.ed_rules.specs.Order.{join, widen}
+use Rattle.ed_rules.specs.Order.{old_of_both, united, join, widen}
+use Rattle.ed_rules.specs.States.{old_without_facts, without_facts}
+use Rattle.ed_rules.specs.facts.Facts.{Facts, no_facts}
+use Rattle.ed_rules.specs.facts.FactOrder.{both_facts}
+use Rattle.zones.specs.Zone.{Bounds}
+use Rattle.zones.specs.Steps.{join_of, widening_of}
+use Rattle.cert_check.specs.text.HasText.{OldSaysNothing}
 use Rattle.ed_rules.specs.Rules.{step}
 use Rattle.ed_rules.specs.Globals.{body_entry, loop_end}
-use Rattle.ed_rules.specs.Formed.{ChoiceIsBytes, IsFormed, IsEnded, TextsAreFormed, MatchesAreFormed, VerbIsBytes, TextsAreBytes}
+use Rattle.ed_rules.specs.Formed.{ChoiceIsBytes, OldIsFormed, OldIsLow, IsOfLines, IsFormed, IsEnded, TextsAreFormed, MatchesAreFormed, VerbIsBytes, TextsAreBytes}
 use Rattle.cert_check.specs.declared.certificate.Version.{Version}
 use Rattle.cert_check.specs.declared.certificate.Version.TheVariants as version
 use Rattle.cert_check.specs.declared.sight.Sight.{Sight}
@@ -49,28 +55,52 @@ pub record MatchLaws : Type 0 where
 
 -- AS FAR AS IT IS TOLD
 
-formed-told_by : (v : Version) (s : State) → IsFormed s → IsFormed (told_by v s)
-formed-told_by version.One s h = record {
+-- an earlier buffer is as it was, but for facts of lines
+some-without : (was : Option Old) → is_some (old_without_facts was) ≡ is_some was
+some-without None = refl
+some-without (Some old) = refl
+
+formed-without : (was : Option Old) → OldIsFormed was → OldIsFormed (old_without_facts was)
+formed-without None h = h
+formed-without (Some old) h = h
+
+low-without : (was : Option Old) → OldIsLow was → OldIsLow (old_without_facts was)
+low-without None h = h
+low-without (Some old) h = h
+
+lines-without : (was : Option Old) (has : List (List ℕ)) → IsOfLines was has → IsOfLines (old_without_facts was) has
+lines-without None has h = h
+lines-without (Some old) has h = h
+
+nothing-without : (was : Option Old) → OldSaysNothing (old_without_facts was)
+nothing-without None = tt
+nothing-without (Some old) = refl
+
+formed-less : (s : State) (m : Matches) → IsFormed s → IsFormed (record (without_facts s) { matches = m })
+formed-less s m h = record {
   formed = record {
     zone = h.formed.zone;
     patterns = h.formed.patterns;
     replacements = h.formed.replacements;
     names = h.formed.names;
     changed = h.formed.changed;
-    undo = h.formed.undo;
-    old = h.formed.old;
+    undo = ap (λ (b : Bool). s.undo.nothing || s.undo.same || b) (some-without s.undo.was) ∙ h.formed.undo;
+    old = formed-without s.undo.was h.formed.old;
   };
   low = h.low;
-  old_low = h.old_low;
+  old_low = low-without s.undo.was h.old_low;
 }
-formed-told_by version.Two s h = h
+
+formed-told_by : (v : Version) (s : State) → IsFormed s → IsFormed (told_by v s)
+formed-told_by version.One s h = formed-less s no_matches h
+formed-told_by version.Two s h = formed-less s s.matches h
 
 formed-told : (w : Sight) (s : State) → IsFormed s → IsFormed (told w s)
 formed-told w s h = formed-told_by w.version s h
 
 ended-told_by : (v : Version) (s : State) → IsEnded s → IsEnded (told_by v s)
 ended-told_by version.One s h = record { formed = formed-told_by version.One s h.formed; counted = h.counted }
-ended-told_by version.Two s h = h
+ended-told_by version.Two s h = record { formed = formed-told_by version.Two s h.formed; counted = h.counted }
 
 ended-told : (w : Sight) (s : State) → IsEnded s → IsEnded (told w s)
 ended-told w s h = ended-told_by w.version s h
@@ -79,6 +109,37 @@ ended-told w s h = ended-told_by w.version s h
 abbrev pub SaysAsTold : Version → State → Type 0
 SaysAsTold version.One s = s.matches ≡ no_matches
 SaysAsTold version.Two s = MatchesAreFormed s
+
+-- no version says anything of single lines
+pub record SaysNothing (s : State) : Type 0 where
+  pub facts : s.facts ≡ no_facts
+  pub old_facts : OldSaysNothing s.undo.was
+
+nothing-told_by : (v : Version) (s : State) → SaysNothing (told_by v s)
+nothing-told_by version.One s = record { facts = refl; old_facts = nothing-without s.undo.was }
+nothing-told_by version.Two s = record { facts = refl; old_facts = nothing-without s.undo.was }
+
+nothing-told : (w : Sight) (s : State) → SaysNothing (told w s)
+nothing-told w s = nothing-told_by w.version s
+
+old-nothing : (one other : Option Old) → OldSaysNothing one → OldSaysNothing other → OldSaysNothing (old_of_both one other)
+old-nothing None other h k = k
+old-nothing (Some one) None h k = h
+old-nothing (Some one) (Some other) h k = ap (λ (f : Facts). both_facts f other.zone other.facts) h
+
+nothing-united : (one other : State) (zone : Bounds) → SaysNothing one → SaysNothing other → SaysNothing (united one other zone)
+nothing-united one other zone h k = record {
+  facts = ap (λ (f : Facts). both_facts f other.zone other.facts) h.facts;
+  old_facts = old-nothing one.undo.was other.undo.was h.old_facts k.old_facts;
+}
+
+nothing-join : (one other : State) → SaysNothing one → SaysNothing other → SaysNothing (join one other)
+unfolding join
+nothing-join one other h k = nothing-united one other (join_of one.zone other.zone) h k
+
+nothing-widen : (one other : State) → SaysNothing one → SaysNothing other → SaysNothing (widen one other)
+unfolding widen
+nothing-widen one other h k = nothing-united one other (widening_of one.zone other.zone) h k
 
 -- what is asked of a result before it is told
 abbrev MayBeTold : Version → State → Type 0
@@ -91,7 +152,7 @@ WatchIsFormed version.Two watch = TextsAreFormed watch
 
 says-told : (v : Version) (s : State) → MayBeTold v s → SaysAsTold v (told_by v s)
 says-told version.One s h = refl
-says-told version.Two s h = h
+says-told version.Two s h = record { has = h.has; old_has = h.old_has; of_lines = lines-without s.undo.was s.matches.old_has h.of_lines }
 
 may-told : (v : Version) (s : State) → SaysAsTold v s → MayBeTold v s
 may-told version.One s h = tt
@@ -137,13 +198,15 @@ may-end k version.Two x before invariant h q = k.end x before invariant h q
 pub record Holds (v : Version) (s : State) : Type 0 where
   pub formed : IsFormed s
   pub says : SaysAsTold v s
+  pub nothing : SaysNothing s
 
 pub record HoldsAtEnd (v : Version) (s : State) : Type 0 where
   pub ended : IsEnded s
   pub says : SaysAsTold v s
+  pub nothing : SaysNothing s
 
 holds-at_end : (v : Version) (s : State) → HoldsAtEnd v s → Holds v s
-holds-at_end v s h = record { formed = h.ended.formed; says = h.says }
+holds-at_end v s h = record { formed = h.ended.formed; says = h.says; nothing = h.nothing }
 
 -- of what is known of a list, and of a note
 abbrev pub LoopedHolds : Version → Option Looped → Type 0
@@ -158,8 +221,12 @@ module _ (k : Laws) (m : MatchLaws) (w : Sight) (watch : WatchIsFormed w.version
 
   left-holds : (s : State) (r : Result State Fault) → Holds w.version s → IfOk r IsEnded → IfOk r (MayBeTold w.version) →
       Holds w.version (told w (elim r as (λ _. State) [ Ok t ↦ t | Err f ↦ s ]))
-  left-holds s (Ok t) h q r = record { formed = formed-told w t q.formed; says = says-told w.version t r }
-  left-holds s (Err f) h q r = record { formed = formed-told w s h.formed; says = says-told w.version s (may-told w.version s h.says) }
+  left-holds s (Ok t) h q r = record { formed = formed-told w t q.formed; says = says-told w.version t r; nothing = nothing-told w t }
+  left-holds s (Err f) h q r = record {
+    formed = formed-told w s h.formed;
+    says = says-told w.version s (may-told w.version s h.says);
+    nothing = nothing-told w s;
+  }
 
   step-holds : (c : Command) (s : State) → TextsAreBytes c → Holds w.version s → Holds w.version (left_by w c s)
   unfolding left_by
@@ -167,8 +234,12 @@ module _ (k : Laws) (m : MatchLaws) (w : Sight) (watch : WatchIsFormed w.version
 
   left-ends : (s : State) (r : Result State Fault) → HoldsAtEnd w.version s → IfOk r IsEnded → IfOk r (MayBeTold w.version) →
       HoldsAtEnd w.version (told w (elim r as (λ _. State) [ Ok t ↦ t | Err f ↦ s ]))
-  left-ends s (Ok t) h q r = record { ended = ended-told w t q; says = says-told w.version t r }
-  left-ends s (Err f) h q r = record { ended = ended-told w s h.ended; says = says-told w.version s (may-told w.version s h.says) }
+  left-ends s (Ok t) h q r = record { ended = ended-told w t q; says = says-told w.version t r; nothing = nothing-told w t }
+  left-ends s (Err f) h q r = record {
+    ended = ended-told w s h.ended;
+    says = says-told w.version s (may-told w.version s h.says);
+    nothing = nothing-told w s;
+  }
 
   step-ends : (c : Command) (s : State) → TextsAreBytes c → HoldsAtEnd w.version s → HoldsAtEnd w.version (left_by w c s)
   unfolding left_by
@@ -181,7 +252,11 @@ module _ (k : Laws) (m : MatchLaws) (w : Sight) (watch : WatchIsFormed w.version
   entry-holds : (x : Step) (invariant : State) → StepIsBytes x → Holds w.version invariant → Holds w.version (entered w x invariant)
   entry-holds x invariant b h =
       let entry : State = body_entry x.command.verb invariant in
-      record { formed = formed-told w entry (k.entry x.command.verb invariant h.formed).formed; says = says-told w.version entry (may-entry m w.version x.command.verb invariant b.0.1 h.says) }
+      record {
+        formed = formed-told w entry (k.entry x.command.verb invariant h.formed).formed;
+        says = says-told w.version entry (may-entry m w.version x.command.verb invariant b.0.1 h.says);
+        nothing = nothing-told w entry;
+      }
 
   round-holds : (x : Step) (first : State) (n : ℕ) → StepIsBytes x → Holds w.version first → Holds w.version (round_invariant w x first n)
   round-holds x first zero b h = h
@@ -190,8 +265,16 @@ module _ (k : Laws) (m : MatchLaws) (w : Sight) (watch : WatchIsFormed w.version
       let before : Holds w.version invariant = round-holds x first n b h in
       let after : Holds w.version (turned w x invariant) = list-holds x.list (entered w x invariant) b.1 (entry-holds x invariant b before) in
       either (Holds w.version) (nat_lt n 2) _ _
-      (record { formed = k.join _ _ before.formed after.formed; says = says-join m w.version _ _ before.says after.says })
-      (record { formed = k.widen _ _ before.formed after.formed; says = says-widen m w.version _ _ before.says after.says })
+      (record {
+        formed = k.join _ _ before.formed after.formed;
+        says = says-join m w.version _ _ before.says after.says;
+        nothing = nothing-join _ _ before.nothing after.nothing;
+      })
+      (record {
+        formed = k.widen _ _ before.formed after.formed;
+        says = says-widen m w.version _ _ before.says after.says;
+        nothing = nothing-widen _ _ before.nothing after.nothing;
+      })
 
   inner-hold : (cs : List Command) (s : State) (ts : List State) → All TextsAreBytes cs → Holds w.version s → AreInner w cs s ts → All (Holds w.version) ts
   inner-hold [] s [] b h i = All-nil (Holds w.version)
@@ -207,6 +290,7 @@ module _ (k : Laws) (m : MatchLaws) (w : Sight) (watch : WatchIsFormed w.version
   end-holds x s invariant h q = record {
     ended = ended-told w (loop_end x s invariant) (k.end x s invariant h.ended.formed q.formed);
     says = says-told w.version (loop_end x s invariant) (may-end m w.version x s invariant h.says q.says);
+    nothing = nothing-told w (loop_end x s invariant);
   }
 
   after-holds : (global : Bool) (x : Step) (s : State) (l : Option Looped) → StepIsBytes x → HoldsAtEnd w.version s → IsKnownOfList w global x s l →
@@ -251,6 +335,10 @@ unfolding states.start
 begun-says k None path min max h = refl
 begun-says k (Some has) path min max h = k.start path min max has h
 
+begun-nothing : (path : Choice) (min : ℕ) (max : Option ℕ) (has : List (List ℕ)) → SaysNothing (states.start path min max has)
+unfolding states.start
+begun-nothing path min max has = record { facts = refl; old_facts = tt }
+
 watch-formed : MatchLaws → (script : Script) (has : Option (List (List ℕ))) → All StepIsBytes script.steps → TextsAreFormed (stated_of has) →
     WatchIsFormed (sight_of script (version_of has) (stated_of has)).version (sight_of script (version_of has) (stated_of has)).watch
 watch-formed k script None b h = tt
@@ -264,7 +352,11 @@ script-holds k m script start notes bytes path has h =
     let w : Sight = sight_over script start in
     let same : w.version ≡ version_of start.has = sight-version script start.has in
     let begins : HoldsAtEnd (version_of start.has) (begun start) =
-    record { ended = k.start start.path start.min start.max (stated_of start.has) path; says = begun-says m start.has start.path start.min start.max has } in
+    record {
+      ended = k.start start.path start.min start.max (stated_of start.has) path;
+      says = begun-says m start.has start.path start.min start.max has;
+      nothing = begun-nothing start.path start.min start.max (stated_of start.has);
+    } in
     subst (λ (v : Version). All (NoteHolds v) notes × HoldsAtEnd v (result_from w (counted script.steps) (begun start) notes)) same
     (notes-hold k m w (watch-formed m script start.has bytes has) (counted script.steps) (begun start) notes (counted-bytes script.steps bytes)
     (subst (λ (v : Version). HoldsAtEnd v (begun start)) (sym same) begins) h)

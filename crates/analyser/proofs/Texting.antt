@@ -73,10 +73,14 @@ text-of_state : (v : Version) (s : State) → Holds v s → StateHasText v s
 text-of_state version.One s h = record {
   formed = h.formed.formed;
   matches = subst (λ (m : Matches). AreSaidIn version.One s.undo.was m) (sym h.says) (none-said s.undo.was);
+  facts = h.nothing.facts;
+  old_facts = h.nothing.old_facts;
 }
 text-of_state version.Two s h = record {
   formed = h.formed.formed;
   matches = (h.says.has, old-said s.undo.was s.matches.old_has h.says.old_has h.says.of_lines);
+  facts = h.nothing.facts;
+  old_facts = h.nothing.old_facts;
 }
 
 texts-of_states : (v : Version) (ss : List State) → All (Holds v) ss → All (StateHasText v) ss
@@ -104,7 +108,11 @@ pub has-text : Laws → MatchLaws → (script : Script) (start : Start) (c : Cer
 has-text k m script start c bytes path has paths ordered low high is =
     let known = script-holds k m script start c.notes bytes path has is.notes in
     let last : Holds (version_of start.has) c.last =
-    subst (λ (s : State). Holds (version_of start.has) s) (sym is.last) (record { formed = known.1.ended.formed; says = known.1.says }) in
+    subst (λ (s : State). Holds (version_of start.has) s) (sym is.last) (record {
+      formed = known.1.ended.formed;
+      says = known.1.says;
+      nothing = known.1.nothing;
+    }) in
     record {
       path = subst (λ (p : Choice). ChoiceIsBytes p) (sym is.path) path;
       start =

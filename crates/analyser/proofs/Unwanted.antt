@@ -1,6 +1,6 @@
 -- A start that doesn't state a pattern that a script wants: the search for it fails, since no command before it brings a line that matches.
-use Rattle.std.proofs.Common.{◌≡◌, ◌<◌, ◌+◌, length, get_or, ℕ, ℤ, negsuc, Bool, true, false, not, ◌&&◌, ◌||◌, cond, List, [], ◌∷◌, Option, None, Some, is_none, Result, Ok, Err, IfOk, nat_eq, inl, inr, refl, sym, ap, ◌∙◌, subst}
-use Rattle.std.specs.List.{list_all, list_any, filter}
+use Rattle.std.proofs.Common.{◌≡◌, ◌<◌, ◌+◌, length, get_or, ℕ, ℤ, negsuc, Bool, true, false, not, ◌&&◌, ◌||◌, List, [], ◌∷◌, Option, None, Some, is_none, Result, Ok, Err, IfOk, nat_eq, inl, inr, refl, sym, ap, ◌∙◌, subst}
+use Rattle.std.specs.List.{list_all, list_any}
 use Rattle.std.specs.Cmp.Lexicographic.{pointwise, bytes_decides}
 use Rattle.std.proofs.lemmas.Bool.{and_from, and_parts, or_cases}
 use Rattle.ed_base.specs.declared.fault.Fault.{Fault}
@@ -18,7 +18,7 @@ use Rattle.ed_syntax.specs.meaning.Values.{◌>>◌, matches}
 use Rattle.ed_syntax.specs.meaning.Verbs as verbs
 use Rattle.ed_syntax.specs.meaning.Verbs.{Alteration, takes, given_or, is_global, ends_run}
 use Rattle.ed_rules.specs.declared.state.State.{State}
-use Rattle.ed_rules.specs.Texts.{is_member, with_texts}
+use Rattle.ed_rules.specs.Texts.{is_member}
 use Rattle.ed_rules.specs.Matched.{gained, sought}
 use Rattle.ed_rules.specs.Matching.{matches_after}
 use Rattle.ed_rules.specs.Pieces.{needing}

@@ -1,5 +1,5 @@
 -- How the analyser goes through the commands: what its own functions answer.
-use Rattle.std.specs.Prelude.{◌≡◌, ℕ, List, [], ◌∷◌, map, length, Option, Some, None, option_map, if◌then◌else◌}
+use Rattle.std.specs.Prelude.{◌≡◌, ◌<◌, ℕ, List, [], ◌∷◌, map, length, Option, Some, None, option_map, if◌then◌else◌}
 use Rattle.std.specs.List.{All}
 use Rattle.ed_base.specs.declared.fault.Fault.{Fault}
 use Rattle.ed_syntax.specs.Commands.{Command, Step}
@@ -7,6 +7,7 @@ use Rattle.zones.specs.Limits.{IsZone}
 use Rattle.ed_rules.specs.declared.state.Old.{Old}
 use Rattle.ed_rules.specs.declared.state.State.{State}
 use Rattle.ed_rules.specs.Choices.{Choice}
+use Rattle.ed_rules.specs.facts.Facts.{Facts}
 use Rattle.ed_rules.specs.Texts.{with_text}
 use Rattle.ed_rules.specs.Formed.{TextsAreBytes}
 use Rattle.cert_check.specs.declared.sight.Sight.{Sight}
@@ -44,10 +45,14 @@ abbrev pub invariant_after : (before : ℕ) → State → (failed : Option Fault
 invariant_after n invariant (Some why) t = None
 invariant_after n invariant None t = if covers invariant t then None else Some (next_invariant n invariant t)
 
+-- there are fewer facts of lines and of stretches than a word can count
+abbrev pub AreCountable : Facts → Type 0
+AreCountable facts = (length facts.lines < 18446744073709551616) × (length facts.clear < 18446744073709551616)
+
 -- the zones of a state are zones, also the one that undo may bring back
 abbrev pub OldIsZone : Option Old → Type 0
 OldIsZone None = Unit {0}
-OldIsZone (Some old) = IsZone old.zone
+OldIsZone (Some old) = IsZone old.zone × AreCountable old.facts
 
 pub record HasZones (s : State) : Type 0 where
   pub zone : IsZone s.zone

@@ -18,7 +18,7 @@ use crate::walk::{Outcome, Walk, go_through, place_of};
 use cert_check::{Certificate, Sight, Version, covering_is_decided};
 use ed_base::Fault;
 use ed_rules::{
-    KeptState, State, Texts, covering_states_is_an_order, matches_stay_formed, states_stay_formed,
+    KeptState, State, Texts, joined_states_are_covered, matches_stay_formed, states_stay_formed,
 };
 use ed_syntax::Script;
 use std::alloc::{AllocError, Global};
@@ -102,7 +102,7 @@ fn answer(script: &Script, start: Start, walk: Walk) -> Analysis
     states_stay_formed();
     matches_stay_formed();
     covering_is_decided();
-    covering_states_is_an_order();
+    joined_states_are_covered();
     let Walk {
         notes,
         writes,

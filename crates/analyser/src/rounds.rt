@@ -5,12 +5,12 @@ ghost use Rattle.ed_syntax.specs.PublicTypes.{command_value, step_value};
 ghost use Rattle.ed_syntax.specs.meaning.Verbs.{is_global};
 ghost use Rattle.zones.specs.Limits.{IsZone};
 ghost use Rattle.analyser.specs.Rounds.{entered};
-ghost use Rattle.analyser.specs.Walking.{IsRound, invariant_after, OldIsZone, HasZones, IsLastRound};
+ghost use Rattle.analyser.specs.Walking.{IsRound, invariant_after, AreCountable, OldIsZone, HasZones, IsLastRound};
 
 use cert_check::{Sight, covering_is_decided};
 use ed_base::Fault;
 use ed_rules::{
-    KeptState, Old, State, body_entry, covering_states_is_an_order,
+    KeptState, LineFacts, Old, State, body_entry, joined_states_are_covered,
     needs_are_the_same_whatever_is_watched, outcome_into,
 };
 use ed_syntax::Command;
@@ -103,11 +103,21 @@ fn zone_is_kept(zone: &Zone)
     let _bound = zone.bound(Name::ZERO, Name::ZERO);
 }
 
+fn facts_are_countable(facts: &LineFacts)
+    ensures kept { AreCountable facts.now }
+{
+    let _lines = facts.lines.len();
+    let _clear = facts.clear.len();
+}
+
 fn old_is_kept(old: &Option<Old>)
     ensures kept { OldIsZone old.now }
 {
     match old {
-        Some(old) => zone_is_kept(&old.zone),
+        Some(old) => {
+            zone_is_kept(&old.zone);
+            facts_are_countable(&old.facts);
+        }
         None => {}
     }
 }
@@ -131,7 +141,7 @@ pub(crate) fn settle(
     requires global { is_global (command_value command.now).verb ≡ true }
     ensures value { IfOk result (λ round. IsLastRound sight.now (step_value command.now) known.old known.new round) }
 {
-    covering_states_is_an_order();
+    joined_states_are_covered();
     let list = command.list();
     let mut left = Box::new(alloc, known.try_copy()?)?;
     let mut before = 0;

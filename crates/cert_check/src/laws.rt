@@ -19,8 +19,8 @@ ghost use Rattle.cert_check.specs.checker.Opening.{StartIsSound};
 ghost use Rattle.cert_check.specs.checker.Sound.{IsAllowed, GlobalGoesWell, CannotFail, CannotFailInBounds};
 
 use ed_rules::{
-    commands_are_sound, globals_are_sound, needs_are_the_same_whatever_is_watched,
-    weaker_states_stand_for_more,
+    commands_are_sound, facts_go_by_bytes, globals_are_sound,
+    needs_are_the_same_whatever_is_watched, weaker_states_stand_for_more,
 };
 use ed_syntax::{
     commands_are_placed, files_have_lines, lists_add_no_flags, lists_note_changes,
@@ -86,6 +86,7 @@ pub fn marked_starts_stand()
 {
     files_have_lines();
     unnamed_letters_change_nothing();
+    facts_go_by_bytes();
 }
 
 /// A certificate of version 1 allows exactly the starts whose number of lines lies in its bounds, so it promises what it did before

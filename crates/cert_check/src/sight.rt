@@ -36,10 +36,12 @@ impl Sight {
         &self.watch
     }
 
-    /// Leaves in a rule's state only what the version tells: in version 1 what lines match is forgotten. It takes no memory.
+    /// Leaves in a rule's state only what the version tells: what is known of single lines is forgotten, and in version 1 what lines match
+    /// too. It takes no memory.
     pub fn tell(&self, state: &mut State)
         ensures value { state.new ≡ told self.now state.old }
     {
+        state.forget_facts();
         match self.version {
             Version::One => state.forget_matches(),
             Version::Two => {}

@@ -1,5 +1,5 @@
--- Covering is an order of states, in which what unites two states covers both.
-use Rattle.std.proofs.Common.{◌≡◌, ◌<◌, ℕ, Bool, true, false, ◌&&◌, List, Option, None, Some, ◌∙◌, sym, arith}
+-- Covering is an order of states but for what they say of single lines. What unites two states covers both.
+use Rattle.std.proofs.Common.{◌≡◌, ◌<◌, ℕ, Bool, true, false, ◌&&◌, List, Option, None, Some, ◌∙◌, refl, sym, arith}
 use Rattle.std.proofs.lemmas.List.FromFn.{get_or-map-range_with_len}
 use Rattle.std.proofs.lemmas.Bool.{and_parts, or_left, or_right}
 use Rattle.zones.specs.Zone as zones
@@ -12,7 +12,9 @@ use Rattle.ed_rules.specs.declared.state.State.{State}
 use Rattle.ed_rules.specs.Choices.{Choice, has_choice, union, are_choices}
 use Rattle.ed_rules.specs.Marks.{is_sure, both_sure}
 use Rattle.ed_rules.specs.KnownMatches.{old_has_of_both, CoversOldHas}
+use Rattle.ed_rules.specs.States.{old_without_facts, without_facts}
 use Rattle.ed_rules.specs.Order.{old_of_both, united, join, widen, CoversOld, Covers}
+use Rattle.ed_rules.proofs.facts.FactsOrdered.{cover-itself, cover-both, cover-both_other, cover-on}
 use Rattle.ed_rules.proofs.Texting.{members-same, members-through, members-both, members-both_other}
 use Rattle.ed_rules.proofs.Choosing.{has_choice-all, has-union, has-union_other, choices-more, choices-same}
 
@@ -39,24 +41,42 @@ sure-both one other letter l e =
 
 old-same : (old : Option Old) → CoversOld old old
 old-same None = tt
-old-same (Some old) = (Covers-same old.zone, λ letter l e. e)
+old-same (Some old) = (Covers-same old.zone, λ letter l e. e, cover-itself old.facts old.zone)
 
-old-through : (a b c : Option Old) → CoversOld a b → CoversOld b c → CoversOld a c
+old-through : (a b c : Option Old) → CoversOld a b → CoversOld b c → CoversOld (old_without_facts a) c
 old-through a b None h k = tt
 old-through a None (Some c) h k = absurd k
 old-through None (Some b) (Some c) h k = absurd h
-old-through (Some a) (Some b) (Some c) h k = (Covers-through a.zone b.zone c.zone h.0 k.0, λ letter l e. k.1 letter l (h.1 letter l e))
+old-through (Some a) (Some b) (Some c) h k = (Covers-through a.zone b.zone c.zone h.0 k.0, λ letter l e. k.1 letter l (h.1 letter l e), refl)
 
 pub old-both : (one other : Option Old) → CoversOld (old_of_both one other) one
 old-both None other = tt
 old-both (Some one) None = old-same (Some one)
-old-both (Some one) (Some other) = (Covers-join_of one.zone other.zone, λ letter l e. (sure-both one.marks other.marks letter l e).0)
+old-both (Some one) (Some other) = (
+  Covers-join_of one.zone other.zone,
+  λ letter l e. (sure-both one.marks other.marks letter l e).0,
+  cover-both one.facts other.facts other.zone one.zone,
+)
 
 pub old-both_other : (one other : Option Old) → CoversOld (old_of_both one other) other
 old-both_other one None = tt
 old-both_other None (Some other) = old-same (Some other)
-old-both_other (Some one) (Some other) =
-    (Covers-join_of_other one.zone other.zone, λ letter l e. (sure-both one.marks other.marks letter l e).1)
+old-both_other (Some one) (Some other) = (
+  Covers-join_of_other one.zone other.zone,
+  λ letter l e. (sure-both one.marks other.marks letter l e).1,
+  cover-both_other one.facts other.facts other.zone,
+)
+
+-- what covered an earlier buffer does so once it is joined with another
+old-on : (one other strong : Option Old) → CoversOld one strong → CoversOld (old_of_both one other) strong
+old-on one other None h = tt
+old-on None other (Some strong) h = absurd h
+old-on (Some one) None (Some strong) h = h
+old-on (Some one) (Some other) (Some strong) h = (
+  Covers-through (join_of one.zone other.zone) one.zone strong.zone (Covers-join_of one.zone other.zone) h.0,
+  λ letter l e. h.1 letter l ((sure-both one.marks other.marks letter l e).0),
+  cover-on one.facts other.facts other.zone strong.zone strong.facts h.2,
+)
 
 -- WHAT LINES MATCH OF WHAT UNDO KEEPS
 
@@ -96,10 +116,12 @@ Covers-itself s = record {
   same = λ e. e;
   was = old-same s.undo.was;
   matches = record { has = members-same s.matches.has; old_has = matched-same s.undo.was s.matches.old_has };
+  facts = cover-itself s.facts s.zone;
 }
 
-pub Covers-on : (a b c : State) → Covers a b → Covers b c → Covers a c
-Covers-on a b c h k = record {
+-- covering goes through a third state, if nothing is said of single lines
+pub Covers-through_both : (a b c : State) → Covers a b → Covers b c → Covers (without_facts a) c
+Covers-through_both a b c h k = record {
   zone = Covers-through a.zone b.zone c.zone h.zone k.zone;
   marks = λ letter l e. k.marks letter l (h.marks letter l e);
   patterns = choices-through c.patterns b.patterns a.patterns k.patterns h.patterns;
@@ -117,6 +139,7 @@ Covers-on a b c h k = record {
     old_has =
         matched-through b.undo.was c.undo.was a.matches.old_has b.matches.old_has c.matches.old_has k.was h.matches.old_has k.matches.old_has;
   };
+  facts = refl;
 }
 
 united-covers : (one other : State) (zone : Bounds) → zones.Covers zone one.zone → Covers (united one other zone) one
@@ -137,6 +160,7 @@ united-covers one other zone z = record {
     has = members-both one.matches.has other.matches.has;
     old_has = matched-both one.undo.was other.undo.was one.matches.old_has other.matches.old_has;
   };
+  facts = cover-both one.facts other.facts other.zone one.zone;
 }
 
 united-covers_other : (one other : State) (zone : Bounds) → zones.Covers zone other.zone → Covers (united one other zone) other
@@ -157,7 +181,30 @@ united-covers_other one other zone z = record {
     has = members-both_other one.matches.has other.matches.has;
     old_has = matched-both_other one.undo.was other.undo.was one.matches.old_has other.matches.old_has;
   };
+  facts = cover-both_other one.facts other.facts other.zone;
 }
+
+-- what covered the first of two states covers what unites them
+united-on : (one other strong : State) (zone : Bounds) → zones.Covers zone one.zone → Covers one strong → Covers (united one other zone) strong
+united-on one other strong zone z h =
+    let u : Covers (united one other zone) one = united-covers one other zone z in
+    let t = Covers-through_both (united one other zone) one strong u h in
+    record {
+      zone = t.zone;
+      marks = t.marks;
+      patterns = t.patterns;
+      no_replacement = t.no_replacement;
+      plain_replacement = t.plain_replacement;
+      split_replacement = t.split_replacement;
+      names = t.names;
+      unchanged = t.unchanged;
+      changed = t.changed;
+      nothing = t.nothing;
+      same = t.same;
+      was = old-on one.undo.was other.undo.was strong.undo.was h.was;
+      matches = record { has = t.matches.has; old_has = t.matches.old_has };
+      facts = cover-on one.facts other.facts other.zone strong.zone strong.facts h.facts;
+    }
 
 pub Covers-join : (one other : State) → Covers (join one other) one
 unfolding join
@@ -174,3 +221,11 @@ Covers-widen old new = united-covers old new (widening_of old.zone new.zone) (Co
 pub Covers-widen_other : (old new : State) → Covers (widen old new) new
 unfolding widen
 Covers-widen_other old new = united-covers_other old new (widening_of old.zone new.zone) (Covers-widening_of_other old.zone new.zone)
+
+pub Covers-join_on : (one other strong : State) → Covers one strong → Covers (join one other) strong
+unfolding join
+Covers-join_on one other strong h = united-on one other strong (join_of one.zone other.zone) (Covers-join_of one.zone other.zone) h
+
+pub Covers-widen_on : (old new strong : State) → Covers old strong → Covers (widen old new) strong
+unfolding widen
+Covers-widen_on old new strong h = united-on old new strong (widening_of old.zone new.zone) (Covers-widening_of old.zone new.zone) h

@@ -3,6 +3,7 @@ mod FactsRows
 mod FactsMadeRows
 pub mod FactsTold
 pub mod FactsOrdered
+pub mod FactsByBytes
 pub mod SearchOrder
 pub mod FoundLines
 pub mod EditedLines

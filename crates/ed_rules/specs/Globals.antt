@@ -18,6 +18,7 @@ use Rattle.ed_rules.specs.declared.state.State.{State}
 use Rattle.ed_rules.specs.States.{old_of}
 use Rattle.ed_rules.specs.Pieces.{with_zone, ended}
 use Rattle.ed_rules.specs.Texts.{with_text}
+use Rattle.ed_rules.specs.facts.Facts.{no_facts}
 
 -- the end of a rule
 abbrev pub finished : State → State
@@ -33,10 +34,14 @@ abbrev pub taken_matches : Verb → (has : List (List ℕ)) → List (List ℕ)
 taken_matches (ed.Global sense.Matching (Some text)) has = with_text text has
 taken_matches _ has = has
 
--- the state in which the list is run for a line that was taken
+-- the state in which the list is run for a line that was taken; another line is current, so nothing is known of single lines
 abbrev pub body_entry : Verb → (invariant : State) → State
 body_entry verb invariant =
-    finished (record invariant { zone = line_taken invariant.zone; matches = record invariant.matches { has = taken_matches verb invariant.matches.has } })
+    finished (record invariant {
+      zone = line_taken invariant.zone;
+      matches = record invariant.matches { has = taken_matches verb invariant.matches.has };
+      facts = no_facts;
+    })
 
 -- a command of the list may change the buffer
 abbrev pub list_may_alter : List Command → Bool

@@ -25,5 +25,5 @@ pub mod Globals
 pub mod GlobalSoundness
 -- what the law on exact commands says
 pub mod ExactRules
--- what is known of single lines, for rules that are still to be written
+-- what is known of single lines beside the zone; the rules that find it out are still to be written
 pub mod facts

@@ -11,12 +11,17 @@ use Rattle.ed_rules.specs.declared.state.State.{State}
 use Rattle.ed_rules.specs.Choices.{union, are_choices}
 use Rattle.ed_rules.specs.Marks.{both_sure, AreAmong}
 use Rattle.ed_rules.specs.KnownMatches.{matches_of_both, CoversMatches}
+use Rattle.ed_rules.specs.facts.FactOrder.{both_facts, cover_facts}
 
 -- where one side has no earlier buffer, the other's stands
 abbrev pub old_of_both : Option Old → Option Old → Option Old
 old_of_both None other = other
 old_of_both (Some one) None = Some one
-old_of_both (Some one) (Some other) = Some (record { zone = join_of one.zone other.zone; marks = both_sure one.marks other.marks })
+old_of_both (Some one) (Some other) = Some (record {
+  zone = join_of one.zone other.zone;
+  marks = both_sure one.marks other.marks;
+  facts = both_facts one.facts other.zone other.facts;
+})
 
 abbrev pub changed_of_both : Changed → Changed → Changed
 changed_of_both one other = record { no = one.no || other.no; yes = one.yes || other.yes }
@@ -42,6 +47,7 @@ united one other zone = record {
   changed = changed_of_both one.changed other.changed;
   undo = undo_of_both one.undo other.undo;
   matches = matches_of_both one.undo.was other.undo.was one.matches other.matches;
+  facts = both_facts one.facts other.zone other.facts;
 }
 
 -- the strongest state that says what both say
@@ -59,7 +65,8 @@ Allows weak strong = strong ≡ true → weak ≡ true
 abbrev pub CoversOld : (weak strong : Option Old) → Type 0
 CoversOld weak None = Unit {0}
 CoversOld None (Some strong) = ⊥
-CoversOld (Some weak) (Some strong) = zones.Covers weak.zone strong.zone × AreAmong weak.marks strong.marks
+CoversOld (Some weak) (Some strong) =
+    zones.Covers weak.zone strong.zone × AreAmong weak.marks strong.marks × (cover_facts weak.facts strong.zone strong.facts ≡ true)
 
 -- one state covers another: all that it says the other says too
 pub record Covers (weak strong : State) : Type 0 where
@@ -76,3 +83,4 @@ pub record Covers (weak strong : State) : Type 0 where
   pub same : Allows weak.undo.same strong.undo.same
   pub was : CoversOld weak.undo.was strong.undo.was
   pub matches : CoversMatches strong.undo.was weak.matches strong.matches
+  pub facts : cover_facts weak.facts strong.zone strong.facts ≡ true

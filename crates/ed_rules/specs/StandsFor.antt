@@ -20,6 +20,7 @@ use Rattle.ed_rules.specs.declared.state.State.{State}
 use Rattle.ed_rules.specs.Choices.{has_choice}
 use Rattle.ed_rules.specs.Marks.{is_sure}
 use Rattle.ed_rules.specs.Matched.{AreMatched}
+use Rattle.ed_rules.specs.facts.Facts.{FactsHold}
 
 -- the numbers are those of these lines and this current line: each sure letter marks a line, and its number is that line's
 pub record Reads (marks : List Bool) (lines : List Line) (current : ℕ) (number : Numbers) : Type 0 where
@@ -51,10 +52,11 @@ abbrev pub allows_change : Changed → Bool → Bool
 allows_change flag true = flag.yes
 allows_change flag false = flag.no
 
--- what undo keeps: the old zone and the old sure marks hold of an earlier buffer, for numbers of its own
+-- what undo keeps: the old zone, the old sure marks and what is known of single old lines hold of an earlier buffer, for numbers of its own
 abbrev pub AllowsKept : Option Old → Kept → Type 0
 AllowsKept None kept = ⊥
-AllowsKept (Some old) kept = (number : Numbers) × HoldsBy old.zone old.marks kept.lines kept.current number
+AllowsKept (Some old) kept =
+    (number : Numbers) × HoldsBy old.zone old.marks kept.lines kept.current number × FactsHold old.facts number kept.lines
 
 abbrev pub AllowsPast : Undo → Past → Type 0
 AllowsPast undo Nothing = undo.nothing ≡ true
@@ -66,7 +68,7 @@ abbrev pub Remembers : State → editor.State → Type 0
 Remembers s e =
     (has_choice s.patterns e.pattern ≡ true) × (allows_replacement s.replacements e.replacement ≡ true) × (has_choice s.names e.name ≡ true)
 
--- all that a state says is true of the editor's, by these numbers
+-- all that a state says is true of the editor's, by these numbers, but for what it says of single lines and of matches
 pub record StandsBy (s : State) (e : editor.State) (number : Numbers) : Type 0 where
   pub buffer : HoldsBy s.zone s.marks e.lines e.current number
   pub remembered : Remembers s e
@@ -98,3 +100,4 @@ pub record StandsFor (s : State) (e : editor.State) : Type 0 where
   pub lines : AreLettered e.lines
   pub kept : KeepsLettered e.past
   pub matches : MatchesHold s.matches e.lines e.past
+  pub facts : FactsHold s.facts numbers e.lines

@@ -11,6 +11,7 @@ use Rattle.ed_rules.specs.declared.state.State.{State}
 use Rattle.ed_rules.specs.Choices.{Choice}
 use Rattle.ed_rules.specs.Marks.{no_marks}
 use Rattle.ed_rules.specs.KnownMatches.{matches_of}
+use Rattle.ed_rules.specs.facts.Facts.{no_facts}
 
 -- surely unchanged, and surely changed
 abbrev pub unchanged : Changed
@@ -30,9 +31,18 @@ nothing_to_undo = record { nothing = true; same = false; was = None }
 abbrev pub undo_to : Old → Undo
 undo_to old = record { nothing = false; same = false; was = Some old }
 
--- the bounds and the sure marks, as undo keeps them
+-- the bounds, the sure marks and what is known of single lines, as undo keeps them
 abbrev pub old_of : State → Old
-old_of s = record { zone = s.zone; marks = s.marks }
+old_of s = record { zone = s.zone; marks = s.marks; facts = s.facts }
+
+-- nothing is known of single lines of an earlier buffer
+abbrev pub old_without_facts : Option Old → Option Old
+old_without_facts None = None
+old_without_facts (Some old) = Some (record old { facts = no_facts })
+
+-- a state that says nothing of single lines, and of all else the same
+abbrev pub without_facts : State → State
+without_facts s = record s { undo = record s.undo { was = old_without_facts s.undo.was }; facts = no_facts }
 
 -- at most so many lines, where there is a limit
 abbrev pub limited : Option ℕ → Bounds → Bounds
@@ -50,4 +60,5 @@ start path min max has = record {
   changed = unchanged;
   undo = nothing_to_undo;
   matches = matches_of has;
+  facts = no_facts;
 }

@@ -7,15 +7,17 @@ use Rattle.ed_rules.specs.declared.state.State.{State}
 use Rattle.ed_rules.specs.States.{changed, undo_to}
 use Rattle.ed_rules.specs.Order.{join}
 use Rattle.ed_rules.specs.Pieces.{needing, without_addresses}
+use Rattle.ed_rules.specs.facts.Facts.{no_facts}
 
--- The present buffer, as undo keeps it. Addresses, which no script has before `u`, are forgotten; without them this changes nothing.
+-- The present buffer, as undo keeps it. Addresses, which no script has before `u`, are forgotten; without them this changes nothing. What
+-- is known of single lines is given up, here and of the earlier buffer.
 abbrev pub present_of : State → Old
-present_of s = record { zone = without_addresses s.zone; marks = s.marks }
+present_of s = record { zone = without_addresses s.zone; marks = s.marks; facts = no_facts }
 
 -- An earlier buffer is the present one again, and undo finds the one in whose place it came. The buffer is changed, also where it was
 -- saved.
 abbrev pub brought_back : Old → State → State
-brought_back old s = record s { zone = old.zone; marks = old.marks; changed = changed; undo = undo_to (present_of s) }
+brought_back old s = record s { zone = old.zone; marks = old.marks; changed = changed; undo = undo_to (present_of s); facts = no_facts }
 
 -- by what undo may find: the buffer as it is, an earlier one, or either
 abbrev pub undone_by : (same : Bool) → (was : Option Old) → State → State

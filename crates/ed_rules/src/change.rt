@@ -1,6 +1,6 @@
 //! What rules do to a whole state when the buffer changes: the change itself, and the replacement of lines.
 
-ghost use Rattle.std.specs.Prelude.{◌≡◌};
+ghost use Rattle.std.specs.Prelude.{◌≡◌, OnOk};
 ghost use Rattle.ed_rules.specs.Marks.{for_each_sure};
 ghost use Rattle.ed_rules.specs.Pieces.{modified, mark_moved, mark_lost, mark_replaced, replaced};
 
@@ -8,19 +8,26 @@ use crate::marks::Marks;
 use crate::pieces::{Distances, move_mark, set_current_replaced, set_left_over};
 use crate::state::{Changed, State, find_old};
 use ed_base::Letter;
+use std::alloc::AllocError;
 use zones::Name;
 
 impl State {
     /// The buffer was changed by a command that began with `before`.
-    pub(crate) fn modify(&mut self, listed: bool, before: &State)
-        ensures exact { self.new ≡ modified listed before.now self.old }
+    pub(crate) fn modify(&mut self, listed: bool, before: &State) -> Result<(), AllocError>
+        ensures exact { OnOk result (self.new ≡ modified listed before.now self.old) }
     {
         self.changed = Changed::YES;
         if !listed {
             self.undo.nothing = false;
             self.undo.same = false;
-            find_old(&mut self.undo.was, &before.zone, &before.marks);
+            find_old(
+                &mut self.undo.was,
+                &before.zone,
+                &before.marks,
+                &before.facts,
+            )?;
         }
+        Ok(())
     }
 
     #[tactic(auto, unfolding(crate::specs::Pieces::mark_lost))]

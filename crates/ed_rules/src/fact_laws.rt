@@ -2,7 +2,7 @@
 
 ghost use Rattle.std.specs.Prelude.{◌≡◌, ◌⊎◌, ℕ, ◌<◌, ◌≤◌, pos, ◌+ℤ◌, ℤ, ◌≤ℤ◌, ◌+◌, ◌-◌, ◌++◌, max, reverse, find, true, List, ◌∷◌, length, Some, None, Bool, false, []};
 ghost use Rattle.zones.specs.Zone.{Bounds, Numbers, Holds, updated};
-ghost use Rattle.ed_base.specs.Buffer.{Line, plain_line};
+ghost use Rattle.ed_base.specs.Buffer.{Line, plain_line, texts};
 ghost use Rattle.ed_syntax.specs.meaning.Values.{matches, matches_line, upwards, searched, lines_forward, lines_backward};
 ghost use Rattle.ed_rules.specs.facts.SearchOrder.{IsFoundForward, IsFoundBackward};
 ghost use Rattle.ed_syntax.specs.meaning.States as editor;
@@ -25,7 +25,7 @@ ghost use Rattle.ed_rules.specs.GlobalSoundness.{FlaggedPass};
 ghost use Rattle.ed_rules.specs.facts.OneTurn.{IsTakenOnce};
 ghost use Rattle.ed_rules.specs.facts.Landmarks.{Landmark, placed, started, AreAt};
 ghost use Rattle.ed_rules.specs.facts.AssignedFacts.{assigned, moved};
-ghost use Rattle.ed_rules.specs.facts.FactOrder.{AreNamed, both_facts, cover_facts};
+ghost use Rattle.ed_rules.specs.facts.FactOrder.{both_facts, cover_facts};
 ghost use Rattle.ed_rules.specs.facts.Facts.{ReadsEnds, Facts, Point, FactsHold, IsClear, IsTold, value_of, at, le, is_clear, told, differ};
 
 /// What a zone with facts says is true of all numbers that the zone and the facts hold of.
@@ -61,11 +61,17 @@ pub fn weaker_facts_hold_more()
 /// that isn't closed may miss what follows from two steps, so covering isn't an order: of three facts
 /// the first may cover the second and the second the third, and the first not the third.
 pub fn joined_facts_are_covered()
-    ensures same { (facts : Facts) (zone : Bounds) → AreNamed facts → cover_facts facts zone facts ≡ true }
+    ensures same { (facts : Facts) (zone : Bounds) → cover_facts facts zone facts ≡ true }
     ensures both { (one other : Facts) (by zone : Bounds) → cover_facts (both_facts one by other) zone one ≡ true }
     ensures both_other { (one other : Facts) (zone : Bounds) → cover_facts (both_facts one zone other) zone other ≡ true }
     ensures on { (one other : Facts) (by zone : Bounds) (strong : Facts) → cover_facts one zone strong ≡ true →
         cover_facts (both_facts one by other) zone strong ≡ true }
+{}
+
+/// What is said of single lines is told by their bytes, whatever marks and flags they have.
+pub fn facts_go_by_bytes()
+    ensures holds { (facts : Facts) (number : Numbers) (lines others : List Line) → texts lines ≡ texts others →
+        FactsHold facts number lines → FactsHold facts number others }
 {}
 
 /// The line that a search finds is the first that matches in its order.

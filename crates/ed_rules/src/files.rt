@@ -122,18 +122,19 @@ impl State {
     }
 
     /// The buffer may be changed by a command that began with `before`.
-    fn maybe_modify(&mut self, listed: bool, before: &State)
-        ensures exact { self.new ≡ maybe_modified listed before.now self.old }
+    fn maybe_modify(&mut self, listed: bool, before: &State) -> Result<(), AllocError>
+        ensures exact { OnOk result (self.new ≡ maybe_modified listed before.now self.old) }
     {
         self.changed = changed_of_both(&self.changed, &Changed::YES);
         if !listed {
             let was = Undo {
                 nothing: false,
                 same: false,
-                was: Some(before.old()),
+                was: Some(before.old()?),
             };
-            self.undo = undo_of_both(&self.undo, &was);
+            self.undo = undo_of_both(&self.undo, &was)?;
         }
+        Ok(())
     }
 
     /// Any number of lines come after the addressed one, the last of them current.
@@ -179,7 +180,7 @@ impl State {
         self.need_name(path)?;
         self.name_first(path)?;
         self.read_lines();
-        self.maybe_modify(listed, before);
+        self.maybe_modify(listed, before)?;
         Ok(())
     }
 

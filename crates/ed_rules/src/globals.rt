@@ -87,6 +87,7 @@ pub fn body_entry(command: &Command, invariant: &State) -> Result<State, AllocEr
     globals_are_sound();
     let mut entry = invariant.try_copy()?;
     take_line(&mut entry.zone);
+    entry.forget_lines();
     gain_taken(&command.verb, &mut entry.matches.has)?;
     end(&mut entry.zone, &entry.marks);
     Ok(entry)
@@ -103,7 +104,7 @@ pub fn loop_end(command: &Command, before: &State, invariant: &State) -> Result<
     let mut after = invariant.try_copy()?;
     let was = if list_may_alter(command) {
         after.matches.old_has.try_copy_from(&before.matches.has)?;
-        Some(before.old())
+        Some(before.old()?)
     } else {
         after.matches.old_has = Texts::none(before.patterns.allocator());
         None

@@ -6,6 +6,7 @@ ghost use Rattle.ed_rules.specs.Order.{Covers};
 use crate::choices::Choices;
 use crate::kept_undo::{KeptUndo, kept_old_covers};
 use crate::known_matches::Matches;
+use crate::line_facts::LineFacts;
 use crate::marks::Marks;
 use crate::order::allows;
 use crate::state::{Changed, Replacements, State};
@@ -25,6 +26,7 @@ pub struct KeptState {
     changed: Changed,
     undo: KeptUndo,
     matches: Matches,
+    facts: LineFacts,
 }
 
 impl Model for KeptState {
@@ -41,6 +43,7 @@ impl Model for KeptState {
       changed = kept.changed;
       undo = kept.undo;
       matches = kept.matches;
+      facts = kept.facts;
     } };
 }
 
@@ -59,6 +62,7 @@ impl State {
             changed: self.changed,
             undo: KeptUndo::of(&self.undo, alloc)?,
             matches: self.matches.try_copy()?,
+            facts: self.facts.try_copy()?,
         })
     }
 }
@@ -74,6 +78,7 @@ impl KeptState {
         changed: Changed,
         undo: KeptUndo,
         matches: Matches,
+        facts: LineFacts,
     ) -> KeptState
         ensures value { result ≡ record {
           zone = zone;
@@ -84,6 +89,7 @@ impl KeptState {
           changed = changed;
           undo = undo;
           matches = matches;
+          facts = facts;
         } }
     {
         KeptState {
@@ -95,6 +101,7 @@ impl KeptState {
             changed,
             undo,
             matches,
+            facts,
         }
     }
 
@@ -109,25 +116,26 @@ impl KeptState {
             replacements: self.replacements,
             names: self.names.try_copy()?,
             changed: self.changed,
-            undo: self.undo.undo(),
+            undo: self.undo.undo()?,
             matches: self.matches.try_copy()?,
+            facts: self.facts.try_copy()?,
         })
     }
 
-    /// Has a state become the one that is kept, in place, and asks for memory only where a set differs. After an `Err` it is some
-    /// state.
+    /// Has a state become the one that is kept, in place, and asks for memory only where a set differs and where single lines are
+    /// known. After an `Err` it is some state.
     pub fn restore(&self, state: &mut State) -> Result<(), AllocError>
         ensures value { OnOk result (state.new ≡ self.now) }
     {
         state.patterns.try_copy_from(&self.patterns)?;
         state.names.try_copy_from(&self.names)?;
         state.matches.try_copy_from(&self.matches)?;
+        state.facts.try_copy_from(&self.facts)?;
         self.zone.restore(&mut state.zone);
         state.marks = self.marks;
         state.replacements = self.replacements;
         state.changed = self.changed;
-        self.undo.restore(&mut state.undo);
-        Ok(())
+        self.undo.restore(&mut state.undo)
     }
 
     /// Whether the state that is kept is the weaker: the other one says all that it says. It takes no memory.
@@ -147,6 +155,7 @@ impl KeptState {
             && allows(self.undo.same(), other.undo.same)
             && kept_old_covers(self.undo.was(), &other.undo.was)
             && self.matches.covers(&other.matches, &other.undo.was)
+            && self.facts.are_covered(&other.zone, &other.facts)
     }
 
     /// The bounds on lines. Like each part that is asked for alone, they take no memory.
@@ -203,6 +212,13 @@ impl KeptState {
         ensures value { result.now ≡ self.now.matches }
     {
         &self.matches
+    }
+
+    /// What is known of single lines.
+    pub fn facts(&self) -> &LineFacts
+        ensures value { result.now ≡ self.now.facts }
+    {
+        &self.facts
     }
 
     /// What undo may find, as it is kept.

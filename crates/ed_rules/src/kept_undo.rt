@@ -1,8 +1,9 @@
 //! What undo may find, as it is kept between commands.
 
-ghost use Rattle.std.specs.Prelude.{◌≡◌, ◌↔◌, IsTrue, IfOk};
+ghost use Rattle.std.specs.Prelude.{◌≡◌, ◌↔◌, IsTrue, IfOk, OnOk};
 ghost use Rattle.ed_rules.specs.Order.{CoversOld};
 
+use crate::line_facts::LineFacts;
 use crate::marks::Marks;
 use crate::state::{Old, Undo, find_no_old};
 use std::alloc::{AllocError, Global};
@@ -14,6 +15,7 @@ use zones::KeptZone;
 pub struct KeptOld {
     zone: KeptZone,
     marks: Marks,
+    facts: LineFacts,
 }
 
 impl Model for KeptOld {
@@ -21,7 +23,7 @@ impl Model for KeptOld {
 
     ghost Value = { Old };
 
-    ghost view = { λ kept. record { zone = kept.zone; marks = kept.marks } };
+    ghost view = { λ kept. record { zone = kept.zone; marks = kept.marks; facts = kept.facts } };
 }
 
 /// What undo may find, as it is kept. A contract sees what was kept.
@@ -41,11 +43,11 @@ impl Model for KeptUndo {
 }
 
 impl KeptOld {
-    /// The buffer with these bounds and sure marks. It takes no memory.
-    pub fn new(zone: KeptZone, marks: Marks) -> KeptOld
-        ensures value { result ≡ record { zone = zone; marks = marks } }
+    /// The buffer with these bounds, sure marks and facts. It takes no memory.
+    pub fn new(zone: KeptZone, marks: Marks, facts: LineFacts) -> KeptOld
+        ensures value { result ≡ record { zone = zone; marks = marks; facts = facts } }
     {
-        KeptOld { zone, marks }
+        KeptOld { zone, marks, facts }
     }
 
     /// The bounds on lines, as they are kept.
@@ -62,41 +64,54 @@ impl KeptOld {
         &self.marks
     }
 
+    /// What is known of single lines.
+    pub fn facts(&self) -> &LineFacts
+        ensures value { result.now ≡ self.now.facts }
+    {
+        &self.facts
+    }
+
     fn of(old: &Old, alloc: Global) -> Result<KeptOld, AllocError>
         ensures value { IfOk result (λ kept. kept ≡ old.now) }
     {
         Ok(KeptOld {
             zone: old.zone.try_keep(alloc)?,
             marks: old.marks,
+            facts: old.facts.try_copy()?,
         })
     }
 
-    fn old(&self) -> Old
-        ensures value { result ≡ self.now }
+    fn old(&self) -> Result<Old, AllocError>
+        ensures value { IfOk result (λ old. old ≡ self.now) }
     {
-        Old {
+        let facts = self.facts.try_copy()?;
+        Ok(Old {
             zone: self.zone.zone(),
             marks: self.marks,
-        }
+            facts,
+        })
     }
 
-    fn restore(&self, old: &mut Old)
-        ensures value { old.new ≡ self.now }
+    fn restore(&self, old: &mut Old) -> Result<(), AllocError>
+        ensures value { OnOk result (old.new ≡ self.now) }
     {
+        old.facts.try_copy_from(&self.facts)?;
         self.zone.restore(&mut old.zone);
         old.marks = self.marks;
+        Ok(())
     }
 
     /// Becomes what is known where nothing was. It has a function of its own since a function clears the room of its locals, here
     /// that of a whole zone, at each call.
-    fn restore_new(&self, old: &mut Option<Old>)
-        ensures value { old.new ≡ Some self.now }
+    fn restore_new(&self, old: &mut Option<Old>) -> Result<(), AllocError>
+        ensures value { OnOk result (old.new ≡ Some self.now) }
     {
-        *old = Some(self.old());
+        *old = Some(self.old()?);
+        Ok(())
     }
 
-    fn restore_into(&self, old: &mut Option<Old>)
-        ensures value { old.new ≡ Some self.now }
+    fn restore_into(&self, old: &mut Option<Old>) -> Result<(), AllocError>
+        ensures value { OnOk result (old.new ≡ Some self.now) }
     {
         match old {
             Some(old) => self.restore(old),
@@ -114,21 +129,24 @@ fn keep_old(old: &Option<Old>, alloc: Global) -> Result<Option<KeptOld>, AllocEr
     }
 }
 
-fn kept_old(kept: &Option<KeptOld>) -> Option<Old>
-    ensures value { result ≡ kept.now }
+fn kept_old(kept: &Option<KeptOld>) -> Result<Option<Old>, AllocError>
+    ensures value { IfOk result (λ old. old ≡ kept.now) }
 {
     match kept {
-        Some(kept) => Some(kept.old()),
-        None => None,
+        Some(kept) => Ok(Some(kept.old()?)),
+        None => Ok(None),
     }
 }
 
-fn restore_old(kept: &Option<KeptOld>, old: &mut Option<Old>)
-    ensures value { old.new ≡ kept.now }
+fn restore_old(kept: &Option<KeptOld>, old: &mut Option<Old>) -> Result<(), AllocError>
+    ensures value { OnOk result (old.new ≡ kept.now) }
 {
     match kept {
         Some(kept) => kept.restore_into(old),
-        None => find_no_old(old),
+        None => {
+            find_no_old(old);
+            Ok(())
+        }
     }
 }
 
@@ -139,7 +157,9 @@ pub(crate) fn kept_old_covers(weak: &Option<KeptOld>, strong: &Option<Old>) -> b
         (_, None) => true,
         (None, Some(_)) => false,
         (Some(weak), Some(strong)) => {
-            weak.zone.covers(&strong.zone) && weak.marks.are_among(&strong.marks)
+            weak.zone.covers(&strong.zone)
+                && weak.marks.are_among(&strong.marks)
+                && weak.facts.are_covered(&strong.zone, &strong.facts)
         }
     }
 }
@@ -183,21 +203,21 @@ impl KeptUndo {
         })
     }
 
-    pub(crate) fn undo(&self) -> Undo
-        ensures value { result ≡ self.now }
+    pub(crate) fn undo(&self) -> Result<Undo, AllocError>
+        ensures value { IfOk result (λ undo. undo ≡ self.now) }
     {
-        Undo {
+        Ok(Undo {
             nothing: self.nothing,
             same: self.same,
-            was: kept_old(&self.was),
-        }
+            was: kept_old(&self.was)?,
+        })
     }
 
-    pub(crate) fn restore(&self, undo: &mut Undo)
-        ensures value { undo.new ≡ self.now }
+    pub(crate) fn restore(&self, undo: &mut Undo) -> Result<(), AllocError>
+        ensures value { OnOk result (undo.new ≡ self.now) }
     {
         undo.nothing = self.nothing;
         undo.same = self.same;
-        restore_old(&self.was, &mut undo.was);
+        restore_old(&self.was, &mut undo.was)
     }
 }

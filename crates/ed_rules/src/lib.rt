@@ -30,16 +30,17 @@ mod watch;
 pub use choices::Choices;
 pub use fact_laws::{
     assigned_facts_are_true, carried_facts_are_true, edited_facts_are_true,
-    facts_are_left_by_commands, joined_facts_are_covered, landmarks_are_where_they_are_said,
-    only_lines_are_taken_once, searches_find_the_first, searches_find_what_facts_say,
-    substituted_facts_are_true, weaker_facts_hold_more, what_facts_say_is_true,
+    facts_are_left_by_commands, facts_go_by_bytes, joined_facts_are_covered,
+    landmarks_are_where_they_are_said, only_lines_are_taken_once, searches_find_the_first,
+    searches_find_what_facts_say, substituted_facts_are_true, weaker_facts_hold_more,
+    what_facts_say_is_true,
 };
 pub use globals::{body_entry, loop_end, loop_start};
 pub use kept::KeptState;
 pub use kept_undo::{KeptOld, KeptUndo};
 pub use known_matches::Matches;
 pub use laws::{
-    commands_are_sound, covering_states_is_an_order, exact_commands_are_exact, globals_are_sound,
+    commands_are_sound, exact_commands_are_exact, globals_are_sound, joined_states_are_covered,
     matches_stay_formed, needs_are_the_same_whatever_is_watched, searches_are_as_before,
     states_stay_formed, weaker_states_stand_for_more,
 };

@@ -2,12 +2,13 @@
 
 mod assigned;
 mod backward;
+mod copies;
 mod forward;
 mod found;
 mod known;
 mod order;
 
-ghost use Rattle.std.specs.Prelude.{◌≡◌, ◌<◌, [], IfOk, OnOk, OnErr};
+ghost use Rattle.std.specs.Prelude.{◌≡◌, ◌<◌, ◌↔◌, [], IsTrue, IfOk, OnOk, OnErr};
 ghost use Rattle.ed_rules.specs.facts.Facts.{no_facts};
 ghost use Rattle.ed_rules.specs.facts.FoundLines.{without, with_match, with_stretch};
 
@@ -95,6 +96,13 @@ impl LineFacts {
             lines: Vec::new(alloc),
             clear: Vec::new(alloc),
         }
+    }
+
+    /// Whether nothing is known.
+    pub fn are_none(&self) -> bool
+        ensures exact { IsTrue result ↔ (self.now ≡ no_facts) }
+    {
+        self.lines.is_empty() && self.clear.is_empty()
     }
 
     /// Forgets what is known of a name's line, and of the lines from it or up to it.

@@ -1,6 +1,6 @@
 //! The rules of the commands on lines, a function a verb, in the order of the rules' definitions.
 
-ghost use Rattle.std.specs.Prelude.{◌≡◌, ◌<◌, IfOk};
+ghost use Rattle.std.specs.Prelude.{◌≡◌, ◌<◌, IfOk, OnOk};
 ghost use Rattle.ed_syntax.specs.PublicTypes.{addresses_value};
 ghost use Rattle.ed_rules.specs.Pieces.{with_zone};
 ghost use Rattle.ed_rules.specs.Lines.{appended, current_inserted, put_before, lifted_range, changed_to, deleted, joined, joined_given, marked, current_at, copied_lines};
@@ -30,22 +30,33 @@ fn set_current_inserted(zone: &mut Zone)
 
 impl State {
     /// `a` of so many lines.
-    pub(crate) fn append(&mut self, listed: bool, before: &State, count: usize)
-        ensures exact { self.new ≡ appended listed before.now count self.old }
+    pub(crate) fn append(
+        &mut self,
+        listed: bool,
+        before: &State,
+        count: usize,
+    ) -> Result<(), AllocError>
+        ensures exact { OnOk result (self.new ≡ appended listed before.now count self.old) }
     {
         if count > 0 {
             let lines = Some(count as i128);
             let marks = self.marks;
             insert(&mut self.zone, Name::FIRST_ADDRESS, 0, lines, lines, &marks);
-            self.modify(listed, before);
+            self.modify(listed, before)?;
         }
         self.zone
             .set_wide(Name::CURRENT_LINE, Name::FIRST_ADDRESS, count as i128);
+        Ok(())
     }
 
     /// `i` of so many lines, its address lifted.
-    pub(crate) fn put_before(&mut self, listed: bool, before: &State, count: usize)
-        ensures exact { self.new ≡ put_before listed before.now count self.old }
+    pub(crate) fn put_before(
+        &mut self,
+        listed: bool,
+        before: &State,
+        count: usize,
+    ) -> Result<(), AllocError>
+        ensures exact { OnOk result (self.new ≡ put_before listed before.now count self.old) }
     {
         if count > 0 {
             let lines = Some(count as i128);
@@ -59,10 +70,11 @@ impl State {
                 &marks,
             );
             self.zone.set_wide(Name::CURRENT_LINE, Name::FIRST_ADDRESS, (count - 1) as i128);
-            self.modify(listed, before);
+            self.modify(listed, before)?;
         } else {
             set_current_inserted(&mut self.zone);
         }
+        Ok(())
     }
 
     /// Both addresses of `c`, where 0 stands for 1; with one that was given the second is set once the first is lifted.
@@ -79,19 +91,24 @@ impl State {
     }
 
     /// `c` of so many lines.
-    pub(crate) fn change(&mut self, listed: bool, before: &State, count: usize)
-        ensures exact { self.new ≡ changed_to listed before.now count self.old }
+    pub(crate) fn change(
+        &mut self,
+        listed: bool,
+        before: &State,
+        count: usize,
+    ) -> Result<(), AllocError>
+        ensures exact { OnOk result (self.new ≡ changed_to listed before.now count self.old) }
     {
         self.replace(count);
-        self.modify(listed, before);
+        self.modify(listed, before)
     }
 
     /// `d`
-    pub(crate) fn delete(&mut self, listed: bool, before: &State)
-        ensures exact { self.new ≡ deleted listed before.now self.old }
+    pub(crate) fn delete(&mut self, listed: bool, before: &State) -> Result<(), AllocError>
+        ensures exact { OnOk result (self.new ≡ deleted listed before.now self.old) }
     {
         self.replace(0);
-        self.modify(listed, before);
+        self.modify(listed, before)
     }
 
     /// `j` of two addresses.
@@ -109,7 +126,7 @@ impl State {
             .is_known(Name::FIRST_ADDRESS, Name::SECOND_ADDRESS, -1)
         {
             self.replace(1);
-            self.modify(listed, before);
+            self.modify(listed, before)?;
             return Ok(());
         }
         let mut one_line = self.try_copy()?;
@@ -119,7 +136,7 @@ impl State {
         self.zone
             .guard(Name::FIRST_ADDRESS, Name::SECOND_ADDRESS, -1);
         self.replace(1);
-        self.modify(listed, before);
+        self.modify(listed, before)?;
         *self = self.join(&one_line)?;
         Ok(())
     }
@@ -158,8 +175,8 @@ impl State {
     }
 
     /// `t`
-    pub(crate) fn copy_lines(&mut self, listed: bool, before: &State)
-        ensures exact { self.new ≡ copied_lines listed before.now self.old }
+    pub(crate) fn copy_lines(&mut self, listed: bool, before: &State) -> Result<(), AllocError>
+        ensures exact { OnOk result (self.new ≡ copied_lines listed before.now self.old) }
     {
         let low = self.zone.least(Name::SECOND_ADDRESS, Name::FIRST_ADDRESS);
         let high = self.zone.bound(Name::SECOND_ADDRESS, Name::FIRST_ADDRESS);
@@ -174,6 +191,6 @@ impl State {
         );
         self.zone.set(Name::CURRENT_LINE, Name::TARGET_ADDRESS, 1);
         self.zone.shift(Name::CURRENT_LINE, low, high);
-        self.modify(listed, before);
+        self.modify(listed, before)
     }
 }

@@ -142,7 +142,7 @@ impl State {
         } else {
             return Err(Fault::Destination);
         }
-        self.modify(listed, before);
+        self.modify(listed, before)?;
         Ok(())
     }
 }

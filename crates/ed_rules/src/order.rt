@@ -3,10 +3,12 @@
 ghost use Rattle.std.specs.Prelude.{◌≡◌, IfOk, IsTrue, ◌↔◌};
 ghost use Rattle.ed_syntax.specs.meaning.States as editor;
 ghost use Rattle.ed_rules.specs.StandsFor.{StandsFor};
+ghost use Rattle.ed_rules.specs.facts.FactOrder.{both_facts};
 ghost use Rattle.ed_rules.specs.Order.{old_of_both, changed_of_both, replacements_of_both, undo_of_both, united, join, widen, Allows, CoversOld, Covers};
 
-use crate::laws::covering_states_is_an_order;
-use crate::state::{Changed, Old, Replacements, State, Undo};
+use crate::laws::joined_states_are_covered;
+use crate::line_facts::LineFacts;
+use crate::state::{Changed, Old, Replacements, State, Undo, copied_old};
 use std::alloc::AllocError;
 use zones::Zone;
 
@@ -26,7 +28,7 @@ impl State {
         ensures covers { IfOk result (λ joined. Covers joined self.now) }
         ensures covers_other { IfOk result (λ joined. Covers joined other.now) }
     {
-        covering_states_is_an_order();
+        joined_states_are_covered();
         let mut zone = self.zone;
         zone.join(&other.zone);
         self.united(other, zone)
@@ -47,7 +49,7 @@ impl State {
         ensures covers { IfOk result (λ widened. Covers widened self.now) }
         ensures covers_other { IfOk result (λ widened. Covers widened new.now) }
     {
-        covering_states_is_an_order();
+        joined_states_are_covered();
         let mut zone = self.zone;
         zone.widen(&new.zone);
         self.united(new, zone)
@@ -64,10 +66,11 @@ impl State {
             replacements: replacements_of_both(&self.replacements, &other.replacements),
             names: self.names.union(&other.names)?,
             changed: changed_of_both(&self.changed, &other.changed),
-            undo: undo_of_both(&self.undo, &other.undo),
+            undo: undo_of_both(&self.undo, &other.undo)?,
             matches: self
                 .matches
                 .both(&self.undo.was, &other.matches, &other.undo.was)?,
+            facts: facts_of_both(&self.facts, &other.zone, &other.facts)?,
         })
     }
 
@@ -88,6 +91,7 @@ impl State {
             && allows(self.undo.same, other.undo.same)
             && old_covers(&self.undo.was, &other.undo.was)
             && self.matches.covers(&other.matches, &other.undo.was)
+            && self.facts.are_covered(&other.zone, &other.facts)
     }
 }
 
@@ -105,7 +109,9 @@ fn old_covers(weak: &Option<Old>, strong: &Option<Old>) -> bool
         (_, None) => true,
         (None, Some(_)) => false,
         (Some(weak), Some(strong)) => {
-            weak.zone.covers(&strong.zone) && weak.marks.are_among(&strong.marks)
+            weak.zone.covers(&strong.zone)
+                && weak.marks.are_among(&strong.marks)
+                && weak.facts.are_covered(&strong.zone, &strong.facts)
         }
     }
 }
@@ -129,29 +135,39 @@ fn replacements_of_both(one: &Replacements, other: &Replacements) -> Replacement
     }
 }
 
-pub(crate) fn undo_of_both(one: &Undo, other: &Undo) -> Undo
-    ensures value { result ≡ undo_of_both one.now other.now }
+pub(crate) fn undo_of_both(one: &Undo, other: &Undo) -> Result<Undo, AllocError>
+    ensures value { IfOk result (λ both. both ≡ undo_of_both one.now other.now) }
 {
-    Undo {
+    Ok(Undo {
         nothing: one.nothing || other.nothing,
         same: one.same || other.same,
-        was: old_of_both(&one.was, &other.was),
-    }
+        was: old_of_both(&one.was, &other.was)?,
+    })
 }
 
-fn old_of_both(one: &Option<Old>, other: &Option<Old>) -> Option<Old>
-    ensures value { result ≡ old_of_both one.now other.now }
+/// Of the facts of one side those that the other side says too.
+fn facts_of_both(one: &LineFacts, zone: &Zone, other: &LineFacts) -> Result<LineFacts, AllocError>
+    ensures value { IfOk result (λ both. both ≡ both_facts one.now zone.now other.now) }
+{
+    let mut facts = one.try_copy()?;
+    facts.keep_both(zone, other);
+    Ok(facts)
+}
+
+fn old_of_both(one: &Option<Old>, other: &Option<Old>) -> Result<Option<Old>, AllocError>
+    ensures value { IfOk result (λ both. both ≡ old_of_both one.now other.now) }
 {
     match (one, other) {
         (Some(one), Some(other)) => {
             let mut zone = one.zone;
             zone.join(&other.zone);
-            Some(Old {
+            Ok(Some(Old {
                 zone,
                 marks: one.marks.both(&other.marks),
-            })
+                facts: facts_of_both(&one.facts, &other.zone, &other.facts)?,
+            }))
         }
-        (Some(one), None) => Some(*one),
-        (None, other) => *other,
+        (Some(one), None) => Ok(Some(one.try_copy()?)),
+        (None, other) => copied_old(other),
     }
 }

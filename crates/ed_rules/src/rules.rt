@@ -98,10 +98,10 @@ impl State {
             (effect listed (addresses_value given.now) (verb_value verb.now) before.now self.old) }
     {
         match verb {
-            Verb::Append(text) => self.append(listed, before, text.len()),
-            Verb::Insert(text) => self.put_before(listed, before, text.len()),
-            Verb::Change(text) => self.change(listed, before, text.len()),
-            Verb::Delete => self.delete(listed, before),
+            Verb::Append(text) => self.append(listed, before, text.len())?,
+            Verb::Insert(text) => self.put_before(listed, before, text.len())?,
+            Verb::Change(text) => self.change(listed, before, text.len())?,
+            Verb::Delete => self.delete(listed, before)?,
             Verb::Join => self.join_lines(given, listed, before)?,
             Verb::Mark(letter) => {
                 if !self.zone.is_known(Name::FIRST_ADDRESS, Name::LAST_LINE, 0) {
@@ -113,7 +113,7 @@ impl State {
             Verb::Null => self.make_current(Name::FIRST_ADDRESS),
             Verb::LineNumber | Verb::Help | Verb::HelpMode | Verb::PromptMode => {}
             Verb::Move(_) => self.move_lines(listed, before)?,
-            Verb::Copy(_) => self.copy_lines(listed, before),
+            Verb::Copy(_) => self.copy_lines(listed, before)?,
             Verb::Substitute {
                 pattern,
                 replacement,
@@ -172,6 +172,7 @@ impl State {
         self.act(command.listed, &command.addresses, &command.verb, before)?;
         self.finish(&command.suffix)?;
         self.matches = matches;
+        self.forget_lines();
         Ok(())
     }
 

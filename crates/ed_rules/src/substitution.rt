@@ -1,6 +1,6 @@
 //! The rule of `s` (XCU ed, "Substitute Command").
 
-ghost use Rattle.std.specs.Prelude.{◌≡◌, IfOk};
+ghost use Rattle.std.specs.Prelude.{◌≡◌, IfOk, OnOk};
 ghost use Rattle.std.specs.List.{list_any};
 ghost use Rattle.ed_rules.specs.Marks.{for_each_sure};
 ghost use Rattle.ed_rules.specs.StandsFor.{ends_line};
@@ -139,8 +139,8 @@ impl State {
 
     /// A substitution in each of the lines.
     #[tactic(auto, unfolding(crate::specs::Substituting::surely_substituted))]
-    fn substitute_surely(&mut self, listed: bool, start: &State)
-        ensures exact { self.new ≡ surely_substituted listed start.now self.old }
+    fn substitute_surely(&mut self, listed: bool, start: &State) -> Result<(), AllocError>
+        ensures exact { OnOk result (self.new ≡ surely_substituted listed start.now self.old) }
     {
         let splits = self.replacements.split;
         let old = self.zone;
@@ -151,20 +151,20 @@ impl State {
         } else {
             self.zone.set(Name::CURRENT_LINE, Name::SECOND_ADDRESS, 0);
         }
-        self.modify(listed, start);
+        self.modify(listed, start)
     }
 
     /// A substitution, without a split, in some of the lines at least.
     #[tactic(auto, unfolding(crate::specs::Substituting::partly_substituted))]
-    fn substitute_partly(&mut self, listed: bool, before: &State)
-        ensures exact { self.new ≡ partly_substituted listed before.now self.old }
+    fn substitute_partly(&mut self, listed: bool, before: &State) -> Result<(), AllocError>
+        ensures exact { OnOk result (self.new ≡ partly_substituted listed before.now self.old) }
     {
         let marks = self.marks;
         self.substitute_marks(false, &marks);
         self.zone.forget(Name::CURRENT_LINE);
         self.zone.guard(Name::FIRST_ADDRESS, Name::CURRENT_LINE, 0);
         self.zone.guard(Name::CURRENT_LINE, Name::SECOND_ADDRESS, 0);
-        self.modify(listed, before);
+        self.modify(listed, before)
     }
 
     /// `s`
@@ -182,11 +182,11 @@ impl State {
         self.use_replacement(listed, replacement)?;
         self.use_pattern(pattern)?;
         if self.is_sure_to_match(which)? {
-            self.substitute_surely(listed, before);
+            self.substitute_surely(listed, before)?;
         } else if listed {
             // In a list it may be that no line matches.
             let mut some = self.try_copy()?;
-            some.substitute_partly(listed, before);
+            some.substitute_partly(listed, before)?;
             *self = self.join(&some)?;
         } else {
             return Err(Fault::NoMatch);

@@ -1,19 +1,25 @@
 //! The rule of `u` (XCU ed, "Undo Command").
 
-ghost use Rattle.std.specs.Prelude.{◌≡◌};
-ghost use Rattle.ed_rules.specs.Undoing.{brought_back, undone};
+ghost use Rattle.std.specs.Prelude.{◌≡◌, Some, OnOk};
+ghost use Rattle.ed_rules.specs.Undoing.{brought_back, undone_by, undone};
 ghost use Rattle.ed_rules.specs.Reaching.{Reaches};
 
+use crate::line_facts::LineFacts;
 use crate::pieces::forget_addresses;
-use crate::state::{Changed, Old, State, Undo};
+use crate::state::{Changed, Old, State, Undo, copied_old};
 use ed_base::Fault;
+use std::alloc::AllocError;
 
 impl State {
     /// An earlier buffer comes in place of the present one, which undo then finds.
     fn bring_back(&mut self, old: &Old)
         ensures exact { self.new ≡ brought_back old.now self.old }
     {
-        let mut present = self.old();
+        let mut present = Old {
+            zone: self.zone,
+            marks: self.marks,
+            facts: LineFacts::none(self.patterns.allocator()),
+        };
         forget_addresses(&mut present.zone);
         self.zone = old.zone;
         self.marks = old.marks;
@@ -23,6 +29,21 @@ impl State {
             same: false,
             was: Some(present),
         };
+        self.forget_lines();
+    }
+
+    /// `u` where it finds an earlier buffer.
+    fn undo_to(&mut self, old: &Old) -> Result<(), AllocError>
+        ensures exact { OnOk result (self.new ≡ undone_by self.old.undo.same (Some old.now) self.old) }
+    {
+        if self.undo.same {
+            let mut back = self.try_copy()?;
+            back.bring_back(old);
+            *self = self.join(&back)?;
+        } else {
+            self.bring_back(old);
+        }
+        Ok(())
     }
 
     /// `u`
@@ -32,14 +53,8 @@ impl State {
         if self.undo.nothing {
             return Err(Fault::Undo);
         }
-        if let Some(old) = self.undo.was {
-            if self.undo.same {
-                let mut back = self.try_copy()?;
-                back.bring_back(&old);
-                *self = self.join(&back)?;
-            } else {
-                self.bring_back(&old);
-            }
+        if let Some(old) = copied_old(&self.undo.was)? {
+            self.undo_to(&old)?;
         }
         Ok(())
     }

@@ -24,6 +24,8 @@ mod plain;
 #[cfg(test)]
 mod rules;
 #[cfg(test)]
+mod stated_facts;
+#[cfg(test)]
 mod substitution;
 #[cfg(test)]
 mod text;

@@ -10,6 +10,7 @@ use Rattle.ed_rules.specs.declared.state.Changed.{Changed}
 use Rattle.ed_rules.specs.declared.state.Undo.{Undo}
 use Rattle.ed_rules.specs.declared.state.State.{State}
 use Rattle.ed_rules.specs.Choices.{Choice}
+use Rattle.ed_rules.specs.facts.Facts.{no_facts}
 use Rattle.ed_rules.specs.Formed.{ChoiceIsBytes, SetIsFormed, ZoneIsFormed, may_say}
 use Rattle.cert_check.specs.declared.certificate.Version.{Version}
 use Rattle.cert_check.specs.declared.certificate.Version.TheVariants.{One, Two}
@@ -18,7 +19,7 @@ use Rattle.cert_check.specs.text.HasText.{IsSaidIn, StateHasText}
 use Rattle.cert_check.specs.text.Pieces.{UndoIsFormed, MarkedIsFormed, IsSomeReplacement, IsSomeChange}
 use Rattle.cert_check.specs.text.Reading.{all_marks}
 use Rattle.cert_check.proofs.texts.Limited.{at-place}
-use Rattle.cert_check.proofs.texts.Unambiguous.{matches_made, state_made}
+use Rattle.cert_check.proofs.texts.Unambiguous.{matches_made, state_made, formed-earlier, nothing-earlier}
 use Rattle.cert_check.proofs.texts.Known.{any-said}
 
 -- a zone that says nothing
@@ -35,10 +36,10 @@ any-formed marks h = record {
 }
 
 abbrev pub plain_old : Old
-plain_old = record { zone = any_zone; marks = all_marks }
+plain_old = record { zone = any_zone; marks = all_marks; facts = no_facts }
 
 pub plain-old : MarkedIsFormed plain_old
-plain-old = any-formed all_marks refl
+plain-old = (any-formed all_marks refl, refl)
 
 abbrev pub plain_set : List Choice
 plain_set = None ∷ []
@@ -69,7 +70,7 @@ plain_found = record { nothing = true; same = false; was = false }
 abbrev pub state_of : Old → List (List ℕ) → List Choice → Replacements → List Choice → Changed → Undo × List (List ℕ) →
     State
 state_of old has patterns replacements names changed found =
-    state_made old.zone old.marks patterns replacements names changed found.0 (matches_made has found.1)
+    state_made old.zone old.marks patterns replacements names changed found.0 (matches_made has found.1) old.facts
 
 pub state-formed : (version : Version) (old : Old) (has : List (List ℕ)) (patterns : List Choice) (r : Replacements) (names : List Choice)
     (c : Changed) (found : Undo × List (List ℕ)) → MarkedIsFormed old → IsSaidIn version has → SetIsFormed patterns →
@@ -77,15 +78,17 @@ pub state-formed : (version : Version) (old : Old) (has : List (List ℕ)) (patt
     StateHasText version (state_of old has patterns r names c found)
 state-formed version old has patterns r names c found h s p i n j k = record {
   formed = record {
-    zone = h;
+    zone = h.0;
     patterns = p;
     replacements = i;
     names = n;
     changed = j;
     undo = k.0;
-    old = k.1.0;
+    old = formed-earlier found.0.was k.1.0;
   };
   matches = (s, k.1.1);
+  facts = h.1;
+  old_facts = nothing-earlier found.0.was k.1.0;
 }
 
 abbrev pub plain_state : State

@@ -10,26 +10,27 @@ use Rattle.ed_rules.specs.declared.state.Changed.{Changed}
 use Rattle.ed_rules.specs.declared.state.Undo.{Undo}
 use Rattle.ed_rules.specs.declared.state.State.{State}
 use Rattle.ed_rules.specs.Choices.{Choice}
-use Rattle.ed_rules.specs.Formed.{SetIsFormed, ZoneIsFormed, OldIsFormed, has_name, may_say, says_nothing}
+use Rattle.ed_rules.specs.facts.Facts.{no_facts}
+use Rattle.ed_rules.specs.Formed.{SetIsFormed, ZoneIsFormed, has_name, may_say, says_nothing}
 use Rattle.ed_rules.specs.Marks.{is_sure}
 use Rattle.cert_check.specs.declared.certificate.Version.{Version}
 use Rattle.cert_check.specs.declared.certificate.Version.TheVariants.{One, Two}
 use Rattle.cert_check.specs.declared.text.lines.Found.{Found}
 use Rattle.cert_check.specs.text.Text.{Word, Line, spaced, bounds_words, line_text, possible, zone_line, marks_line, choices_line, replacements_line, changed_line, undo_line, matched_lines, old_lines, state_lines}
 use Rattle.cert_check.specs.text.HasText.{IsSaidIn, OldIsSaidIn, StateHasText}
-use Rattle.cert_check.specs.text.Pieces.{Left, Took, found_line, texts, IsOf, alone, marked_lines, MarkedIsFormed, undo_lines, UndoIsFormed, IsSomeReplacement, IsSomeChange, IsFound}
+use Rattle.cert_check.specs.text.Pieces.{Left, Took, found_line, texts, IsOf, alone, marked_lines, MarkedIsFormed, EarlierIsFormed, undo_lines, UndoIsFormed, IsSomeReplacement, IsSomeChange, IsFound}
 use Rattle.cert_check.specs.text.Reading.{all_marks}
 use Rattle.cert_check.proofs.texts.Separated.{Above-from_test, AreWords, IsLineOfWords, words-same, line-same, first-of, later-of}
 use Rattle.cert_check.proofs.texts.Zoned.{zone-said, bounds-are-words}
 use Rattle.cert_check.proofs.texts.Chosen.{three-words, three-same}
-use Rattle.cert_check.proofs.texts.Unambiguous.{after_matched, state-same, zone-same}
+use Rattle.cert_check.proofs.texts.Unambiguous.{after_matched, state-same, zone-same, earlier-formed}
 use Rattle.cert_check.proofs.texts.OneText.{state-words}
 use Rattle.cert_check.proofs.texts.Pieces.{texts-append, took-more, Continued, GoesOn, Expects, Determined}
 use Rattle.cert_check.proofs.texts.Sequence.{followed, AreFormed, Cuts, cuts-line, SoFar, begun, on}
 use Rattle.cert_check.proofs.texts.Plainest.{plain_old, plain_set, plain-set, plain_replacements, plain_change, plain-said, plain_undo, plain-undo, plain-old, state_of, state-formed}
 
 abbrev old_of : State → Old
-old_of s = record { zone = s.zone; marks = s.marks }
+old_of s = record { zone = s.zone; marks = s.marks; facts = s.facts }
 
 -- lines of what some line matches before other lines
 pub cuts-matched : (version : Version) (key : Word) → Cuts (matched_lines version key) (IsSaidIn version)
@@ -89,15 +90,15 @@ marked-zone zone_key marks_key = record {
   continued = λ lines k. record {
     more = texts (marks_line marks_key all_marks ∷ []);
     is = record {
-      value = record { zone = k.value; marks = all_marks };
-      has = k.has;
+      value = record { zone = k.value; marks = all_marks; facts = no_facts };
+      has = (k.has, refl);
       is = ap (λ (l : List (List ℕ)). l ++ texts (marks_line marks_key all_marks ∷ [])) k.is;
     };
   };
   goes_on = λ whole back after k same. record {
     here = texts (zone_line zone_key k.value.zone ∷ []);
     rest = texts (marks_line marks_key k.value.marks ∷ []) ++ back;
-    is = record { value = k.value.zone; has = formed-more k.value.marks k.value.zone k.has; is = refl };
+    is = record { value = k.value.zone; has = formed-more k.value.marks k.value.zone k.has.0; is = refl };
     parted = sym (ap (λ (l : List (List ℕ)). l ++ back) k.is ∙ same);
   };
 }
@@ -118,8 +119,8 @@ marked-marks zone_key marks_key zone h = record {
   continued = λ lines k. record {
     more = [];
     is = record {
-      value = record { zone = zone; marks = k.value };
-      has = k.has;
+      value = record { zone = zone; marks = k.value; facts = no_facts };
+      has = (k.has, refl);
       is = ap (λ (l : List (List ℕ)). texts (zone_line zone_key zone ∷ []) ++ l) k.is
           ∙ sym (append-nil (texts (zone_line zone_key zone ∷ []) ++ lines));
     };
@@ -128,12 +129,12 @@ marked-marks zone_key marks_key zone h = record {
       let lines = ap (λ (l : List (List ℕ)). l ++ back) k.is ∙ same in
       let words =
       key-words zone_key (bounds_words 0 k.value.zone) (bounds_words 0 zone)
-      (bounds-are-words 0 k.value.zone (zone-said k.value.marks k.value.zone k.has))
+      (bounds-are-words 0 k.value.zone (zone-said k.value.marks k.value.zone k.has.0))
       (bounds-are-words 0 zone (zone-said all_marks zone h)) (first-of lines) in
-      let is = zone-same k.value.marks all_marks k.value.zone zone k.has h words in record {
+      let is = zone-same k.value.marks all_marks k.value.zone zone k.has.0 h words in record {
         here = texts (marks_line marks_key k.value.marks ∷ []);
         rest = back;
-        is = record { value = k.value.marks; has = subst (λ (z : Bounds). ZoneIsFormed k.value.marks z) is k.has; is = refl };
+        is = record { value = k.value.marks; has = subst (λ (z : Bounds). ZoneIsFormed k.value.marks z) is k.has.0; is = refl };
         parted = sym (later-of lines);
       };
 }
@@ -251,7 +252,9 @@ module _ (version : Version) where
       let h = k.has.formed in
       record {
         value = (old_of s, (s.matches.has, (s.patterns, (s.replacements, (s.names, (s.changed, (s.undo, s.matches.old_has)))))));
-        has = (h.zone, (k.has.matches.0, (h.patterns, (h.replacements, (h.names, (h.changed, (h.undo, (h.old, k.has.matches.1))))))));
+        has =
+            let was = earlier-formed s.undo.was h.old k.has.old_facts in
+            ((h.zone, k.has.facts), (k.has.matches.0, (h.patterns, (h.replacements, (h.names, (h.changed, (h.undo, (was, k.has.matches.1))))))));
         is = k.is;
       }
 
@@ -345,8 +348,8 @@ module _ (version : Version) where
   FromOld = AreFormed MarkedIsFormed (IsSaidIn version)
 
   -- they stand where the line says so
-  was-follows : (was : Option Old) (has : List (List ℕ)) (back after : List (List ℕ)) → is_some was ≡ true → OldIsFormed was →
-      OldIsSaidIn version was has → texts (old_lines version was has) ++ back ≡ after → GoesOn (IsOf from_old FromOld) after
+  was-follows : (was : Option Old) (has : List (List ℕ)) (back after : List (List ℕ)) → is_some was ≡ true →
+      EarlierIsFormed was → OldIsSaidIn version was has → texts (old_lines version was has) ++ back ≡ after → GoesOn (IsOf from_old FromOld) after
   unfolding followed AreFormed
   was-follows None has back after is h s e = absurd cc
   was-follows (Some old) has back after is h s e = record {

@@ -1,6 +1,7 @@
 -- Worked lines of a certificate's text.
 use Rattle.std.specs.Prelude.{◌≡◌, refl, [], ◌∷◌, ◌++◌, map, pos, negsuc, true, false, Some, None, codes}
 use Rattle.std.specs.Fmt.{digits}
+use Rattle.ed_rules.specs.facts.Facts.{no_facts}
 use Rattle.cert_check.specs.declared.certificate.Version.TheVariants.{One, Two}
 use Rattle.cert_check.specs.text.Text.{line_text, bound_words, bounds_words, letters_words, sure_letters, choices_line, replacements_line, changed_line, undo_line, bounds_line, version_line, path_line, texts_line, matched_lines}
 
@@ -26,7 +27,8 @@ some-choices = refl
 
 the-possible : map line_text (
     replacements_line (record { none = true; plain = false; split = true }) ∷ changed_line (record { no = false; yes = true })
-    ∷ undo_line (record { nothing = true; same = true; was = None }) ∷ undo_line (record { nothing = false; same = false; was = Some (record { zone = []; marks = [] }) }) ∷ [])
+    ∷ undo_line (record { nothing = true; same = true; was = None })
+    ∷ undo_line (record { nothing = false; same = false; was = Some (record { zone = []; marks = []; facts = no_facts }) }) ∷ [])
     ≡ codes "replacements none split" ∷ codes "changed yes" ∷ codes "undo nothing same" ∷ codes "undo was" ∷ []
 the-possible = refl
 

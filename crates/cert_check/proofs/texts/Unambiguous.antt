@@ -14,9 +14,11 @@ use Rattle.ed_rules.specs.Choices.{Choice}
 use Rattle.cert_check.specs.Certificates.{Looped, Note}
 use Rattle.cert_check.specs.text.Text.{Word, Line, letters_words, sure_letters, bounds_words, choices_line, replacements_line, changed_line, undo_line, matched_lines, old_lines, earlier_lines, state_lines, headed_lines, looped_lines, note_lines}
 use Rattle.ed_rules.specs.Formed.{ZoneIsFormed, OldIsFormed}
+use Rattle.ed_rules.specs.facts.Facts.{Facts}
+use Rattle.cert_check.specs.text.Pieces.{EarlierIsFormed}
 use Rattle.cert_check.specs.declared.certificate.Version.{Version}
 use Rattle.cert_check.specs.declared.certificate.Version.TheVariants.{One, Two}
-use Rattle.cert_check.specs.text.HasText.{IsSaidIn, OldIsSaidIn, StateHasText, LoopedHasText, NoteHasText}
+use Rattle.cert_check.specs.text.HasText.{IsSaidIn, OldIsSaidIn, OldSaysNothing, StateHasText, LoopedHasText, NoteHasText}
 use Rattle.cert_check.proofs.texts.Zoned.{zone-said, bounds-same}
 use Rattle.cert_check.proofs.texts.Chosen.{marks-same, choices-same, texts-same, Same, two-same, three-same}
 use Rattle.cert_check.proofs.texts.Separated.{first-of, later-of}
@@ -30,11 +32,24 @@ pub letters-same : (m n : List Bool) (a b : Bounds) → ZoneIsFormed m a → Zon
     letters_words (sure_letters 97 m) ≡ letters_words (sure_letters 97 n) → m ≡ n
 letters-same m n a b h k e = marks-same m n (h.letters ∙ sym k.letters) e
 
-abbrev pub old_made : Bounds → List Bool → Old
-old_made zone marks = record { zone = zone; marks = marks }
+abbrev pub old_made : Bounds → List Bool → Facts → Old
+old_made zone marks facts = record { zone = zone; marks = marks; facts = facts }
 
-pub old-by : (a b : Old) → a.zone ≡ b.zone → a.marks ≡ b.marks → a ≡ b
-old-by a b z m = ap (λ (x : Bounds). old_made x a.marks) z ∙ ap (λ (x : List Bool). old_made b.zone x) m
+pub old-by : (a b : Old) → a.zone ≡ b.zone → a.marks ≡ b.marks → a.facts ≡ b.facts → a ≡ b
+old-by a b z m f = λ k. old_made (z k) (m k) (f k)
+
+-- an earlier buffer that is formed, of whose single lines nothing is said
+pub earlier-formed : (was : Option Old) → OldIsFormed was → OldSaysNothing was → EarlierIsFormed was
+earlier-formed None h k = tt
+earlier-formed (Some old) h k = (h, k)
+
+pub formed-earlier : (was : Option Old) → EarlierIsFormed was → OldIsFormed was
+formed-earlier None h = tt
+formed-earlier (Some old) h = h.0
+
+pub nothing-earlier : (was : Option Old) → EarlierIsFormed was → OldSaysNothing was
+nothing-earlier None h = tt
+nothing-earlier (Some old) h = h.1
 
 abbrev replacements_made : (none plain split : Bool) → Replacements
 replacements_made none plain split = record { none = none; plain = plain; split = split }
@@ -64,8 +79,8 @@ matches_made has old_has = record { has = has; old_has = old_has }
 matches-by : (a b : Matches) → a.has ≡ b.has → a.old_has ≡ b.old_has → a ≡ b
 matches-by a b h o = λ k. matches_made (h k) (o k)
 
-abbrev pub state_made : Bounds → List Bool → List Choice → Replacements → List Choice → Changed → Undo → Matches → State
-state_made zone marks patterns replacements names changed undo matches = record {
+abbrev pub state_made : Bounds → List Bool → List Choice → Replacements → List Choice → Changed → Undo → Matches → Facts → State
+state_made zone marks patterns replacements names changed undo matches facts = record {
   zone = zone;
   marks = marks;
   patterns = patterns;
@@ -74,12 +89,13 @@ state_made zone marks patterns replacements names changed undo matches = record 
   changed = changed;
   undo = undo;
   matches = matches;
+  facts = facts;
 }
 
 state-by : (a b : State) → a.zone ≡ b.zone → a.marks ≡ b.marks → a.patterns ≡ b.patterns →
     a.replacements ≡ b.replacements → a.names ≡ b.names → a.changed ≡ b.changed → a.undo ≡ b.undo →
-    a.matches ≡ b.matches → a ≡ b
-state-by a b z m p r n c u h = λ k. state_made (z k) (m k) (p k) (r k) (n k) (c k) (u k) (h k)
+    a.matches ≡ b.matches → a.facts ≡ b.facts → a ≡ b
+state-by a b z m p r n c u h f = λ k. state_made (z k) (m k) (p k) (r k) (n k) (c k) (u k) (h k) (f k)
 
 -- lines that begin with different letters
 pub letter-differs : {x y : ℕ} {v w : Word} {vs ws : Line} {r s : List Line} → x < y →
@@ -113,18 +129,18 @@ pub record SameOld (a b : Option Old) (m n : List (List ℕ)) (r s : List Line) 
 module _ (version : Version) where
   -- an earlier buffer, a state, notes, before other lines
 
-  old-same : (a b : Option Old) (m n : List (List ℕ)) (r s : List Line) → is_some a ≡ is_some b → OldIsFormed a →
-      OldIsFormed b → OldIsSaidIn version a m → OldIsSaidIn version b n →
+  old-same : (a b : Option Old) (m n : List (List ℕ)) (r s : List Line) → is_some a ≡ is_some b → EarlierIsFormed a →
+      EarlierIsFormed b → OldIsSaidIn version a m → OldIsSaidIn version b n →
       old_lines version a m ++ r ≡ old_lines version b n ++ s → SameOld a b m n r s
   old-same None None m n r s i h k p q e = record { was = refl; has = p ∙ sym q; later = e }
   old-same None (Some b) m n r s i h k p q e = absurd cc
   old-same (Some a) None m n r s i h k p q e = absurd cc
   old-same (Some a) (Some b) m n r s i h k p q e =
-      let zones = zone-same a.marks b.marks a.zone b.zone h k (later-of (first-of e)) in
+      let zones = zone-same a.marks b.marks a.zone b.zone h.0 k.0 (later-of (first-of e)) in
       let rest = later-of e in
-      let marks = letters-same a.marks b.marks a.zone b.zone h k (later-of (first-of rest)) in
+      let marks = letters-same a.marks b.marks a.zone b.zone h.0 k.0 (later-of (first-of rest)) in
       let matched = matched-same version (codes "old-has") m n r s p q (later-of rest) in
-      record { was = ap (λ (o : Old). Some o) (old-by a b zones marks); has = matched.0; later = matched.1 }
+      record { was = ap (λ (o : Old). Some o) (old-by a b zones marks (h.1 ∙ sym k.1)); has = matched.0; later = matched.1 }
 
   -- the lines of a state below what some line matches
   abbrev pub after_matched : State → List Line
@@ -153,8 +169,8 @@ module _ (version : Version) where
       (later-of (first-of changed)) in
       let undone = three-same (codes "nothing") (codes "same") (codes "was") refl refl refl a.undo.nothing a.undo.same (is_some a.undo.was)
       b.undo.nothing b.undo.same (is_some b.undo.was) (later-of (first-of undo)) in
-      let was = old-same a.undo.was b.undo.was a.matches.old_has b.matches.old_has r s undone.third h.old k.old said.matches.1
-      other.matches.1 old in (
+      let was = old-same a.undo.was b.undo.was a.matches.old_has b.matches.old_has r s undone.third
+      (earlier-formed a.undo.was h.old said.old_facts) (earlier-formed b.undo.was k.old other.old_facts) said.matches.1 other.matches.1 old in (
         state-by a b
             (zone-same a.marks b.marks a.zone b.zone h.zone k.zone (later-of (first-of zone)))
             (letters-same a.marks b.marks a.zone b.zone h.zone k.zone (later-of (first-of marks)))
@@ -163,7 +179,8 @@ module _ (version : Version) where
             (choices-same a.names b.names (later-of (first-of names)))
             (changed-by a.changed b.changed sides.0 sides.1)
             (undo-by a.undo b.undo undone.first undone.second was.was)
-            (matches-by a.matches b.matches matched.0 was.has),
+            (matches-by a.matches b.matches matched.0 was.has)
+            (said.facts ∙ sym other.facts),
         was.later,
       )
 

@@ -67,15 +67,16 @@ old-says : (weak strong : Option Old) → old_covers weak strong ≡ true → Co
 old-says weak None h = tt
 old-says None (Some strong) h = absurd cc
 old-says (Some weak) (Some strong) h =
-    let p = and_parts (zone_covers weak.zone strong.zone) (are_among weak.marks strong.marks) h in
-    (zone-says weak.zone strong.zone p.0, among-says weak.marks strong.marks p.1)
+    let p = and_parts (zone_covers weak.zone strong.zone) _ h in
+    let q = and_parts (are_among weak.marks strong.marks) _ p.1 in
+    (zone-says weak.zone strong.zone p.0, among-says weak.marks strong.marks q.0, q.1)
 
 says-old : (weak strong : Option Old) → CoversOld weak strong → old_covers weak strong ≡ true
 says-old weak None h = refl
 says-old None (Some strong) h = absurd h
 says-old (Some weak) (Some strong) h =
-    and_from (zone_covers weak.zone strong.zone) (are_among weak.marks strong.marks) (says-zone weak.zone strong.zone h.0)
-    (says-among weak.marks strong.marks h.1)
+    and_from (zone_covers weak.zone strong.zone) _ (says-zone weak.zone strong.zone h.0)
+    (and_from (are_among weak.marks strong.marks) _ (says-among weak.marks strong.marks h.1) h.2)
 
 old_has-says : (was : Option Old) (weak strong : List (List ℕ)) → old_has_covers was weak strong ≡ true →
     CoversOldHas was weak strong
@@ -102,7 +103,8 @@ covers-says weak strong h =
     let undo = and_parts _ _ changed.1 in
     let nothing = and_parts _ _ undo.0 in
     let same = and_parts _ _ nothing.1 in
-    let matches = and_parts _ _ undo.1 in
+    let last = and_parts _ _ undo.1 in
+    let matches = and_parts _ _ last.0 in
     record {
       zone = zone-says weak.zone strong.zone zone.0;
       marks = among-says weak.marks strong.marks marks.0;
@@ -120,6 +122,7 @@ covers-says weak strong h =
         has = matches.0;
         old_has = old_has-says strong.undo.was weak.matches.old_has strong.matches.old_has matches.1;
       };
+      facts = last.1;
     }
 
 pub says-covers : (weak strong : State) → Covers weak strong → covers weak strong ≡ true
@@ -136,4 +139,4 @@ says-covers weak strong h =
     (says-allows weak.changed.yes strong.changed.yes h.changed))
     (and_from _ _ (and_from _ _ (says-allows weak.undo.nothing strong.undo.nothing h.nothing)
     (and_from _ _ (says-allows weak.undo.same strong.undo.same h.same) (says-old weak.undo.was strong.undo.was h.was)))
-    (and_from _ _ h.matches.has (says-old_has strong.undo.was weak.matches.old_has strong.matches.old_has h.matches.old_has))))))))
+    (and_from _ _ (and_from _ _ h.matches.has (says-old_has strong.undo.was weak.matches.old_has strong.matches.old_has h.matches.old_has)) h.facts)))))))

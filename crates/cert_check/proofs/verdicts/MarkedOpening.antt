@@ -9,7 +9,9 @@ use Rattle.ed_syntax.specs.meaning.CommandLaws.{FilesAreWhole, FilesAreWellMarke
 use Rattle.ed_syntax.specs.meaning.Erasure.{marked}
 use Rattle.ed_syntax.specs.meaning.ErasureLaws.{MarkedLinesAreWell, MarksStand}
 use Rattle.ed_syntax.specs.meaning.Values.{matches}
+use Rattle.zones.specs.Zone.{Numbers}
 use Rattle.ed_rules.specs.Matched.{is_matched}
+use Rattle.ed_rules.specs.facts.Facts.{Facts, FactsHold}
 use Rattle.ed_rules.proofs.sound.Lettered.{lettered}
 use Rattle.cert_check.specs.checker.MarkedStart.{MarkedStartsStand}
 
@@ -33,8 +35,13 @@ texts-plain (t ∷ text) = ap (λ l. t ∷ l) (texts-plain text)
 texts-length : (lines : List Line) (text : List (List ℕ)) → texts lines ≡ text → length lines ≡ length text
 texts-length lines text same = sym (length-map lines (λ (line : Line). line.bytes)) ∙ ap length same
 
-pub marked-stands : FilesAreWellMarked → MarkedLinesAreWell → MarksStand → FilesAreWhole → MarkedStartsStand
-marked-stands files well stand whole s zone sure marks path bytes number st apart inside numbers holds =
+-- what is said of single lines is told by their bytes
+abbrev pub FactsGoByBytes : Type 0
+FactsGoByBytes = (facts : Facts) (number : Numbers) (lines others : List Line) → texts lines ≡ texts others →
+    FactsHold facts number lines → FactsHold facts number others
+
+pub marked-stands : FilesAreWellMarked → MarkedLinesAreWell → MarksStand → FilesAreWhole → FactsGoByBytes → MarkedStartsStand
+marked-stands files well stand whole by_bytes s zone sure facts marks path bytes number st apart inside numbers holds said =
     let text : List (List ℕ) = lines_of bytes in
     let plain : List Line = map plain_line text in
     let lines : List Line = marked marks plain in
@@ -68,4 +75,5 @@ marked-stands files well stand whole s zone sure marks path bytes number st apar
       lines = lettered lines parts.1 (parts.3 (whole bytes));
       kept = st.kept;
       matches = (matched-same plain lines s.matches.has (parts.0 ∙ sym (texts-plain text)) ∙ st.matches.0, st.matches.1);
+      facts = by_bytes facts number plain lines (texts-plain text ∙ sym parts.0) said;
     }

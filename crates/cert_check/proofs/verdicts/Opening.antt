@@ -3,6 +3,7 @@ use Rattle.std.proofs.Common.{◌≡◌, ◌≤◌, ℕ, pos, neg_ℤ, true, fal
 use Rattle.std.specs.List.{list_all, list_any}
 use Rattle.std.proofs.lemmas.Int.{ints}
 use Rattle.std.proofs.lemmas.List.{length-map}
+use Rattle.std.proofs.lemmas.List.Elements.{All-nil}
 use Rattle.ed_base.specs.Buffer.{Line, plain_line}
 use Rattle.ed_base.specs.Lines.{lines_of}
 use Rattle.zones.specs.Zone.{Bounds, Numbers, Holds, updated}
@@ -18,6 +19,11 @@ use Rattle.cert_check.specs.checker.Opening.{Match, StartIsSound}
 use Rattle.ed_rules.proofs.Choosing.{has_choice-only}
 use Rattle.ed_rules.proofs.sound.LettersInLines.{no_letter}
 use Rattle.ed_rules.proofs.sound.Lettered.{lettered}
+use Rattle.ed_rules.specs.facts.Facts.{FactsHold, LineFactHolds, StretchHolds, no_facts}
+
+-- where nothing is said of single lines, that is true
+pub nothing-holds : (v : Numbers) (lines : List Line) → FactsHold no_facts v lines
+nothing-holds v lines = record { of_lines = All-nil (LineFactHolds v lines); of_clear = All-nil (StretchHolds v lines) }
 
 limited-holds : (max : Option ℕ) (zone : Bounds) (count : ℕ) (v : Numbers) → IsAtMost count max → v 0 ≡ pos 0 → v 2 ≡ pos count → Holds zone v → Holds (limited max zone) v
 limited-holds None zone count v h zero_is last_is holds = holds
@@ -67,4 +73,5 @@ start-sound marked whole path min max has bytes within matched =
       lines = lettered lines (marked bytes) (whole bytes);
       kept = tt;
       matches = (lines-match has texts matched, tt);
+      facts = nothing-holds w lines;
     }

@@ -22,15 +22,19 @@ use Rattle.ed_syntax.specs.meaning.Progress.{Present, Progress, Writes, failing,
 use Rattle.ed_syntax.specs.meaning.Runs.{Further, with_state, answered, asking, turned, one, step_by, prompted, at_end}
 use Rattle.ed_rules.specs.declared.state.State.{State}
 use Rattle.ed_rules.specs.Order.{Covers}
+use Rattle.cert_check.proofs.verdicts.Opening.{nothing-holds}
 use Rattle.cert_check.specs.checker.Covering.{covers}
 use Rattle.ed_rules.specs.Soundness.{MayAskFor, IsDone, CommandIsSound}
 use Rattle.ed_rules.specs.Files.{written_paths}
 use Rattle.ed_syntax.specs.meaning.CommandLaws.{CommandsArePlaced}
 use Rattle.ed_syntax.specs.meaning.Verbs.{is_global, ends_run}
-use Rattle.ed_syntax.specs.meaning.States.{Past, Nothing, Same, Was}
+use Rattle.ed_syntax.specs.meaning.States.{Past, Nothing, Same, Was, Kept}
+use Rattle.ed_rules.specs.declared.state.Old.{Old}
+use Rattle.ed_rules.specs.declared.state.Undo.{Undo}
+use Rattle.ed_rules.specs.States.{old_without_facts}
 use Rattle.ed_rules.specs.GlobalSoundness.{NoFlagsAreKept}
 use Rattle.ed_rules.proofs.Choosing.{has_choice-all}
-use Rattle.ed_rules.specs.StandsFor.{KeepsMatched, StandsFor, allows_change}
+use Rattle.ed_rules.specs.StandsFor.{KeepsMatched, StandsBy, StandsFor, AllowsKept, AllowsPast, allows_change}
 use Rattle.ed_rules.specs.LineBounds.{IsAtMost, IsWithin}
 use Rattle.cert_check.specs.Certificates.{Certificate}
 use Rattle.cert_check.specs.declared.certificate.Version.{Version}
@@ -63,15 +67,38 @@ kept-nothing Nothing = tt
 kept-nothing Same = tt
 kept-nothing (Was kept) = refl
 
+past-without : (undo : Undo) (past : Past) → AllowsPast undo past → AllowsPast (record undo { was = old_without_facts undo.was }) past
+past-without undo Nothing h = h
+past-without undo Same h = h
+past-without undo (Was kept) h = kept-without undo.was kept h
+  where
+    kept-without : (was : Option Old) (kept : Kept) → AllowsKept was kept → AllowsKept (old_without_facts was) kept
+    kept-without None kept h = h
+    kept-without (Some old) kept h = (h.0, h.1, nothing-holds h.0 kept.lines)
+
+stands-told : (v : Version) (s : State) (e : editor.State) (number : Numbers) → StandsBy s e number → StandsBy (told_by v s) e number
+stands-told version.One s e number st =
+    record { buffer = st.buffer; remembered = st.remembered; changed = st.changed; past = past-without s.undo e.past st.past }
+stands-told version.Two s e number st =
+    record { buffer = st.buffer; remembered = st.remembered; changed = st.changed; past = past-without s.undo e.past st.past }
+
 pub told-stands-by : (v : Version) (s : State) (e : editor.State) → StandsFor s e → StandsFor (told_by v s) e
 told-stands-by version.One s e st = record {
   numbers = st.numbers;
-  stands = record { buffer = st.stands.buffer; remembered = st.stands.remembered; changed = st.stands.changed; past = st.stands.past };
+  stands = stands-told version.One s e st.numbers st.stands;
   lines = st.lines;
   kept = st.kept;
   matches = (refl, kept-nothing e.past);
+  facts = nothing-holds st.numbers e.lines;
 }
-told-stands-by version.Two s e st = st
+told-stands-by version.Two s e st = record {
+  numbers = st.numbers;
+  stands = stands-told version.Two s e st.numbers st.stands;
+  lines = st.lines;
+  kept = st.kept;
+  matches = st.matches;
+  facts = nothing-holds st.numbers e.lines;
+}
 
 pub told-stands : (w : Sight) (s : State) (e : editor.State) → StandsFor s e → StandsFor (told w s) e
 told-stands w s e st = told-stands-by w.version s e st

@@ -65,7 +65,8 @@ started : StartIsSound → (v : Version) (path : Option (List ℕ)) (min : ℕ) 
 unfolding start
 started k version.One path min max has bytes within matched =
     told-stands-by version.One (start path min max []) (opened path bytes) (k path min max [] bytes within refl)
-started k version.Two path min max has bytes within matched = k path min max has bytes within matched
+started k version.Two path min max has bytes within matched =
+    told-stands-by version.Two (start path min max has) (opened path bytes) (k path min max has bytes within matched)
 
 seen-version : (script : Script) (v : Version) (has : List (List ℕ)) → (sight_of script v has).version ≡ v
 seen-version script version.One has = refl

@@ -68,7 +68,7 @@ first-taken k version.Two c e given o is g none = k c e given o is g none
 entry-stands : (v : Version) (verb : Verb) (invariant : State) (e : editor.State) → StandsFor (body_entry (tested v verb) invariant) e →
     StandsFor (told_by v (body_entry verb invariant)) e
 entry-stands version.One verb invariant e st = told-stands-by version.One (body_entry ed.QuitAnyway invariant) e st
-entry-stands version.Two verb invariant e st = st
+entry-stands version.Two verb invariant e st = told-stands-by version.Two (body_entry verb invariant) e st
 
 -- The global command that is open began where the editor was in this state, and knows of a change only where its list may make one. The
 -- lines that have its flag pass a test, and are at most so many.

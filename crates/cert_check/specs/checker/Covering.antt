@@ -12,6 +12,7 @@ use Rattle.ed_rules.specs.declared.state.State.{State}
 use Rattle.ed_rules.specs.Choices.{are_choices}
 use Rattle.ed_rules.specs.Marks.{is_sure}
 use Rattle.ed_rules.specs.Texts.{are_members}
+use Rattle.ed_rules.specs.facts.FactOrder.{cover_facts}
 
 -- no bound of the weak zone is less than the strong one's
 unfoldable pub zone_covers : (weak strong : Bounds) → Bool
@@ -34,7 +35,8 @@ changed_covers weak strong = allows weak.no strong.no && allows weak.yes strong.
 abbrev pub old_covers : (weak strong : Option Old) → Bool
 old_covers weak None = true
 old_covers None (Some strong) = false
-old_covers (Some weak) (Some strong) = zone_covers weak.zone strong.zone && are_among weak.marks strong.marks
+old_covers (Some weak) (Some strong) =
+    zone_covers weak.zone strong.zone && (are_among weak.marks strong.marks && cover_facts weak.facts strong.zone strong.facts)
 
 abbrev pub undo_covers : (weak strong : Undo) → Bool
 undo_covers weak strong = allows weak.nothing strong.nothing && (allows weak.same strong.same && old_covers weak.was strong.was)
@@ -53,4 +55,4 @@ covers weak strong =
     zone_covers weak.zone strong.zone && (are_among weak.marks strong.marks && (are_choices strong.patterns weak.patterns && (
     replacements_cover weak.replacements strong.replacements && (are_choices strong.names weak.names && (
     changed_covers weak.changed strong.changed && (undo_covers weak.undo strong.undo && (
-    matches_cover strong.undo.was weak.matches strong.matches)))))))
+    matches_cover strong.undo.was weak.matches strong.matches && cover_facts weak.facts strong.zone strong.facts)))))))

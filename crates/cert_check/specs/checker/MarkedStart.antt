@@ -14,6 +14,7 @@ use Rattle.ed_rules.specs.Choices.{Choice}
 use Rattle.ed_rules.specs.Marks.{is_sure}
 use Rattle.ed_rules.specs.declared.state.State.{State}
 use Rattle.ed_rules.specs.StandsFor.{StandsFor}
+use Rattle.ed_rules.specs.facts.Facts.{Facts, FactsHold}
 use Rattle.cert_check.specs.declared.checker.verdict.Verdict.TheVariants.{Accepted}
 use Rattle.cert_check.specs.declared.sight.Sight.{Sight}
 use Rattle.cert_check.specs.Certificates.{Certificate}
@@ -44,10 +45,11 @@ pub record NumberedBy (marks : Marks) (bytes : List ℕ) (sure : List Bool) (num
   pub marks_are : (letter : ℕ) → letter < 26 → is_sure sure letter ≡ true → (index : ℕ) × (index < length marks)
       × ((get_or marks index (0, 0)).0 ≡ letter) × (number (mark letter) ≡ pos ((get_or marks index (0, 0)).1 + 1))
 
--- A start that stands for a file's lines stands for them with marks on them once it knows of the marks: its zone has to hold of their
--- numbers.
+-- A start that stands for a file's lines stands for them with marks on them once it knows of the marks: its zone, and what it knows of
+-- single lines, have to hold of their numbers.
 abbrev pub MarkedStartsStand : Type 0
-MarkedStartsStand = (s : State) (zone : Bounds) (sure : List Bool) (marks : Marks) (path : Choice) (bytes : List ℕ) (number : Numbers) →
+MarkedStartsStand = (s : State) (zone : Bounds) (sure : List Bool) (facts : Facts) (marks : Marks) (path : Choice) (bytes : List ℕ)
+    (number : Numbers) →
     StandsFor s (opened path bytes) → AreApart marks → All (λ one. (one.0 < 26) × (one.1 < length (lines_of bytes))) marks →
-    NumberedBy marks bytes sure number → Holds zone number →
-    StandsFor (record s { zone = zone; marks = sure }) (opened_with marks path bytes)
+    NumberedBy marks bytes sure number → Holds zone number → FactsHold facts number (map plain_line (lines_of bytes)) →
+    StandsFor (record s { zone = zone; marks = sure; facts = facts }) (opened_with marks path bytes)

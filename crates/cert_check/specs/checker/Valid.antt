@@ -10,7 +10,7 @@ use Rattle.ed_syntax.specs.Commands.{Command, Step, Script}
 use Rattle.ed_syntax.specs.meaning.Verbs.{is_global, ends_run}
 use Rattle.ed_rules.specs.declared.state.State.{State}
 use Rattle.ed_rules.specs.Choices.{Choice}
-use Rattle.ed_rules.specs.States.{start}
+use Rattle.ed_rules.specs.States.{start, without_facts}
 use Rattle.ed_rules.specs.Files.{written_paths}
 use Rattle.ed_rules.specs.Matched.{watched}
 use Rattle.ed_rules.specs.KnownMatches.{no_matches}
@@ -67,10 +67,10 @@ sight_of script version.Two has = record { version = version.Two; watch = watche
 abbrev pub seen_by : Script → Certificate → Sight
 seen_by script c = sight_of script c.version c.has
 
--- A state that a rule gives, as far as the version tells it: version 1 tells nothing of matches.
+-- A state that a rule gives, as far as the version tells it: version 1 tells nothing of matches, and no version anything of single lines.
 abbrev pub told_by : Version → State → State
-told_by version.One s = record s { matches = no_matches }
-told_by version.Two s = s
+told_by version.One s = record (without_facts s) { matches = no_matches }
+told_by version.Two s = without_facts s
 
 abbrev pub told : Sight → State → State
 told w s = told_by w.version s

@@ -4,6 +4,7 @@ use Rattle.ed_rules.specs.declared.known_matches.Matches.{Matches}
 use Rattle.ed_rules.specs.declared.state.Old.{Old}
 use Rattle.ed_rules.specs.declared.state.State.{State}
 use Rattle.ed_rules.specs.Formed.{ChoiceIsBytes, is_rising, TextsAreFormed, StateIsFormed}
+use Rattle.ed_rules.specs.facts.Facts.{no_facts}
 use Rattle.ed_rules.specs.LineBounds.{is_few, is_limit, is_within}
 use Rattle.cert_check.specs.declared.certificate.Version.{Version}
 use Rattle.cert_check.specs.declared.certificate.Version.TheVariants.{One, Two}
@@ -24,10 +25,17 @@ OldIsSaidIn version (Some old) has = IsSaidIn version has
 abbrev pub AreSaidIn : Version → Option Old → Matches → Type 0
 AreSaidIn version was m = IsSaidIn version m.has × OldIsSaidIn version was m.old_has
 
--- a state that has a text
+-- nothing is said of single lines of an earlier buffer
+abbrev pub OldSaysNothing : Option Old → Type 0
+OldSaysNothing None = Unit {0}
+OldSaysNothing (Some old) = old.facts ≡ no_facts
+
+-- a state that has a text: no version says anything of single lines
 pub record StateHasText (version : Version) (s : State) : Type 0 where
   pub formed : StateIsFormed s
   pub matches : AreSaidIn version s.undo.was s.matches
+  pub facts : s.facts ≡ no_facts
+  pub old_facts : OldSaysNothing s.undo.was
 
 abbrev pub LoopedHasText : Version → Option Looped → Type 0
 LoopedHasText version None = Unit {0}

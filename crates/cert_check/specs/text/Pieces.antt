@@ -1,5 +1,5 @@
 -- How a certificate is read, one piece of its text after another.
-use Rattle.std.specs.Prelude.{◌≡◌, ℕ, suc, ◌+◌, Bool, true, false, ◌&&◌, ◌||◌, List, [], ◌∷◌, ◌++◌, length, map, codes, Option, is_some, Result, Ok, Err, All}
+use Rattle.std.specs.Prelude.{◌≡◌, ℕ, suc, ◌+◌, Bool, true, false, ◌&&◌, ◌||◌, List, [], ◌∷◌, ◌++◌, length, map, codes, Option, Some, None, is_some, Result, Ok, Err, All}
 use Rattle.std.specs.List.{flat_map}
 use Rattle.ed_base.specs.Lines.{newline, IsLine, bytes_of}
 use Rattle.ed_rules.specs.declared.state.Old.{Old}
@@ -7,7 +7,8 @@ use Rattle.ed_rules.specs.declared.state.Undo.{Undo}
 use Rattle.ed_rules.specs.declared.state.Changed.{Changed}
 use Rattle.ed_rules.specs.declared.state.Replacements.{Replacements}
 use Rattle.ed_rules.specs.declared.state.State.{State}
-use Rattle.ed_rules.specs.Formed.{ZoneIsFormed, OldIsFormed}
+use Rattle.ed_rules.specs.Formed.{ZoneIsFormed}
+use Rattle.ed_rules.specs.facts.Facts.{no_facts}
 use Rattle.ed_rules.specs.LineBounds.{is_few, is_limit, is_within}
 use Rattle.cert_check.specs.declared.text.cursor.Head.{Head}
 use Rattle.cert_check.specs.declared.text.cursor.Head.TheVariants.{AnotherNote, Loop, End}
@@ -159,12 +160,17 @@ head_line End = codes "end" ∷ []
 abbrev pub marked_lines : (zone_key marks_key : Word) → Old → List text.Line
 marked_lines zone_key marks_key old = zone_line zone_key old.zone ∷ marks_line marks_key old.marks ∷ []
 
--- a zone and its marks as an earlier buffer
+-- a zone and its marks as an earlier buffer, of whose single lines nothing is said
 abbrev pub marked_value : Marked → Old
-marked_value m = record { zone = m.zone; marks = m.marks }
+marked_value m = record { zone = m.zone; marks = m.marks; facts = no_facts }
 
 abbrev pub MarkedIsFormed : Old → Type 0
-MarkedIsFormed old = ZoneIsFormed old.marks old.zone
+MarkedIsFormed old = ZoneIsFormed old.marks old.zone × (old.facts ≡ no_facts)
+
+-- the same of an earlier buffer, where there is one
+abbrev pub EarlierIsFormed : Option Old → Type 0
+EarlierIsFormed None = Unit {0}
+EarlierIsFormed (Some old) = MarkedIsFormed old
 
 -- what undo may find, and what some line of an earlier buffer matches
 abbrev pub undo_lines : versions.Version → Undo × List (List ℕ) → List text.Line
@@ -172,7 +178,8 @@ undo_lines version found = undo_line found.0 ∷ old_lines version found.0.was f
 
 abbrev pub UndoIsFormed : versions.Version → Undo × List (List ℕ) → Type 0
 UndoIsFormed version found =
-    ((found.0.nothing || found.0.same || is_some found.0.was) ≡ true) × (OldIsFormed found.0.was × OldIsSaidIn version found.0.was found.1)
+    ((found.0.nothing || found.0.same || is_some found.0.was) ≡ true)
+    × (EarlierIsFormed found.0.was × OldIsSaidIn version found.0.was found.1)
 
 -- the states of a list's commands, and the end of the list
 abbrev pub inner_lines : versions.Version → List State → List text.Line

@@ -4,7 +4,7 @@ ghost use Rattle.std.specs.Prelude.{◌≡◌, ◌<◌, ◌↔◌, ◌&&◌, ◌
 ghost use Rattle.zones.specs.Limits.{IsZone};
 ghost use Rattle.cert_check.specs.Certificates.{boxed_value, note_value, certificate_value};
 ghost use Rattle.ed_rules.specs.Formed.{has_name, may_say, ZoneIsFormed, OldIsFormed, ChoiceIsBytes, SetIsFormed, StateIsFormed};
-ghost use Rattle.cert_check.specs.text.HasText.{IsSaidIn, OldIsSaidIn, StateHasText, LoopedHasText, NoteHasText, HasText};
+ghost use Rattle.cert_check.specs.text.HasText.{IsSaidIn, OldIsSaidIn, OldSaysNothing, StateHasText, LoopedHasText, NoteHasText, HasText};
 ghost use Rattle.ed_rules.specs.Formed.{says_nothing};
 
 use crate::certificate::{Certificate, Looped, Note, Version};
@@ -169,6 +169,16 @@ fn old_is_said(version: Version, old: &Option<KeptOld>, set: &Texts) -> bool
     }
 }
 
+/// Whether nothing is said of single lines of an earlier buffer.
+fn old_says_nothing(old: &Option<KeptOld>) -> bool
+    ensures exact { IsTrue result ↔ OldSaysNothing old.now }
+{
+    match old {
+        Some(old) => old.facts().are_none(),
+        None => true,
+    }
+}
+
 fn state_has_text(version: Version, state: &KeptState) -> bool
     ensures exact { IsTrue result ↔ StateHasText version state.now }
 {
@@ -176,6 +186,8 @@ fn state_has_text(version: Version, state: &KeptState) -> bool
     is_formed(state)
         && is_said(version, &matches.has)
         && old_is_said(version, state.kept_undo().was(), &matches.old_has)
+        && state.facts().are_none()
+        && old_says_nothing(state.kept_undo().was())
 }
 
 fn inner_have_text(version: Version, states: &[KeptState]) -> bool
@@ -223,8 +235,8 @@ fn notes_have_text(version: Version, notes: &[Note]) -> bool
 
 impl Certificate {
     /// Whether the certificate has a text: the fewest lines of its start aren't above the most, no bound on lines is above 10^12, each
-    /// zone speaks only of the letters beside it, the paths that may be written rise, and nothing is said of what some line matches if
-    /// the version says nothing of that, or if undo has no earlier buffer.
+    /// zone speaks only of the letters beside it, the paths that may be written rise, nothing is said of single lines, and nothing of what
+    /// some line matches if the version says nothing of that, or if undo has no earlier buffer.
     pub fn has_text(&self) -> bool
         ensures exact { IsTrue result ↔ HasText (certificate_value self.now) }
     {

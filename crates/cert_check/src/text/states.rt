@@ -13,7 +13,7 @@ use crate::text::readers::{
     read_changed, read_choices, read_found, read_marks, read_matched, read_replacements, read_zone,
 };
 use crate::text::wanted::LineKind;
-use ed_rules::{KeptOld, KeptState, KeptUndo, Marks, Matches, Texts};
+use ed_rules::{KeptOld, KeptState, KeptUndo, LineFacts, Marks, Matches, Texts};
 use std::alloc::Global;
 use zones::KeptZone;
 
@@ -54,7 +54,7 @@ fn read_undo(
     }
     let old = read_marked(alloc, LineKind::OldZone, LineKind::OldMarks, cursor)?;
     let has = read_matched(alloc, version, LineKind::OldHas, cursor)?;
-    let was = KeptOld::new(old.zone, old.marks);
+    let was = KeptOld::new(old.zone, old.marks, LineFacts::none(alloc));
     let undo = KeptUndo::new(found.nothing, found.same, Some(was));
     Ok((undo, has))
 }
@@ -83,5 +83,6 @@ pub(crate) fn read_state(
         changed,
         undo,
         Matches { has, old_has },
+        LineFacts::none(alloc),
     ))
 }

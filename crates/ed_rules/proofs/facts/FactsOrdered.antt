@@ -1,17 +1,17 @@
 -- What is joined or widened holds where either holds, and so does what is covered. How facts are ordered.
-use Rattle.std.proofs.Common.{◌≡◌, ◌<◌, ◌≤◌, inl, inr, ℕ, suc, ℤ, pos, negsuc, ◌+ℤ◌, ◌-ℤ◌, ◌≤ℤ◌, int_le, Bool, true, false, cond, eqb, List, [], ◌∷◌, length, All, Contains, nat_eq, nat_lt, refl, sym, subst, arith}
+use Rattle.std.proofs.Common.{◌≡◌, ◌<◌, ◌≤◌, inl, inr, ℕ, suc, ℤ, pos, negsuc, ◌-ℤ◌, ◌≤ℤ◌, Bool, true, false, cond, List, [], ◌∷◌, length, All, Contains, nat_eq, nat_lt, refl, sym, subst, arith}
 use Rattle.std.specs.List.{list_any, list_all, filter}
 use Rattle.std.specs.Cmp.Lexicographic.{bytes_decides}
 use Rattle.std.proofs.lemmas.Int.{ints}
-use Rattle.std.proofs.lemmas.Bool.{eqb-true, ltb-true, eq-eqb, and_from, and_parts, or_cases, or_left, or_right}
+use Rattle.std.proofs.lemmas.Bool.{eqb-true, ltb-true, eq-eqb, and_from, and_parts, or_cases, or_left}
 use Rattle.std.proofs.lemmas.List.Elements.{All-cons, All-nil, All-filter, All-contains, All-contains_itself}
 use Rattle.std.proofs.lemmas.List.Folds.{list_any_at}
 use Rattle.zones.specs.Zone.{Bounds, Numbers, Holds}
 use Rattle.zones.specs.Known.{known}
 use Rattle.zones.proofs.Known.{known-true}
 use Rattle.ed_base.specs.Buffer.{Line}
-use Rattle.ed_rules.specs.facts.Facts.{ReadsEnds, LineFact, Stretch, Facts, Point, FactsHold, LineFactHolds, StretchHolds, point, le, same_text, spans}
-use Rattle.ed_rules.specs.facts.FactOrder.{is_line, same_answer, same_fact, says_line, says_clear, both_facts, cover_facts, AreNamed}
+use Rattle.ed_rules.specs.facts.Facts.{ReadsEnds, LineFact, Stretch, Facts, FactsHold, LineFactHolds, StretchHolds, point, same_text}
+use Rattle.ed_rules.specs.facts.FactOrder.{is_line, same_answer, same_fact, same_stretch, says_line, says_clear, both_facts, cover_facts}
 use Rattle.ed_rules.proofs.facts.FactsTold.{any-gives, text-same, point-named, is_clear-true, tells-true}
 
 positive-nat : (z : ℤ) → pos 1 ≤ℤ z → (n : ℕ) × (z ≡ pos n)
@@ -62,16 +62,32 @@ same_fact-true f g e =
     let m : f.matches ≡ g.matches = answer-same f.matches g.matches b.1 in
     fact-same f.name g.name f.pattern g.pattern f.matches g.matches n p m
 
+stretch : ℕ → ℕ → List ℕ → Stretch
+stretch x y p = record { after = x; before = y; pattern = p }
+
+stretch-same : (x y z w : ℕ) (p q : List ℕ) → x ≡ z → y ≡ w → p ≡ q → stretch x y p ≡ stretch z w q
+stretch-same x y z w p q e f g = cc
+
+same_stretch-true : (s t : Stretch) → same_stretch s t ≡ true → s ≡ t
+unfolding stretch
+same_stretch-true s t e =
+    let a = and_parts (same_text s.pattern t.pattern) _ e in
+    let b = and_parts (nat_eq s.after t.after) _ a.1 in
+    let p : s.pattern ≡ t.pattern = text-same s.pattern t.pattern a.0 in
+    let x : s.after ≡ t.after = eqb-true s.after t.after b.0 in
+    let y : s.before ≡ t.before = eqb-true s.before t.before b.1 in
+    stretch-same s.after s.before t.after t.before s.pattern t.pattern x y p
+
 says_line-true : (zone : Bounds) (facts : Facts) (number : Numbers) (lines : List Line) (f : LineFact) → says_line zone facts f ≡ true →
     Holds zone number → ReadsEnds number lines → FactsHold facts number lines → LineFactHolds number lines f
 says_line-true zone facts number lines f e holds r h =
-    let a = and_parts (nat_lt f.name 32) _ e in
-    let named : f.name < 32 = ltb-true f.name 32 a.0 in
-    elim (or_cases (list_any (same_fact f) facts.lines) _ a.1) [
+    elim (or_cases (list_any (same_fact f) facts.lines) _ e) [
       | inl k ↦ any-gives (same_fact f) (LineFactHolds number lines) (LineFactHolds number lines f) facts.lines h.of_lines
           (λ g t q. subst (λ (u : LineFact). LineFactHolds number lines u) (sym (same_fact-true f g q)) t) k
       | inr k ↦
-          let b = and_parts (is_line zone f.name) _ k in
+          let a = and_parts (nat_lt f.name 32) _ k in
+          let named : f.name < 32 = ltb-true f.name 32 a.0 in
+          let b = and_parts (is_line zone f.name) _ a.1 in
           let i = is_line-true zone number lines f.name b.0 named holds r in
           record {
             named = named;
@@ -88,15 +104,21 @@ says_line-true zone facts number lines f e holds r h =
 says_clear-true : (zone : Bounds) (facts : Facts) (number : Numbers) (lines : List Line) (s : Stretch) → says_clear zone facts s ≡ true →
     Holds zone number → FactsHold facts number lines → StretchHolds number lines s
 says_clear-true zone facts number lines s e holds h =
-    let a = and_parts (nat_lt s.after 33) _ e in
-    let b = and_parts (nat_lt s.before 33) _ a.1 in
-    let after_named : s.after < 33 = ltb-true s.after 33 a.0 in
-    let before_named : s.before < 33 = ltb-true s.before 33 b.0 in
-    record {
-      after_named = after_named;
-      before_named = before_named;
-      holds = is_clear-true zone facts number lines (point s.after) (point s.before) s.pattern b.1 (point-named s.after after_named) (point-named s.before before_named) holds h;
-    }
+    elim (or_cases (list_any (same_stretch s) facts.clear) _ e) [
+      | inl k ↦ any-gives (same_stretch s) (StretchHolds number lines) (StretchHolds number lines s) facts.clear h.of_clear
+          (λ t u q. subst (λ (v : Stretch). StretchHolds number lines v) (sym (same_stretch-true s t q)) u) k
+      | inr k ↦
+          let a = and_parts (nat_lt s.after 33) _ k in
+          let b = and_parts (nat_lt s.before 33) _ a.1 in
+          let after_named : s.after < 33 = ltb-true s.after 33 a.0 in
+          let before_named : s.before < 33 = ltb-true s.before 33 b.0 in
+          record {
+            after_named = after_named;
+            before_named = before_named;
+            holds = is_clear-true zone facts number lines (point s.after) (point s.before) s.pattern b.1
+                (point-named s.after after_named) (point-named s.before before_named) holds h;
+          }
+    ]
 
 -- what holds of each that passes
 filter-gives : {A : Type 0} (test : A → Bool) (Q : A → Type 0) (xs : List A) → ((x : A) → test x ≡ true → Q x) → All Q (filter test xs)
@@ -149,22 +171,18 @@ any-of test xs x c e = list_any_at test xs c.0 x c.1 (subst (λ y. test y ≡ tr
 text-itself : (text : List ℕ) → same_text text text ≡ true
 text-itself text = (bytes_decides text text).1 refl
 
-le-itself : (zone : Bounds) (x : Point) → le zone x x (pos 0) ≡ true
-le-itself zone x = let e : eqb x.name x.name ≡ true = eq-eqb x.name x.name refl in let k : int_le (pos 0) ((pos 0 +ℤ x.plus) -ℤ x.plus) ≡ true = grind (arith, ints) in rw e k
-
-says-own_line : (zone : Bounds) (facts : Facts) (f : LineFact) → nat_lt f.name 32 ≡ true → Contains facts.lines f → says_line zone facts f ≡ true
-says-own_line zone facts f e c =
-    and_from (nat_lt f.name 32) _ e
-    (or_left (list_any (same_fact f) facts.lines) _
+says-own_line : (zone : Bounds) (facts : Facts) (f : LineFact) → Contains facts.lines f → says_line zone facts f ≡ true
+says-own_line zone facts f c =
+    or_left (list_any (same_fact f) facts.lines) _
     (any-of (same_fact f) facts.lines f c
-    (and_from (same_text f.pattern f.pattern) _ (text-itself f.pattern) (and_from (nat_eq f.name f.name) _ (eq-eqb f.name f.name refl) (answer-itself f.matches)))))
+    (and_from (same_text f.pattern f.pattern) _ (text-itself f.pattern) (and_from (nat_eq f.name f.name) _ (eq-eqb f.name f.name refl) (answer-itself f.matches))))
 
-says-own_clear : (zone : Bounds) (facts : Facts) (s : Stretch) → nat_lt s.after 33 ≡ true → nat_lt s.before 33 ≡ true → Contains facts.clear s → says_clear zone facts s ≡ true
-says-own_clear zone facts s e f c =
-    and_from (nat_lt s.after 33) _ e (and_from (nat_lt s.before 33) _ f
-    (or_right (le zone (point s.before) (point s.after) (pos 1)) _
-    (any-of (spans zone (point s.after) (point s.before) s.pattern) facts.clear s c
-    (and_from (same_text s.pattern s.pattern) _ (text-itself s.pattern) (and_from (le zone (point s.after) (point s.after) (pos 0)) _ (le-itself zone (point s.after)) (le-itself zone (point s.before)))))))
+says-own_clear : (zone : Bounds) (facts : Facts) (s : Stretch) → Contains facts.clear s → says_clear zone facts s ≡ true
+says-own_clear zone facts s c =
+    or_left (list_any (same_stretch s) facts.clear) _
+    (any-of (same_stretch s) facts.clear s c
+    (and_from (same_text s.pattern s.pattern) _ (text-itself s.pattern)
+    (and_from (nat_eq s.after s.after) _ (eq-eqb s.after s.after refl) (eq-eqb s.before s.before refl))))
 
 -- each element of a filtered list is one of the list, and passes
 filtered : {A : Type 0} (test : A → Bool) (xs : List A) (x : A) → Contains (filter test xs) x → Contains xs x × (test x ≡ true)
@@ -176,21 +194,17 @@ filtered test xs x c = (
 all-filter : {A : Type 0} (p test : A → Bool) (xs : List A) → list_all p xs ≡ true → list_all p (filter test xs) ≡ true
 all-filter p test xs h = all-each p (filter test xs) (λ x c. All-contains (λ y. p y ≡ true) xs x (all-gives p (λ y. p y ≡ true) xs (λ y e. e) h) (filtered test xs x c).0)
 
-pub cover-itself : (facts : Facts) (zone : Bounds) → AreNamed facts → cover_facts facts zone facts ≡ true
-cover-itself facts zone named =
+pub cover-itself : (facts : Facts) (zone : Bounds) → cover_facts facts zone facts ≡ true
+cover-itself facts zone =
     and_from (list_all (says_line zone facts) facts.lines) _
-    (all-each (says_line zone facts) facts.lines (λ f c. says-own_line zone facts f (All-contains (λ (g : LineFact). nat_lt g.name 32 ≡ true) facts.lines f named.0 c) c))
-    (all-each (says_clear zone facts) facts.clear (λ s c. let n = All-contains (λ (u : Stretch). (nat_lt u.after 33 ≡ true) × (nat_lt u.before 33 ≡ true)) facts.clear s named.1 c in says-own_clear zone facts s n.0 n.1 c))
+    (all-each (says_line zone facts) facts.lines (λ f c. says-own_line zone facts f c))
+    (all-each (says_clear zone facts) facts.clear (λ s c. says-own_clear zone facts s c))
 
 pub cover-both : (one other : Facts) (by zone : Bounds) → cover_facts (both_facts one by other) zone one ≡ true
 cover-both one other by zone =
     and_from (list_all (says_line zone one) (filter (says_line by other) one.lines)) _
-    (all-each (says_line zone one) (filter (says_line by other) one.lines) (λ f c. let k = filtered (says_line by other) one.lines f c in says-own_line zone one f (and_parts (nat_lt f.name 32) _ k.1).0 k.0))
-    (all-each (says_clear zone one) (filter (says_clear by other) one.clear) (λ s c.
-    let k = filtered (says_clear by other) one.clear s c in
-    let a = and_parts (nat_lt s.after 33) _ k.1 in
-    let b = and_parts (nat_lt s.before 33) _ a.1 in
-    says-own_clear zone one s a.0 b.0 k.0))
+    (all-each (says_line zone one) (filter (says_line by other) one.lines) (λ f c. says-own_line zone one f (filtered (says_line by other) one.lines f c).0))
+    (all-each (says_clear zone one) (filter (says_clear by other) one.clear) (λ s c. says-own_clear zone one s (filtered (says_clear by other) one.clear s c).0))
 
 pub cover-both_other : (one other : Facts) (zone : Bounds) → cover_facts (both_facts one zone other) zone other ≡ true
 cover-both_other one other zone =

@@ -74,9 +74,10 @@ end-formed x before invariant h k =
     let u : Undo = undo_of_global x.list before in
     let m : Matches = with_old (list_may_alter x.list) before invariant.matches in
     let t : State = record invariant { undo = u; matches = m } in
-    AtEnd-ended (finished t)
-    (finished-AtEnd t (matching-forming (record invariant { undo = u }) m (forming-change invariant invariant.changed u f.aside.flag refl
-    (old_if-speaks (list_may_alter x.list) before (formed-Closed before h)) f)))
+    let g : Forming (record invariant { undo = u }) =
+    forming-change invariant invariant.changed u f.aside.flag refl
+    (old_if-speaks (list_may_alter x.list) before (formed-Closed before h)) f in
+    AtEnd-ended (finished t) (finished-AtEnd t (record { letters = g.letters; zone = g.zone; aside = g.aside }))
 
 -- ONE COMMAND
 

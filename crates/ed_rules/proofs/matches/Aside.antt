@@ -1,5 +1,5 @@
 -- A command's rule with what is known of matches left aside. The whole rule meets the same faults, and differs in that alone.
-use Rattle.std.proofs.Common.{◌≡◌, ℕ, negsuc, true, false, List, Option, None, Some, Result, Ok, Err, refl, sym, ap, ◌∙◌}
+use Rattle.std.proofs.Common.{◌≡◌, ℕ, negsuc, true, false, List, Option, None, Some, Result, Ok, Err, IfOk, refl, sym, ap, ◌∙◌}
 use Rattle.ed_base.specs.declared.fault.Fault.{Fault}
 use Rattle.ed_base.specs.declared.fault.Fault.TheVariants as fault
 use Rattle.zones.specs.Known.{known}
@@ -10,6 +10,7 @@ use Rattle.ed_syntax.specs.spelling.Readable.{enters_lines}
 use Rattle.ed_rules.specs.declared.known_matches.Matches.{Matches}
 use Rattle.ed_rules.specs.declared.state.State.{State}
 use Rattle.ed_rules.specs.Pieces.{needing, with_zone, ended}
+use Rattle.ed_rules.specs.facts.Facts.{no_facts}
 use Rattle.ed_rules.specs.Addresses.{addressed, standing, targeted}
 use Rattle.ed_rules.specs.Matching.{saying, matches_after}
 use Rattle.ed_rules.specs.Rules.{taken, effect, suffixed, step_at, step, fault_of}
@@ -50,6 +51,20 @@ step_at-beside watched a c s =
     (λ u. beside-bind (effect c.listed c.addresses c.verb s u) _ _
     (λ r. suffixed-beside c.suffix (with_zone (ended r.marks r.zone) r)
     (matches_after watched c.listed c.addresses (takes c.verb).lines s u)))))
+
+-- after a command nothing is said of single lines
+
+beside-nothing : (x y : Result State Fault) → Beside x y → IfOk y (λ (t : State). t.facts ≡ no_facts)
+beside-nothing (Ok t) (Ok u) h = ap (λ (v : State). v.facts) h.1
+beside-nothing (Ok t) (Err g) h = tt
+beside-nothing (Err f) (Ok u) h = absurd h
+beside-nothing (Err f) (Err g) h = tt
+
+pub step-nothing : (watched : List (List ℕ)) (c : Command) (s : State) → IfOk (step watched c s) (λ (t : State). t.facts ≡ no_facts)
+step-nothing watched c s =
+    let a : Addresses = given_or c.addresses (standing (takes c.verb).default) in
+    beside-nothing (needing (enters_lines c.verb) fault.Syntax s >> step_aside a c) (step watched c s)
+    (beside-bind (needing (enters_lines c.verb) fault.Syntax s) (step_aside a c) (step_at watched a c) (λ t. step_at-beside watched a c t))
 
 -- so what is watched makes no difference to the needs
 

@@ -32,7 +32,7 @@ use Rattle.ed_rules.specs.Undoing.{undone}
 use Rattle.ed_syntax.specs.meaning.Globals.{flagged}
 use Rattle.ed_syntax.specs.meaning.SubstitutedLines.{substitute}
 use Rattle.ed_rules.proofs.Basics.{Agrees}
-use Rattle.ed_rules.proofs.sound.Standing.{Stands, StandsBy-temporary, StandsBy-current, StandsBy-guarded, Reads-temporary}
+use Rattle.ed_rules.proofs.sound.Standing.{StandsBy-temporary, StandsBy-current, StandsBy-guarded, Reads-temporary, Begins}
 use Rattle.ed_rules.proofs.sound.Addressing.{Valued, valued-sound, Names, NamesOf, Addressed, AddressedIn, command_addressed}
 use Rattle.ed_rules.proofs.sound.Spans.{Spans, Ranges}
 use Rattle.ed_rules.proofs.sound.Effects.{append-follows, delete-follows, insert-follows, change-follows, join-follows, join-one, copy-follows, mark-follows, move-follows}
@@ -293,7 +293,7 @@ abbrev pub Equal : Numbers → Type 0
 Equal v = v 3 ≡ v 4
 
 -- `j`: with one address nothing happens
-join-sound : (c : Command) (given d : Addresses) → IsGiven d → (s : State) (e : editor.State) (start : Stands s e) (t : State) (p : editor.State × List ℕ) → Addressed (NamesOf (given_or given d)) t p →
+join-sound : (c : Command) (given d : Addresses) → IsGiven d → (s : State) (e : editor.State) (start : Begins s e) (t : State) (p : editor.State × List ℕ) → Addressed (NamesOf (given_or given d)) t p →
     Agrees Final (ranged t >> λ u. suffixed c.suffix (with_zone (ended (joined_given given c.listed s u).marks (joined_given given c.listed s u).zone) (joined_given given c.listed s u)))
     (spanned many.Range (length e.lines) p.1 >> λ x. completed c e (Makes (effects.join x p.0)))
 join-sound c Without d g s e start t p h =
@@ -366,7 +366,7 @@ is_on_files _ = false
 
 -- the phases after the addresses, a verb at a time
 module _ (order : SpansAreInOrder) (c : Command) (answer : Option Answer) (given d : Addresses) (s : State) (e : editor.State)
-    (start : Stands s e) (whole : AreWhole e.lines) (marked_well : WellMarked e.lines) (t : State) (p : editor.State × List ℕ)
+    (start : Begins s e) (whole : AreWhole e.lines) (marked_well : WellMarked e.lines) (t : State) (p : editor.State × List ℕ)
     (same_lines : p.0.lines ≡ e.lines) (h : Addressed (NamesOf (given_or given d)) t p) where
   abbrev rule_after : Verb → Result State Fault
   rule_after verb =
@@ -491,12 +491,12 @@ command-is c e answer =
     (λ v q x. record { state = q.0; span = x; target = q.1 }) (λ r. effect_of c.verb c.listed r.span r.target r.state answer >> completed c e)
 
 pub phases_sound : SpansAreInOrder → (c : Command) (s : State) (e : editor.State) (answer : Option Answer) → AreLettered e.lines →
-    Stands s e → AreMatched s.matches.has e.lines →
+    Begins s e → AreMatched s.matches.has e.lines →
     Does Comes answer (step_aside (given_or c.addresses (standing (takes c.verb).default)) c s) (command e c answer)
 phases_sound order c s e answer letters st matched =
     let d : Addresses = standing (takes c.verb).default in
     let a : Addresses = given_or c.addresses d in
     subst (λ (y : Result Effect Fault). Does Comes answer (step_aside a c s) y) (sym (command-is c e answer))
-    (does-bind (AddressedIn e.lines (NamesOf a)) Comes answer (addressed a s) (values (given_or c.addresses (takes c.verb).default) e) _ _ (command_addressed c.addresses c.verb s e st matched)
+    (does-bind (AddressedIn e.lines (NamesOf a)) Comes answer (addressed a s) (values (given_or c.addresses (takes c.verb).default) e) _ _ (command_addressed c.addresses c.verb s e (st.0, st.1) matched)
     (λ t p h. all_after_addresses order c answer c.addresses d s e st letters.whole (lettered-marked e.lines letters) t p h.1 h.0 c.verb
     (suits c.verb)))

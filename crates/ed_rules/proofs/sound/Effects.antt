@@ -30,7 +30,7 @@ use Rattle.zones.specs.Bound.{Obeys, sum_of, negative_of}
 use Rattle.zones.specs.Steps.{after_set, after_guard, after_shift}
 use Rattle.ed_rules.proofs.sound.Lifting.{Holds-current_inserted}
 use Rattle.ed_rules.specs.StandsFor.{Reads, HoldsBy, StandsBy, Remembers, AllowsPast}
-use Rattle.ed_rules.proofs.sound.Standing.{Stands, StandsBy-current, StandsBy-guarded, Reads-current}
+use Rattle.ed_rules.proofs.sound.Standing.{StandsBy-current, StandsBy-guarded, Reads-current, Begins}
 use Rattle.ed_rules.proofs.sound.Spans.{Spans, Ranges, Ranges-by}
 use Rattle.ed_rules.proofs.sound.Finishing.{Follows}
 use Rattle.ed_rules.proofs.sound.Flags.{kept-allowed}
@@ -47,20 +47,20 @@ use Rattle.ed_base.specs.Parts as parts
 use Rattle.ed_syntax.specs.meaning.CommandLaws.{WellMarked}
 
 -- what undo keeps of a change
-past-after : (listed : Bool) (s u : State) (start e : editor.State) → Stands s start → AllowsPast u.undo e.past →
+past-after : (listed : Bool) (s u : State) (start e : editor.State) → Begins s start → AllowsPast u.undo e.past →
     AllowsPast (undo_after listed s u.undo) (past_after listed (editor.kept start) e.past)
 past-after true s u start e st past = past
 past-after false s u start e st past = kept-allowed s start st
 
 -- an altered buffer, settled
-altered-follows : (listed : Bool) (s u : State) (start e : editor.State) → Stands s start → Remembers u e → AllowsPast u.undo e.past →
+altered-follows : (listed : Bool) (s u : State) (start e : editor.State) → Begins s start → Remembers u e → AllowsPast u.undo e.past →
     (lines : List Line) (current : ℕ) (v : Numbers) → HoldsBy u.zone u.marks lines current v →
     Follows listed start (modified listed s u) (Makes (effects.altered lines current e))
 altered-follows listed s u start e st remembered past lines current v b =
     (v, record { buffer = b; remembered = remembered; changed = refl; past = past-after listed s u start e st past })
 
 -- the same of a state that differs in its zone and its marks alone
-pub altered-aside : (listed : Bool) (s t u : State) (start e : editor.State) → Stands s start → Remembers t e → AllowsPast t.undo e.past → u ≡ record t { zone = u.zone; marks = u.marks } →
+pub altered-aside : (listed : Bool) (s t u : State) (start e : editor.State) → Begins s start → Remembers t e → AllowsPast t.undo e.past → u ≡ record t { zone = u.zone; marks = u.marks } →
     (lines : List Line) (current : ℕ) (v : Numbers) → HoldsBy u.zone u.marks lines current v →
     Follows listed start (modified listed s u) (Makes (effects.altered lines current e))
 altered-aside listed s t u start e st remembered past aside lines current v b =
@@ -69,7 +69,7 @@ altered-aside listed s t u start e st remembered past aside lines current v b =
     (let P : State → Type 0 = λ (q : State). AllowsPast q.undo e.past in subst P (sym aside) past) lines current v b
 
 -- `a` of at least one line
-append-some : (listed : Bool) (line : List ℕ) (more : List (List ℕ)) (s : State) (start : editor.State) → Stands s start → (t : State) (e : editor.State) (x : Span) → Spans t e x →
+append-some : (listed : Bool) (line : List ℕ) (more : List (List ℕ)) (s : State) (start : editor.State) → Begins s start → (t : State) (e : editor.State) (x : Span) → Spans t e x →
     Follows listed start (appended listed s (suc (length more)) t) (Makes (effects.append (line ∷ more) x e))
 append-some listed line more s start st t e x r =
     let text : List (List ℕ) = line ∷ more in
@@ -95,14 +95,14 @@ append-some listed line more s start st t e x r =
       },
     )
 
-pub append-follows : (listed : Bool) (text : List (List ℕ)) (s : State) (start : editor.State) → Stands s start → (t : State) (e : editor.State) (x : Span) → Spans t e x →
+pub append-follows : (listed : Bool) (text : List (List ℕ)) (s : State) (start : editor.State) → Begins s start → (t : State) (e : editor.State) (x : Span) → Spans t e x →
     Follows listed start (appended listed s (length text) t) (Makes (effects.append text x e))
 append-follows listed [] s start st t e x r =
     let f = r.first_is in
     (updated r.numbers 1 (pos x.first), StandsBy-current t e r.numbers 3 (pos 0) x.first (omega arith) (omega (arith, ints)) r.first_in r.stands)
 append-follows listed (line ∷ more) s start st t e x r = append-some listed line more s start st t e x r
 
-pub delete-follows : (listed : Bool) (s : State) (start : editor.State) → Stands s start → (t : State) (e : editor.State) (x : Span) → Ranges t e x →
+pub delete-follows : (listed : Bool) (s : State) (start : editor.State) → Begins s start → (t : State) (e : editor.State) (x : Span) → Ranges t e x →
     Follows listed start (modified listed s (replaced 0 t)) (Makes (effects.delete x e))
 delete-follows listed s start st t e x r =
     let hf = r.from in
@@ -132,7 +132,7 @@ insert-none listed s start t e first v st f h =
       },
     )
 
-insert-some : (listed : Bool) (line : List ℕ) (more : List (List ℕ)) (s : State) (start : editor.State) → Stands s start → (t : State) (e : editor.State) (first : ℕ) (v : Numbers) →
+insert-some : (listed : Bool) (line : List ℕ) (more : List (List ℕ)) (s : State) (start : editor.State) → Begins s start → (t : State) (e : editor.State) (first : ℕ) (v : Numbers) →
     StandsBy t e v → v 3 ≡ pos first → 1 ≤ first → first ≤ length e.lines + 1 →
     Follows listed start (put_before listed s (suc (length more)) t) (Makes (effects.entered (first - 1) (line ∷ more) e))
 insert-some listed line more s start st t e first v stands f from h =
@@ -153,13 +153,13 @@ insert-some listed line more s start st t e first v stands f from h =
       inside = omega (arith, length-inserted e.lines new (first - 1) inside);
     })
 
-pub insert-follows : (listed : Bool) (text : List (List ℕ)) (s : State) (start : editor.State) → Stands s start → (t : State) (e : editor.State) (x : Span) (v : Numbers) → StandsBy t e v → v 3 ≡ pos x.first →
+pub insert-follows : (listed : Bool) (text : List (List ℕ)) (s : State) (start : editor.State) → Begins s start → (t : State) (e : editor.State) (x : Span) (v : Numbers) → StandsBy t e v → v 3 ≡ pos x.first →
     1 ≤ x.first → x.first ≤ length e.lines + 1 → Follows listed start (put_before listed s (length text) t) (Makes (effects.insert text x e))
 insert-follows listed [] s start st t e x v stands f from h = insert-none listed s start t e x.first v stands f h
 insert-follows listed (line ∷ more) s start st t e x v stands f from h = insert-some listed line more s start st t e x.first v stands f from h
 
 -- `c`
-pub change-follows : (listed : Bool) (text : List (List ℕ)) (s : State) (start : editor.State) → Stands s start → (t : State) (e : editor.State) (x : Span) → Ranges t e x →
+pub change-follows : (listed : Bool) (text : List (List ℕ)) (s : State) (start : editor.State) → Begins s start → (t : State) (e : editor.State) (x : Span) → Ranges t e x →
     Follows listed start (modified listed s (replaced (length text) t)) (Makes (effects.change text x e))
 change-follows listed [] s start st t e x r = delete-follows listed s start st t e x r
 change-follows listed (line ∷ more) s start st t e x r =
@@ -179,7 +179,7 @@ join-changes x e h = rw (lt-ltb x.first x.last h, effects.join) refl
 pub join-stays : (x : Span) (e : editor.State) → x.last ≤ x.first → effects.join x e ≡ effects.only e []
 join-stays x e h = rw (le-ltb x.first x.last h, effects.join) refl
 
-join-many : (listed : Bool) (s : State) (start : editor.State) → Stands s start → (t : State) (e : editor.State) (x : Span) → Ranges t e x → x.first < x.last →
+join-many : (listed : Bool) (s : State) (start : editor.State) → Begins s start → (t : State) (e : editor.State) (x : Span) → Ranges t e x → x.first < x.last →
     Follows listed start (modified listed s (replaced 1 t)) (Makes (effects.join x e))
 join-many listed s start st t e x r h =
     let line : List ℕ = concat (texts (parts.between x.first x.last e.lines)) in
@@ -195,7 +195,7 @@ join-one listed start t e x r h =
 Ranges-guarded : (t : State) (e : editor.State) (x : Span) (a b : ℕ) (c : ℤ) (r : Ranges t e x) → a < 32 → b < 32 → (r.spans.numbers a -ℤ r.spans.numbers b) ≤ℤ c → Ranges (with_zone (after_guard t.zone a b c) t) e x
 Ranges-guarded t e x a b c r ha hb h = Ranges-by r refl (StandsBy-guarded t e r.spans.numbers a b c ha hb h r.spans.stands)
 
-pub join-follows : (listed : Bool) (s : State) (start : editor.State) → Stands s start → (t : State) (e : editor.State) (x : Span) → Ranges t e x →
+pub join-follows : (listed : Bool) (s : State) (start : editor.State) → Begins s start → (t : State) (e : editor.State) (x : Span) → Ranges t e x →
     Follows listed start (joined listed s t) (Makes (effects.join x e))
 join-follows listed s start st t e x r =
     let v : Numbers = r.spans.numbers in
@@ -235,7 +235,7 @@ entered-some a (t ∷ ts) e h = refl
 pub length-texts : (a b : ℕ) (ls : List Line) → 1 ≤ a → a ≤ b → b ≤ length ls → length (texts (parts.between a b ls)) ≡ b + 1 - a
 length-texts a b ls h k l = length-map (parts.between a b ls) (λ (line : Line). line.bytes) ∙ length-drop (a - 1) (take b ls) ∙ (let q = length-take-le b ls l in omega arith)
 
-pub copy-follows : (listed : Bool) (s : State) (start : editor.State) → Stands s start → (t : State) (e : editor.State) (x : Span) (target : ℕ) (r : Ranges t e x) → r.spans.numbers 5 ≡ pos target → target ≤ length e.lines →
+pub copy-follows : (listed : Bool) (s : State) (start : editor.State) → Begins s start → (t : State) (e : editor.State) (x : Span) (target : ℕ) (r : Ranges t e x) → r.spans.numbers 5 ≡ pos target → target ≤ length e.lines →
     Follows listed start (modified listed s (copied_after (negative_of (bound t.zone 3 4)) (bound t.zone 4 3) t)) (Makes (effects.copy x target e))
 copy-follows listed s start st t e x target r v5 inside =
     let v : Numbers = r.spans.numbers in
@@ -358,7 +358,7 @@ HoldsBy-moved marks lines v u current zone q u0 u1 u2 inside = (
   },
 )
 
-module _ (listed : Bool) (s : State) (start : editor.State) (st : Stands s start) (t : State) (e : editor.State) (x : Span) (target : ℕ)
+module _ (listed : Bool) (s : State) (start : editor.State) (st : Begins s start) (t : State) (e : editor.State) (x : Span) (target : ℕ)
     (r : Ranges t e x) (v5 : r.spans.numbers 5 ≡ pos target) (target_in : target ≤ length e.lines) (marked : WellMarked e.lines) where
   move-up : target < x.first → Agrees (Follows listed start) (Ok (modified listed s (with_zone (moved_up t.marks t.zone) t))) (making (effects.move x target e))
   move-up h =

@@ -32,7 +32,7 @@ use Rattle.ed_rules.specs.Pieces.{needing}
 use Rattle.ed_rules.specs.Files.{named, named_first, named_anew, undo_if_modified, maybe_modified, lines_read, file_read, changed_by_lines, changed_by_write, file_written, loaded, saved, edited, edited_anyway, file_named}
 use Rattle.ed_rules.proofs.Basics.{Agrees, Agrees-weaker, Agrees-ok, bind-twice}
 use Rattle.ed_rules.proofs.Choosing.{has_choice-only, has-filled}
-use Rattle.ed_rules.proofs.sound.Standing.{Stands}
+use Rattle.ed_rules.proofs.sound.Standing.{Stands, Begins}
 use Rattle.ed_rules.proofs.sound.Spans.{Spans, Ranges, Spans-by}
 use Rattle.ed_rules.proofs.sound.Weaker.{past-both, past-both_other, change-both}
 use Rattle.ed_rules.proofs.sound.SubstitutionEffects.{not-true}
@@ -112,12 +112,12 @@ past-unmodified : (listed : Bool) (s u : State) (past : Past) → AllowsPast u.u
 past-unmodified true s u past h = h
 past-unmodified false s u past h = past-both u.undo (undo_to (old_of s)) past h
 
-past-modified : (listed : Bool) (s u : State) (start : editor.State) (past : Past) → Stands s start → AllowsPast u.undo past → AllowsPast (undo_if_modified listed s u.undo) (past_after listed (kept start) past)
+past-modified : (listed : Bool) (s u : State) (start : editor.State) (past : Past) → Begins s start → AllowsPast u.undo past → AllowsPast (undo_if_modified listed s u.undo) (past_after listed (kept start) past)
 past-modified true s u start past st h = h
 past-modified false s u start past st h = past-both_other u.undo (undo_to (old_of s)) (Was (kept start)) (kept-allowed s start st)
 
 -- lines that are read, or none
-read-settles : (listed : Bool) (s : State) (start : editor.State) → Stands s start → (u : State) (e : editor.State) (x : Span) → Spans u e x → (ts : List (List ℕ)) →
+read-settles : (listed : Bool) (s : State) (start : editor.State) → Begins s start → (u : State) (e : editor.State) (x : Span) → Spans u e x → (ts : List (List ℕ)) →
     Settles listed start (maybe_modified listed s (lines_read u)) (effects.entered x.first ts e)
 read-settles listed s start st u e x r [] =
     let q = read-buffer u e x r [] in
@@ -142,7 +142,7 @@ read-settles listed s start st u e x r (t ∷ ts) =
       },
     )
 
-pub read-does : (listed : Bool) (path : Option (List ℕ)) (given : Option Answer) (s : State) (start : editor.State) → Stands s start → (t : State) (e : editor.State) (x : Span) → Spans t e x →
+pub read-does : (listed : Bool) (path : Option (List ℕ)) (given : Option Answer) (s : State) (start : editor.State) → Begins s start → (t : State) (e : editor.State) (x : Span) → Spans t e x →
     Does (Settles listed start) given (file_read listed path s t) (file.read path given x e)
 read-does listed path given s start st t e x r =
     named-does (Settles listed start) given path t e (λ v. Ok (maybe_modified listed s (lines_read (named_first path v))))

@@ -3,7 +3,7 @@ use Rattle.std.proofs.Common.{◌≡◌, ◌≤◌, ℕ, zero, suc, pos, ◌+◌
 use Rattle.std.specs.List.{position_from}
 use Rattle.std.proofs.lemmas.List.{length-map, map-append}
 use Rattle.std.proofs.lemmas.Iterator.Adapters.{position_from-zero}
-use Rattle.ed_base.specs.Buffer.{Line, has_letter, with_flag, flagged_at, marked_place}
+use Rattle.ed_base.specs.Buffer.{Line, texts, has_letter, with_flag, flagged_at, marked_place}
 use Rattle.ed_base.specs.Parts.{between, replaced}
 use Rattle.ed_base.proofs.PartLemmas.{whole}
 use Rattle.zones.specs.Zone.{Bounds, Numbers}
@@ -13,9 +13,10 @@ use Rattle.ed_syntax.specs.meaning.Globals.{flagged_line}
 use Rattle.ed_syntax.specs.declared.command.Sense.{Sense}
 use Rattle.ed_rules.specs.declared.state.State.{State}
 use Rattle.ed_syntax.specs.meaning.CommandLaws.{FlagsMarkNothing, FlagsAreNoBytes}
-use Rattle.ed_rules.specs.StandsFor.{Reads, HoldsBy, AllowsKept, AreLettered}
+use Rattle.ed_rules.specs.StandsFor.{Reads, HoldsBy, StandsBy, AllowsKept, AreLettered}
+use Rattle.ed_rules.proofs.facts.FactsByBytes.{FactsHold-bytes}
 use Rattle.ed_rules.specs.States.{old_of}
-use Rattle.ed_rules.proofs.sound.Standing.{Stands}
+use Rattle.ed_rules.proofs.sound.Standing.{Begins}
 use Rattle.ed_rules.proofs.sound.Lettered.{lettered, lettered-marked}
 
 -- the same lines, apart from their flags
@@ -33,6 +34,10 @@ position-unflagged x i (l ∷ ls) = ap (cond (has_letter x l) (Some i)) (positio
 
 place-unflagged : (x : ℕ) (ls : List Line) → marked_place x (unflagged ls) ≡ marked_place x ls
 place-unflagged x ls = position_from-zero (has_letter x) (unflagged ls) ∙ position-unflagged x 0 ls ∙ sym (position_from-zero (has_letter x) ls)
+
+texts-unflagged : (ls : List Line) → texts (unflagged ls) ≡ texts ls
+texts-unflagged [] = refl
+texts-unflagged (l ∷ ls) = ap (λ (ts : List (List ℕ)). l.bytes ∷ ts) (texts-unflagged ls)
 
 unflagged-twice : (ls : List Line) → Alike (unflagged ls) ls
 unflagged-twice [] = refl
@@ -70,9 +75,13 @@ lettered-alike marks bytes ls ms h l = lettered ms (marks ls ms h (lettered-mark
 pub lettered-kept : FlagsMarkNothing → FlagsAreNoBytes → (ls : List Line) → AreLettered ls → AreLettered (unflagged ls)
 lettered-kept marks bytes ls h = lettered-alike marks bytes ls (unflagged ls) (sym (unflagged-twice ls)) h
 
+pub kept-buffer : (s : State) (e : editor.State) (v : Numbers) → StandsBy s e v → HoldsBy s.zone s.marks (unflagged e.lines) e.current v
+kept-buffer s e v st = HoldsBy-alike s.zone s.marks e.lines (unflagged e.lines) e.current v (sym (unflagged-twice e.lines)) st.buffer
+
 -- a state stands for the buffer that undo would keep of the editor
-pub kept-allowed : (s : State) (e : editor.State) → Stands s e → AllowsKept (Some (old_of s)) (kept e)
-kept-allowed s e st = (st.0, HoldsBy-alike s.zone s.marks e.lines (unflagged e.lines) e.current st.0 (sym (unflagged-twice e.lines)) st.1.buffer)
+pub kept-allowed : (s : State) (e : editor.State) → Begins s e → AllowsKept (Some (old_of s)) (kept e)
+kept-allowed s e st =
+    (st.0, kept-buffer s e st.0 st.1, FactsHold-bytes s.facts st.0 e.lines (unflagged e.lines) (sym (texts-unflagged e.lines)) st.2)
 
 -- a line whose flag is changed
 

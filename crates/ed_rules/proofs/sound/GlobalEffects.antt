@@ -6,7 +6,7 @@ use Rattle.ed_base.specs.Buffer.{Line}
 use Rattle.ed_base.specs.Parts.{between, replaced}
 use Rattle.ed_syntax.specs.declared.command.Sense.{Sense}
 use Rattle.ed_syntax.specs.meaning.States as editor
-use Rattle.ed_syntax.specs.meaning.States.{Past, Nothing, Same, Was, Kept, kept}
+use Rattle.ed_syntax.specs.meaning.States.{Past, Nothing, Same, Was, Kept, kept, unflagged}
 use Rattle.ed_syntax.specs.meaning.Ranges.{Span}
 use Rattle.ed_syntax.specs.meaning.Values.{◌>>◌, used_pattern}
 use Rattle.ed_syntax.specs.meaning.Effects as effects
@@ -21,10 +21,10 @@ use Rattle.ed_rules.specs.Addresses.{possible_patterns}
 use Rattle.ed_rules.specs.Substituting.{pattern_used}
 use Rattle.ed_rules.specs.Undoing.{present_of, brought_back, undone_by, undone}
 use Rattle.ed_rules.proofs.Basics.{Agrees, Agrees-bind, Agrees-map, Agrees-needing}
-use Rattle.ed_rules.proofs.sound.Standing.{Stands}
+use Rattle.ed_rules.proofs.sound.Standing.{Stands, nothing-holds}
 use Rattle.ed_rules.proofs.sound.Finishing.{Follows, Holds-without_addresses}
 use Rattle.ed_rules.proofs.sound.Weaker.{Stands-join, Stands-join_other}
-use Rattle.ed_rules.proofs.sound.Flags.{HoldsBy-alike, kept-allowed, alike-taken}
+use Rattle.ed_rules.proofs.sound.Flags.{HoldsBy-alike, kept-buffer, alike-taken}
 use Rattle.ed_rules.proofs.sound.SubstitutionEffects.{IsPossible, patterns-sound, not-true}
 
 -- `g` and `v`
@@ -59,8 +59,11 @@ back before e = record e { lines = before.lines; current = before.current; chang
 -- of a buffer whose addresses are forgotten no less is allowed
 present-allowed : (u : State) (e : editor.State) → Stands u e → AllowsKept (Some (present_of u)) (kept e)
 present-allowed u e st =
-    let k = kept-allowed u e st in
-    (k.0, record { holds = Holds-without_addresses u.zone k.0 k.1.holds; reads = k.1.reads; inside = k.1.inside })
+    let k = kept-buffer u e st.0 st.1 in (
+      st.0,
+      record { holds = Holds-without_addresses u.zone st.0 k.holds; reads = k.reads; inside = k.inside },
+      nothing-holds st.0 (unflagged e.lines),
+    )
 
 back-stands : (old : Old) (u : State) (e : editor.State) (before : Kept) → AllowsKept (Some old) before → Stands u e → Stands (brought_back old u) (back before e)
 back-stands old u e before h st = (

@@ -33,7 +33,7 @@ use Rattle.std.proofs.lemmas.List.Folds.{list_any_at}
 use Rattle.ed_rules.proofs.Texting.{with_text-passes}
 use Rattle.ed_rules.proofs.matches.MatchedLeft.{are-matched-alike, are-matched-kept}
 use Rattle.ed_rules.specs.GlobalSoundness.{FlaggedPass, is_taken_by, StartIsSound, TurnIsSound, EndIsSound}
-use Rattle.ed_rules.proofs.sound.Standing.{Reads-current, StandsBy-matching}
+use Rattle.ed_rules.proofs.sound.Standing.{Reads-current, StandsBy-matching, nothing-holds}
 use Rattle.ed_rules.proofs.sound.Finishing.{StandsBy-ended}
 use Rattle.ed_rules.proofs.sound.Flags.{HoldsBy-alike, kept-allowed, lettered-kept, lettered-alike, same-length, alike-flagged_at}
 
@@ -51,6 +51,7 @@ opened-stands t e before st = record {
   lines = st.lines;
   kept = st.kept;
   matches = st.matches;
+  facts = st.facts;
 }
 
 pub start-sound : CommandIsSound → StartIsSound
@@ -111,6 +112,7 @@ taken-stands k verb s e place h flag pass st =
             (taken-matched verb s.matches.has e.lines place h flag pass st.matches.0),
         st.matches.1,
       );
+      facts = nothing-holds v (flagged_at place false e.lines);
     }
 
 -- the place of the line that is taken
@@ -137,7 +139,7 @@ closed-is f g is = ap (λ (o : Option Open). elim o as (λ _. editor.State) [ No
 module _ (k : Laws) (before : State) (e : editor.State) (st : StandsFor before e) (list : List Command) (g : Open)
     (begun : g.before ≡ kept e) (may : g.altered ≡ true → list_may_alter list ≡ true) where
   old-allowed : AllowsKept (Some (old_of before)) g.before
-  old-allowed = subst (λ (k : Kept). AllowsKept (Some (old_of before)) k) (sym begun) (kept-allowed before e (st.numbers, st.stands))
+  old-allowed = subst (λ (k : Kept). AllowsKept (Some (old_of before)) k) (sym begun) (kept-allowed before e (st.numbers, st.stands, st.facts))
 
   past-allowed : AllowsPast (undo_of_global list before) (past_of_global g)
   past-allowed =
@@ -176,6 +178,7 @@ over-stands s f g undo m past kept matches st = record {
   lines = st.lines;
   kept = kept;
   matches = matches;
+  facts = st.facts;
 }
 
 pub end-sound : Laws → (x : Step) (before invariant : State) → EndIsSound x before invariant (loop_end x before invariant)

@@ -1,5 +1,7 @@
 -- Soundness of one command.
-use Rattle.std.proofs.Common.{◌≡◌, ℕ, Bool, true, false, List, Option, None, Some, Result, Ok, Err, IfErr, refl, sym, subst}
+use Rattle.std.proofs.Common.{◌≡◌, ℕ, Bool, true, false, List, Option, None, Some, Result, Ok, Err, IfOk, IfErr, refl, sym, subst}
+use Rattle.ed_base.specs.Buffer.{Line}
+use Rattle.zones.specs.Zone.{Numbers}
 use Rattle.ed_base.specs.declared.fault.Fault.{Fault}
 use Rattle.ed_base.specs.declared.fault.Fault.TheVariants as fault
 use Rattle.ed_syntax.specs.declared.request.Answer.{Answer}
@@ -19,10 +21,11 @@ use Rattle.ed_rules.specs.Rules.{step_at, step, fault_of}
 use Rattle.ed_rules.specs.Soundness.{IsUnserved, IsDone, CommandIsSound}
 use Rattle.ed_rules.specs.Matching.{saying}
 use Rattle.ed_rules.specs.StandsFor.{StandsFor}
+use Rattle.ed_rules.specs.facts.Facts.{Facts, FactsHold, no_facts}
 use Rattle.ed_rules.proofs.sound.Answering.{Does, Comes}
-use Rattle.ed_rules.proofs.sound.Standing.{Stands-matching}
+use Rattle.ed_rules.proofs.sound.Standing.{Stands-matching, nothing-holds}
 use Rattle.ed_rules.proofs.matches.MatchedPhases.{Tells, Holds, step-told}
-use Rattle.ed_rules.proofs.matches.Aside.{step_aside, Beside, step_at-beside}
+use Rattle.ed_rules.proofs.matches.Aside.{step_aside, Beside, step_at-beside, step-nothing}
 use Rattle.ed_rules.proofs.sound.Commanding.{phases_sound}
 use Rattle.ed_rules.proofs.sound.Lettered.{LeavesLettered, command-lettered}
 use Rattle.ed_rules.proofs.sound.Asking as asking
@@ -58,7 +61,7 @@ step-does order watched c s e given st =
     let a : Addresses = given_or c.addresses (standing (takes c.verb).default) in
     elim (enters_lines c.verb) as (λ b. Does Comes given (needing b fault.Syntax s >> step_at watched a c) (command e c given)) [
       | true ↦ does-beside given (step_aside a c s) (step_at watched a c s) (command e c given) (step_at-beside watched a c s)
-          (phases_sound order c s e given st.lines (st.numbers, st.stands) st.matches.0)
+          (phases_sound order c s e given st.lines (st.numbers, st.stands, st.facts) st.matches.0)
       | false ↦ tt
     ]
 
@@ -83,13 +86,18 @@ module _ (k : Laws) (watched : List (List ℕ)) (c : Command) (s t : State) (e :
   fails-well None f h same = h
   fails-well (Some a) f h same = is-unserved k.answers c e a f (λ g. never-fails t (command e c None) g (does None)) h same
 
+  nothing-said : (v : Numbers) (lines : List Line) → FactsHold t.facts v lines
+  nothing-said v lines =
+      let none : t.facts ≡ no_facts = subst (λ (x : Result State Fault). IfOk x (λ (u : State). u.facts ≡ no_facts)) is (step-nothing watched c s) in
+      subst (λ (facts : Facts). FactsHold facts v lines) (sym none) (nothing-holds v lines)
+
   done-by : (given : Option Answer) (y : Result Effect Fault) → command e c given ≡ y → Does Comes given (Ok t) y →
       ((o : Outcome) → y ≡ Ok (Makes o) → LeavesLettered o) → Tells Holds (Ok t) y → IsDone c s t e given y
   done-by given (Err f) same h l m = fails-well given f h same
   done-by given (Ok (Asks r)) same h l m = may-ask k.answers c s e given r st.stands.remembered.2 same
   done-by given (Ok (Makes o)) same h l m =
       let left = l o refl in
-      record { numbers = h.0; stands = h.1; lines = left.0; kept = left.1; matches = m }
+      record { numbers = h.0; stands = h.1; lines = left.0; kept = left.1; matches = m; facts = nothing-said h.0 o.state.lines }
 
 pub command_sound : Laws → CommandIsSound
 command_sound k watched c s t e given st is =

@@ -1,5 +1,6 @@
 -- A state still stands for an editor's where a step changed one name that isn't a mark.
 use Rattle.std.proofs.Common.{◌≡◌, ◌<◌, ◌≤◌, ◌+◌, ℕ, ℤ, pos, ◌+ℤ◌, ◌-ℤ◌, ◌≤ℤ◌, Bool, true, List, length, arith, refl, ◌∙◌}
+use Rattle.std.proofs.lemmas.List.Elements.{All-nil}
 use Rattle.ed_base.specs.Buffer.{Line}
 use Rattle.zones.specs.Zone.{Numbers, updated}
 use Rattle.zones.specs.Steps.{after_set, after_guard}
@@ -11,11 +12,20 @@ use Rattle.ed_rules.specs.Choices.{Choice, has_choice}
 use Rattle.ed_rules.specs.Matching.{saying}
 use Rattle.ed_rules.specs.StandsFor.{Reads, StandsBy}
 use Rattle.ed_rules.specs.Pieces.{with_zone}
+use Rattle.ed_rules.specs.facts.Facts.{FactsHold, LineFactHolds, StretchHolds, no_facts}
 use Rattle.zones.proofs.Known.{updated-same, updated-other}
 
 -- for some numbers
 abbrev pub Stands : State → editor.State → Type 0
 Stands s e = (number : Numbers) × StandsBy s e number
+
+-- and what is said of single lines is true, by the same numbers
+abbrev pub Begins : State → editor.State → Type 0
+Begins s e = (number : Numbers) × StandsBy s e number × FactsHold s.facts number e.lines
+
+-- nothing is said, and that is always true
+pub nothing-holds : (v : Numbers) (lines : List Line) → FactsHold no_facts v lines
+nothing-holds v lines = record { of_lines = All-nil (LineFactHolds v lines); of_clear = All-nil (StretchHolds v lines) }
 
 -- a temporary name tells nothing of the buffer
 pub Reads-temporary : (sure : List Bool) (lines : List Line) (current : ℕ) (v : Numbers) (x : ℕ) (n : ℤ) → 3 ≤ x → x < 6 →

@@ -36,7 +36,7 @@ use Rattle.ed_rules.specs.Substituting.{kind_of, has_usable, replacement_used, p
 use Rattle.ed_rules.proofs.Basics.{Agrees-bind, Agrees-needing, Agrees-map, Agrees-ok, bind-twice}
 use Rattle.ed_rules.proofs.Choosing.{has_choice-only, has_choice-all}
 use Rattle.ed_rules.proofs.sound.LettersInLines.{line_with, line_with-take_before, one_more, one_more-none}
-use Rattle.ed_rules.proofs.sound.Standing.{Stands, StandsBy-patterns}
+use Rattle.ed_rules.proofs.sound.Standing.{Stands, StandsBy-patterns, Begins}
 use Rattle.ed_rules.proofs.sound.Spans.{Ranges, Ranges-by}
 use Rattle.ed_rules.proofs.sound.Weaker.{Stands-join, Stands-join_other}
 use Rattle.ed_rules.proofs.sound.Finishing.{Follows}
@@ -154,7 +154,7 @@ module _ (text : List ℕ) (replacement : List Part) (choice : Which) (s : State
   }
 
   -- a substitution in each of the lines
-  module _ (listed : Bool) (start : State) (begun : editor.State) (st : Stands start begun) (sure : is_always (Some text) ≡ true) (first : takes_first choice ≡ true) where
+  module _ (listed : Bool) (start : State) (begun : editor.State) (st : Begins start begun) (sure : is_always (Some text) ≡ true) (first : takes_first choice ≡ true) where
     last-made : new.1 ≡ Some (length new.0)
     last-made =
         let z = block-size in
@@ -182,7 +182,7 @@ module _ (text : List ℕ) (replacement : List Part) (choice : Which) (s : State
         ]) refl
 
   -- a substitution in some of them
-  module _ (listed : Bool) (start : State) (begun : editor.State) (st : Stands start begun) (plain : s.replacements.split ≡ false) where
+  module _ (listed : Bool) (start : State) (begun : editor.State) (st : Begins start begun) (plain : s.replacements.split ≡ false) where
     partly-follows : (n : ℕ) → new.1 ≡ Some n →
         Follows listed begun (partly_substituted listed start s) (Makes (effects.altered (parts.replaced x.first x.last new.0 e.lines) (x.first - 1 + n) e))
     unfolding partly_substituted
@@ -217,7 +217,7 @@ partly-leads form start begun x s e v (lines, Some n) h =
     Stands-join_other s (partly_substituted true start s) (settled true (editor.kept begun) (effects.altered (parts.replaced x.first x.last lines e.lines) (x.first - 1 + n) e)) (h n refl)
 
 -- pattern and replacement are there
-module _ (text : List ℕ) (replacement : List Part) (choice : Which) (form : Option Form) (start : State) (begun : editor.State) (st : Stands start begun) (x : Span) (s : State) (e : editor.State) (r : Ranges s e x)
+module _ (text : List ℕ) (replacement : List Part) (choice : Which) (form : Option Form) (start : State) (begun : editor.State) (st : Begins start begun) (x : Span) (s : State) (e : editor.State) (r : Ranges s e x)
     (whole : AreWhole e.lines) (possible : has_choice s.patterns (Some text) ≡ true) (kind : allows_replacement s.replacements (Some replacement) ≡ true) where
   sure-sound : (listed : Bool) → is_sure_to_match s.patterns choice ≡ true →
       Agrees (Leads listed begun) (Ok (surely_substituted listed start s)) (made listed form x e (each (made_of text replacement choice) (parts.between x.first x.last e.lines)))
@@ -297,7 +297,7 @@ used-same None e parts = refl
 used-same (Some text) e parts = refl
 
 -- `s`
-substitute-leads : (listed : Bool) (pattern : Option (List ℕ)) (replacement : Option (List Part)) (choice : Which) (form : Option Form) (start : State) (begun : editor.State) → Stands start begun → (s : State) (e : editor.State) (x : Span) →
+substitute-leads : (listed : Bool) (pattern : Option (List ℕ)) (replacement : Option (List Part)) (choice : Which) (form : Option Form) (start : State) (begun : editor.State) → Begins start begun → (s : State) (e : editor.State) (x : Span) →
     Ranges s e x → AreWhole e.lines → Agrees (Leads listed begun) (replacement_used listed replacement s >> λ t. pattern_used pattern t >> λ u. substituted_if (is_sure_to_match u.patterns choice) listed start u) (substitute listed pattern replacement choice form x e)
 substitute-leads listed pattern replacement choice form start begun st s e x r whole =
     Agrees-bind (Uses listed e x) (Leads listed begun) (replacement_used listed replacement s) (used_replacement listed replacement e) _ _ (replacement-sound listed replacement s e x r)
@@ -307,7 +307,7 @@ substitute-leads listed pattern replacement choice form start begun st s e x r w
     (λ u text q.
     made-sound text parts choice form start begun st x u (record e { pattern = Some text; replacement = Some parts }) q.0 whole q.0.spans.stands.remembered.0 q.0.spans.stands.remembered.1 listed q.1))
 
-pub substitute-follows : (listed : Bool) (pattern : Option (List ℕ)) (replacement : Option (List Part)) (choice : Which) (form : Option Form) (start : State) (begun : editor.State) → Stands start begun → (s : State) (e : editor.State) (x : Span) →
+pub substitute-follows : (listed : Bool) (pattern : Option (List ℕ)) (replacement : Option (List Part)) (choice : Which) (form : Option Form) (start : State) (begun : editor.State) → Begins start begun → (s : State) (e : editor.State) (x : Span) →
     Ranges s e x → AreWhole e.lines → Agrees (Follows listed begun) (substituted listed pattern replacement choice start s) (making (substitute listed pattern replacement choice form x e))
 substitute-follows listed pattern replacement choice form start begun st s e x r whole =
     Agrees-map (Leads listed begun) (Follows listed begun) (substituted listed pattern replacement choice start s) (substitute listed pattern replacement choice form x e) (λ o. Makes o)

@@ -15,6 +15,9 @@ use Rattle.ed_rules.specs.declared.state.State.{State}
 use Rattle.ed_rules.specs.Order.{old_of_both, changed_of_both, undo_of_both, join, widen, CoversOld, Covers}
 use Rattle.ed_rules.specs.KnownMatches.{CoversOldHas}
 use Rattle.ed_rules.specs.Matched.{is_matched, AreMatched}
+use Rattle.ed_rules.specs.facts.Facts.{Facts, FactsHold}
+use Rattle.ed_rules.specs.facts.FactOrder.{cover_facts}
+use Rattle.ed_rules.proofs.facts.FactsOrdered.{FactsHold-covers}
 use Rattle.ed_rules.specs.StandsFor.{HoldsBy, StandsFor, AllowsKept, AllowsPast, KeepsMatched, allows_change, allows_replacement, ends_line}
 use Rattle.ed_rules.proofs.Choosing.{has-are_choices}
 use Rattle.ed_rules.proofs.Texting.{members-pass}
@@ -36,11 +39,20 @@ HoldsBy-fewer zone weak many few lines current v among holds h = record {
   inside = h.inside;
 }
 
+-- fewer facts of lines
+facts-covered : (weak : Facts) (zone : Bounds) (marks : List Bool) (strong : Facts) (lines : List Line) (current : ℕ) (v : Numbers) →
+    cover_facts weak zone strong ≡ true → HoldsBy zone marks lines current v → FactsHold strong v lines → FactsHold weak v lines
+facts-covered weak zone marks strong lines current v e h k =
+    FactsHold-covers weak zone strong v lines e h.holds (record { zero_is = h.reads.zero_is; last_is = h.reads.last_is }) k
+
 kept-covers : (weak strong : Option Old) (k : Kept) → CoversOld weak strong → AllowsKept strong k → AllowsKept weak k
 kept-covers weak None k c h = absurd h
 kept-covers None (Some strong) k c h = absurd c
-kept-covers (Some weak) (Some strong) k c h =
-    (h.0, HoldsBy-fewer strong.zone weak.zone strong.marks weak.marks k.lines k.current h.0 c.1 (Holds-covers weak.zone strong.zone h.0 c.0 h.1.holds) h.1)
+kept-covers (Some weak) (Some strong) k c h = (
+  h.0,
+  HoldsBy-fewer strong.zone weak.zone strong.marks weak.marks k.lines k.current h.0 c.1 (Holds-covers weak.zone strong.zone h.0 c.0 h.1.holds) h.1,
+  facts-covered weak.facts strong.zone strong.marks strong.facts k.lines k.current h.0 c.2 h.1 h.2,
+)
 
 pub past-both : (one other : Undo) (p : Past) → AllowsPast one p → AllowsPast (undo_of_both one other) p
 past-both one other Nothing h = or_left one.nothing other.nothing h
@@ -101,6 +113,7 @@ Stands-covers weak strong e c st = (
 )
 
 pub StandsFor-covers : (weak strong : State) (e : editor.State) → Covers weak strong → StandsFor strong e → StandsFor weak e
+unfolding Stands-covers
 StandsFor-covers weak strong e c st =
     let q = Stands-covers weak strong e c (st.numbers, st.stands) in
     record {
@@ -112,6 +125,7 @@ StandsFor-covers weak strong e c st =
         members-pass (is_matched e.lines) weak.matches.has strong.matches.has c.matches.has st.matches.0,
         past-matched weak strong e.past c st.stands.past st.matches.1,
       );
+      facts = facts-covered weak.facts strong.zone strong.marks strong.facts e.lines e.current st.numbers c.facts st.stands.buffer st.facts;
     }
 
 -- what is joined covers either state

@@ -2,7 +2,7 @@
 
 ghost use Rattle.std.specs.Prelude.{◌≡◌};
 ghost use Rattle.std.specs.List.{list_any, list_all};
-ghost use Rattle.ed_rules.specs.facts.FactOrder.{same_fact, says_line, says_clear, both_facts, cover_facts};
+ghost use Rattle.ed_rules.specs.facts.FactOrder.{same_fact, same_stretch, says_line, says_clear, both_facts, cover_facts};
 
 use crate::line_facts::known::{is_line, name_of, plus_of};
 use crate::line_facts::{ClearStretch, KnownLine, LineFacts};
@@ -16,6 +16,14 @@ fn same_fact(one: &KnownLine, other: &KnownLine) -> bool
         && one.matches == other.matches
 }
 
+fn same_stretch(one: &ClearStretch, other: &ClearStretch) -> bool
+    ensures value { result ≡ same_stretch one.now other.now }
+{
+    one.pattern.as_slice() == other.pattern.as_slice()
+        && one.after == other.after
+        && one.before == other.before
+}
+
 impl LineFacts {
     /// Whether a fact is one of these.
     fn have(&self, fact: &KnownLine) -> bool
@@ -23,6 +31,18 @@ impl LineFacts {
     {
         for own in &self.lines {
             if same_fact(fact, own) {
+                return true;
+            }
+        }
+        false
+    }
+
+    /// Whether a stretch is one of these.
+    fn have_clear(&self, stretch: &ClearStretch) -> bool
+        ensures value { result ≡ list_any (same_stretch stretch.now) self.now.clear }
+    {
+        for own in &self.clear {
+            if same_stretch(stretch, own) {
                 return true;
             }
         }
@@ -43,14 +63,15 @@ impl LineFacts {
         ensures value { result ≡ says_clear zone.now self.now stretch.now }
     {
         let (after, before) = (stretch.after, stretch.before);
-        self.are_clear(
-            zone,
-            name_of(after),
-            plus_of(after),
-            name_of(before),
-            plus_of(before),
-            stretch.pattern.as_slice(),
-        )
+        self.have_clear(stretch)
+            || self.are_clear(
+                zone,
+                name_of(after),
+                plus_of(after),
+                name_of(before),
+                plus_of(before),
+                stretch.pattern.as_slice(),
+            )
     }
 
     /// Keeps the facts that other ones say too, with the bounds of the other side: what a join and a widening leave.

@@ -34,10 +34,9 @@ returns-in-Some-clause-exact c =
 pub returns-in-Fails-clause-checked : goal.returns-in-Fails-clause-checked
 returns-in-Fails-clause-checked c =
     let laws : Laws = record {
-      same = c.covering_states_is_an_order.ensures.same;
-      through = c.covering_states_is_an_order.ensures.through;
-      join = c.covering_states_is_an_order.ensures.join;
-      widen = c.covering_states_is_an_order.ensures.widen;
+      same = c.joined_states_are_covered.ensures.same;
+      join_on = c.joined_states_are_covered.ensures.join_on;
+      widen_on = c.joined_states_are_covered.ensures.widen_on;
       decided = c.covering_is_decided.ensures.exact;
     } in
     checked-before laws (script_value c.args.script.now) c.args.start _ _ _ (returns-in-Fails-clause-exact c)
@@ -45,10 +44,9 @@ returns-in-Fails-clause-checked c =
 pub returns-in-Some-clause-checked : goal.returns-in-Some-clause-checked
 returns-in-Some-clause-checked c =
     let laws : Laws = record {
-      same = c.covering_states_is_an_order.ensures.same;
-      through = c.covering_states_is_an_order.ensures.through;
-      join = c.covering_states_is_an_order.ensures.join;
-      widen = c.covering_states_is_an_order.ensures.widen;
+      same = c.joined_states_are_covered.ensures.same;
+      join_on = c.joined_states_are_covered.ensures.join_on;
+      widen_on = c.joined_states_are_covered.ensures.widen_on;
       decided = c.covering_is_decided.ensures.exact;
     } in
     checked-before laws (script_value c.args.script.now) c.args.start _ _ _ (returns-in-Some-clause-exact c)
@@ -76,10 +74,9 @@ returns-in-None-clause-exact c =
 pub returns-in-None-clause-valid : goal.returns-in-None-clause-valid
 returns-in-None-clause-valid c =
     let laws : Laws = record {
-      same = c.covering_states_is_an_order.ensures.same;
-      through = c.covering_states_is_an_order.ensures.through;
-      join = c.covering_states_is_an_order.ensures.join;
-      widen = c.covering_states_is_an_order.ensures.widen;
+      same = c.joined_states_are_covered.ensures.same;
+      join_on = c.joined_states_are_covered.ensures.join_on;
+      widen_on = c.joined_states_are_covered.ensures.widen_on;
       decided = c.covering_is_decided.ensures.exact;
     } in
     let formed : telling.Laws = record {

@@ -1,4 +1,4 @@
-use Rattle.std.proofs.Common.{◌≡◌, ap, ◌∙◌, subst, refl}
+use Rattle.std.proofs.Common.{subst}
 use Rattle.ed_syntax.specs.PublicScript.{script_value}
 use Rattle.ed_syntax.specs.PublicTypes.{steps_value}
 use Rattle.analyser.specs.Following.{sight_over, begun}

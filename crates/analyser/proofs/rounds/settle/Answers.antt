@@ -16,10 +16,10 @@ settling-preserved c =
 pub settling-smaller : goal.settling-smaller
 settling-smaller c =
     let laws : Laws = record {
-      joined = c.covering_states_is_an_order.ensures.join;
-      joined_other = c.covering_states_is_an_order.ensures.join_other;
-      widened = c.covering_states_is_an_order.ensures.widen;
-      widened_other = c.covering_states_is_an_order.ensures.widen_other;
+      joined = c.joined_states_are_covered.ensures.join;
+      joined_other = c.joined_states_are_covered.ensures.join_other;
+      widened = c.joined_states_are_covered.ensures.widen;
+      widened_other = c.joined_states_are_covered.ensures.widen_other;
     } in
     rounds-smaller laws c.args.sight.now (step_value c.args.command.now) (map command_value c.list-list.result.now) c.args.known.now c.settling.known c.in-Some.next c.in_ok-coming.coming.value c.settling.before
     c.in_ok-round.round.inner.items c.in_ok-round.round.failed c.go_round.new.coming.value c.in_ok-invariant_after.field-0

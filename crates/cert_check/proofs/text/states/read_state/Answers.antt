@@ -56,7 +56,7 @@ returns-in_err-undo c = record {
 
 pub returns : goal.returns
 returns c = record {
-  exact = rw c.new.ensures.value (
+  exact = rw (c.new.ensures.value, c.none.ensures.value) (
     state-formed c.args.version (marked_value c.in_ok-marked.marked) c.in_ok-has.has c.in_ok-patterns.patterns c.in_ok-replacements.replacements c.in_ok-names.names c.in_ok-changed.changed (c.in_ok-undo.undo, c.in_ok-undo.old_has)
         c.in_ok-marked.ensures.exact.0 c.in_ok-has.ensures.exact.0 c.in_ok-patterns.ensures.exact.0 c.in_ok-replacements.ensures.exact.0 c.in_ok-names.ensures.exact.0 c.in_ok-changed.ensures.exact.0 c.in_ok-undo.ensures.exact.0,
     state-taken c.args.version (marked_value c.in_ok-marked.marked) c.in_ok-has.has c.in_ok-patterns.patterns c.in_ok-replacements.replacements c.in_ok-names.names c.in_ok-changed.changed (c.in_ok-undo.undo, c.in_ok-undo.old_has)

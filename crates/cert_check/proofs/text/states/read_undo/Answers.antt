@@ -2,10 +2,12 @@ use Rattle.std.proofs.Common.{◌≡◌, [], ◌∙◌, sym, ap, subst}
 use Rattle.std.proofs.lemmas.Bool.{not-false}
 use Rattle.ed_rules.specs.declared.state.Old.{Old}
 use Rattle.ed_rules.specs.declared.state.Undo.{Undo}
+use Rattle.ed_rules.specs.facts.Facts.{Facts}
 use Rattle.cert_check.specs.text.Pieces.{same, Took, texts, marked_value, undo_lines, UndoIsFormed}
 use Rattle.cert_check.proofs.texts.Pieces.{took-none, exits}
 use Rattle.cert_check.proofs.texts.Plainest.{plain-said}
 use Rattle.cert_check.proofs.texts.Sequence.{stops, stops-last}
+use Rattle.cert_check.proofs.texts.Unambiguous.{old_made}
 use Rattle.cert_check.proofs.texts.Stated.{undo-found, found-read, old-read, undo_with, undo-read}
 use Rattle.cert_check.proofs.text.states.read_undo.Goals as goal
 
@@ -41,7 +43,8 @@ returns c =
     let old = c.in_ok-old.old in
     let has = c.in_ok-has.has in
     let is : c.new-undo-2.result ≡ undo_with found (marked_value old) = c.new-undo-2.ensures.value
-    ∙ ap (λ (o : Old). undo_with found o) c.new-was.ensures.value in
+    ∙ ap (λ (o : Old). undo_with found o)
+    (c.new-was.ensures.value ∙ ap (λ (f : Facts). old_made old.zone old.marks f) c.none-2.ensures.value) in
     record {
       exact = subst (λ (u : Undo). UndoIsFormed c.args.version (u, has)
           × Took (texts (undo_lines c.args.version (u, has))) c.args.cursor.now c.read_matched.new.cursor) (sym is)

@@ -1,4 +1,4 @@
-use Rattle.std.proofs.Common.{rules, ◌≡◌, ◌==◌, ◌&&◌, not, refl}
+use Rattle.std.proofs.Common.{rules, ◌==◌, ◌&&◌, not, refl}
 use Rattle.std.proofs.lemmas.Fn.{filter_same}
 use Rattle.ed_rules.specs.facts.Facts.{LineFact, Stretch}
 use Rattle.ed_rules.proofs.line_facts.LineFacts.forget.Goals as goal

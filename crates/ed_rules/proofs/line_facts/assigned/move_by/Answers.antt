@@ -1,4 +1,4 @@
-use Rattle.std.proofs.Common.{rules, ◌≡◌, ◌==◌, ◌∙◌, ◌<ℤ◌, pos, not, refl, arith, to_z, of_z, w64}
+use Rattle.std.proofs.Common.{rules, ◌≡◌, ◌==◌, ◌<ℤ◌, pos, not, refl, arith, to_z, of_z, w64}
 use Rattle.std.proofs.lemmas.Int.{ints}
 use Rattle.std.proofs.lemmas.Fn.{filter_same}
 use Rattle.ed_rules.specs.facts.Facts.{LineFact, Stretch}

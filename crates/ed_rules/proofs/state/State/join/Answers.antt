@@ -16,9 +16,9 @@ returns-clause-sound_of_other c =
 pub returns-clause-covers : goal.returns-clause-covers
 unfolding join
 returns-clause-covers c =
-    IfOk-weaker c.united.result _ _ (λ s is. rw is (rw c.join.ensures.exact (c.covering_states_is_an_order.ensures.join c.args.self.now c.args.other.now))) c.united.ensures.value
+    IfOk-weaker c.united.result _ _ (λ s is. rw is (rw c.join.ensures.exact (c.joined_states_are_covered.ensures.join c.args.self.now c.args.other.now))) c.united.ensures.value
 
 pub returns-clause-covers_other : goal.returns-clause-covers_other
 unfolding join
 returns-clause-covers_other c =
-    IfOk-weaker c.united.result _ _ (λ s is. rw is (rw c.join.ensures.exact (c.covering_states_is_an_order.ensures.join_other c.args.self.now c.args.other.now))) c.united.ensures.value
+    IfOk-weaker c.united.result _ _ (λ s is. rw is (rw c.join.ensures.exact (c.joined_states_are_covered.ensures.join_other c.args.self.now c.args.other.now))) c.united.ensures.value

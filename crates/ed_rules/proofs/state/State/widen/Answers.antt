@@ -16,9 +16,9 @@ returns-clause-sound_of_other c =
 pub returns-clause-covers : goal.returns-clause-covers
 unfolding widen
 returns-clause-covers c =
-    IfOk-weaker c.united.result _ _ (λ s is. rw is (rw c.widen.ensures.exact (c.covering_states_is_an_order.ensures.widen c.args.self.now c.args.new.now))) c.united.ensures.value
+    IfOk-weaker c.united.result _ _ (λ s is. rw is (rw c.widen.ensures.exact (c.joined_states_are_covered.ensures.widen c.args.self.now c.args.new.now))) c.united.ensures.value
 
 pub returns-clause-covers_other : goal.returns-clause-covers_other
 unfolding widen
 returns-clause-covers_other c =
-    IfOk-weaker c.united.result _ _ (λ s is. rw is (rw c.widen.ensures.exact (c.covering_states_is_an_order.ensures.widen_other c.args.self.now c.args.new.now))) c.united.ensures.value
+    IfOk-weaker c.united.result _ _ (λ s is. rw is (rw c.widen.ensures.exact (c.joined_states_are_covered.ensures.widen_other c.args.self.now c.args.new.now))) c.united.ensures.value
