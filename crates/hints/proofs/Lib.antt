@@ -5,6 +5,8 @@ mod Asking
 mod LookedFor
 mod SearchedFor
 mod Enough
+mod Narrowed
+mod Proposed
 mod Stated
 mod SoughtRows
 mod Worked

@@ -1,10 +1,10 @@
 //! The patterns that a start states beside those that are given, and which of them are enough.
 
-ghost use Rattle.std.specs.Prelude.{◌≡◌, ◌↔◌, ◌<◌, ◌≤◌, ℕ, IfOk, IfSome, IfNone, IsTrue, filter, length, not, remove};
+ghost use Rattle.std.specs.Prelude.{◌≡◌, ◌↔◌, ◌<◌, ◌≤◌, ℕ, true, IfOk, IfSome, IfNone, IsTrue, filter, length, not, remove};
 ghost use Rattle.bre_parse.specs.Always.{text_is_always};
 ghost use Rattle.ed_syntax.specs.PublicScript.{script_value};
 ghost use Rattle.ed_rules.specs.LineBounds.{most_lines, IsAtMost};
-ghost use Rattle.ed_rules.specs.Texts.{is_member};
+ghost use Rattle.ed_rules.specs.Texts.{is_member, are_members};
 ghost use Rattle.analyser.specs.Following.{stated_of};
 ghost use Rattle.hints.specs.Passing.{IsVouched};
 ghost use Rattle.hints.specs.Widest.{start_with, beside};
@@ -151,6 +151,7 @@ pub(crate) fn fewer_at_once(
 ) -> Result<Vec<Bytes>, AllocError>
     requires enough { AreEnough (script_value script.now) given.now min added.now }
     ensures enough { IfOk result (λ fewer. AreEnough (script_value script.now) given.now min fewer.items) }
+    ensures among { IfOk result (λ fewer. are_members fewer.items added.now ≡ true) }
 {
     let none = Vec::new(alloc);
     if is_vouched_beside(alloc, script, given, min, none.as_slice())? {
@@ -174,6 +175,7 @@ fn left_of(
 ) -> Result<Vec<Bytes>, AllocError>
     requires enough { AreEnough (script_value script.now) given.now min added.items }
     ensures enough { IfOk result (λ left. AreEnough (script_value script.now) given.now min left.items) }
+    ensures among { IfOk result (λ left. are_members left.items added.items ≡ true) }
     ensures fewer { IfOk result (λ left. length left.items ≤ length added.items) }
 {
     let mut left = added;
@@ -199,6 +201,7 @@ pub(crate) fn fewer_of(
 ) -> Result<Option<Vec<Bytes>>, AllocError>
     requires enough { AreEnough (script_value script.now) given.now min added.now }
     ensures enough { IfOk result (λ found. IfSome found (λ fewer. AreEnough (script_value script.now) given.now min fewer.items)) }
+    ensures among { IfOk result (λ found. IfSome found (λ fewer. are_members fewer.items added.now ≡ true)) }
     ensures fewer { IfOk result (λ found. IfSome found (λ fewer. length fewer.items < length added.now)) }
     ensures needed { IfOk result (λ found. IfNone found ((place : ℕ) → place < length added.now →
         ¬ IsVouched (script_value script.now) (start_with given.now min (beside given.now (remove added.now place))))) }

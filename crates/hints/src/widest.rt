@@ -6,7 +6,7 @@ ghost use Rattle.ed_syntax.specs.reading.Reading.{script_of};
 ghost use Rattle.ed_rules.specs.LineBounds.{most_lines, IsAtMost};
 ghost use Rattle.hints.specs.Passing.{IsAllowed, IsVouched, with_min};
 ghost use Rattle.hints.specs.Widest.{start_with, fullest_min, fullest, IsWidest};
-ghost use Rattle.hints.specs.Narrowing.{AreEnough};
+ghost use Rattle.hints.specs.Narrowing.{AreEnough, IsNarrowed};
 
 use crate::given::Given;
 use crate::narrowing::{as_given, fewer_at_once, fewer_of, is_vouched_beside, start_beside};
@@ -43,6 +43,7 @@ fn widest_as_given(script: &Script, given: &Given, min: u64) -> Result<Start, Al
     requires allowed { IsAllowed (start_with given.now min given.now.has) }
     requires vouched { IsVouched (script_value script.now) (start_with given.now min given.now.has) }
     ensures widest { IfOk result (IsWidest (script_value script.now) given.now) }
+    ensures narrowed { (patterns : List (List ℕ)) → IfOk result (IsNarrowed given.now min patterns) }
 {
     let start = as_given(given, min)?;
     let fewest = fewest_lines(script, given, &start)?;
@@ -60,6 +61,7 @@ fn widest_beside(
 ) -> Result<Start, AllocError>
     requires enough { AreEnough (script_value script.now) given.now min added.items }
     ensures widest { IfOk result (IsWidest (script_value script.now) given.now) }
+    ensures narrowed { IfOk result (IsNarrowed given.now min added.items) }
 {
     let mut most = min;
     let mut left = added;
@@ -77,8 +79,9 @@ fn widest_beside(
     }
 }
 
-/// The widest start, where the script is vouched for with so many lines and all of these patterns.
-fn widest_of(
+/// The widest start, where the script is vouched for with so many lines and all of these patterns. It has at most so many, and states none but
+/// these beside those that are given.
+pub(crate) fn widest_of(
     alloc: Global,
     script: &Script,
     given: &Given,
@@ -87,6 +90,7 @@ fn widest_of(
 ) -> Result<Start, AllocError>
     requires enough { AreEnough (script_value script.now) given.now min added.now }
     ensures widest { IfOk result (IsWidest (script_value script.now) given.now) }
+    ensures narrowed { IfOk result (IsNarrowed given.now min added.now) }
 {
     if is_vouched(script, as_given(given, min)?)? {
         return widest_as_given(script, given, min);

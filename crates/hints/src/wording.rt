@@ -19,7 +19,7 @@ fn lines_text(alloc: Global, min: u64, max: Option<u64>) -> Result<String, Alloc
         (0, None) => String::new(alloc),
         (_, None) => format!(in alloc; " of at least {min} {}", line_word(min))?,
         (_, Some(0)) => String::from_str(alloc, " of no lines")?,
-        (_, Some(max)) if min == max => format!(in alloc; " of {max} {}", line_word(max))?,
+        (_, Some(max)) if min == max => format!(in alloc; " of exactly {max} {}", line_word(max))?,
         (0, Some(max)) => format!(in alloc; " of at most {max} {}", line_word(max))?,
         (_, Some(max)) => format!(in alloc; " of {min} to {max} {}", line_word(max))?,
     };

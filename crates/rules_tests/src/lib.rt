@@ -14,6 +14,8 @@ mod collecting;
 #[cfg(test)]
 mod globals;
 #[cfg(test)]
+mod like;
+#[cfg(test)]
 mod line_facts;
 #[cfg(test)]
 mod lists;

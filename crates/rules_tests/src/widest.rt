@@ -51,9 +51,9 @@ static ROWS: [Row; 42] = [
     // The fewest lines: `$` is no line of an empty file, and a deleted line isn't there for a later command.
     Row { script: b"$d\nQ\n", path: CONF, min: None, max: None, has: None, found: found!(1, None, "any conf of at least 1 line") },
     Row { script: b"2,3d\nQ\n", path: CONF, min: None, max: None, has: None, found: found!(3, None, "any conf of at least 3 lines") },
-    Row { script: b"1d\n$d\nQ\n", path: CONF, min: None, max: Some(2), has: None, found: found!(2, None, "any conf of 2 lines") },
+    Row { script: b"1d\n$d\nQ\n", path: CONF, min: None, max: Some(2), has: None, found: found!(2, None, "any conf of exactly 2 lines") },
     Row { script: b"1d\nQ\n", path: CONF, min: None, max: Some(5), has: None, found: found!(1, None, "any conf of 1 to 5 lines") },
-    Row { script: b"1d\nQ\n", path: CONF, min: None, max: Some(1), has: None, found: found!(1, None, "any conf of 1 line") },
+    Row { script: b"1d\nQ\n", path: CONF, min: None, max: Some(1), has: None, found: found!(1, None, "any conf of exactly 1 line") },
     Row { script: b"1,$d\n1d\nQ\n", path: CONF, min: None, max: None, has: None, found: None },
     Row { script: b"1000000d\nQ\n", path: CONF, min: None, max: None, has: None, found: found!(1_000_000, None, "any conf of at least 1000000 lines") },
     Row { script: b"1000000000001d\nQ\n", path: CONF, min: None, max: None, has: None, found: None },

@@ -1,7 +1,9 @@
 use Rattle.std.proofs.Common.{◌<◌, ◌≤◌, ◌∙◌, ℕ, length, refl, arith}
 use Rattle.std.specs.List.{remove}
 use Rattle.ed_syntax.specs.PublicScript.{script_value}
+use Rattle.ed_rules.proofs.Texting.{members-through}
 use Rattle.hints.proofs.Enough.{enough-without, needed-next}
+use Rattle.hints.proofs.Narrowed.{among-without}
 use Rattle.hints.proofs.narrowing.fewer_of.Goals as goal
 
 pub left_of-requires : goal.left_of-requires
@@ -18,3 +20,8 @@ loop-place-preserved c =
 
 pub returns-clause-needed : goal.returns-clause-needed
 returns-clause-needed c = λ place below. c.loop-place.invariant place (omega (arith, below, c.loop-place-test.false))
+
+pub returns-then-branch-clause-among : goal.returns-then-branch-clause-among
+returns-then-branch-clause-among c =
+    members-through c.in_ok-left_of.field-0.items c.in_ok-fewer.fewer.items c.args.added.now c.in_ok-left_of.ensures.among
+    (among-without c.args.added.now c.args.added.now c.in_ok-fewer.fewer.items c.loop-place.place refl c.in_ok-fewer.ensures.value)

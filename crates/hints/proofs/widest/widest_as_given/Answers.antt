@@ -1,7 +1,9 @@
-use Rattle.std.proofs.Common.{refl}
+use Rattle.std.proofs.Common.{refl, ap, arith}
 use Rattle.ed_syntax.specs.PublicScript.{script_value}
 use Rattle.hints.specs.Widest.{start_with, as_given}
+use Rattle.analyser.specs.declared.analysis.Start.{Start}
 use Rattle.hints.proofs.Enough.{widest-by, widest-ok}
+use Rattle.hints.proofs.Narrowed.{narrowed-given}
 use Rattle.hints.proofs.widest.widest_as_given.Goals as goal
 
 pub returns : goal.returns
@@ -17,4 +19,6 @@ returns c = record {
       })
       (as_given refl))
       c.as_given-2.ensures.value;
+  narrowed = λ patterns. narrowed-given c.args.given.now c.in_ok-fewest.fewest c.args.min patterns c.as_given-2.result
+      (omega (arith, c.in_ok-fewest.ensures.below, ap (λ (s : Start). s.min) c.in_ok-start.ensures.value)) c.as_given-2.ensures.value;
 }
