@@ -81,5 +81,5 @@ pub sequence_as_whole : (part : Node) (items : Vec Node Global) (slice : List No
 sequence_as_whole part items slice e is = ap tree_of is ∙ tree_of-Sequence items ∙ sym (ap sequence_of e)
 
 -- an item weighs no more than all
-pub item_falls : (a b t : ℕ) → t ≡ 4 * b + 3 → a ≤ b → 4 * a + 2 < t
+pub item_falls : (a b t : ℕ) → t ≡ 6 * b + 4 → a ≤ b → 6 * a + 3 < t
 item_falls a b t e le = omega (arith, e, le)

@@ -4,6 +4,8 @@ use Rattle.std.proofs.lemmas.Grind.{flat_map-append}
 use Rattle.bre_parse.specs.declared.tree.Node.{Node}
 use Rattle.bre_parse.specs.Tree.{tree_of, sequence_of}
 use Rattle.bre_parse.specs.Ways.{Way, ways, by_end, with_group}
+use Rattle.bre_match.specs.declared.left.Left.{Left}
+use Rattle.bre_match.specs.declared.left.Left.TheVariants as stack
 use Rattle.bre_match.specs.declared.run.Ahead.{Ahead}
 use Rattle.bre_match.specs.Alike.{RefersWithin}
 use Rattle.bre_match.specs.Keeping.{KeepsFirsts, Follows}
@@ -12,7 +14,7 @@ use Rattle.bre_match.specs.Narrowing.{weight}
 use Rattle.bre_match.proofs.Asking.{rest_within}
 use Rattle.bre_match.proofs.SameWays.{even_at, even_ways}
 use Rattle.bre_match.proofs.Keeping.{keeps_after, keeps_before, keeps_follow, keeps_by_end, keeps_group}
-use Rattle.bre_match.proofs.Tasks.{task_ways, task_steps, flat_map-map, weight-append, weight-map, follow_falls}
+use Rattle.bre_match.proofs.Tasks.{Comes, task_ways, task_steps, flat_map-map, weight-append, weight-map, follow_falls}
 
 pub kept_tasks : (asked : List Bool) (items : List Node) (s : List ℕ) (j : ℕ) (all kept : List Way) (before : List (ℕ × Way)) → RefersWithin asked (sequence_of items) → KeepsFirsts asked all kept → KeepsFirsts asked (flat_map (task_ways items s) (map (at_item j) all ++ before)) (flat_map (task_ways items s) (map (at_item j) kept ++ before))
 kept_tasks asked items s j all kept before r k =
@@ -23,7 +25,7 @@ kept_tasks asked items s j all kept before r k =
     let whole = keeps_before asked (flat_map f all) (flat_map f kept) (flat_map T before) followed in
     subst (λ l. KeepsFirsts asked l (flat_map T (map (at_item j) kept ++ before))) (sym (split all)) (subst (λ l. KeepsFirsts asked (flat_map f all ++ flat_map T before) l) (sym (split kept)) whole)
 
-pub followed_falls : (asked : List Bool) (items : List Node) (s : List ℕ) (part : Node) (next : Ahead) (left rest new : List Ahead) → next.item < length items → part ≡ get_or items next.item part → left ≡ rest ++ next ∷ []
+pub followed_falls : (asked : List Bool) (items : List Node) (s : List ℕ) (part : Node) (next : Ahead) (left rest new : List Left) → next.item < length items → part ≡ get_or items next.item part → Comes next left rest
     → Follows asked (by_end (ways (tree_of part) s next.run.end (groups_at next.run next.run.end))) (next.item + 1) (map (at_item next.item) (other_ways next.run.end next.run.shorter (groups_at next.run)) ++ tasks rest) (tasks new)
     → weight (task_steps items s) (tasks new) < weight (task_steps items s) (tasks left)
 followed_falls asked items s part next left rest new h at popped f =

@@ -8,6 +8,8 @@ use Rattle.bre_parse.specs.Tree.{Tree, Empty, Then, Set, TextStart, TextEnd, Bac
 use Rattle.bre_parse.specs.Groups.{Groups, cleared, no_groups}
 use Rattle.bre_parse.specs.Match.{first, longest_from}
 use Rattle.bre_parse.specs.Ways.{Way, Body, ways, turns, enough, fresh_turn, next_turn, after_turn, stopped_or_on, from_way, below, only_if, by_end}
+use Rattle.bre_match.specs.declared.left.Left.{Left}
+use Rattle.bre_match.specs.declared.left.Left.TheVariants as stack
 use Rattle.bre_match.specs.declared.run.Ahead.{Ahead}
 use Rattle.bre_match.specs.declared.seen.Mark.{Mark}
 use Rattle.bre_match.specs.declared.turn.Turn.{Turn}
@@ -178,13 +180,12 @@ pub no_match : (items : List Node) (at : ℕ) (s : List ℕ) (start : ℕ) (met 
 no_match items at s start met begun told =
     ap (λ l. first (by_end l)) (leads_nowhere items at s items 0 (start, no_groups) refl (λ n. (told n tt tt).0))
 
-pub nothing_left : (items : List Node) (at : ℕ) (s : List ℕ) (start : ℕ) (met begun : List Mark) (left : List Ahead)
+pub nothing_left : (items : List Node) (at : ℕ) (s : List ℕ) (start : ℕ) (met begun : List Mark) (left : List Left)
     (turns : List Turn)
-    → length left ≡ 0 → length turns ≡ 0 → Tells items at s start met begun (tasks left) (reverse turns)
+    → tasks left ≡ [] → length turns ≡ 0 → Tells items at s start met begun (tasks left) (reverse turns)
     → Tells items at s start met begun [] []
-nothing_left items at s start met begun [] [] e f told = told
-nothing_left items at s start met begun (x ∷ left) turns e f told = absurd (omega arith)
-nothing_left items at s start met begun [] (x ∷ turns) e f told = absurd (omega arith)
+nothing_left items at s start met begun left [] e f told = subst (λ l. Tells items at s start met begun l []) e told
+nothing_left items at s start met begun left (x ∷ turns) e f told = absurd (omega arith)
 
 pub kept_at_most : (P : Mark → Type 0) (old new : List Mark) → (new ≡ []) ⊎ (new ≡ old) → Each P old → Each P new
 kept_at_most P old new (inl e) h = subst (Each P) (sym e) tt

@@ -3,6 +3,8 @@ use Rattle.std.proofs.Common.{◌≡◌, inl, inr, ℕ, zero, suc, ◌+◌, ◌-
 use Rattle.bre_parse.specs.Groups.{Groups}
 use Rattle.bre_parse.specs.Tree.{Tree, Set, Repeat}
 use Rattle.bre_parse.specs.Ways.{Way, ways, by_end}
+use Rattle.bre_match.specs.declared.left.Left.{Left}
+use Rattle.bre_match.specs.declared.left.Left.TheVariants as stack
 use Rattle.bre_match.specs.declared.run.Ahead.{Ahead}
 use Rattle.bre_match.specs.declared.run.Ends.{Ends}
 use Rattle.bre_match.specs.declared.seen.Mark.{Mark}
@@ -101,7 +103,7 @@ all_in_row asked negated rs s mark old found before after are put =
     (sym (run_sorted mark.way.1 found (ways (Repeat 0 None (Set negated rs)) s mark.way.0 mark.way.1) are)))
 
 -- what comes of a way in a row, with the others of its run
-pub taken_in_row : (asked : List Bool) (t : Tree) (s : List ℕ) (taken : Ahead) (seen seen' : Seen) (before mid after : List Ahead)
+pub taken_in_row : (asked : List Bool) (t : Tree) (s : List ℕ) (taken : Ahead) (seen seen' : Seen) (before mid after : List Left)
     → MayMark (mark_of taken) seen.marks.items seen'.marks.items → tasks mid ≡ others_of taken ++ tasks before
     → TakenInRow asked t s (mark_of taken) seen.marks.items (tasks mid) (tasks after)
     → TakenAhead asked t s taken seen seen' before after

@@ -6,6 +6,8 @@ use Rattle.bre_parse.specs.declared.tree.Node.{Node}
 use Rattle.bre_parse.specs.Tree.{Tree, Repeat, tree_of, sequence_of}
 use Rattle.bre_parse.specs.Groups.{cleared, no_groups}
 use Rattle.bre_parse.specs.Ways.{Way, ways, turns, next_turn, below, by_end}
+use Rattle.bre_match.specs.declared.left.Left.{Left}
+use Rattle.bre_match.specs.declared.left.Left.TheVariants as stack
 use Rattle.bre_match.specs.declared.run.Ahead.{Ahead}
 use Rattle.bre_match.specs.declared.seen.Mark.{Mark}
 use Rattle.bre_match.specs.declared.seen.Seen.{Seen}
@@ -85,7 +87,7 @@ one_number b k l e (inr h) = let f = h.0 in absurd cc
 
 pub way_followed : (asked : List Bool) (items : List Node) (at : ℕ) (s : List ℕ) (start : ℕ) (part : Node) (next : Ahead)
     (seen seen' : Seen)
-    (begun : List Mark) (left left' : List Ahead) (turns : List Turn) → RefersWithin asked (sequence_of items)
+    (begun : List Mark) (left left' : List Left) (turns : List Turn) → RefersWithin asked (sequence_of items)
     → next.item < length items
     → part ≡ get_or items next.item part → eqb next.item at ≡ false → TakenAhead asked
     (tree_of part) s next seen seen' left left'
@@ -242,7 +244,7 @@ way_followed asked items at s start part next seen seen' begun left left' turns 
 
 -- a way comes to the repeat
 pub way_begins : (items : List Node) (at : ℕ) (s : List ℕ) (start : ℕ) (next : Ahead) (met begun : List Mark)
-    (left left' : List Ahead)
+    (left left' : List Left)
     (turns turns' : List Turn) → next.item < length items → eqb next.item at ≡ true → tasks left' ≡ others_of next ++ tasks left
     → turns' ≡ turn.Next 0 (mark_of next).way ∷ turns
     → Tells items at s start met begun (map (at_item next.item) (ways_of next.run) ++ tasks left) turns

@@ -3,6 +3,7 @@ pub mod Rows
 pub mod Sorting
 pub mod Merging
 pub mod Likeness
+pub mod WayLists
 pub mod SameWays
 pub mod Keeping
 pub mod Asking

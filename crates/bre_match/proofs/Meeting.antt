@@ -8,6 +8,8 @@ use Rattle.bre_parse.specs.declared.tree.Node.{Node}
 use Rattle.bre_parse.specs.Tree.{tree_of, sequence_of}
 use Rattle.bre_parse.specs.Ways.{Way, ways, by_end}
 use Rattle.bre_parse.specs.Groups.{Groups}
+use Rattle.bre_match.specs.declared.left.Left.{Left}
+use Rattle.bre_match.specs.declared.left.Left.TheVariants as stack
 use Rattle.bre_match.specs.declared.run.Ahead.{Ahead}
 use Rattle.bre_match.specs.declared.run.Run.{Run}
 use Rattle.bre_match.specs.declared.seen.Mark.{Mark}
@@ -25,7 +27,7 @@ use Rattle.bre_match.proofs.Keeping.{keeps_same, keeps_through, keeps_after, kee
 use Rattle.bre_match.proofs.Likeness.{both_left, both_right, Covers}
 use Rattle.bre_match.proofs.MergedTurns.{EachMark, each_map, each_push, each_has, covers_alone}
 use Rattle.bre_match.proofs.SameWays.{even_at, even_ways, covers_more, covers_after, covers_like, covers_itself}
-use Rattle.bre_match.proofs.Tasks.{task_ways, task_steps, tasks_push, first_and_others, first_task, followed, weight-append, follow_falls, taken_steps, some_steps, with_ends}
+use Rattle.bre_match.proofs.Tasks.{Comes, task_ways, task_steps, tasks_push, first_and_others, first_task, followed, weight-append, follow_falls, taken_steps, some_steps, with_ends}
 
 -- what follows a way that met an item
 abbrev pub follows : List Node → List ℕ → Mark → List Way
@@ -117,10 +119,10 @@ abbrev rest_of : Ahead → List Way
 rest_of next = other_ways next.run.end next.run.shorter (groups_at next.run)
 
 -- the way of a run that is taken up, and the others
-opened : (next : Ahead) (left rest : List Ahead) → left ≡ rest ++ next ∷ []
+opened : (next : Ahead) (left rest : List Left) → Comes next left rest
     → tasks left ≡ map (at_item next.item) ((mark_of next).way ∷ rest_of next) ++ tasks rest
 opened next left rest popped =
-    ap tasks popped ∙ tasks_push rest next
+    popped
     ∙ ap (λ l. map (at_item next.item) l ++ tasks rest) (first_and_others next.run.end next.run.shorter (groups_at next.run))
 
 -- with a way taken out in front, and others put there
@@ -216,9 +218,9 @@ covers_met asked items s out i w ws rest marks r has there = covers_here asked i
 
 -- The steps of the search
 
-pub taken_ahead : (asked : List Bool) (items : List Node) (s : List ℕ) (part : Node) (next : Ahead) (left rest new : List Ahead)
+pub taken_ahead : (asked : List Bool) (items : List Node) (s : List ℕ) (part : Node) (next : Ahead) (left rest new : List Left)
     (whole out : List Way) (seen seen' : Seen) → RefersWithin asked (sequence_of items) → next.item < length items
-    → part ≡ get_or items next.item part → left ≡ rest ++ next ∷ []
+    → part ≡ get_or items next.item part → Comes next left rest
     → TakenAhead asked (tree_of part) s next seen seen' rest new
     → Met asked items s whole out (tasks left) seen.marks.items → Met asked items s whole out (tasks new) seen'.marks.items
 taken_ahead asked items s part next left rest new whole out seen seen' r h at popped (inl up) met =
@@ -320,8 +322,8 @@ task_done : (items : List Node) (s : List ℕ) (i : ℕ) (w : Way) → length it
 task_done items s i w h = ap (λ l. ways (sequence_of l) s w.0 w.1) (drop_all i items h)
 
 -- the ways of a run that have met all items are handed out
-pub hands_out_all : (asked : List Bool) (items : List Node) (s : List ℕ) (next : Ahead) (left rest : List Ahead)
-    (whole out given : List Way) (marks : List Mark) → length items ≤ next.item → left ≡ rest ++ next ∷ []
+pub hands_out_all : (asked : List Bool) (items : List Node) (s : List ℕ) (next : Ahead) (left rest : List Left)
+    (whole out given : List Way) (marks : List Mark) → length items ≤ next.item → Comes next left rest
     → given ≡ out ++ ways_of next.run
     → Met asked items s whole out (tasks left) marks → Met asked items s whole given (tasks rest) marks
 hands_out_all asked items s next left rest whole out given marks h popped put met =
@@ -353,9 +355,9 @@ hands_out_all asked items s next left rest whole out given marks h popped put me
         (ap (λ l. l ++ flat_map T X) put ∙ append_assoc out (ways_of next.run) (flat_map T X) ∙ ap (λ l. out ++ l) (sym is))
 
 -- the first of them is, unless one like it was
-pub hands_out_new : (asked : List Bool) (items : List Node) (s : List ℕ) (next : Ahead) (left rest new : List Ahead)
+pub hands_out_new : (asked : List Bool) (items : List Node) (s : List ℕ) (next : Ahead) (left rest new : List Left)
     (whole out given : List Way) (seen seen' : Seen) → RefersWithin asked (sequence_of items) → length items ≤ next.item
-    → left ≡ rest ++ next ∷ []
+    → Comes next left rest
     → HandedOut asked next seen seen' out given → tasks new ≡ others_of next ++ tasks rest
     → Met asked items s whole out (tasks left) seen.marks.items → Met asked items s whole given (tasks new) seen'.marks.items
 hands_out_new asked items s next left rest new whole out given seen seen' r h popped (inl put) others met =
@@ -432,8 +434,8 @@ nowhere_there asked items s out left (m ∷ marks) h = (
 
 -- What is left gets less
 
-pub taken_falls : (asked : List Bool) (items : List Node) (s : List ℕ) (part : Node) (next : Ahead) (left rest new : List Ahead)
-    (seen seen' : Seen) → next.item < length items → part ≡ get_or items next.item part → left ≡ rest ++ next ∷ []
+pub taken_falls : (asked : List Bool) (items : List Node) (s : List ℕ) (part : Node) (next : Ahead) (left rest new : List Left)
+    (seen seen' : Seen) → next.item < length items → part ≡ get_or items next.item part → Comes next left rest
     → TakenAhead asked (tree_of part) s next seen seen' rest new
     → weight (task_steps items s) (tasks new) < weight (task_steps items s) (tasks left)
 taken_falls asked items s part next left rest new seen seen' h at popped (inl up) = followed_falls asked items s part next left rest new h
@@ -464,7 +466,7 @@ taken_falls asked items s part next left rest new seen seen' h at popped (inr (i
     let b = ap (weight F) up.2 in
     omega (arith, falls, a, b)
 
-pub others_fall : (items : List Node) (s : List ℕ) (next : Ahead) (left rest new : List Ahead) → left ≡ rest ++ next ∷ []
+pub others_fall : (items : List Node) (s : List ℕ) (next : Ahead) (left rest new : List Left) → Comes next left rest
     → tasks new ≡ others_of next ++ tasks rest
     → weight (task_steps items s) (tasks new) < weight (task_steps items s) (tasks left)
 others_fall items s next left rest new popped others =
@@ -476,23 +478,23 @@ others_fall items s next left rest new popped others =
     omega (arith, a, b)
 
 pub narrowed_falls : (asked : List Bool) (items : List Node) (s : List ℕ) (part : Node) (next : Ahead) (ends : ℕ × ℕ)
-    (left rest new : List Ahead) (seen seen' : Seen) → next.item < length items → part ≡ get_or items next.item part
-    → left ≡ rest ++ next ∷ [] →
+    (left rest new : List Left) (seen seen' : Seen) → next.item < length items → part ≡ get_or items next.item part
+    → Comes next left rest →
     ((f : Way → ℕ) → weight f (ways_of (with_ends next ends).run) ≤ weight f (ways_of next.run))
     → TakenAhead asked (tree_of part) s (with_ends next ends) seen seen' rest new
     → weight (task_steps items s) (tasks new) < weight (task_steps items s) (tasks left)
 narrowed_falls asked items s part next ends left rest new seen seen' h at popped fewer put =
     let kept = with_ends next ends in
-    let a = taken_falls asked items s part kept (rest ++ kept ∷ []) rest new seen seen' h at refl put in
-    let b = taken_steps items s kept (rest ++ kept ∷ []) rest refl in
+    let a = taken_falls asked items s part kept (rest ++ stack.Run kept ∷ []) rest new seen seen' h at (tasks_push rest (stack.Run kept)) put in
+    let b = taken_steps items s kept (rest ++ stack.Run kept ∷ []) rest (tasks_push rest (stack.Run kept)) in
     let d = taken_steps items s next left rest popped in
     let e = fewer (λ w. task_steps items s (next.item, w)) in
     omega (arith, a, b, d, e)
 
 -- A sequence begins with one way, and ends with none left
 
-pub begins_met : (asked : List Bool) (items : List Node) (s : List ℕ) (p : ℕ) (g : Groups) (none left : List Ahead) (run : Run)
-    (out : List Way) (marks : List Mark) → none ≡ [] → left ≡ none ++ record { item = 0; run = run } ∷ []
+pub begins_met : (asked : List Bool) (items : List Node) (s : List ℕ) (p : ℕ) (g : Groups) (none left : List Left) (run : Run)
+    (out : List Way) (marks : List Mark) → none ≡ [] → left ≡ none ++ stack.Run (record { item = 0; run = run }) ∷ []
     → ways_of run ≡ (p, g) ∷ [] → marks ≡ []
     → Met asked items s (out ++ ways (sequence_of items) s p g) out (tasks left) marks
 begins_met asked items s p g none left run out marks e put r em =
@@ -502,7 +504,8 @@ begins_met asked items s p g none left run out marks e put r em =
       there = tt;
     })
 
-pub all_met : (asked : List Bool) (items : List Node) (s : List ℕ) (whole out : List Way) (left : List Ahead) (marks : List Mark)
-    → length left ≡ 0 → Met asked items s whole out (tasks left) marks → KeepsFirsts asked whole out
-all_met asked items s whole out [] marks e met = subst (λ l. KeepsFirsts asked whole l) (append-nil out) met.kept
-all_met asked items s whole out (x ∷ left) marks e met = absurd (omega arith)
+pub all_met : (asked : List Bool) (items : List Node) (s : List ℕ) (whole out : List Way) (left : List Left) (marks : List Mark)
+    → tasks left ≡ [] → Met asked items s whole out (tasks left) marks → KeepsFirsts asked whole out
+all_met asked items s whole out left marks e met =
+    let done = subst (λ l. Met asked items s whole out l marks) e met in
+    subst (λ l. KeepsFirsts asked whole l) (append-nil out) done.kept

@@ -9,6 +9,7 @@ pub mod Alike
 pub mod Laws
 -- these only serve clauses inside the crate
 pub mod Runs
+pub mod Listed
 pub mod Narrowing
 pub mod Keeping
 pub mod Order

@@ -6,6 +6,7 @@ use Rattle.bre_parse.specs.Ways.{Way, ways, by_end}
 use Rattle.bre_match.specs.Keeping.{Follows}
 use Rattle.bre_match.specs.Runs.{groups_at, other_ways, at_item, members, tasks}
 use Rattle.bre_match.specs.Turns.{HasTurn}
+use Rattle.bre_match.specs.declared.left.Left.{Left}
 use Rattle.bre_match.specs.declared.run.Ahead.{Ahead}
 use Rattle.bre_match.specs.declared.seen.Mark.{Mark}
 use Rattle.bre_match.specs.declared.seen.Seen.{Seen}
@@ -55,7 +56,7 @@ AreInRow negated ranges text one other =
 
 -- What comes of taking up the first of some ways: those of the item's ways that are kept come before all else; or a way like it has met
 -- the item before, and nothing comes of it; or only its own ways come before all else. The other ways are left.
-abbrev pub TakenAhead : List Bool → (item : Tree) → List ℕ → Ahead → (old new : Seen) → (before after : List Ahead) → Type 0
+abbrev pub TakenAhead : List Bool → (item : Tree) → List ℕ → Ahead → (old new : Seen) → (before after : List Left) → Type 0
 TakenAhead asked item text taken old new before after =
     (MayMark (mark_of taken) old.marks.items new.marks.items
     × Follows asked (ways_through item text (mark_of taken)) (taken.item + 1) (others_of taken ++ tasks before) (tasks after))

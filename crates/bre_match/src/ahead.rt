@@ -2,30 +2,27 @@
 
 ghost use Rattle.std.specs.Prelude.{◌≡◌, ℕ, ◌-◌, ◌<◌, List, ◌++◌, map, OnOk};
 ghost use Rattle.bre_parse.specs.Ways.{Way};
+ghost use Rattle.bre_match.specs.Listed.{listed};
 ghost use Rattle.bre_match.specs.Runs.{groups_at, other_ways, at_item, tasks, AreOf};
 
-use crate::run::{Ahead, Ends, Run, Way};
+use crate::left::Left;
+use crate::listed::WayList;
+use crate::run::{Ahead, Ends, Run};
 use bre_parse::tree::Groups;
 use std::alloc::AllocError;
 
-/// Puts ways before all else, each to meet this item next.
-pub(crate) fn push_ahead(left: &mut Vec<Ahead>, item: usize, ways: &[Way]) -> Result<(), AllocError>
-    ensures value { OnOk result (tasks left.new.items ≡ map (at_item item) ways.now ++ tasks left.old.items) }
+/// Puts the ways of a list before all else, each to meet this item next.
+pub(crate) fn push_ahead(left: &mut Vec<Left>, item: usize, ways: WayList) -> Result<(), AllocError>
+    ensures value { OnOk result (tasks left.new.items ≡ map (at_item item) (listed ways) ++ tasks left.old.items) }
 {
-    let mut at = ways.len();
-    while at > 0 {
-        at -= 1;
-        let way = ways[at];
-        let run = Run::of(way.0, way.1);
-        left.push(Ahead { item, run })?;
-    }
+    left.push(Left::List(item, 0, ways))?;
     Ok(())
 }
 
 /// Puts the ways that end there, if any do, before all else, each to meet this item next.
 #[tactic(auto, using(crate::proofs::Tasks::tasks_push))]
 pub(crate) fn push_run_ahead(
-    left: &mut Vec<Ahead>,
+    left: &mut Vec<Left>,
     item: usize,
     groups: &Groups,
     found: Option<Ends>,
@@ -39,14 +36,14 @@ pub(crate) fn push_run_ahead(
             groups: *groups,
             closes: ends.closes,
         };
-        left.push(Ahead { item, run })?;
+        left.push(Left::Run(Ahead { item, run }))?;
     }
     Ok(())
 }
 
 /// Puts the ways of what was taken up but the first before all else.
 #[tactic(auto, using(crate::proofs::Tasks::tasks_push, crate::proofs::Tasks::others_there))]
-pub(crate) fn push_others(left: &mut Vec<Ahead>, taken: &Ahead) -> Result<(), AllocError>
+pub(crate) fn push_others(left: &mut Vec<Left>, taken: &Ahead) -> Result<(), AllocError>
     ensures value { OnOk result (tasks left.new.items ≡ map (at_item taken.now.item) (other_ways taken.now.run.end taken.now.run.shorter (groups_at taken.now.run)) ++ tasks left.old.items) }
 {
     if taken.run.shorter > 0 {
@@ -61,7 +58,7 @@ pub(crate) fn push_others(left: &mut Vec<Ahead>, taken: &Ahead) -> Result<(), Al
             groups,
             closes,
         };
-        left.push(Ahead { item, run })?;
+        left.push(Left::Run(Ahead { item, run }))?;
     }
     Ok(())
 }

@@ -1,13 +1,12 @@
 //! Ways that count as one for what comes after, of which the first alone is kept.
 
-ghost use Rattle.std.specs.Prelude.{◌≡◌, ℕ, ◌<◌, ◌⊎◌, ◌++◌, ◌∷◌, [], IsTrue, OnOk, true, not, ◌||◌};
+ghost use Rattle.std.specs.Prelude.{◌≡◌, ℕ, ◌<◌, IsTrue, true, not, ◌||◌};
 ghost use Rattle.bre_match.specs.Alike.{same_span, same_asked, alike, HasAlike};
 
 use crate::asked::Asked;
 use crate::index::{Index, mixed};
 use crate::run::Way;
 use bre_parse::tree::Groups;
-use std::alloc::AllocError;
 
 fn same_span(one: Option<(usize, usize)>, other: Option<(usize, usize)>) -> bool
     ensures value { result ≡ same_span one other }
@@ -75,20 +74,4 @@ pub(crate) fn has_alike(ways: &[Way], index: &Index, asked: &Asked, way: &Way) -
         after = index.before(after);
     }
     false
-}
-
-/// Puts a way after others, unless it is known to be like one of them. The index, which has all of them, gets it too.
-pub(crate) fn push_unlike(
-    ways: &mut Vec<Way>,
-    index: &mut Index,
-    asked: &Asked,
-    way: Way,
-) -> Result<(), AllocError>
-    ensures value { OnOk result ((ways.new.items ≡ ways.old.items ++ way ∷ []) ⊎ ((ways.new.items ≡ ways.old.items) × HasAlike asked.now ways.old.items way)) }
-{
-    if !has_alike(ways, index, asked, &way) {
-        index.add(number_of(asked, &way))?;
-        ways.push(way)?;
-    }
-    Ok(())
 }

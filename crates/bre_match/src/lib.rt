@@ -22,6 +22,8 @@ mod join;
 mod kinds;
 pub mod laws;
 mod learned;
+mod left;
+mod listed;
 mod narrow;
 mod needed;
 mod order;

@@ -12,6 +12,7 @@ ghost use Rattle.bre_match.specs.Runs.{at_item, tasks, ways_of};
 use crate::ahead::push_others;
 use crate::asked::Asked;
 use crate::join::{any_sets_asked, may_meet};
+use crate::left::{Left, next_ahead};
 use crate::run::{Ahead, Run, Way, groups_at};
 use crate::search::{follow, push_turns};
 use crate::seen::Seen;
@@ -31,7 +32,7 @@ const MOST_SEEN: usize = 100_000;
 pub(crate) struct Outlook {
     /// The place among the items of the repeat whose turns are taken up one by one.
     at: usize,
-    left: Vec<Ahead>,
+    left: Vec<Left>,
     turns: Vec<Turn>,
     met: Seen,
     begun: Seen,
@@ -94,7 +95,7 @@ impl Outlook {
     /// As `longest_from` of one start alone answers: but where nothing comes of the start, its ways aren't put in order.
     pub(crate) fn longest_from(
         &mut self,
-        left: &mut Vec<Ahead>,
+        left: &mut Vec<Left>,
         seen: &mut Seen,
         alloc: Global,
         items: &[Node],
@@ -166,9 +167,9 @@ impl Outlook {
         self.left.clear();
         self.turns.clear();
         let run = Run::of(start, [None; 9]);
-        self.left.push(Ahead { item: 0, run })?;
+        self.left.push(Left::Run(Ahead { item: 0, run }))?;
         for passed in 0..MOST_STEPS {
-            if let Some(next) = self.left.pop() {
+            if let Some(next) = next_ahead(&mut self.left)? {
                 if next.item >= items.len() {
                     return Ok(false);
                 }
@@ -243,7 +244,7 @@ impl Outlook {
             Turn::Ended(way) => {
                 let run = Run::of(way.0, way.1);
                 let item = self.at + 1;
-                self.left.push(Ahead { item, run })?;
+                self.left.push(Left::Run(Ahead { item, run }))?;
             }
             Turn::Next(done, way) => {
                 let bounds = uncounted(*least, *most);

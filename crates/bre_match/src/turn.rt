@@ -2,9 +2,11 @@
 
 ghost use Rattle.std.specs.Prelude.{◌≡◌, ℕ, ◌+◌, ◌<◌, ◌^◌, ◌++◌, ◌&&◌, flat_map, reverse, option_to_list, nat_lt, nat_le, IsTrue, OnOk};
 ghost use Rattle.bre_parse.specs.Ways.{below};
+ghost use Rattle.bre_match.specs.Listed.{listed};
 ghost use Rattle.bre_match.specs.Turns.{after_way, turn_if};
 ghost use Rattle.bre_match.specs.declared.turn.Turn.TheVariants as turn;
 
+use crate::listed::WayList;
 use crate::run::{Way, is_below};
 use std::alloc::AllocError;
 
@@ -76,15 +78,15 @@ pub(crate) fn push_after(
     least: u8,
     done: usize,
     place: usize,
-    begun: &[Way],
+    begun: &WayList,
 ) -> Result<(), AllocError>
     requires room { done + 1 < 2 ^ 64 }
-    ensures value { OnOk result (reverse left.new.items ≡ flat_map (after_way least done place) begun.now ++ reverse left.old.items) }
+    ensures value { OnOk result (reverse left.new.items ≡ flat_map (after_way least done place) (listed begun.now) ++ reverse left.old.items) }
 {
     let mut at = begun.len();
     while at > 0 {
         at -= 1;
-        push_turn(left, after_way(least, done, place, begun[at]))?;
+        push_turn(left, after_way(least, done, place, begun.way_at(at)))?;
     }
     Ok(())
 }

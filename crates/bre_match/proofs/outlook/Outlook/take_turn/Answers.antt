@@ -4,6 +4,7 @@ use Rattle.std.proofs.lemmas.Bool.Decides.{nat_tests}
 use Rattle.bre_parse.specs.Tree.{tree_of, Repeat}
 use Rattle.bre_parse.specs.Ways.{below}
 use Rattle.bre_match.specs.Alike.{RefersWithin}
+use Rattle.bre_match.specs.declared.left.Left.TheVariants as stack
 use Rattle.bre_match.specs.Outlooks.{first_part}
 use Rattle.bre_match.specs.Runs.{at_item, tasks}
 use Rattle.bre_match.proofs.Asking.{item_within}
@@ -25,7 +26,7 @@ returns-in_ok-push-in-Ended-clause-left c taken start told =
     let old = c.args.self.now in
     way_ended c.args.items.now old.at c.args.text.now start c.in-Ended.way old.met.marks.items old.begun.marks.items
     (tasks old.left.items) (tasks c.push.new.self.items) (reverse old.turns.items)
-    (ap tasks c.in_ok-push-in-Ended.ensures.items ∙ tasks_push old.left.items _
+    (ap tasks c.in_ok-push-in-Ended.ensures.items ∙ tasks_push old.left.items (stack.Run _)
     ∙ ap (λ ways. map (at_item (old.at + 1)) ways ++ tasks old.left.items) c.of-run.ensures.value)
     (subst (λ x. Tells c.args.items.now old.at c.args.text.now start old.met.marks.items old.begun.marks.items (tasks old.left.items)
     (x ∷ reverse old.turns.items)) c.in-Ended.is told)
