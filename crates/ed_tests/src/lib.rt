@@ -29,3 +29,5 @@ mod stores;
 mod substitutions;
 #[cfg(test)]
 mod undoing;
+#[cfg(test)]
+mod written;

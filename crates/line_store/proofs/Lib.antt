@@ -16,3 +16,4 @@ pub mod Ranges
 pub mod Taken
 pub mod Filled
 pub mod Written
+pub mod Runs

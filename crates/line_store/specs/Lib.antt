@@ -11,4 +11,5 @@ pub mod Gaps
 pub mod Starts
 pub mod Chunks
 pub mod BlockKinds
+pub mod Runs
 pub mod Lettered

@@ -8,6 +8,7 @@ ghost use Rattle.line_store.specs.Flagged.{FirstFlagged};
 ghost use Rattle.line_store.specs.Kept.{flag_count};
 
 use crate::flag_counts::{flags_exchanged, flags_with, flags_without};
+use crate::run::LineRun;
 use crate::{BareLine, FileLines};
 use ed_base::Pieces;
 use std::alloc::{AllocError, Global};
@@ -18,12 +19,14 @@ use std::mem::replace;
 /// How many lines a chunk holds when it is full. It has room for them from the start.
 pub(crate) const FULL: usize = 1024;
 
-/// Up to `FULL` lines. They stand in a ring, so that one comes in or goes out at either end without a move of the others.
+/// Up to `FULL` lines. They stand in a ring, so that one comes in or goes out at either end without a move of the others. As long
+/// as they are just those that were filled in from a file, they are known to stand in a row in its block, and are written at once.
 #[derive(Drop)]
 pub struct Chunk {
     ring: VecDeque<BareLine>,
     // How many of them have the flag.
     flags: usize,
+    run: Option<LineRun>,
 }
 
 impl Model for Chunk {
@@ -32,12 +35,14 @@ impl Model for Chunk {
     ghost use Rattle.ed_base.specs.Buffer.{Line};
     ghost use Rattle.line_store.specs.Chunks.{full};
     ghost use Rattle.line_store.specs.Kept.{flag_count};
+    ghost use Rattle.line_store.specs.Runs.{IsRun};
 
     ghost Value = { List Line };
 
     ghost view = { λ c. c.ring.items };
 
-    ghost invariant = { λ c. (full ≤ deque_capacity c.ring) × (length c.ring.items ≤ full) × (c.flags ≡ flag_count c.ring.items) };
+    ghost invariant = { λ c. (full ≤ deque_capacity c.ring) × (length c.ring.items ≤ full) × (c.flags ≡ flag_count c.ring.items)
+        × IsRun c.run c.ring.items };
 }
 
 impl Chunk {
@@ -48,6 +53,7 @@ impl Chunk {
         Ok(Chunk {
             ring: VecDeque::with_capacity(alloc, FULL)?,
             flags: 0,
+            run: None,
         })
     }
 
@@ -57,9 +63,11 @@ impl Chunk {
         ensures count { IfOk result (λ chunk. length chunk ≡ min full (length (lines_of file.old))) }
         ensures unflagged { IfOk result (λ chunk. flag_count chunk ≡ 0) }
     {
+        let (ring, run) = file.next_ring()?;
         Ok(Chunk {
-            ring: file.next_ring()?,
+            ring,
             flags: 0,
+            run: Some(run),
         })
     }
 
@@ -117,6 +125,19 @@ impl Chunk {
         ensures appended { OnOk result (output.new ≡ output.old ++ bytes_of (texts (block from to self.now))) }
         ensures lines { OnOk result (AreLines (texts (block from to self.now))) }
     {
+        match &self.run {
+            Some(run) if from == 0 && to == self.ring.len() => run.push_to(output),
+            _ => self.push_each(from, to, output),
+        }
+    }
+
+    /// The same line by line.
+    fn push_each(&self, from: usize, to: usize, output: &mut Pieces) -> Result<(), AllocError>
+        requires order { from ≤ to }
+        requires last { to ≤ length self.now }
+        ensures appended { OnOk result (output.new ≡ output.old ++ bytes_of (texts (block from to self.now))) }
+        ensures lines { OnOk result (AreLines (texts (block from to self.now))) }
+    {
         for i in from..to {
             self.line(i).push_to(output)?;
         }
@@ -132,6 +153,7 @@ impl Chunk {
         if at == self.ring.len() {
             return self.push(line);
         }
+        self.run = None;
         self.flags = flags_with(self.flags, line.flag());
         match self.ring.insert(at, line) {
             Ok(()) => {}
@@ -145,6 +167,7 @@ impl Chunk {
         ensures value { result ≡ slice_index_or self.old i result }
         ensures removed { self.new ≡ remove self.old i }
     {
+        self.run = None;
         match self.ring.remove(i) {
             Some(line) => {
                 self.flags = flags_without(self.flags, line.flag());
@@ -159,6 +182,7 @@ impl Chunk {
         requires room { length self.old < full }
         ensures pushed { self.new ≡ self.old ++ line ∷ [] }
     {
+        self.run = None;
         self.flags = flags_with(self.flags, line.flag());
         self.ring.push_back_reserved(line);
     }
@@ -168,6 +192,7 @@ impl Chunk {
         requires room { length self.old < full }
         ensures pushed { self.new ≡ line ∷ self.old }
     {
+        self.run = None;
         self.flags = flags_with(self.flags, line.flag());
         self.ring.push_front_reserved(line);
     }
@@ -177,6 +202,7 @@ impl Chunk {
         requires some { 0 < length self.old }
         ensures popped { self.old ≡ self.new ++ result ∷ [] }
     {
+        self.run = None;
         let Some(last) = self.ring.pop_back() else {
             unreachable!()
         };
@@ -224,7 +250,7 @@ impl Chunk {
         ensures unloaded { lines.new.items ≡ lines.old.items ++ self }
         ensures capacity { vec_capacity lines.new ≡ vec_capacity lines.old }
     {
-        let mut ring = self.ring;
+        let Chunk { mut ring, .. } = self;
         'moves: while ring.len() > 0 {
             let Some(line) = ring.pop_front() else {
                 unreachable!()
@@ -242,6 +268,7 @@ impl Chunk {
         let flag = line.flag();
         let before = replace(&mut self.ring[i], line);
         self.flags = flags_exchanged(self.flags, before.flag(), flag);
+        self.run = None;
         before
     }
 
@@ -278,9 +305,14 @@ impl Chunk {
         for i in 0..self.ring.len() {
             ring.push_back(self.ring[i].try_copy()?)?;
         }
+        let run = match &self.run {
+            Some(run) => Some(run.try_copy()?),
+            None => None,
+        };
         Ok(Chunk {
             ring,
             flags: self.flags,
+            run,
         })
     }
 }

@@ -14,6 +14,7 @@ mod gap;
 mod kept;
 mod line;
 mod marks;
+mod run;
 mod shared;
 mod store;
 mod swaps;

@@ -5,10 +5,12 @@ ghost use Rattle.ed_base.specs.Lines.{newline, IsLine, lines_of};
 ghost use Rattle.ed_base.specs.Buffer.{plain_line, texts, with_flag};
 ghost use Rattle.line_store.specs.Chunks.{full};
 ghost use Rattle.line_store.specs.Kept.{flag_count};
+ghost use Rattle.line_store.specs.Runs.{RunOf};
 
 use crate::Line;
 use crate::chunk::FULL;
 use crate::extent::{Extent, WHOLE};
+use crate::run::LineRun;
 use ed_base::{Bytes, Pieces, next_line};
 use std::alloc::{AllocError, Global};
 use std::collections::VecDeque;
@@ -208,28 +210,33 @@ impl FileLines {
         Ok(Some(Line::of(line)))
     }
 
-    /// The next lines, as many as fill a chunk or are left, without flags. They stand in a ring that has room for a whole chunk.
-    /// An `Err` comes where there is no memory for the ring, or for one of the lines as in `next_line`.
-    pub(crate) fn next_ring(&mut self) -> Result<VecDeque<BareLine>, AllocError>
-        ensures lines { IfOk result (λ ring. lines_of self.old ≡ texts ring.items ++ lines_of self.new) }
-        ensures count { IfOk result (λ ring. length ring.items ≡ min full (length (lines_of self.old))) }
-        ensures room { IfOk result (λ ring. full ≤ deque_capacity ring) }
-        ensures unflagged { IfOk result (λ ring. flag_count ring.items ≡ 0) }
+    /// The next lines, as many as fill a chunk or are left, without flags. They stand in a ring that has room for a whole chunk,
+    /// and are a run. An `Err` comes where there is no memory for the ring, or for one of the lines as in `next_line`.
+    pub(crate) fn next_ring(&mut self) -> Result<(VecDeque<BareLine>, LineRun), AllocError>
+        ensures lines { IfOk result (λ (ring, run). lines_of self.old ≡ texts ring.items ++ lines_of self.new) }
+        ensures count { IfOk result (λ (ring, run). length ring.items ≡ min full (length (lines_of self.old))) }
+        ensures room { IfOk result (λ (ring, run). full ≤ deque_capacity ring) }
+        ensures unflagged { IfOk result (λ (ring, run). flag_count ring.items ≡ 0) }
+        ensures run { IfOk result (λ (ring, run). RunOf run ring.items) }
         ensures unchanged { OnErr result (self.new ≡ self.old) }
     {
-        let mut ring = VecDeque::with_capacity(self.alloc, FULL)?;
+        let mut row = Vec::with_capacity(self.alloc, FULL)?;
         let bytes = self.block.as_slice();
         let mut next = self.next;
-        'lines: while ring.len() < FULL {
+        let mut ended = true;
+        'lines: while row.len() < FULL {
             let Some((text, rest)) = next_line(&bytes[next..]) else {
                 break;
             };
             let line = BareLine::part(self.alloc, &self.block, next, text.len())?;
+            let end = next + text.len();
             next = bytes.len() - rest.len();
-            ring.push_back_reserved(line);
+            ended = end < next;
+            row.push_reserved(line);
         }
+        let run = LineRun::of(&self.block, self.next, next, ended)?;
         self.next = next;
-        Ok(ring)
+        Ok((VecDeque::from_vec(row), run))
     }
 
     /// Whether there are as many lines as fill a chunk.

@@ -15,4 +15,5 @@ invariant_of-self c =
       omega (arith, c.self.invariant.0, c.push_back_reserved.ensures.capacity),
       omega (arith, ap length is, length-append lines (line ∷ []), c.requires.room, ap length c.self.view_is),
       c.flags_with-self-inside.ensures lines (length lines) line (sym c.flag.ensures.value) c.self.invariant.2 ∙ ap flag_count (insert-last lines line ∙ sym is),
+      tt,
     )

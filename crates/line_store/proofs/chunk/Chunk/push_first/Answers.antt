@@ -15,4 +15,5 @@ invariant_of-self c =
       omega (arith, c.self.invariant.0, c.push_front_reserved.ensures.capacity),
       omega (arith, ap length is, c.requires.room, ap length c.self.view_is),
       c.flags_with-self-inside.ensures lines 0 line (sym c.flag.ensures.value) c.self.invariant.2 ∙ ap flag_count (insert-first lines line ∙ sym is),
+      tt,
     )

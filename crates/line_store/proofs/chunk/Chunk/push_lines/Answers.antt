@@ -1,21 +1,14 @@
--- One more line is written.
-use Rattle.std.proofs.Common.{◌+◌, ◌<◌, arith, length}
-use Rattle.line_store.proofs.Written.{Written, written-line, written-none, written-on}
+-- All lines of a run are lines.
+use Rattle.std.proofs.Common.{◌≡◌, ap, subst, length, arith}
+use Rattle.std.proofs.lemmas.Result.{on_ok_weaker}
+use Rattle.line_store.specs.Runs.{IsRun}
+use Rattle.line_store.proofs.Runs.{run-lines}
 use Rattle.line_store.proofs.chunk.Chunk.push_lines.Goals as goal
 
-pub loop-i-init : goal.loop-i-init
-loop-i-init c =
-    let none = written-none c.args.from (c.args.self.now) c.args.output.now in
-    record { bytes = none.bytes; are = none.are }
-
-pub loop-i-preserved : goal.loop-i-preserved
-loop-i-preserved c =
-    let lines = c.args.self.now in
-    let i = c.loop-i.i in
-    let within : i < length lines = omega (arith, c.requires.last) in
-    let line =
-    written-line i lines c.line.result.now _ c.push_to.new.output within c.line.ensures.value c.push_to.ensures.line c.in_ok-push_to.ensures.appended in
-    let before : Written c.args.from i lines c.args.output.now c.loop-i.output =
-    record { bytes = c.loop-i.invariant.bytes; are = c.loop-i.invariant.are } in
-    let more = written-on c.args.from i (i + 1) lines _ _ _ (omega arith) (omega arith) (omega arith) before line in
-    record { bytes = more.bytes; are = more.are }
+pub returns-in-Some-clause-lines : goal.returns-in-Some-clause-lines
+returns-in-Some-clause-lines c =
+    let view : c.self.inside.ring.items ≡ c.args.self.now = c.self.view_is in
+    let last : c.args.to ≡ length c.args.self.now = omega (arith, c.if-to-len.true, c.len.ensures, ap length view) in
+    let is = subst (λ lines. IsRun c.self.inside.run lines) view c.self.invariant.3 in
+    let lines = run-lines c.self.inside.run _ c.args.self.now c.args.from c.args.to c.in-Some.is c.if-from-eq0.true last is in
+    on_ok_weaker c.push_to.result (λ put. lines) c.push_to.ensures.appended

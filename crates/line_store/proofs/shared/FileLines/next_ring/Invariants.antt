@@ -1,20 +1,24 @@
 -- The lines that were taken stand before those that are left.
-use Rattle.std.proofs.Common.{◌≡◌, ◌≤◌, ◌++◌, ◌-◌, drop, length}
-use Rattle.std.specs.VecDeque.{deque_capacity}
+use Rattle.std.proofs.Common.{◌≡◌, ◌≤◌, ◌++◌, ◌-◌, drop, false, length, slice_range}
+use Rattle.std.specs.Prelude.{vec_capacity}
 use Rattle.ed_base.specs.Buffer.{texts}
 use Rattle.ed_base.specs.Lines.{lines_of}
 use Rattle.line_store.specs.Chunks.{full}
 use Rattle.line_store.specs.Kept.{flag_count}
+use Rattle.line_store.specs.Runs.{RunOf, run_bytes}
 use Rattle.line_store.proofs.shared.FileLines.next_ring.Given as goal
 
 abbrev pub invariant-lines : goal.invariant-lines
 invariant-lines l = record {
-  taken : lines_of l.fn.self ≡ texts l.ring.items ++ lines_of (drop l.next l.bytes);
+  taken : lines_of l.fn.self ≡ texts l.row.items ++ lines_of (drop l.next l.bytes);
   place : l.next ≤ length l.bytes;
-  room : full ≤ deque_capacity l.ring;
-  few : length l.ring.items ≤ full;
-  unflagged : flag_count l.ring.items ≡ 0;
+  room : full ≤ vec_capacity l.row;
+  few : length l.row.items ≤ full;
+  unflagged : flag_count l.row.items ≡ 0;
+  order : l.initial.next ≤ l.next;
+  run : RunOf (run_bytes (slice_range l.bytes l.initial.next l.next) l.ended) l.row.items;
+  last : l.ended ≡ false → l.next ≡ length l.bytes;
 }
 
 abbrev pub decreases-lines : goal.decreases-lines
-decreases-lines l = full - length l.ring.items
+decreases-lines l = full - length l.row.items

@@ -3,7 +3,7 @@ use Rattle.std.proofs.Common.{◌≡◌, ◌++◌}
 use Rattle.ed_base.specs.Buffer.{texts}
 use Rattle.ed_base.specs.Lines.{AreLines, bytes_of}
 use Rattle.ed_base.specs.Parts.{block}
-use Rattle.line_store.proofs.chunk.Chunk.push_lines.Given as goal
+use Rattle.line_store.proofs.chunk.Chunk.push_each.Given as goal
 
 abbrev pub invariant-loop-i : goal.invariant-loop-i
 invariant-loop-i l = record {
