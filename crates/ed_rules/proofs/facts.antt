@@ -10,7 +10,6 @@ pub mod EditedLines
 pub mod EditedFacts
 pub mod FactsLeft
 pub mod AssignedFacts
-pub mod Landmarks
 pub mod CarriedFacts
 pub mod SubstitutedFacts
 pub mod OneTurn

@@ -7,7 +7,6 @@ pub mod FoundHolds
 pub mod EditedFacts
 pub mod EditHolds
 pub mod AssignedFacts
-pub mod Landmarks
 pub mod SubstitutedFacts
 pub mod OneTurn
 pub mod CarriedFacts

@@ -23,7 +23,6 @@ ghost use Rattle.ed_rules.specs.facts.CarriedHolds.{IsCarried};
 ghost use Rattle.ed_syntax.specs.meaning.Globals.{next_taken};
 ghost use Rattle.ed_rules.specs.GlobalSoundness.{FlaggedPass};
 ghost use Rattle.ed_rules.specs.facts.OneTurn.{IsTakenOnce};
-ghost use Rattle.ed_rules.specs.facts.Landmarks.{Landmark, placed, started, AreAt};
 ghost use Rattle.ed_rules.specs.facts.AssignedFacts.{assigned, moved};
 ghost use Rattle.ed_rules.specs.facts.FactOrder.{both_facts, cover_facts};
 ghost use Rattle.ed_rules.specs.facts.Facts.{ReadsEnds, Facts, Point, FactsHold, IsClear, IsTold, value_of, at, le, is_clear, told, differ};
@@ -145,14 +144,6 @@ pub fn assigned_facts_are_true()
     ensures moved { (x : ℕ) (c : ℤ) (k : Known) (number : Numbers) (lines : List Line) → x < 32 → (2 ≡ x → ⊥) →
         KnownHolds k number lines →
         (c ≡ pos 0 → ⊥) → KnownHolds (moved x c k) (updated number x (number x +ℤ c)) lines }
-{}
-
-/// Where the landmarks of a start condition are as it says, all that is known at the start is true, by numbers that are theirs.
-pub fn landmarks_are_where_they_are_said()
-    ensures start { (number : Numbers) (lines : List Line) (names : List ℕ) (chains : List (List Landmark)) (places : List ℕ)
-        (zone : Bounds) →
-        ReadsEnds number lines → placed chains lines ≡ Some places → AreAt number names places → Holds zone number →
-        KnownHolds (started names chains zone) number lines }
 {}
 
 /// After `m` each fact that the rule keeps or makes is true.

@@ -31,9 +31,8 @@ pub use choices::Choices;
 pub use fact_laws::{
     assigned_facts_are_true, carried_facts_are_true, edited_facts_are_true,
     facts_are_left_by_commands, facts_go_by_bytes, joined_facts_are_covered,
-    landmarks_are_where_they_are_said, only_lines_are_taken_once, searches_find_the_first,
-    searches_find_what_facts_say, substituted_facts_are_true, weaker_facts_hold_more,
-    what_facts_say_is_true,
+    only_lines_are_taken_once, searches_find_the_first, searches_find_what_facts_say,
+    substituted_facts_are_true, weaker_facts_hold_more, what_facts_say_is_true,
 };
 pub use globals::{body_entry, loop_end, loop_start};
 pub use kept::KeptState;
@@ -46,7 +45,7 @@ pub use laws::{
 };
 pub use line_bounds::LineBounds;
 pub use line_facts::{
-    ClearStretch, KnownLine, LineFacts, assign, is_witnessed, move_by, search_backward,
+    ClearStretch, KnownLine, LineFacts, assign, edge_of, is_witnessed, move_by, search_backward,
     search_forward,
 };
 pub use marks::Marks;

@@ -80,7 +80,7 @@ impl Model for LineFacts {
 }
 
 /// The place of a name among those of a stretch.
-pub(crate) fn edge_of(x: Name) -> u8
+pub fn edge_of(x: Name) -> u8
     ensures value { result ≡ x }
     ensures in_range { result < 32 }
 {

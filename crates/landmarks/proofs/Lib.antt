@@ -10,3 +10,6 @@ mod Chains
 mod WordReads
 mod PartReads
 mod Told
+mod Started
+mod Marked
+mod Guarded

@@ -6,6 +6,8 @@ pub mod Placings
 pub mod Words
 pub mod Spelled
 pub mod ChainFaults
+pub mod Starting
+pub mod Starts
 -- what serves clauses inside the crate
 pub mod Looking
 pub mod Stops

@@ -12,14 +12,18 @@ mod never;
 mod parts;
 mod patterns;
 mod places;
+mod starting;
 mod which;
 mod words;
 
 pub use chain::read_chain;
 pub use chain_fault::{ChainFault, ChainWrong, Never};
 pub use landmark::Landmark;
-pub use laws::{chains_are_spelled_once, landmarks_have_one_place};
+pub use laws::{
+    chains_are_spelled_once, landmarks_are_where_they_are_said, landmarks_have_one_place,
+};
 pub use misplaced::{Misfit, Misplaced};
 pub use patterns::Patterns;
 pub use places::{Placing, find_places};
+pub use starting::know_landmarks;
 pub use which::Which;

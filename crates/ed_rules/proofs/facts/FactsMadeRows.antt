@@ -1,13 +1,11 @@
--- Worked rows of what searches and edits make of facts, and of start conditions.
-use Rattle.std.specs.Prelude.{◌≡◌, refl, ℕ, pos, negsuc, true, List, [], ◌∷◌, map, Some, None, codes}
+-- Worked rows of what searches and edits make of facts.
+use Rattle.std.specs.Prelude.{◌≡◌, refl, ℕ, pos, negsuc, true, List, [], ◌∷◌, Some, codes}
 use Rattle.zones.specs.Zone.{Bounds, bound, zone_by}
 use Rattle.zones.specs.Known.{known}
 use Rattle.zones.specs.Steps.{any_zone, after_put, put_bound, after_guard, guard_bound, after_set, set_bound, after_forget, forget_bound}
-use Rattle.ed_base.specs.Buffer.{Line, plain_line}
 use Rattle.ed_rules.specs.facts.Facts.{LineFact, Stretch, Facts, end}
 use Rattle.ed_rules.specs.facts.FoundLines.{searched_forward, searched_backward}
 use Rattle.ed_rules.specs.facts.EditedFacts.{edited, deletion, appending, stays}
-use Rattle.ed_rules.specs.facts.Landmarks.{Which, First, Only, Numbered, Landmark, placed, compiled}
 use Rattle.ed_rules.proofs.Worked.{Row, row}
 
 abbrev matching : ℕ → LineFact
@@ -52,31 +50,4 @@ edit_rows =
     -- `a` of a line that matches, after `a`: the stretch before `a` stays, and the new line is known to match
     ∷ row (edited after_a x_at_a (appending (codes "xy" ∷ [])) (6 ∷ []) (codes "x" ∷ []) ≡
     record { lines = matching 6 ∷ matching 1 ∷ []; clear = between 0 6 ∷ [] }) refl
-    ∷ []
-
--- START CONDITIONS
-
-abbrev file : List Line
-file = map plain_line (codes "a" ∷ codes "bx" ∷ codes "c" ∷ codes "dy" ∷ [])
-
-abbrev landmark : Which → Landmark
-landmark which = record { which = which; also = []; lacks = []; none = []; gap = 1; tail = 0 }
-
-start_rows : List Row
-start_rows =
-    -- the first line with an x, and below it one with a y
-    row (placed ((landmark (First (codes "x")) ∷ landmark (First (codes "y")) ∷ []) ∷ []) file ≡ Some (2 ∷ 4 ∷ [])) refl
-    -- in the wrong order
-    ∷ row (placed ((landmark (First (codes "y")) ∷ landmark (First (codes "x")) ∷ []) ∷ []) file ≡ None) refl
-    ∷ row (placed ((record (landmark (First (codes "y"))) { tail = 1 } ∷ []) ∷ []) file ≡ None) refl  -- too near the end
-    -- by its number
-    ∷ row (placed ((record (landmark (Numbered 2)) { also = codes "b" ∷ []; lacks = codes "y" ∷ [] } ∷ []) ∷ []) file ≡
-    Some (2 ∷ [])) refl
-    ∷ row (placed ((landmark (Only (codes "y")) ∷ []) ∷ []) file ≡ Some (4 ∷ [])) refl  -- alone
-    -- not alone
-    ∷ row (placed ((landmark (Only (codes "x")) ∷ []) ∷ []) (map plain_line (codes "x" ∷ codes "a" ∷ codes "x" ∷ [])) ≡
-    None) refl
-    -- facts of the first
-    ∷ row ((compiled (31 ∷ []) ((landmark (First (codes "x")) ∷ []) ∷ [])).facts ≡
-    record { lines = matching 31 ∷ []; clear = between 0 31 ∷ [] }) refl
     ∷ []
