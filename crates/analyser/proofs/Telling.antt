@@ -110,14 +110,15 @@ abbrev pub SaysAsTold : Version → State → Type 0
 SaysAsTold version.One s = s.matches ≡ no_matches
 SaysAsTold version.Two s = MatchesAreFormed s
 
--- no version says anything of single lines
+-- no version follows single lines or says anything of them
 pub record SaysNothing (s : State) : Type 0 where
+  pub follows : s.follows ≡ false
   pub facts : s.facts ≡ no_facts
   pub old_facts : OldSaysNothing s.undo.was
 
 nothing-told_by : (v : Version) (s : State) → SaysNothing (told_by v s)
-nothing-told_by version.One s = record { facts = refl; old_facts = nothing-without s.undo.was }
-nothing-told_by version.Two s = record { facts = refl; old_facts = nothing-without s.undo.was }
+nothing-told_by version.One s = record { follows = refl; facts = refl; old_facts = nothing-without s.undo.was }
+nothing-told_by version.Two s = record { follows = refl; facts = refl; old_facts = nothing-without s.undo.was }
 
 nothing-told : (w : Sight) (s : State) → SaysNothing (told w s)
 nothing-told w s = nothing-told_by w.version s
@@ -129,6 +130,7 @@ old-nothing (Some one) (Some other) h k = ap (λ (f : Facts). both_facts f other
 
 nothing-united : (one other : State) (zone : Bounds) → SaysNothing one → SaysNothing other → SaysNothing (united one other zone)
 nothing-united one other zone h k = record {
+  follows = h.follows;
   facts = ap (λ (f : Facts). both_facts f other.zone other.facts) h.facts;
   old_facts = old-nothing one.undo.was other.undo.was h.old_facts k.old_facts;
 }
@@ -337,7 +339,7 @@ begun-says k (Some has) path min max h = k.start path min max has h
 
 begun-nothing : (path : Choice) (min : ℕ) (max : Option ℕ) (has : List (List ℕ)) → SaysNothing (states.start path min max has)
 unfolding states.start
-begun-nothing path min max has = record { facts = refl; old_facts = tt }
+begun-nothing path min max has = record { follows = refl; facts = refl; old_facts = tt }
 
 watch-formed : MatchLaws → (script : Script) (has : Option (List (List ℕ))) → All StepIsBytes script.steps → TextsAreFormed (stated_of has) →
     WatchIsFormed (sight_of script (version_of has) (stated_of has)).version (sight_of script (version_of has) (stated_of has)).watch

@@ -73,12 +73,14 @@ text-of_state : (v : Version) (s : State) → Holds v s → StateHasText v s
 text-of_state version.One s h = record {
   formed = h.formed.formed;
   matches = subst (λ (m : Matches). AreSaidIn version.One s.undo.was m) (sym h.says) (none-said s.undo.was);
+  follows = h.nothing.follows;
   facts = h.nothing.facts;
   old_facts = h.nothing.old_facts;
 }
 text-of_state version.Two s h = record {
   formed = h.formed.formed;
   matches = (h.says.has, old-said s.undo.was s.matches.old_has h.says.old_has h.says.of_lines);
+  follows = h.nothing.follows;
   facts = h.nothing.facts;
   old_facts = h.nothing.old_facts;
 }

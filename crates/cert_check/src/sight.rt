@@ -36,8 +36,8 @@ impl Sight {
         &self.watch
     }
 
-    /// Leaves in a rule's state only what the version tells: what is known of single lines is forgotten, and in version 1 what lines match
-    /// too. It takes no memory.
+    /// Leaves in a rule's state only what the version tells: what is known of single lines is forgotten and they aren't followed, and
+    /// in version 1 what lines match is forgotten too. It takes no memory.
     pub fn tell(&self, state: &mut State)
         ensures value { state.new ≡ told self.now state.old }
     {

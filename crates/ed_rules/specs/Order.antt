@@ -36,7 +36,7 @@ undo_of_both one other = record {
   was = old_of_both one.was other.was;
 }
 
--- what both states allow, over a zone
+-- what both states allow, over a zone; single lines are followed where the first follows them: of one run both do or neither
 abbrev pub united : State → State → Bounds → State
 united one other zone = record {
   zone = zone;
@@ -47,6 +47,7 @@ united one other zone = record {
   changed = changed_of_both one.changed other.changed;
   undo = undo_of_both one.undo other.undo;
   matches = matches_of_both one.undo.was other.undo.was one.matches other.matches;
+  follows = one.follows;
   facts = both_facts one.facts other.zone other.facts;
 }
 
@@ -68,7 +69,7 @@ CoversOld None (Some strong) = ⊥
 CoversOld (Some weak) (Some strong) =
     zones.Covers weak.zone strong.zone × AreAmong weak.marks strong.marks × (cover_facts weak.facts strong.zone strong.facts ≡ true)
 
--- one state covers another: all that it says the other says too
+-- One state covers another: all that it says the other says too. Whether lines are followed says nothing of the editor.
 pub record Covers (weak strong : State) : Type 0 where
   pub zone : zones.Covers weak.zone strong.zone
   pub marks : AreAmong weak.marks strong.marks

@@ -40,16 +40,17 @@ abbrev pub old_without_facts : Option Old → Option Old
 old_without_facts None = None
 old_without_facts (Some old) = Some (record old { facts = no_facts })
 
--- a state that says nothing of single lines, and of all else the same
+-- a state that says nothing of single lines and doesn't follow them, and of all else says the same
 abbrev pub without_facts : State → State
-without_facts s = record s { undo = record s.undo { was = old_without_facts s.undo.was }; facts = no_facts }
+without_facts s = record s { undo = record s.undo { was = old_without_facts s.undo.was }; follows = false; facts = no_facts }
 
 -- at most so many lines, where there is a limit
 abbrev pub limited : Option ℕ → Bounds → Bounds
 limited None zone = zone
 limited (Some max) zone = after_guard zone name.last_line name.zero (pos max)
 
--- the start of a run: from min to max lines, of which some match these patterns, the last one current, and nothing remembered but a path
+-- the start of a run: from min to max lines, of which some match these patterns, the last one current, and nothing remembered but a path;
+-- single lines aren't followed
 unfoldable pub start : (path : Choice) → (min : ℕ) → (max : Option ℕ) → (has : List (List ℕ)) → State
 start path min max has = record {
   zone = after_set (limited max (after_guard any_zone name.zero name.last_line (neg_ℤ (pos min)))) name.current_line name.last_line (pos 0);
@@ -60,5 +61,6 @@ start path min max has = record {
   changed = unchanged;
   undo = nothing_to_undo;
   matches = matches_of has;
+  follows = false;
   facts = no_facts;
 }

@@ -26,6 +26,7 @@ pub struct KeptState {
     changed: Changed,
     undo: KeptUndo,
     matches: Matches,
+    follows: bool,
     facts: LineFacts,
 }
 
@@ -43,6 +44,7 @@ impl Model for KeptState {
       changed = kept.changed;
       undo = kept.undo;
       matches = kept.matches;
+      follows = kept.follows;
       facts = kept.facts;
     } };
 }
@@ -62,6 +64,7 @@ impl State {
             changed: self.changed,
             undo: KeptUndo::of(&self.undo, alloc)?,
             matches: self.matches.try_copy()?,
+            follows: self.follows,
             facts: self.facts.try_copy()?,
         })
     }
@@ -78,6 +81,7 @@ impl KeptState {
         changed: Changed,
         undo: KeptUndo,
         matches: Matches,
+        follows: bool,
         facts: LineFacts,
     ) -> KeptState
         ensures value { result ≡ record {
@@ -89,6 +93,7 @@ impl KeptState {
           changed = changed;
           undo = undo;
           matches = matches;
+          follows = follows;
           facts = facts;
         } }
     {
@@ -101,6 +106,7 @@ impl KeptState {
             changed,
             undo,
             matches,
+            follows,
             facts,
         }
     }
@@ -118,6 +124,7 @@ impl KeptState {
             changed: self.changed,
             undo: self.undo.undo()?,
             matches: self.matches.try_copy()?,
+            follows: self.follows,
             facts: self.facts.try_copy()?,
         })
     }
@@ -135,6 +142,7 @@ impl KeptState {
         state.marks = self.marks;
         state.replacements = self.replacements;
         state.changed = self.changed;
+        state.follows = self.follows;
         self.undo.restore(&mut state.undo)
     }
 
@@ -212,6 +220,13 @@ impl KeptState {
         ensures value { result.now ≡ self.now.matches }
     {
         &self.matches
+    }
+
+    /// Whether the run follows what is known of single lines.
+    pub fn follows(&self) -> bool
+        ensures value { result ≡ self.now.follows }
+    {
+        self.follows
     }
 
     /// What is known of single lines.

@@ -55,7 +55,7 @@ impl State {
         self.united(new, zone)
     }
 
-    /// What both states allow, over a zone.
+    /// What both states allow, over a zone. Of one run both follow single lines or neither does, so it goes on as the first does.
     fn united(&self, other: &State, zone: Zone) -> Result<State, AllocError>
         ensures value { IfOk result (λ both. both ≡ united self.now other.now zone) }
     {
@@ -70,6 +70,7 @@ impl State {
             matches: self
                 .matches
                 .both(&self.undo.was, &other.matches, &other.undo.was)?,
+            follows: self.follows,
             facts: facts_of_both(&self.facts, &other.zone, &other.facts)?,
         })
     }

@@ -63,6 +63,8 @@ pub struct State {
     pub changed: Changed,
     pub undo: Undo,
     pub matches: Matches,
+    /// Whether the run follows what is known of single lines. With a certificate of version 1 or 2 it never does. No rule changes it.
+    pub follows: bool,
     /// What is known of single lines.
     pub facts: LineFacts,
 }
@@ -219,6 +221,7 @@ impl State {
                 has: has.try_copy()?,
                 old_has: Texts::none(alloc),
             },
+            follows: false,
             facts: LineFacts::none(alloc),
         })
     }
@@ -249,10 +252,11 @@ impl State {
         self.facts = LineFacts::none(self.patterns.allocator());
     }
 
-    /// What is known of single lines is given up, and of the earlier ones too. It takes no memory.
+    /// What is known of single lines is given up, and of the earlier ones too, and they aren't followed any more. It takes no memory.
     pub fn forget_facts(&mut self)
         ensures value { self.new ≡ without_facts self.old }
     {
+        self.follows = false;
         self.forget_lines();
         if let Some(old) = &mut self.undo.was {
             old.facts = LineFacts::none(self.patterns.allocator());
@@ -272,6 +276,7 @@ impl State {
             changed: self.changed,
             undo: self.undo.try_copy()?,
             matches: self.matches.try_copy()?,
+            follows: self.follows,
             facts: self.facts.try_copy()?,
         })
     }
@@ -289,6 +294,7 @@ impl State {
         self.marks = other.marks;
         self.replacements = other.replacements;
         self.changed = other.changed;
+        self.follows = other.follows;
         self.undo.nothing = other.undo.nothing;
         self.undo.same = other.undo.same;
         copy_found(&mut self.undo.was, &other.undo.was)

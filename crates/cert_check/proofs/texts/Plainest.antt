@@ -70,7 +70,7 @@ plain_found = record { nothing = true; same = false; was = false }
 abbrev pub state_of : Old → List (List ℕ) → List Choice → Replacements → List Choice → Changed → Undo × List (List ℕ) →
     State
 state_of old has patterns replacements names changed found =
-    state_made old.zone old.marks patterns replacements names changed found.0 (matches_made has found.1) old.facts
+    state_made old.zone old.marks patterns replacements names changed found.0 (matches_made has found.1) false old.facts
 
 pub state-formed : (version : Version) (old : Old) (has : List (List ℕ)) (patterns : List Choice) (r : Replacements) (names : List Choice)
     (c : Changed) (found : Undo × List (List ℕ)) → MarkedIsFormed old → IsSaidIn version has → SetIsFormed patterns →
@@ -87,6 +87,7 @@ state-formed version old has patterns r names c found h s p i n j k = record {
     old = formed-earlier found.0.was k.1.0;
   };
   matches = (s, k.1.1);
+  follows = refl;
   facts = h.1;
   old_facts = nothing-earlier found.0.was k.1.0;
 }

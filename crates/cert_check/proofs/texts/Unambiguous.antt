@@ -79,8 +79,8 @@ matches_made has old_has = record { has = has; old_has = old_has }
 matches-by : (a b : Matches) → a.has ≡ b.has → a.old_has ≡ b.old_has → a ≡ b
 matches-by a b h o = λ k. matches_made (h k) (o k)
 
-abbrev pub state_made : Bounds → List Bool → List Choice → Replacements → List Choice → Changed → Undo → Matches → Facts → State
-state_made zone marks patterns replacements names changed undo matches facts = record {
+abbrev pub state_made : Bounds → List Bool → List Choice → Replacements → List Choice → Changed → Undo → Matches → (follows : Bool) → Facts → State
+state_made zone marks patterns replacements names changed undo matches follows facts = record {
   zone = zone;
   marks = marks;
   patterns = patterns;
@@ -89,13 +89,14 @@ state_made zone marks patterns replacements names changed undo matches facts = r
   changed = changed;
   undo = undo;
   matches = matches;
+  follows = follows;
   facts = facts;
 }
 
 state-by : (a b : State) → a.zone ≡ b.zone → a.marks ≡ b.marks → a.patterns ≡ b.patterns →
     a.replacements ≡ b.replacements → a.names ≡ b.names → a.changed ≡ b.changed → a.undo ≡ b.undo →
-    a.matches ≡ b.matches → a.facts ≡ b.facts → a ≡ b
-state-by a b z m p r n c u h f = λ k. state_made (z k) (m k) (p k) (r k) (n k) (c k) (u k) (h k) (f k)
+    a.matches ≡ b.matches → a.follows ≡ b.follows → a.facts ≡ b.facts → a ≡ b
+state-by a b z m p r n c u h l f = λ k. state_made (z k) (m k) (p k) (r k) (n k) (c k) (u k) (h k) (l k) (f k)
 
 -- lines that begin with different letters
 pub letter-differs : {x y : ℕ} {v w : Word} {vs ws : Line} {r s : List Line} → x < y →
@@ -180,6 +181,7 @@ module _ (version : Version) where
             (changed-by a.changed b.changed sides.0 sides.1)
             (undo-by a.undo b.undo undone.first undone.second was.was)
             (matches-by a.matches b.matches matched.0 was.has)
+            (said.follows ∙ sym other.follows)
             (said.facts ∙ sym other.facts),
         was.later,
       )

@@ -67,7 +67,8 @@ sight_of script version.Two has = record { version = version.Two; watch = watche
 abbrev pub seen_by : Script → Certificate → Sight
 seen_by script c = sight_of script c.version c.has
 
--- A state that a rule gives, as far as the version tells it: version 1 tells nothing of matches, and no version anything of single lines.
+-- A state that a rule gives, as far as the version tells it: version 1 tells nothing of matches, and no version anything of single
+-- lines, which it doesn't follow.
 abbrev pub told_by : Version → State → State
 told_by version.One s = record (without_facts s) { matches = no_matches }
 told_by version.Two s = without_facts s

@@ -1,5 +1,5 @@
 -- Which certificates have a text, and which bytes are the text of one.
-use Rattle.std.specs.Prelude.{◌≡◌, ℕ, true, ◌&&◌, List, [], map, Option, Some, None, All}
+use Rattle.std.specs.Prelude.{◌≡◌, ℕ, true, false, ◌&&◌, List, [], map, Option, Some, None, All}
 use Rattle.ed_rules.specs.declared.known_matches.Matches.{Matches}
 use Rattle.ed_rules.specs.declared.state.Old.{Old}
 use Rattle.ed_rules.specs.declared.state.State.{State}
@@ -30,10 +30,11 @@ abbrev pub OldSaysNothing : Option Old → Type 0
 OldSaysNothing None = Unit {0}
 OldSaysNothing (Some old) = old.facts ≡ no_facts
 
--- a state that has a text: no version says anything of single lines
+-- a state that has a text: no version follows single lines or says anything of them
 pub record StateHasText (version : Version) (s : State) : Type 0 where
   pub formed : StateIsFormed s
   pub matches : AreSaidIn version s.undo.was s.matches
+  pub follows : s.follows ≡ false
   pub facts : s.facts ≡ no_facts
   pub old_facts : OldSaysNothing s.undo.was
 

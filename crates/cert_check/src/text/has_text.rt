@@ -186,6 +186,7 @@ fn state_has_text(version: Version, state: &KeptState) -> bool
     is_formed(state)
         && is_said(version, &matches.has)
         && old_is_said(version, state.kept_undo().was(), &matches.old_has)
+        && !state.follows()
         && state.facts().are_none()
         && old_says_nothing(state.kept_undo().was())
 }

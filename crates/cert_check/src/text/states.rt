@@ -83,6 +83,7 @@ pub(crate) fn read_state(
         changed,
         undo,
         Matches { has, old_has },
+        false,
         LineFacts::none(alloc),
     ))
 }
