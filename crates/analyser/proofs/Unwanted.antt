@@ -22,7 +22,11 @@ use Rattle.ed_rules.specs.Texts.{is_member}
 use Rattle.ed_rules.specs.Matched.{gained, sought}
 use Rattle.ed_rules.specs.Matching.{matches_after}
 use Rattle.ed_rules.specs.Pieces.{needing}
-use Rattle.ed_rules.specs.Addresses.{is_found, searched, found, in_buffer, copied, evaluated_base, evaluated, addressed, standing}
+use Rattle.ed_rules.specs.declared.following.Way.{Way}
+use Rattle.ed_rules.specs.declared.following.Way.TheVariants as ways
+use Rattle.ed_rules.specs.facts.FoundLines.{is_witnessed}
+use Rattle.ed_rules.specs.Following.{is_followed}
+use Rattle.ed_rules.specs.Addresses.{is_found, with_found, searched, in_buffer, copied, evaluated_base, evaluated, addressed, standing}
 use Rattle.ed_rules.specs.Rules.{effect, step_at, step, fault_of}
 use Rattle.ed_rules.specs.States as states
 use Rattle.ed_rules.proofs.Texting.{filter-passes, filter-implied, with_texts-passes}
@@ -147,43 +151,46 @@ module _ (text : List ℕ) where
   and-false true = refl
   and-false false = refl
 
-  unfound : (s : State) → text_is_always text ≡ false → is_member s.matches.has text ≡ false → list_all (is_found s) (Some text ∷ []) ≡ false
-  unfound s never lacks =
+  unfound : (s : State) → text_is_always text ≡ false → s.follows ≡ false → is_member s.matches.has text ≡ false →
+      list_all (is_found s) (Some text ∷ []) ≡ false
+  unfound s never plain lacks =
       let known_line : Bool = known s.zone name.zero last_line (negsuc 0) in
-      ap (λ (b : Bool). (b || (known_line && text_is_always text)) && true) lacks
+      ap (λ (b : Bool). (b || (is_followed s text || (known_line && text_is_always text))) && true) lacks
+      ∙ ap (λ (b : Bool). ((b && is_witnessed s.facts text) || (known_line && text_is_always text)) && true) plain
       ∙ ap (λ (b : Bool). (known_line && b) && true) never
       ∙ ap (λ (b : Bool). b && true) (and-false known_line)
 
-  lost-search : (x : ℕ) (k : ℤ) (s : State) → text_is_always text ≡ false → is_member s.matches.has text ≡ false →
-      searched x (Some text) k s ≡ Err fault.NoMatch
-  lost-search x k s never lacks =
-      ap (λ (b : Bool). needing b fault.NoMatch (record s { zone = found x k s.zone; patterns = Some text ∷ [] }) >> in_buffer x)
-      (unfound s never lacks)
+  lost-search : (way : Way) (x : ℕ) (k : ℤ) (s : State) → text_is_always text ≡ false → s.follows ≡ false →
+      is_member s.matches.has text ≡ false → searched way x (Some text) k s ≡ Err fault.NoMatch
+  lost-search way x k s never plain lacks =
+      ap (λ (b : Bool). needing b fault.NoMatch (with_found way (Some text ∷ []) x k s) >> in_buffer x) (unfound s never plain lacks)
 
-  lost-base : (x : ℕ) (b : Base) (k : ℤ) (s : State) → seeks_at text b ≡ true → text_is_always text ≡ false → is_member s.matches.has text ≡ false →
+  lost-base : (x : ℕ) (b : Base) (k : ℤ) (s : State) → seeks_at text b ≡ true → text_is_always text ≡ false → s.follows ≡ false → is_member s.matches.has text ≡ false →
       evaluated_base x b k s ≡ Err fault.NoMatch
-  lost-base x (ed.Forward (Some given)) k s e never lacks =
-      subst (λ (t : List ℕ). searched x (Some t) k s ≡ Err fault.NoMatch) (sym ((bytes_decides given text).0 e)) (lost-search x k s never lacks)
-  lost-base x (ed.Backward (Some given)) k s e never lacks =
-      subst (λ (t : List ℕ). searched x (Some t) k s ≡ Err fault.NoMatch) (sym ((bytes_decides given text).0 e)) (lost-search x k s never lacks)
-  lost-base x (ed.Forward None) k s e never lacks = absurd cc
-  lost-base x (ed.Backward None) k s e never lacks = absurd cc
-  lost-base x (ed.Number n) k s e never lacks = absurd cc
-  lost-base x ed.Current k s e never lacks = absurd cc
-  lost-base x ed.Last k s e never lacks = absurd cc
-  lost-base x (ed.Marked letter) k s e never lacks = absurd cc
+  lost-base x (ed.Forward (Some given)) k s e never plain lacks =
+      subst (λ (t : List ℕ). searched ways.Forward x (Some t) k s ≡ Err fault.NoMatch) (sym ((bytes_decides given text).0 e))
+      (lost-search ways.Forward x k s never plain lacks)
+  lost-base x (ed.Backward (Some given)) k s e never plain lacks =
+      subst (λ (t : List ℕ). searched ways.Backward x (Some t) k s ≡ Err fault.NoMatch) (sym ((bytes_decides given text).0 e))
+      (lost-search ways.Backward x k s never plain lacks)
+  lost-base x (ed.Forward None) k s e never plain lacks = absurd cc
+  lost-base x (ed.Backward None) k s e never plain lacks = absurd cc
+  lost-base x (ed.Number n) k s e never plain lacks = absurd cc
+  lost-base x ed.Current k s e never plain lacks = absurd cc
+  lost-base x ed.Last k s e never plain lacks = absurd cc
+  lost-base x (ed.Marked letter) k s e never plain lacks = absurd cc
 
-  lost-addresses : (a : Addresses) (s : State) → seeks_first text a ≡ true → text_is_always text ≡ false → is_member s.matches.has text ≡ false →
+  lost-addresses : (a : Addresses) (s : State) → seeks_first text a ≡ true → text_is_always text ≡ false → s.follows ≡ false → is_member s.matches.has text ≡ false →
       addressed a s ≡ Err fault.NoMatch
-  lost-addresses Without s e never lacks = absurd cc
-  lost-addresses (One a) s e never lacks =
-      ap (λ (r : Result State Fault). r >> λ t. Ok (copied second_address first_address t)) (lost-base first_address a.base a.offset s e never lacks)
-  lost-addresses (Comma a b) s e never lacks =
-      ap (λ (r : Result State Fault). r >> evaluated second_address b) (lost-base first_address a.base a.offset s e never lacks)
-  lost-addresses (Semicolon a None) s e never lacks =
-      ap (λ (r : Result State Fault). r >> λ t. Ok (copied second_address first_address (copied current_line first_address t))) (lost-base first_address a.base a.offset s e never lacks)
-  lost-addresses (Semicolon a (Some b)) s e never lacks =
-      ap (λ (r : Result State Fault). r >> λ t. evaluated second_address b (copied current_line first_address t)) (lost-base first_address a.base a.offset s e never lacks)
+  lost-addresses Without s e never plain lacks = absurd cc
+  lost-addresses (One a) s e never plain lacks =
+      ap (λ (r : Result State Fault). r >> λ t. Ok (copied second_address first_address t)) (lost-base first_address a.base a.offset s e never plain lacks)
+  lost-addresses (Comma a b) s e never plain lacks =
+      ap (λ (r : Result State Fault). r >> evaluated second_address b) (lost-base first_address a.base a.offset s e never plain lacks)
+  lost-addresses (Semicolon a None) s e never plain lacks =
+      ap (λ (r : Result State Fault). r >> λ t. Ok (copied second_address first_address (copied current_line first_address t))) (lost-base first_address a.base a.offset s e never plain lacks)
+  lost-addresses (Semicolon a (Some b)) s e never plain lacks =
+      ap (λ (r : Result State Fault). r >> λ t. evaluated second_address b (copied current_line first_address t)) (lost-base first_address a.base a.offset s e never plain lacks)
 
   given-same : (a default : Addresses) → seeks_first text a ≡ true → given_or a default ≡ a
   given-same Without default e = absurd cc
@@ -199,25 +206,38 @@ module _ (text : List ℕ) where
   lost-needing true s f e = ap (λ (r : Result State Fault). is_none (fault_of r)) e
   lost-needing false s f e = refl
 
-  unmet : (c : Command) (s : State) → seeks_first text c.addresses ≡ true → text_is_always text ≡ false → is_member s.matches.has text ≡ false →
+  unmet : (c : Command) (s : State) → seeks_first text c.addresses ≡ true → text_is_always text ≡ false → s.follows ≡ false → is_member s.matches.has text ≡ false →
       are_met c s ≡ false
   unfolding are_met
-  unmet c s e never lacks =
+  unmet c s e never plain lacks =
       let default : Addresses = standing (takes c.verb).default in
       lost-needing (enters_lines c.verb) s (step_at [] (given_or c.addresses default) c)
       (lost-bind (addressed (given_or c.addresses default) s) _ fault.NoMatch
-      (ap (λ (a : Addresses). addressed a s) (given-same c.addresses default e) ∙ lost-addresses c.addresses s e never lacks))
+      (ap (λ (a : Addresses). addressed a s) (given-same c.addresses default e) ∙ lost-addresses c.addresses s e never plain lacks))
 
   -- COMMANDS WITH THEIR NOTES
 
+  -- no version follows single lines
+  told-plain : (v : Version) (s : State) → (told_by v s).follows ≡ false
+  told-plain version.One s = refl
+  told-plain version.Two s = refl
+
+  left-plain : (w : Sight) (c : Command) (s : State) → (left_by w c s).follows ≡ false
+  unfolding left_by
+  left-plain w c s = told-plain w.version _
+
+  after-plain : (w : Sight) (l : Option Looped) (x : Step) (s : State) → (left_after w l x s).follows ≡ false
+  after-plain w None x s = left-plain w x.command s
+  after-plain w (Some l) x s = told-plain w.version _
+
   pub unwanted : (w : Sight) (xs : List Step) (s : State) (ns : List Note) → text_is_always text ≡ false → seeks text xs ≡ true →
-      Says (Lacks text) s → AreNotes w xs s ns → ⊥
-  unwanted w [] s ns never e h notes = absurd cc
-  unwanted w (x ∷ xs) s [] never e h notes = absurd notes
-  unwanted w (x ∷ xs) s (n ∷ ns) never e h notes =
+      Says (Lacks text) s → s.follows ≡ false → AreNotes w xs s ns → ⊥
+  unwanted w [] s ns never e h plain notes = absurd cc
+  unwanted w (x ∷ xs) s [] never e h plain notes = absurd notes
+  unwanted w (x ∷ xs) s (n ∷ ns) never e h plain notes =
       elim (or_cases (seeks_first text x.command.addresses) (brings_none text x && seeks text xs) e) [
         | inl here ↦
-            let failed = unmet x.command s here never (lacks-none text s.matches.has h.0) in
+            let failed = unmet x.command s here never plain (lacks-none text s.matches.has h.0) in
             let met = notes.0.met in
             absurd cc
         | inr later ↦
@@ -226,18 +246,22 @@ module _ (text : List ℕ) where
             unwanted w xs (left_after w n.looped x s) ns never parts.1
             (lacks-left_after w n.looped x s (not-is (is_global x.command.verb) brings.0) notes.0.list
             (not-is (enters_match text (takes x.command.verb).lines) brings.1) h)
-            notes.1
+            (after-plain w n.looped x s) notes.1
       ]
 
 begun-lacks : (text : List ℕ) (start : Start) → is_member (stated_of start.has) text ≡ false → Says (Lacks text) (begun start)
 unfolding states.start
 begun-lacks text start none = (none-lacks text (stated_of start.has) none, refl)
 
+begun-plain : (start : Start) → (begun start).follows ≡ false
+unfolding states.start
+begun-plain start = refl
+
 -- a script isn't vouched for over a start without the pattern
 pub wanted : (text : List ℕ) (script : Script) (start : Start) → text_is_always text ≡ false → seeks text (counted script.steps) ≡ true →
     is_member (stated_of start.has) text ≡ false → IsVouched script start → ⊥
 wanted text script start never e none v =
-    unwanted text (sight_over script start) (counted script.steps) (begun start) v.0.notes never e (begun-lacks text start none) v.1.notes
+    unwanted text (sight_over script start) (counted script.steps) (begun start) v.0.notes never e (begun-lacks text start none) (begun-plain start) v.1.notes
 
 -- ONE COMMAND FURTHER
 

@@ -3,6 +3,7 @@ pub mod Speaking
 pub mod Naming
 pub mod Saying
 pub mod SpeakingPieces
+pub mod SpeakingFound
 pub mod RisingChoices
 pub mod CountedLines
 pub mod RisingTexts

@@ -10,6 +10,7 @@ pub mod Replacing
 pub mod Weaker
 pub mod Searching
 pub mod Outcomes
+pub mod Following
 pub mod Addressing
 pub mod Effects
 pub mod Moving

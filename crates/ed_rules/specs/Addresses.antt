@@ -15,11 +15,17 @@ use Rattle.ed_syntax.specs.Commands as ed
 use Rattle.ed_syntax.specs.Commands.{Base, Address, Addresses, Without, One, Comma, Semicolon}
 use Rattle.ed_syntax.specs.meaning.Verbs.{here}
 use Rattle.ed_syntax.specs.meaning.Values.{◌>>◌}
+use Rattle.ed_rules.specs.declared.following.Way.{Way}
+use Rattle.ed_rules.specs.declared.following.Way.TheVariants as ways
 use Rattle.ed_rules.specs.declared.state.State.{State}
 use Rattle.ed_rules.specs.Choices.{Choice, has_choice}
 use Rattle.ed_rules.specs.Marks.{is_sure}
 use Rattle.ed_rules.specs.Texts.{is_member}
-use Rattle.ed_rules.specs.Pieces.{needing, with_zone}
+use Rattle.ed_rules.specs.Pieces.{needing}
+use Rattle.ed_rules.specs.Following.{facts_without, set_to, is_followed, spoken_facts, only_pattern, found_by}
+use Rattle.ed_rules.specs.facts.Facts.{Facts}
+use Rattle.ed_rules.specs.facts.FoundLines.{Known, known_as, without}
+use Rattle.ed_rules.specs.facts.AssignedFacts.{moved}
 
 -- the pattern has a match in every line; a text that is no pattern has none
 abbrev pub is_always : Choice → Bool
@@ -37,37 +43,55 @@ in_buffer x s = needing (known s.zone name.zero x (pos 0) && known s.zone x last
 
 -- x becomes y
 abbrev pub copied : ℕ → ℕ → State → State
-copied x y s = with_zone (after_set s.zone x y (pos 0)) s
+copied x y s = set_to x y (pos 0) s
 
 -- a name of the zone plus a number
 abbrev pub set_from : ℕ → ℕ → ℤ → State → Result State Fault
-set_from x from c s = in_buffer x (with_zone (after_set s.zone x from c) s)
+set_from x from c s = in_buffer x (set_to x from c s)
 
--- the line that a search finds, plus an offset
+-- x becomes a number
+abbrev pub set_number : ℕ → ℤ → State → State
+set_number x n s = record s { zone = after_set s.zone x name.zero n; facts = facts_without s.follows x s.facts }
+
+-- some line, plus an offset
 unfoldable pub found : ℕ → ℤ → Bounds → Bounds
 found x k zone =
     after_shift (after_guard (after_guard (after_forget zone x) name.zero x (negsuc 0)) x last_line (pos 0)) x (Some k) (Some k)
 
--- some line is known to match the pattern: it is one of those of which that is known, or has a match in every line, and some line is there
+-- some line is known to match the pattern: it is one of those of which that is known, a line that is followed matches it, or it has a match
+-- in every line, and some line is there
 abbrev pub is_found : State → Choice → Bool
 is_found s None = false
-is_found s (Some text) = is_member s.matches.has text || (known s.zone name.zero last_line (negsuc 0) && is_always (Some text))
+is_found s (Some text) =
+    is_member s.matches.has text || (is_followed s text || (known s.zone name.zero last_line (negsuc 0) && is_always (Some text)))
+
+-- What is known of the line that a search finds, plus an offset: where lines are followed and there is one pattern only, all that facts say
+-- of it. Else it is some line.
+abbrev pub known_found : (follows : Bool) → Way → (only : Option (List ℕ)) → ℕ → ℤ → (marks : List Bool) → Bounds → Facts → Known
+known_found false way only x k marks zone facts = known_as (found x k zone) facts
+known_found true way None x k marks zone facts = known_as (found x k zone) (without x facts)
+known_found true way (Some text) x k marks zone facts = moved x k (found_by way x text zone (spoken_facts marks facts))
+
+-- the state with the line that a search finds
+abbrev pub with_found : Way → (possible : List Choice) → ℕ → ℤ → State → State
+with_found way possible x k s =
+    let f = known_found s.follows way (only_pattern possible) x k s.marks s.zone s.facts in
+    record s { zone = f.zone; facts = f.facts; patterns = possible }
 
 -- a search: some line is known to match each pattern that may be looked for
-abbrev pub searched : ℕ → Option (List ℕ) → ℤ → State → Result State Fault
-searched x text k s =
+abbrev pub searched : Way → ℕ → Option (List ℕ) → ℤ → State → Result State Fault
+searched way x text k s =
     possible_patterns text s >> λ possible.
-    needing (list_all (is_found s) possible) fault.NoMatch
-    (record s { zone = found x k s.zone; patterns = possible }) >> in_buffer x
+    needing (list_all (is_found s) possible) fault.NoMatch (with_found way possible x k s) >> in_buffer x
 
 -- one address, evaluated into x
 abbrev pub evaluated_base : ℕ → Base → ℤ → State → Result State Fault
-evaluated_base x (ed.Number n) k s = set_from x name.zero (pos n +ℤ k) s
+evaluated_base x (ed.Number n) k s = in_buffer x (set_number x (pos n +ℤ k) s)
 evaluated_base x ed.Current k s = set_from x current_line k s
 evaluated_base x ed.Last k s = set_from x last_line k s
 evaluated_base x (ed.Marked letter) k s = needing (nat_lt letter 26 && is_sure s.marks letter) fault.Mark s >> set_from x (mark letter) k
-evaluated_base x (ed.Forward text) k s = searched x text k s
-evaluated_base x (ed.Backward text) k s = searched x text k s
+evaluated_base x (ed.Forward text) k s = searched ways.Forward x text k s
+evaluated_base x (ed.Backward text) k s = searched ways.Backward x text k s
 
 abbrev pub evaluated : ℕ → Address → State → Result State Fault
 evaluated x a s = evaluated_base x a.base a.offset s

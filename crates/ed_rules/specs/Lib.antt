@@ -9,6 +9,7 @@ pub mod Formed
 pub mod StandsFor
 pub mod Order
 pub mod Pieces
+pub mod Following
 pub mod Addresses
 pub mod Lines
 pub mod Move
@@ -25,5 +26,5 @@ pub mod Globals
 pub mod GlobalSoundness
 -- what the law on exact commands says
 pub mod ExactRules
--- what is known of single lines beside the zone; the rules that find it out are still to be written
+-- what is known of single lines beside the zone; the rules that keep it are still to be written
 pub mod facts

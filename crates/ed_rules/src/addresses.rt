@@ -1,14 +1,16 @@
 //! The addresses of a command, evaluated into the names of a zone, and what is needed of them.
 
-ghost use Rattle.std.specs.Prelude.{◌≡◌, ◌<◌, pos, ◌+ℤ◌, Some, option_map, IfOk};
+ghost use Rattle.std.specs.Prelude.{◌≡◌, ◌<◌, pos, ◌+ℤ◌, Some, option_map, IfOk, OnOk};
 ghost use Rattle.std.specs.List.{list_all};
 ghost use Rattle.zones.specs.Limits.{clamp};
 ghost use Rattle.zones.specs.Steps.{after_set};
 ghost use Rattle.ed_syntax.specs.PublicTypes.{address_value, addresses_value, default_value};
-ghost use Rattle.ed_rules.specs.Addresses.{is_always, is_found, in_buffer, set_from, found, searched, evaluated, addressed, standing, last_given, targeted, ranged};
+ghost use Rattle.ed_rules.specs.Addresses.{is_always, is_found, in_buffer, set_from, set_number, found, with_found, searched, evaluated, addressed, standing, last_given, targeted, ranged};
 ghost use Rattle.ed_rules.specs.Reaching.{Reaches};
 
 use crate::choices::Choices;
+use crate::following::{Way, find_by, only_pattern};
+use crate::line_facts::move_by;
 use crate::state::State;
 use bre_parse::Bre;
 use bre_parse::fault::BreFault;
@@ -50,9 +52,9 @@ pub(crate) fn all_match_always(choices: &Choices) -> Result<bool, AllocError>
     Ok(true)
 }
 
-/// The line that a search finds, plus an offset.
+/// Some line, plus an offset.
 #[tactic(auto, unfolding(crate::specs::Addresses::found))]
-fn set_found(zone: &mut Zone, x: Name, offset: i128)
+fn set_some_line(zone: &mut Zone, x: Name, offset: i128)
     ensures exact { zone.new ≡ found x offset zone.old }
 {
     zone.forget(x);
@@ -112,14 +114,17 @@ impl State {
     fn set_from(&mut self, x: Name, from: Name, offset: i128) -> Result<(), Fault>
         ensures exact { Reaches result self.new (set_from x from offset self.old) }
     {
-        self.zone.set_wide(x, from, offset);
+        self.set_to(x, from, offset)?;
         self.need_in_buffer(x)
     }
 
     /// An address that is a line's number.
     fn set_from_number(&mut self, x: Name, number: u32, offset: i128) -> Result<(), Fault>
-        ensures exact { Reaches result self.new (set_from x 0 (pos number +ℤ offset) self.old) }
+        ensures exact { Reaches result self.new (in_buffer x (set_number x (pos number +ℤ offset) self.old)) }
     {
+        if self.follows {
+            self.facts.forget(x);
+        }
         set_number(&mut self.zone, x, number, offset);
         self.need_in_buffer(x)
     }
@@ -129,6 +134,7 @@ impl State {
         ensures value { result ≡ is_found self.now (Some pattern.now) }
     {
         self.matches.has.has(pattern.text())
+            || self.is_followed(pattern.text())
             || (self.zone.is_known(Name::ZERO, Name::LAST_LINE, -1) && matches_always(pattern))
     }
 
@@ -139,7 +145,7 @@ impl State {
         let Some(text) = choice else {
             return Ok(false);
         };
-        if self.matches.has.has(text.as_slice()) {
+        if self.matches.has.has(text.as_slice()) || self.is_followed(text.as_slice()) {
             return Ok(true);
         }
         if !self.zone.is_known(Name::ZERO, Name::LAST_LINE, -1) {
@@ -160,9 +166,46 @@ impl State {
         Ok(true)
     }
 
+    /// x becomes the line that a search finds for the patterns that may be remembered, plus an offset. After an `Err` some of it may be
+    /// done.
+    fn set_found(&mut self, way: Way, x: Name, offset: i128) -> Result<(), AllocError>
+        ensures exact { OnOk result (self.new ≡ with_found way self.old.patterns x offset self.old) }
+    {
+        if !self.follows {
+            set_some_line(&mut self.zone, x, offset);
+            return Ok(());
+        }
+        match only_pattern(&self.patterns)? {
+            Some(pattern) => {
+                let alloc = self.patterns.allocator();
+                self.facts.keep_spoken(&self.marks);
+                find_by(
+                    alloc,
+                    way,
+                    &mut self.zone,
+                    &mut self.facts,
+                    x,
+                    pattern.as_slice(),
+                )?;
+                move_by(&mut self.zone, &mut self.facts, x, offset);
+            }
+            None => {
+                self.facts.forget(x);
+                set_some_line(&mut self.zone, x, offset);
+            }
+        }
+        Ok(())
+    }
+
     /// A search for the pattern that is given, or for a remembered one.
-    fn search(&mut self, x: Name, pattern: &Option<Pattern>, offset: i128) -> Result<(), Fault>
-        ensures exact { Reaches result self.new (searched x pattern.now offset self.old) }
+    fn search(
+        &mut self,
+        way: Way,
+        x: Name,
+        pattern: &Option<Pattern>,
+        offset: i128,
+    ) -> Result<(), Fault>
+        ensures exact { Reaches result self.new (searched way x pattern.now offset self.old) }
     {
         let found = match pattern {
             Some(pattern) => self.is_found(pattern),
@@ -179,7 +222,7 @@ impl State {
         if let Some(pattern) = pattern {
             self.patterns = Choices::only_text(self.patterns.allocator(), pattern.text())?;
         }
-        set_found(&mut self.zone, x, offset);
+        self.set_found(way, x, offset)?;
         self.need_in_buffer(x)
     }
 
@@ -198,9 +241,8 @@ impl State {
                     Err(Fault::Mark)
                 }
             }
-            Base::Forward(pattern) | Base::Backward(pattern) => {
-                self.search(x, pattern, address.offset)
-            }
+            Base::Forward(pattern) => self.search(Way::Forward, x, pattern, address.offset),
+            Base::Backward(pattern) => self.search(Way::Backward, x, pattern, address.offset),
         }
     }
 
@@ -212,7 +254,7 @@ impl State {
             Addresses::Without => Ok(()),
             Addresses::One(only) => {
                 self.evaluate(Name::FIRST_ADDRESS, only)?;
-                self.zone.set(Name::SECOND_ADDRESS, Name::FIRST_ADDRESS, 0);
+                self.set_to(Name::SECOND_ADDRESS, Name::FIRST_ADDRESS, 0)?;
                 Ok(())
             }
             Addresses::Comma(first, second) => {
@@ -221,27 +263,27 @@ impl State {
             }
             Addresses::Semicolon(first, None) => {
                 self.evaluate(Name::FIRST_ADDRESS, first)?;
-                self.zone.set(Name::CURRENT_LINE, Name::FIRST_ADDRESS, 0);
-                self.zone.set(Name::SECOND_ADDRESS, Name::FIRST_ADDRESS, 0);
+                self.set_to(Name::CURRENT_LINE, Name::FIRST_ADDRESS, 0)?;
+                self.set_to(Name::SECOND_ADDRESS, Name::FIRST_ADDRESS, 0)?;
                 Ok(())
             }
             Addresses::Semicolon(first, Some(second)) => {
                 self.evaluate(Name::FIRST_ADDRESS, first)?;
-                self.zone.set(Name::CURRENT_LINE, Name::FIRST_ADDRESS, 0);
+                self.set_to(Name::CURRENT_LINE, Name::FIRST_ADDRESS, 0)?;
                 self.evaluate(Name::SECOND_ADDRESS, second)
             }
         }
     }
 
-    /// Of two addresses a command of one takes the last.
-    pub(crate) fn take_last(&mut self, addresses: &Addresses)
-        ensures exact { self.new ≡ last_given (addresses_value addresses.now) self.old }
+    /// Of two addresses a command of one takes the last. After an `Err` some of it may be done.
+    pub(crate) fn take_last(&mut self, addresses: &Addresses) -> Result<(), AllocError>
+        ensures exact { OnOk result (self.new ≡ last_given (addresses_value addresses.now) self.old) }
     {
         match addresses {
             Addresses::Comma(_, _) | Addresses::Semicolon(_, _) => {
-                self.zone.set(Name::FIRST_ADDRESS, Name::SECOND_ADDRESS, 0);
+                self.set_to(Name::FIRST_ADDRESS, Name::SECOND_ADDRESS, 0)
             }
-            Addresses::Without | Addresses::One(_) => {}
+            Addresses::Without | Addresses::One(_) => Ok(()),
         }
     }
 

@@ -9,7 +9,7 @@ ghost use Rattle.ed_rules.specs.Matched.{watched};
 ghost use Rattle.ed_rules.specs.Order.{join, widen, Covers};
 ghost use Rattle.ed_rules.specs.Rules.{step, fault_of};
 ghost use Rattle.ed_rules.specs.StandsFor.{StandsFor};
-ghost use Rattle.std.specs.Prelude.{◌≡◌, ℕ, negsuc, ◌&&◌, List, [], ◌∷◌, All, Option, IfOk};
+ghost use Rattle.std.specs.Prelude.{◌≡◌, ℕ, negsuc, false, ◌&&◌, List, [], ◌∷◌, All, Option, IfOk};
 ghost use Rattle.std.specs.List.{list_all};
 ghost use Rattle.zones.specs.Known.{known};
 ghost use Rattle.zones.specs.Name as name;
@@ -125,8 +125,9 @@ pub fn matches_stay_formed()
         TextsAreFormed (watched script has) }
 {}
 
-/// Where nothing is known of matches, a search needs what it did in certificates that tell nothing of them.
+/// Where nothing is known of matches and single lines aren't followed, a search needs what it did in certificates that tell nothing of
+/// them.
 pub fn searches_are_as_before()
-    ensures need { (s : State) (c : Choice) (set : List Choice) → s.matches.has ≡ [] →
+    ensures need { (s : State) (c : Choice) (set : List Choice) → s.matches.has ≡ [] → s.follows ≡ false →
         list_all (is_found s) (c ∷ set) ≡ (known s.zone name.zero last_line (negsuc 0) && list_all is_always (c ∷ set)) }
 {}

@@ -6,6 +6,7 @@ mod change;
 mod choices;
 mod fact_laws;
 mod files;
+mod following;
 mod globals;
 mod kept;
 mod kept_undo;

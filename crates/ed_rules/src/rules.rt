@@ -55,16 +55,16 @@ impl State {
         match taking {
             Taking::NoAddress => Ok(()),
             Taking::Place => {
-                self.take_last(addresses);
+                self.take_last(addresses)?;
                 Ok(())
             }
             Taking::FirstPlace => {
-                self.take_last(addresses);
+                self.take_last(addresses)?;
                 lift(&mut self.zone, Name::FIRST_ADDRESS);
                 Ok(())
             }
             Taking::OneLine => {
-                self.take_last(addresses);
+                self.take_last(addresses)?;
                 if self.zone.is_known(Name::ZERO, Name::FIRST_ADDRESS, -1) {
                     Ok(())
                 } else {

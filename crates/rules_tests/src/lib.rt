@@ -12,6 +12,8 @@ mod choices;
 #[cfg(test)]
 mod collecting;
 #[cfg(test)]
+mod followed_lines;
+#[cfg(test)]
 mod globals;
 #[cfg(test)]
 mod like;

@@ -19,7 +19,9 @@ use Rattle.ed_syntax.specs.meaning.Applied as applied
 use Rattle.ed_rules.specs.declared.state.State.{State}
 use Rattle.ed_rules.specs.Marks.{no_marks}
 use Rattle.ed_rules.specs.Pieces.{with_zone}
-use Rattle.ed_rules.specs.Addresses.{copied, set_from, evaluated_base, evaluated, addressed, standing}
+use Rattle.ed_rules.specs.facts.Facts.{Facts}
+use Rattle.ed_rules.specs.Following.{set_to}
+use Rattle.ed_rules.specs.Addresses.{in_buffer, copied, set_number, evaluated_base, evaluated, addressed, standing}
 use Rattle.ed_rules.specs.Exact.{is_by_number, are_by_number, is_exact_verb}
 use Rattle.ed_rules.specs.LineBounds.{most_lines}
 use Rattle.ed_rules.specs.ExactRules.{flag_of, EndAlike}
@@ -44,6 +46,12 @@ pub Sees-zone : (k m : ℕ) (a b t i j u : ℤ) (s : State) (e : editor.State) (
 Sees-zone k m a b t i j u s e zone h z =
     record { zone = z; marks = h.marks; names = h.names; changed = h.changed; inside = h.inside; few = h.few }
 
+-- and with other facts
+pub Sees-facts : (k : ℕ) (a b t : ℤ) (s : State) (e : editor.State) (facts : Facts) → Sees k a b t s e →
+    Sees k a b t (record s { facts = facts }) e
+Sees-facts k a b t s e facts h =
+    record { zone = h.zone; marks = h.marks; names = h.names; changed = h.changed; inside = h.inside; few = h.few }
+
 -- and another current line
 pub Sees-current : (k m : ℕ) (a b t i j u : ℤ) (s : State) (e : editor.State) (zone : Bounds) (n : ℕ) → Sees k a b t s e →
     n ≤ length e.lines → At zone m (pos n) (pos (length e.lines)) i j u →
@@ -58,27 +66,31 @@ within-outside n e h = rw (lt-leb n (length e.lines) h, within) refl
 module _ (R : State → ℕ →
     Type 0) (s : State) (e : editor.State) (k : ℕ) (a b t : ℤ) (h : Sees k a b t s e) (x y : ℕ) (n : ℤ) (hx : x < 32) (hy : y < 32)
     (ky : y < k) (k3 : 3 ≤ k) (x3 : 3 ≤ x) where
-  from-alike : (d : ℤ) → d ≡ numbers (pos e.current) (pos (length e.lines)) a b t y +ℤ n →
-      ((m : ℕ) → d ≡ pos m → m ≤ length e.lines → R (with_zone (after_set s.zone x y n) s) m) → EndAlike R (set_from x y n s) (within e d)
-  from-alike (negsuc m) is make =
+  -- with these facts
+  abbrev put : Facts → State
+  put facts = record s { zone = after_set s.zone x y n; facts = facts }
+
+  from-alike : (facts : Facts) (d : ℤ) → d ≡ numbers (pos e.current) (pos (length e.lines)) a b t y +ℤ n →
+      ((m : ℕ) → d ≡ pos m → m ≤ length e.lines → R (put facts) m) → EndAlike R (in_buffer x (put facts)) (within e d)
+  from-alike facts (negsuc m) is make =
       let z : Bounds = after_set s.zone x y n in
-      EndAlike-fault R fault.Address (set_from x y n s) (within e (negsuc m))
-      (needing-failed (known z 0 x (pos 0) && known z x 2 (pos 0)) fault.Address (with_zone z s)
+      EndAlike-fault R fault.Address (in_buffer x (put facts)) (within e (negsuc m))
+      (needing-failed (known z 0 x (pos 0) && known z x 2 (pos 0)) fault.Address (put facts)
       (and_left (known z 0 x (pos 0)) (known z x 2 (pos 0))
       (set-not_below s.zone k (pos e.current) (pos (length e.lines)) a b t h.zone x y n hx hy ky k3 x3 (omega (arith, ints)))))
       refl
-  from-alike (pos m) is make = elim (cases_lt (length e.lines) m) [
+  from-alike facts (pos m) is make = elim (cases_lt (length e.lines) m) [
     | inl lt ↦
         let z : Bounds = after_set s.zone x y n in
-        EndAlike-fault R fault.Address (set_from x y n s) (within e (pos m))
-        (needing-failed (known z 0 x (pos 0) && known z x 2 (pos 0)) fault.Address (with_zone z s)
+        EndAlike-fault R fault.Address (in_buffer x (put facts)) (within e (pos m))
+        (needing-failed (known z 0 x (pos 0) && known z x 2 (pos 0)) fault.Address (put facts)
         (and_right (known z 0 x (pos 0)) (known z x 2 (pos 0))
         (set-not_above s.zone k (pos e.current) (pos (length e.lines)) a b t h.zone x y n hx hy ky k3 x3 (omega (arith, ints)))))
         (within-outside m e lt)
     | inr le ↦
         let z : Bounds = after_set s.zone x y n in
-        EndAlike-ok R (with_zone z s) m (set_from x y n s) (within e (pos m))
-        (needing-met (known z 0 x (pos 0) && known z x 2 (pos 0)) fault.Address (with_zone z s)
+        EndAlike-ok R (put facts) m (in_buffer x (put facts)) (within e (pos m))
+        (needing-met (known z 0 x (pos 0) && known z x 2 (pos 0)) fault.Address (put facts)
         (and_from (known z 0 x (pos 0)) (known z x 2 (pos 0))
         (set-below s.zone k (pos e.current) (pos (length e.lines)) a b t h.zone x y n hx hy ky k3 x3 (omega (arith, ints)))
         (set-above s.zone k (pos e.current) (pos (length e.lines)) a b t h.zone x y n hx hy ky k3 x3 (omega (arith, ints)))))
@@ -98,18 +110,18 @@ ValuedTarget e a b u n = Sees 6 a b (pos n) u e × (n ≤ length e.lines)
 -- an address by its base: zero, the current or the last line, and a number
 based : (R : State → ℕ → Type 0) (x : ℕ) (base : Base) (offset : ℤ) (s : State) (e : editor.State) (k : ℕ) (a b t : ℤ) → Sees k a b t s e →
     x < 32 → 3 ≤ k → 3 ≤ x → is_by_number base ≡ true →
-    ((y m : ℕ) (n : ℤ) → y < 3 → pos m ≡ numbers (pos e.current) (pos (length e.lines)) a b t y +ℤ n → m ≤ length e.lines →
-    R (with_zone (after_set s.zone x y n) s) m) →
+    ((y m : ℕ) (n : ℤ) (facts : Facts) → y < 3 → pos m ≡ numbers (pos e.current) (pos (length e.lines)) a b t y +ℤ n → m ≤ length e.lines →
+    R (record s { zone = after_set s.zone x y n; facts = facts }) m) →
     EndAlike R (evaluated_base x base offset s) (base_number base e >> λ n. within e (pos n +ℤ offset))
 based R x (ed.Number n) offset s e k a b t h hx k3 x3 numbered make =
-    from-alike R s e k a b t h x 0 (pos n +ℤ offset) hx (omega arith) (omega arith) k3 x3 (pos n +ℤ offset) (omega (arith, ints))
-    (λ m is le. make 0 m (pos n +ℤ offset) (omega arith) (sym is ∙ omega (arith, ints)) le)
+    from-alike R s e k a b t h x 0 (pos n +ℤ offset) hx (omega arith) (omega arith) k3 x3 (set_number x (pos n +ℤ offset) s).facts (pos n +ℤ offset) (omega (arith, ints))
+    (λ m is le. make 0 m (pos n +ℤ offset) (set_number x (pos n +ℤ offset) s).facts (omega arith) (sym is ∙ omega (arith, ints)) le)
 based R x ed.Current offset s e k a b t h hx k3 x3 numbered make =
-    from-alike R s e k a b t h x 1 offset hx (omega arith) (omega arith) k3 x3 (pos e.current +ℤ offset) refl
-    (λ m is le. make 1 m offset (omega arith) (sym is) le)
+    from-alike R s e k a b t h x 1 offset hx (omega arith) (omega arith) k3 x3 (set_to x 1 offset s).facts (pos e.current +ℤ offset) refl
+    (λ m is le. make 1 m offset (set_to x 1 offset s).facts (omega arith) (sym is) le)
 based R x ed.Last offset s e k a b t h hx k3 x3 numbered make =
-    from-alike R s e k a b t h x 2 offset hx (omega arith) (omega arith) k3 x3 (pos (length e.lines) +ℤ offset) refl
-    (λ m is le. make 2 m offset (omega arith) (sym is) le)
+    from-alike R s e k a b t h x 2 offset hx (omega arith) (omega arith) k3 x3 (set_to x 2 offset s).facts (pos (length e.lines) +ℤ offset) refl
+    (λ m is le. make 2 m offset (set_to x 2 offset s).facts (omega arith) (sym is) le)
 based R x (ed.Marked letter) offset s e k a b t h hx k3 x3 numbered make = absurd cc
 based R x (ed.Forward pattern) offset s e k a b t h hx k3 x3 numbered make = absurd cc
 based R x (ed.Backward pattern) offset s e k a b t h hx k3 x3 numbered make = absurd cc
@@ -118,10 +130,10 @@ first-alike : (x : Address) (s : State) (e : editor.State) (k : ℕ) (a b t : �
     EndAlike (ValuedFirst e b t) (evaluated 3 x s) (value x e)
 first-alike x s e k a b t h k3 numbered =
     based (ValuedFirst e b t) 3 x.base x.offset s e k a b t h (omega arith) k3 (omega arith) numbered
-    (λ y m n hy is le. (
-      Sees-zone k 4 a b t (pos m) b t s e (after_set s.zone 3 y n) h
+    (λ y m n facts hy is le. (
+      Sees-facts 4 (pos m) b t (with_zone (after_set s.zone 3 y n) s) e facts (Sees-zone k 4 a b t (pos m) b t s e (after_set s.zone 3 y n) h
           (At-set_first s.zone k (pos e.current) (pos (length e.lines)) a b t h.zone 4 y n (pos m) (omega arith) (omega arith)
-          (λ p ne lt. omega arith) is (small-line m (let f = h.few in omega arith))),
+          (λ p ne lt. omega arith) is (small-line m (let f = h.few in omega arith)))),
       le,
     ))
 
@@ -129,10 +141,10 @@ second-alike : (x : Address) (s : State) (e : editor.State) (k : ℕ) (a b t : �
     EndAlike (ValuedSecond e a t) (evaluated 4 x s) (value x e)
 second-alike x s e k a b t h k3 numbered =
     based (ValuedSecond e a t) 4 x.base x.offset s e k a b t h (omega arith) (omega arith) (omega arith) numbered
-    (λ y m n hy is le. (
-      Sees-zone k 5 a b t a (pos m) t s e (after_set s.zone 4 y n) h
+    (λ y m n facts hy is le. (
+      Sees-facts 5 a (pos m) t (with_zone (after_set s.zone 4 y n) s) e facts (Sees-zone k 5 a b t a (pos m) t s e (after_set s.zone 4 y n) h
           (At-set_second s.zone k (pos e.current) (pos (length e.lines)) a b t h.zone 5 y n (pos m) (omega arith) (omega arith)
-          (λ p ne lt. omega arith) is (small-line m (let f = h.few in omega arith))),
+          (λ p ne lt. omega arith) is (small-line m (let f = h.few in omega arith)))),
       le,
     ))
 
@@ -140,10 +152,10 @@ target-alike : (x : Address) (s : State) (e : editor.State) (k : ℕ) (a b t : �
     EndAlike (ValuedTarget e a b) (evaluated 5 x s) (value x e)
 target-alike x s e k a b t h k3 numbered =
     based (ValuedTarget e a b) 5 x.base x.offset s e k a b t h (omega arith) (omega arith) (omega arith) numbered
-    (λ y m n hy is le. (
-      Sees-zone k 6 a b t a b (pos m) s e (after_set s.zone 5 y n) h
+    (λ y m n facts hy is le. (
+      Sees-facts 6 a b (pos m) (with_zone (after_set s.zone 5 y n) s) e facts (Sees-zone k 6 a b t a b (pos m) s e (after_set s.zone 5 y n) h
           (At-set_target s.zone k (pos e.current) (pos (length e.lines)) a b t h.zone 6 y n (pos m) (omega arith) (omega arith)
-          (λ p ne lt. omega arith) is (small-line m (let f = h.few in omega arith))),
+          (λ p ne lt. omega arith) is (small-line m (let f = h.few in omega arith)))),
       le,
     ))
 
@@ -189,17 +201,19 @@ PairsOf (Semicolon a b) lines t p = Pairs ⊥ lines t p
 copy-first : (s : State) (e : editor.State) (n : ℕ) → Sees 4 (pos n) (pos 0) (pos 0) s e → n ≤ length e.lines →
     Sees 5 (pos n) (pos n) (pos 0) (copied 4 3 s) e
 copy-first s e n h le =
-    Sees-zone 4 5 (pos n) (pos 0) (pos 0) (pos n) (pos n) (pos 0) s e (after_set s.zone 4 3 (pos 0)) h
+    Sees-facts 5 (pos n) (pos n) (pos 0) (with_zone (after_set s.zone 4 3 (pos 0)) s) e (copied 4 3 s).facts
+    (Sees-zone 4 5 (pos n) (pos 0) (pos 0) (pos n) (pos n) (pos 0) s e (after_set s.zone 4 3 (pos 0)) h
     (At-set_second s.zone 4 (pos e.current) (pos (length e.lines)) (pos n) (pos 0) (pos 0) h.zone 5 3 (pos 0) (pos n) (omega arith)
-    (omega arith) (λ p ne lt. omega arith) (omega (arith, ints)) (small-line n (let f = h.few in omega arith)))
+    (omega arith) (λ p ne lt. omega arith) (omega (arith, ints)) (small-line n (let f = h.few in omega arith))))
 
 -- and the current line too
 move-first : (s : State) (e : editor.State) (n : ℕ) → Sees 4 (pos n) (pos 0) (pos 0) s e → n ≤ length e.lines →
     Sees 4 (pos n) (pos 0) (pos 0) (copied 1 3 s) (record e { current = n })
 move-first s e n h le =
-    Sees-current 4 4 (pos n) (pos 0) (pos 0) (pos n) (pos 0) (pos 0) s e (after_set s.zone 1 3 (pos 0)) n h le
+    Sees-facts 4 (pos n) (pos 0) (pos 0) (with_zone (after_set s.zone 1 3 (pos 0)) s) (record e { current = n }) (copied 1 3 s).facts
+    (Sees-current 4 4 (pos n) (pos 0) (pos 0) (pos n) (pos 0) (pos 0) s e (after_set s.zone 1 3 (pos 0)) n h le
     (At-set_current s.zone 4 (pos e.current) (pos (length e.lines)) (pos n) (pos 0) (pos 0) h.zone 3 (pos 0) (pos n) (omega arith)
-    (omega arith) (omega (arith, ints)) (small-line n (let f = h.few in omega arith)))
+    (omega arith) (omega (arith, ints)) (small-line n (let f = h.few in omega arith))))
 
 pub addressed-alike : (x : Addresses) (s : State) (e : editor.State) → are_by_number x ≡ true → Sees 3 (pos 0) (pos 0) (pos 0) s e →
     EndAlike (PairsOf x e.lines) (addressed x s) (values x e)

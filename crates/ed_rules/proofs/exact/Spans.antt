@@ -23,7 +23,7 @@ use Rattle.ed_rules.proofs.sound.Commanding.{IsGiven, given_or-given, ordered-is
 use Rattle.ed_rules.proofs.exact.EndAlike.{EndAlike-ok, EndAlike-fault, needing-met, needing-failed, met-goes, failed-stops}
 use Rattle.ed_rules.proofs.exact.Zones.{At, At-knows, At-denies, At-set_first, At-set_second, At-guard}
 use Rattle.ed_rules.proofs.exact.Pieces.{small-line, At-lifted_first, At-lifted_second}
-use Rattle.ed_rules.proofs.exact.Addresses.{Sees, Sees-zone, Pairs, PairsNone, PairsOf, IsSome}
+use Rattle.ed_rules.proofs.exact.Addresses.{Sees, Sees-zone, Sees-facts, Pairs, PairsNone, PairsOf, IsSome}
 
 pub given-pairs : (a : Addresses) → IsGiven a → (lines : List Line) (t : State) (p : editor.State × List ℕ) → PairsOf a lines t p →
     Pairs ⊥ lines t p
@@ -39,11 +39,12 @@ last-for-both : (lines : List Line) (t : State) (p : editor.State × List ℕ) �
 last-for-both lines t p h =
     let f = h.sees.few in
     let i : last_of_two p.1 ≤ length p.0.lines = subst (λ (ls : List Line). last_of_two p.1 ≤ length ls) (sym h.same_lines) h.last_in in
-    Sees-zone 5 5 (pos (first_of_two p.1)) (pos (last_of_two p.1)) (pos 0) (pos (last_of_two p.1)) (pos (last_of_two p.1)) (pos 0) t p.0
+    Sees-facts 5 (pos (last_of_two p.1)) (pos (last_of_two p.1)) (pos 0) (with_zone (after_set t.zone 3 4 (pos 0)) t) p.0 (copied 3 4 t).facts
+    (Sees-zone 5 5 (pos (first_of_two p.1)) (pos (last_of_two p.1)) (pos 0) (pos (last_of_two p.1)) (pos (last_of_two p.1)) (pos 0) t p.0
     (after_set t.zone 3 4 (pos 0)) h.sees
     (At-set_first t.zone 5 (pos p.0.current) (pos (length p.0.lines)) (pos (first_of_two p.1)) (pos (last_of_two p.1))
     (pos 0) h.sees.zone 5 4 (pos 0) (pos (last_of_two p.1)) (omega arith) (omega arith) (λ q ne lt. lt) (omega (arith, ints))
-    (small-line (last_of_two p.1) (omega arith)))
+    (small-line (last_of_two p.1) (omega arith))))
 
 pub last_given-sees : (a : Addresses) → IsGiven a → (lines : List Line) (t : State) (p : editor.State × List ℕ) → PairsOf a lines t p →
     Sees 5 (pos (last_of_two p.1)) (pos (last_of_two p.1)) (pos 0) (last_given a t) p.0

@@ -94,7 +94,7 @@ witnesses-true facts number lines pattern h =
     All-map (IsWitness number (length lines) (matches_line pattern lines)) (λ (f : LineFact). f.name) (filter (matches_it pattern) facts.lines)
     (filter-both (matches_it pattern) (LineFactHolds number lines) (λ (f : LineFact). IsWitness number (length lines) (matches_line pattern lines) f.name) facts.lines h.of_lines (λ f q e. witness-of number lines pattern f q e))
 
-find-gives : {A : Type 0} (test : A → Bool) (Q : A → Type 0) (xs : List A) (v : A) → All Q xs → find test xs ≡ Some v → Q v × (test v ≡ true)
+pub find-gives : {A : Type 0} (test : A → Bool) (Q : A → Type 0) (xs : List A) (v : A) → All Q xs → find test xs ≡ Some v → Q v × (test v ≡ true)
 find-gives test Q [] v all e = absurd cc
 find-gives {A = A} test Q (x ∷ xs) v all e =
     (elim (test x) as (λ b. test x ≡ b → cond b (Some x) (find test xs) ≡ Some v → Q v × (test v ≡ true)) [

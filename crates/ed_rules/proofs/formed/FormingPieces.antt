@@ -69,6 +69,7 @@ pub forming-at : KeptAt Forming TextIsBytes
 forming-at = record {
   zone = λ s zone speaks h. forming-zone s zone (speaks h.zone) h;
   given = λ s text b h. forming-patterns s (Some text ∷ []) (SetIsFormed-only (Some text) b) h;
+  facts = λ s facts h. record { letters = h.letters; zone = h.zone; aside = h.aside };
 }
 
 pub forming-kept : (start : State) → Closed start → Kept Forming TextIsBytes TextIsBytes (Unit {0}) start

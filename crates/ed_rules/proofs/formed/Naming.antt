@@ -1,5 +1,5 @@
 -- Names and sure marks: what the zone of a rule speaks of on the way, and what that of a state does.
-use Rattle.std.proofs.Common.{◌≡◌, ◌≢◌, ◌<◌, ◌≤◌, ◌-◌, ◌⊎◌, ◌||◌, ◌&&◌, inl, inr, ℕ, zero, suc, ℤ, Bool, true, false, List, length, get_or, set, get_or-set_other, get_or-set_same, ◌∙◌, sym, ap, arith}
+use Rattle.std.proofs.Common.{◌≡◌, ◌≢◌, ◌<◌, ◌≤◌, ◌-◌, ◌⊎◌, ◌&&◌, inl, inr, ℕ, zero, suc, ℤ, Bool, true, false, List, length, get_or, set, get_or-set_other, get_or-set_same, ◌∙◌, sym, ap, arith}
 use Rattle.std.specs.Prelude.{nat_lt, nat_le, slice_set}
 use Rattle.std.proofs.lemmas.Bool.{lt-ltb, le-ltb, le-leb, lt-leb, ltb-false, or_parts, or_right, or_left, and_from, and_cases, and_left, and_right, or_from, cases_lt}
 use Rattle.std.proofs.lemmas.Bool.Decides.{eqb_tells}
@@ -11,13 +11,11 @@ use Rattle.zones.specs.Isolated.{IsIsolated}
 use Rattle.zones.proofs.Isolated.{IsIsolated-after_forget, IsIsolated-forgotten}
 use Rattle.ed_rules.specs.Marks.{is_sure, no_marks, both_sure}
 use Rattle.ed_rules.specs.Formed.{has_name}
+-- on the way through a rule a zone speaks of the addresses too
+pub use Rattle.ed_rules.specs.Following.{is_spoken}
 use Rattle.ed_rules.specs.Pieces.{without_addresses}
 use Rattle.ed_rules.specs.Files.{without_letters}
 use Rattle.ed_rules.proofs.formed.Speaking.{Speaks, IsNamed, Speaks-set, Speaks-forget, Speaks-more, IsOfBoth}
-
--- on the way through a rule a zone speaks of the addresses too
-abbrev pub is_spoken : List Bool → ℕ → Bool
-is_spoken marks x = nat_lt x 6 || is_sure marks (x - 6)
 
 pub low-spoken : (marks : List Bool) (x : ℕ) → x < 6 → IsNamed (is_spoken marks) x
 low-spoken marks x h = record { inside = omega arith; named = or_left (nat_lt x 6) (is_sure marks (x - 6)) (lt-ltb x 6 h) }

@@ -232,7 +232,7 @@ module _ (watched : List (List ℕ)) (addresses_given : Addresses) (suffix : Opt
       let a : Addresses = given_or addresses_given d in
       subst (λ (y : Result Effect Fault). Tells Holds (step_at watched a c s) y) (sym (command-is c e answer))
       (tells-agreed Holds (AddressedIn e.lines (NamesOf a)) (SameMatches s) (λ (v : editor.State × List ℕ). SameBuffer e v.0) (addressed a s) (values (given_or addresses_given (takes ed.Join).default) e) _ _
-      (command_addressed addresses_given ed.Join s e (st.numbers, st.stands) st.matches.0)
+      (command_addressed addresses_given ed.Join s e (st.numbers, st.stands, st.facts) st.matches.0)
       (addressed-same a s) (values-same (given_or addresses_given (takes ed.Join).default) e)
       (λ t v h i j. tells-agreed Holds (λ (u : State) (x : Span). Joins (joining_given addresses_given u.zone) x) (SameMatches t) InOrder (ranged t) (spanned many.Range (length e.lines) v.1) _ _
       (join-suits addresses_given d tt t v (length e.lines) h.0)
@@ -246,12 +246,12 @@ module _ (watched : List (List ℕ)) (addresses_given : Addresses) (suffix : Opt
       let a : Addresses = given_or addresses_given d in
       subst (λ (y : Result Effect Fault). Tells Holds (step_at watched a c s) y) (sym (command-is c e answer))
       (tells-agreed Holds (AddressedIn e.lines (NamesOf a)) (SameMatches s) (λ (v : editor.State × List ℕ). SameBuffer e v.0) (addressed a s) (values (given_or addresses_given (takes (ed.Copy to)).default) e) _ _
-      (command_addressed addresses_given (ed.Copy to) s e (st.numbers, st.stands) st.matches.0)
+      (command_addressed addresses_given (ed.Copy to) s e (st.numbers, st.stands, st.facts) st.matches.0)
       (addressed-same a s) (values-same (given_or addresses_given (takes (ed.Copy to)).default) e)
       (λ t v h i j.
       let n = names-given a (given_or-given addresses_given d tt) v.1 v.0.lines h.0.numbers h.0.names in
       tells-agreed Holds (Targeted v.0 v.1) (SameMatches t) (λ (q : editor.State × ℕ). SameBuffer v.0 q.0) (evaluated 5 to t) (concrete.targeted (Some to) v.0) _ _
-      (targeted-sound to t v.0 v.1 h.0.numbers h.0.stands n h.0.matched)
+      (targeted-sound to t v.0 v.1 h.0.numbers h.0.stands n h.0.matched h.0.followed)
       (target-same (Some to) t) (targeted-same (Some to) v.0)
       (λ p q k l m. tells-agreed Holds (λ (w : State) (x : Span). 1 ≤ length (texts (parts.between x.first x.last q.0.lines))) (SameMatches p) InOrder (ranged p) (spanned many.Range (length e.lines) v.1) _ _
       (copy-suits a (given_or-given addresses_given d tt) to t v p q (length e.lines) h.0 k)

@@ -23,7 +23,7 @@ use Rattle.ed_syntax.specs.meaning.Effects as effects
 use Rattle.ed_syntax.specs.meaning.Effects.{Effect, Makes, Asks}
 use Rattle.ed_syntax.specs.meaning.Applied.{making, completed, targeted, effect_of, command}
 use Rattle.ed_rules.specs.declared.state.State.{State}
-use Rattle.ed_rules.specs.Lines.{lifted_range, joined, joined_given, marked, copied_lines}
+use Rattle.ed_rules.specs.Lines.{lifted_range, joined, joined_given, marked, current_at, copied_lines}
 use Rattle.ed_rules.specs.Addresses as addresses
 use Rattle.ed_rules.specs.StandsFor.{StandsBy, AreLettered}
 use Rattle.ed_rules.specs.Move.{moved_lines}
@@ -33,7 +33,8 @@ use Rattle.ed_syntax.specs.meaning.Globals.{flagged}
 use Rattle.ed_syntax.specs.meaning.SubstitutedLines.{substitute}
 use Rattle.ed_rules.proofs.Basics.{Agrees}
 use Rattle.ed_rules.proofs.sound.Standing.{StandsBy-temporary, StandsBy-current, StandsBy-guarded, Reads-temporary, Begins}
-use Rattle.ed_rules.proofs.sound.Addressing.{Valued, valued-sound, Names, NamesOf, Addressed, AddressedIn, command_addressed}
+use Rattle.ed_rules.proofs.sound.Following.{FollowedHold}
+use Rattle.ed_rules.proofs.sound.Addressing.{StandsBy-set, Valued, valued-sound, Names, NamesOf, Addressed, AddressedIn, command_addressed}
 use Rattle.ed_rules.proofs.sound.Spans.{Spans, Ranges}
 use Rattle.ed_rules.proofs.sound.Effects.{append-follows, delete-follows, insert-follows, change-follows, join-follows, join-one, copy-follows, mark-follows, move-follows}
 use Rattle.std.proofs.lemmas.Bool.{ltb-true}
@@ -76,7 +77,7 @@ last_for_both t p v st n =
     let l = n.last_is in
     record {
       numbers = updated v 3 (pos (last_of_two p.1));
-      stands = StandsBy-temporary t p.0 v 3 4 (pos 0) (pos (last_of_two p.1)) (omega arith) (omega arith) (omega arith) (omega (arith, ints)) st;
+      stands = StandsBy-set t p.0 v 3 4 (pos 0) (pos (last_of_two p.1)) (omega arith) (omega arith) (omega arith) (omega (arith, ints)) st;
       first_is = refl;
       last_is = n.last_is;
       first_in = n.last_in;
@@ -234,7 +235,7 @@ lifted-one s e v a va ha st =
     let s3 : State = with_zone (lifted 3 s.zone) s in
     let st3 : StandsBy s3 e v3 = StandsBy-lifted s e v 3 a (omega arith) (omega arith) va (λ _. ha) st in
     let v4 : Numbers = updated v3 4 (pos m) in
-    let s4 : State = copied 4 3 s3 in
+    let s4 : State = with_zone (after_set s3.zone 4 3 (pos 0)) s3 in
     let st4 : StandsBy s4 e v4 = StandsBy-temporary s3 e v3 4 3 (pos 0) (pos m) (omega arith) (omega arith) (omega arith) (omega (arith, ints)) st3 in
     let v5 : Numbers = updated v4 4 (pos (max 1 m)) in
     let s5 : State = with_zone (lifted 4 s4.zone) s4 in
@@ -322,9 +323,9 @@ pub record Targeted (p : editor.State) (vs : List ℕ) (t : State) (q : editor.S
   pub same_lines : q.0.lines ≡ p.lines
 
 pub targeted-sound : (to : Address) (t : State) (p : editor.State) (vs : List ℕ) (v : Numbers) → StandsBy t p v → Names ⊥ vs p.lines v → AreMatched t.matches.has p.lines →
-    Agrees (Targeted p vs) (evaluated 5 to t) (targeted (Some to) p)
-targeted-sound to t p vs v st n matched =
-    Agrees-map (Valued 5 (concrete.evaluated to p) v) (Targeted p vs) (evaluated 5 to t) (value to p) (λ m. (concrete.evaluated to p, m)) (valued-sound 5 to t p v (omega arith) (omega arith) st matched)
+    FollowedHold t v p.lines → Agrees (Targeted p vs) (evaluated 5 to t) (targeted (Some to) p)
+targeted-sound to t p vs v st n matched followed =
+    Agrees-map (Valued 5 (concrete.evaluated to p) v) (Targeted p vs) (evaluated 5 to t) (value to p) (λ m. (concrete.evaluated to p, m)) (valued-sound 5 to t p v (omega arith) (omega arith) st matched followed)
     (λ u m r. record {
       numbers = updated v 5 (pos m);
       stands = r.0;
@@ -399,7 +400,7 @@ module _ (order : SpansAreInOrder) (c : Command) (answer : Option Answer) (given
       (subst (λ (ls : List Line). KnowLetters ls) (sym same_lines) marked_well.known))))
   after_addresses (ed.Move to) f g =
       let n = names-given (given_or given d) (given_or-given given d g) p.1 p.0.lines h.numbers h.names in
-      Agrees-bind (Targeted p.0 p.1) Final (evaluated 5 to t) (targeted (Some to) p.0) _ _ (targeted-sound to t p.0 p.1 h.numbers h.stands n h.matched)
+      Agrees-bind (Targeted p.0 p.1) Final (evaluated 5 to t) (targeted (Some to) p.0) _ _ (targeted-sound to t p.0 p.1 h.numbers h.stands n h.matched h.followed)
       (λ u q k. Agrees-bind (RangeWith (At_target q.1) q.0) Final (ranged u) (spanned many.Range (length e.lines) p.1) _ _
       (range-with (At_target q.1) u q.0 p.1 k.numbers (length e.lines) k.stands k.names k.target_is)
       (λ w x r. Agrees-bind (Follows c.listed e) Final (moved_lines c.listed s w) (making (effects.move x q.1 q.0)) _ _
@@ -408,7 +409,7 @@ module _ (order : SpansAreInOrder) (c : Command) (answer : Option Answer) (given
       (λ m f i. finish-sound c e m f i)))
   after_addresses (ed.Copy to) f g =
       let n = names-given (given_or given d) (given_or-given given d g) p.1 p.0.lines h.numbers h.names in
-      Agrees-bind (Targeted p.0 p.1) Final (evaluated 5 to t) (targeted (Some to) p.0) _ _ (targeted-sound to t p.0 p.1 h.numbers h.stands n h.matched)
+      Agrees-bind (Targeted p.0 p.1) Final (evaluated 5 to t) (targeted (Some to) p.0) _ _ (targeted-sound to t p.0 p.1 h.numbers h.stands n h.matched h.followed)
       (λ u q k. Agrees-bind (RangeWith (At_target q.1) q.0) Final (ranged u) (spanned many.Range (length e.lines) p.1) _ _
       (range-with (At_target q.1) u q.0 p.1 k.numbers (length e.lines) k.stands k.names k.target_is)
       (λ w x r. finish-sound c e (copied_lines c.listed s w) (Makes (effects.copy x q.1 q.0))
@@ -426,13 +427,13 @@ module _ (order : SpansAreInOrder) (c : Command) (answer : Option Answer) (given
       (λ u x r.
       let f = r.0.spans.first_is in
       let same = r.1 in
-      finish-sound c e (copied 1 3 u) (Makes (effects.write ed.Plain x p.0))
+      finish-sound c e (current_at 3 u) (Makes (effects.write ed.Plain x p.0))
       (updated r.0.spans.numbers 1 (pos x.last), StandsBy-current u p.0 r.0.spans.numbers 3 (pos 0) x.last (omega arith) (omega (arith, ints)) r.0.spans.last_in r.0.spans.stands))
   after_addresses (ed.Write form) f g =
       Agrees-bind (RangeWith Nothing_more p.0) Final (ranged t) (spanned many.Range (length e.lines) p.1) _ _ (range-sound (given_or given d) (given_or-given given d g) t p (length e.lines) h)
       (λ u x r.
       let l = r.0.spans.last_is in
-      finish-sound c e (copied 1 4 u) (Makes (effects.write form x p.0))
+      finish-sound c e (current_at 4 u) (Makes (effects.write form x p.0))
       (updated r.0.spans.numbers 1 (pos x.last), StandsBy-current u p.0 r.0.spans.numbers 4 (pos 0) x.last (omega arith) (omega (arith, ints)) r.0.spans.last_in r.0.spans.stands))
   after_addresses (ed.ReadFile path) f g = absurd cc
   after_addresses (ed.WriteFile path) f g = absurd cc
@@ -497,6 +498,6 @@ phases_sound order c s e answer letters st matched =
     let d : Addresses = standing (takes c.verb).default in
     let a : Addresses = given_or c.addresses d in
     subst (λ (y : Result Effect Fault). Does Comes answer (step_aside a c s) y) (sym (command-is c e answer))
-    (does-bind (AddressedIn e.lines (NamesOf a)) Comes answer (addressed a s) (values (given_or c.addresses (takes c.verb).default) e) _ _ (command_addressed c.addresses c.verb s e (st.0, st.1) matched)
+    (does-bind (AddressedIn e.lines (NamesOf a)) Comes answer (addressed a s) (values (given_or c.addresses (takes c.verb).default) e) _ _ (command_addressed c.addresses c.verb s e st matched)
     (λ t p h. all_after_addresses order c answer c.addresses d s e st letters.whole (lettered-marked e.lines letters) t p h.1 h.0 c.verb
     (suits c.verb)))

@@ -1,6 +1,7 @@
 //! What is known of lines where a name becomes another one's line, or moves by a number.
 
 ghost use Rattle.std.specs.Prelude.{◌≡◌, ◌≤ℤ◌, ◌++◌, ◌==◌, ◌&&◌, not, map, filter, flat_map, pos, negsuc, ℕ, List, IfOk, OnOk};
+ghost use Rattle.zones.specs.Zone.{Bounds};
 ghost use Rattle.ed_rules.specs.facts.Facts.{Stretch, told};
 ghost use Rattle.ed_rules.specs.facts.FoundLines.{known_as};
 ghost use Rattle.ed_rules.specs.facts.EditedFacts.{told_fact};
@@ -94,6 +95,46 @@ impl LineFacts {
         }
         Ok(clear)
     }
+
+    /// x becomes the line y: of these patterns it is told what y is told. After an `Err` some of it may be done.
+    pub(crate) fn assign(
+        &mut self,
+        alloc: Global,
+        zone: &Zone,
+        x: Name,
+        y: Name,
+        patterns: &Texts,
+    ) -> Result<(), AllocError>
+        ensures value { OnOk result (self.new ≡ (assigned x y patterns.now zone.now self.old).facts) }
+    {
+        let mut lines = self.told_as(alloc, zone, x, y, patterns)?;
+        let mut clear = self.from_as(alloc, x, y)?;
+        let mut to = self.to_as(alloc, x, y)?;
+        self.forget(x);
+        lines.append(&mut self.lines)?;
+        to.append(&mut self.clear)?;
+        clear.append(&mut to)?;
+        self.lines = lines;
+        self.clear = clear;
+        Ok(())
+    }
+
+    /// x moves by so many lines: nothing is told of its line any more, and the stretches go that end after it if it goes down, and those
+    /// that begin before it if it goes up.
+    pub(crate) fn move_by(&mut self, x: Name, by: i128)
+        ensures value { (zone : Bounds) → self.new ≡ (moved x by (known_as zone self.old)).facts }
+    {
+        if by == 0 {
+            return;
+        }
+        let edge = edge_of(x);
+        self.lines.retain(|fact| edge_of(fact.name) != edge);
+        if by > 0 {
+            self.clear.retain(|stretch| stretch.before != edge);
+        } else {
+            self.clear.retain(|stretch| stretch.after != edge);
+        }
+    }
 }
 
 /// x becomes the line y, in the zone and in the facts at once; of these patterns x is told what y is told. After an `Err` some of it may be done.
@@ -107,33 +148,19 @@ pub fn assign(
 ) -> Result<(), AllocError>
     ensures exact { OnOk result (known_as zone.new facts.new ≡ assigned x y patterns.now zone.old facts.old) }
 {
-    let mut lines = facts.told_as(alloc, zone, x, y, patterns)?;
-    let mut clear = facts.from_as(alloc, x, y)?;
-    let mut to = facts.to_as(alloc, x, y)?;
-    facts.forget(x);
-    lines.append(&mut facts.lines)?;
-    to.append(&mut facts.clear)?;
-    clear.append(&mut to)?;
-    facts.lines = lines;
-    facts.clear = clear;
+    facts.assign(alloc, zone, x, y, patterns)?;
     zone.set(x, y, 0);
     Ok(())
 }
 
 /// x moves by so many lines: nothing is told of its line any more, and the stretches go that end after it if it goes down, and those that begin
 /// before it if it goes up.
-pub fn move_by(zone: &mut Zone, facts: &mut LineFacts, x: Name, by: i64)
+pub fn move_by(zone: &mut Zone, facts: &mut LineFacts, x: Name, by: i128)
     ensures exact { known_as zone.new facts.new ≡ moved x by (known_as zone.old facts.old) }
 {
     if by == 0 {
         return;
     }
-    let edge = edge_of(x);
-    zone.shift(x, Some(by), Some(by));
-    facts.lines.retain(|fact| edge_of(fact.name) != edge);
-    if by > 0 {
-        facts.clear.retain(|stretch| stretch.before != edge);
-    } else {
-        facts.clear.retain(|stretch| stretch.after != edge);
-    }
+    zone.shift_wide(x, Some(by), Some(by));
+    facts.move_by(x, by);
 }
