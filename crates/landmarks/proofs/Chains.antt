@@ -53,7 +53,7 @@ module _ {text r1 : List ℕ} {n : List (List ℕ)} (none : SpellsNone [] text r
 abbrev landmark_of : List (List ℕ) → Which → ℕ → ℕ → List (List ℕ) → List (List ℕ) → Landmark
 landmark_of none which gap tail also lacks = record { none = none; which = which; gap = gap; tail = tail; also = also; lacks = lacks }
 
-landmark-same : (one other : Landmark) → one.none ≡ other.none → one.which ≡ other.which → one.gap ≡ other.gap → one.tail ≡ other.tail →
+pub landmark-same : (one other : Landmark) → one.none ≡ other.none → one.which ≡ other.which → one.gap ≡ other.gap → one.tail ≡ other.tail →
     one.also ≡ other.also → one.lacks ≡ other.lacks → one ≡ other
 landmark-same one other none which gap tail also lacks =
     ap (λ n. landmark_of n one.which one.gap one.tail one.also one.lacks) none

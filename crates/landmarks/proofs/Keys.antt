@@ -18,7 +18,7 @@ false_true : {A : Type 0} → false ≡ true → A
 false_true e = cc
 
 -- the delimiter is one of two bytes
-delimiter-cases : (d : ℕ) → IsTrue (is_key_delimiter d) → (d ≡ slash) ⊎ (d ≡ vertical_line)
+pub delimiter-cases : (d : ℕ) → IsTrue (is_key_delimiter d) → (d ≡ slash) ⊎ (d ≡ vertical_line)
 delimiter-cases d h =
     ⊎_elim (λ e. inl (eqb-true d slash e)) (λ e. inr (eqb-true d vertical_line e)) (or_cases (nat_eq d slash) (nat_eq d vertical_line) h)
 

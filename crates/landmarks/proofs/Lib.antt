@@ -13,3 +13,9 @@ mod Told
 mod Started
 mod Marked
 mod Guarded
+mod BracketEnds
+mod Quotings
+mod SameChains
+mod WrittenKeys
+mod WrittenCounts
+mod WrittenChains

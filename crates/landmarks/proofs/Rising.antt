@@ -1,5 +1,5 @@
 -- Sets of patterns rise.
-use Rattle.std.proofs.Common.{◌≡◌, ℕ, Bool, true, List, [], ◌∷◌, Result, Ok, Err, refl, ◌∙◌, sym, ap, subst}
+use Rattle.std.proofs.Common.{◌≡◌, ℕ, Bool, true, List, [], ◌∷◌, ◌++◌, Result, Ok, Err, refl, ◌∙◌, sym, ap, subst}
 use Rattle.std.specs.Prelude.{OnOk, OnErr}
 use Rattle.std.specs.Cmp.Lexicographic.{slice_cmp, nat_list_cmp_total}
 use Rattle.std.specs.Ordering.{nat_cmp, is_lt, ordering_reverse}
@@ -51,3 +51,21 @@ pub put-rises : {A E : Type 0} (result : Result A E) (text : List ℕ) (set afte
     are_rising set ≡ true → are_rising after ≡ true
 put-rises (Ok a) text set after put kept h = subst (λ (s : List (List ℕ)). are_rising s ≡ true) (sym put) (rising-with text set h)
 put-rises (Err e) text set after put kept h = subst (λ (s : List (List ℕ)). are_rising s ≡ true) (sym kept) h
+
+-- a text that stands after all of a set is put behind them
+less : (text other : List ℕ) → is_lt (slice_cmp nat_cmp text other) ≡ true → slice_cmp nat_cmp text other ≡ Less
+less text other h =
+    (elim (slice_cmp nat_cmp text other) as (λ o. is_lt o ≡ true → o ≡ Less) [ Less ↦ λ _. refl | Equal ↦ λ e. cc | Greater ↦ λ e. cc ]) h
+
+before-later : (member text : List ℕ) (set more : List (List ℕ)) → are_rising (member ∷ (set ++ text ∷ more)) ≡ true → slice_cmp nat_cmp member text ≡ Less
+before-later member text [] more h = less member text (rising-before member (text ∷ more) h)
+before-later member text (next ∷ set) more h =
+    let rest = rising-rest member (next ∷ (set ++ text ∷ more)) h in
+    nat_list_cmp_total.trans member next text (less member next (rising-before member (next ∷ (set ++ text ∷ more)) h)) (before-later next text set more rest)
+
+pub with-last : (text : List ℕ) (set more : List (List ℕ)) → are_rising (set ++ text ∷ more) ≡ true → with_pattern text set ≡ set ++ text ∷ []
+with-last text [] more h = refl
+with-last text (member ∷ set) more h =
+    let after : slice_cmp nat_cmp text member ≡ Greater = nat_list_cmp_total.antisymm text member ∙ ap ordering_reverse (before-later member text set more h) in
+    ap (λ o. elim o as (λ _. List (List ℕ)) [ Less ↦ text ∷ member ∷ set | Equal ↦ member ∷ set | Greater ↦ member ∷ with_pattern text set ]) after
+    ∙ ap (λ (s : List (List ℕ)). member ∷ s) (with-last text set more (rising-rest member (set ++ text ∷ more) h))

@@ -5,6 +5,7 @@ pub mod Misplaced
 pub mod Placings
 pub mod Words
 pub mod Spelled
+pub mod Written
 pub mod ChainFaults
 pub mod Starting
 pub mod Starts

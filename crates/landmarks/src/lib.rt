@@ -12,18 +12,23 @@ mod never;
 mod parts;
 mod patterns;
 mod places;
+mod quoting;
+mod sameness;
 mod starting;
 mod which;
 mod words;
+mod writing;
 
 pub use chain::read_chain;
 pub use chain_fault::{ChainFault, ChainWrong, Never};
 pub use landmark::Landmark;
 pub use laws::{
     chains_are_spelled_once, landmarks_are_where_they_are_said, landmarks_have_one_place,
+    spelled_chains_are_written,
 };
 pub use misplaced::{Misfit, Misplaced};
 pub use patterns::Patterns;
 pub use places::{Placing, find_places};
 pub use starting::know_landmarks;
 pub use which::Which;
+pub use writing::write_chain;
