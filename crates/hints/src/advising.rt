@@ -9,18 +9,12 @@ ghost use Rattle.hints.specs.Sought.{GetsPastAll, StatingHelps};
 ghost use Rattle.hints.specs.Hints.{IsTried, AsksForMore, States, IsStated};
 
 use crate::changing::{change_of, does_the_same, unchanged_at};
-use crate::commands::{command_at, command_of, line_at, line_of_span, span_of};
-use crate::drafts::{Draft, Spot};
-use crate::endings::{push_end, push_losing};
-use crate::escapes::push_extended;
-use crate::foreign::push_spellings;
+use crate::commands::line_at;
+use crate::drafts::Draft;
 use crate::further::{with_more_lines, with_needed_lines};
-use crate::globals::{Reach, reach_of};
 use crate::hint::{Advice, Change, Hint, Remark};
-use crate::known::state_at;
-use crate::lists::{push_move, push_offset};
 use crate::passing::gets_past_all;
-use crate::searches::{push_blank, push_searching};
+use crate::rewritings::drafts_at;
 use crate::sought::unmatched_at;
 use crate::starts::{copy_of, greatest_start, least_start, with_bounds};
 use crate::stating::with_stated;
@@ -28,67 +22,7 @@ use analyser::Start;
 use cert_check::{Note, Place};
 use ed_base::{Bytes, Fault, count_lines};
 use ed_rules::Texts;
-use ed_syntax::read_script;
 use std::alloc::{AllocError, Global};
-
-/// The lines that a global command takes in the place of the command at a place.
-fn reach_at(
-    alloc: Global,
-    script: &[u8],
-    place: Place,
-    notes: &[Note],
-) -> Result<Reach, AllocError> {
-    let read = read_script(alloc, script)?;
-    Ok(match command_of(&read, place) {
-        Some(command) => reach_of(command, state_at(place, notes)),
-        None => Reach::All,
-    })
-}
-
-/// What may help at a place, before which this is known, by a start with this path: the best first.
-pub(crate) fn drafts_at(
-    alloc: Global,
-    script: &[u8],
-    path: Option<&[u8]>,
-    place: Place,
-    why: Fault,
-    notes: &[Note],
-) -> Result<Vec<Draft>, AllocError> {
-    let mut drafts = Vec::new(alloc);
-    let number = place.command;
-    let Some(span) = span_of(alloc, script, number)? else {
-        if why == Fault::Unsaved {
-            push_end(&mut drafts, alloc, script)?;
-        }
-        return Ok(drafts);
-    };
-    let spot = Spot {
-        script,
-        span,
-        number,
-        path,
-    };
-    match (place.inner, why) {
-        (None, Fault::Syntax) => {
-            let line = line_of_span(script, span);
-            push_spellings(&mut drafts, alloc, Spot { span: line, ..spot })?;
-        }
-        (None, Fault::Unsaved) => push_losing(&mut drafts, alloc, script, span)?,
-        (None, Fault::NoMatch) => {
-            let reach = reach_at(alloc, script, place, notes)?;
-            push_searching(&mut drafts, alloc, spot, reach)?;
-            push_extended(&mut drafts, alloc, command_at(script, span))?;
-        }
-        (None, Fault::Address) => {
-            let reach = reach_at(alloc, script, place, notes)?;
-            push_blank(&mut drafts, alloc, spot, reach)?;
-        }
-        (Some(_), Fault::Address) => push_offset(&mut drafts, alloc, script, place)?,
-        (Some(_), Fault::Destination) => push_move(&mut drafts, alloc, spot, place)?,
-        _ => {}
-    }
-    Ok(drafts)
-}
 
 /// The line at a place, or the last one at the end; lines count from 1.
 fn number_at(alloc: Global, script: &[u8], place: Place) -> Result<usize, AllocError> {

@@ -11,17 +11,18 @@ use ed_base::next_line;
 use ed_syntax::{Address, Addresses, Command, Script, Span, list_places, places};
 use std::alloc::{AllocError, Global};
 
-/// Where a command stands; commands count from 1. None where the script has no such command, readable or not.
+/// Where a command stands, by the places of all; commands count from 1.
+pub(crate) fn span_in(spans: &[Span], number: usize) -> Option<Span> {
+    spans.get(number.checked_sub(1)?).copied()
+}
+
+/// Where a command of a script stands. None where the script has no such command, readable or not.
 pub(crate) fn span_of(
     alloc: Global,
     script: &[u8],
     number: usize,
 ) -> Result<Option<Span>, AllocError> {
-    let spans = places(alloc, script)?;
-    match number.checked_sub(1) {
-        Some(index) => Ok(spans.as_slice().get(index).copied()),
-        None => Ok(None),
-    }
+    Ok(span_in(places(alloc, script)?.as_slice(), number))
 }
 
 /// The bytes of a command without the newline after its last line.
@@ -93,15 +94,6 @@ pub(crate) fn addresses_of(command: &Command) -> [Option<&Address>; 3] {
     [first, second, command.verb.takes().target]
 }
 
-/// Where a command of a list stands in its global command's bytes; the list's commands count from 1.
-fn span_in_list(alloc: Global, command: &[u8], inner: usize) -> Result<Option<Span>, AllocError> {
-    let spans = list_places(alloc, command)?;
-    match inner.checked_sub(1) {
-        Some(index) => Ok(spans.as_slice().get(index).copied()),
-        None => Ok(None),
-    }
-}
-
 /// Where the lines of a command of a list stand in the script, whose global command has this span. A command that begins amid the global
 /// command's own line has that line.
 fn lines_in_list(
@@ -110,8 +102,8 @@ fn lines_in_list(
     span: Span,
     inner: usize,
 ) -> Result<Span, AllocError> {
-    let command = between(script, span.low, span.high);
-    match span_in_list(alloc, command, inner)? {
+    let listed = list_places(alloc, between(script, span.low, span.high))?;
+    match span_in(listed.as_slice(), inner) {
         Some(listed) if listed.line > 1 => Ok(Span {
             line: span.line.saturating_add(listed.line - 1),
             low: span.low.saturating_add(listed.low),

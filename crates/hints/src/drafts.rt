@@ -1,14 +1,16 @@
-//! What may help where a need fails, before it is tried.
+//! What may help where a need fails, before it is tried, and the spot where it fails.
 
 ghost use Rattle.std.specs.Prelude.{◌≡◌, Some};
 
-use crate::bytes::{joined, replaced};
+use crate::bytes::{before, from, joined, replaced};
 use crate::following::{on_text, other_text};
-use crate::globals::{Reach, as_global};
+use crate::globals::{Reach, global_of};
 use crate::hint::Advice;
+use crate::patterns::addresses_len;
 use crate::words::quoted;
+use cert_check::Place;
 use ed_base::Bytes;
-use ed_syntax::{Span, read_script};
+use ed_syntax::{Script, Span, read_script};
 use std::alloc::{AllocError, Global};
 
 /// A script that may get past a place. It isn't tried yet.
@@ -45,58 +47,103 @@ pub(crate) fn drafted(
     }
 }
 
-/// A remark, which has no script.
-pub(crate) fn remark(text: String) -> Draft {
-    Draft {
-        advice: Advice::Spelling,
-        text,
-        script: None,
-        removed: 0,
-        written: 0,
-        past: 0,
-    }
-}
-
-/// What is told of a foreign spelling.
-pub(crate) fn spelled(alloc: Global, foreign: &str, posix: &str) -> Result<String, AllocError> {
-    Ok(format!(in alloc; "POSIX has no {foreign}: write {posix}")?)
-}
-
-/// Where a need fails: the bytes of the script, those of its command there with the number of that, and the path of its start.
-#[derive(Clone, Copy)]
+/// Where a need fails, and what a rewriting asks about it.
+#[derive(Drop)]
 pub(crate) struct Spot<'a> {
+    pub alloc: Global,
     pub script: &'a [u8],
+    /// The commands of the script, and where each of them stands.
+    pub read: &'a Script,
+    pub spans: &'a [Span],
+    pub place: Place,
+    /// Where the command stands at the place: only its line where it can't be read, no bytes at the end.
     pub span: Span,
-    pub number: usize,
+    /// The bytes there without the newline after them, and without a colon in front where they can't be read.
+    pub command: &'a [u8],
+    /// The lines that a global command takes in the stead of the command.
+    pub reach: Reach,
+    /// The path of the start.
     pub path: Option<&'a [u8]>,
 }
 
-/// A line in which these bytes come in the place of those of its command, as a draft. Where that gets past too little, a second one has
-/// it as a global command.
-pub(crate) fn push_line(
-    drafts: &mut Vec<Draft>,
-    alloc: Global,
-    spot: Spot<'_>,
-    text: String,
-    line: &[u8],
-) -> Result<(), AllocError> {
-    let Spot { script, span, .. } = spot;
-    let ends = joined(alloc, &[line, b"\n"])?;
-    let mended = replaced(alloc, script, span.low, span.high, ends.as_slice())?;
-    if let Some(global) = as_global(alloc, line, Reach::All, false)? {
+/// Whether a rewriting applies at a spot. If so, it has put its drafts after the others.
+pub(crate) type Applies = Result<bool, AllocError>;
+
+impl Spot<'_> {
+    /// The script with these bytes in the place of the command.
+    pub fn with(&self, bytes: &[u8]) -> Result<Bytes, AllocError> {
+        replaced(
+            self.alloc,
+            self.script,
+            self.span.low,
+            self.span.high,
+            bytes,
+        )
+    }
+
+    /// The addresses of the command, with the blanks after them, and what comes then.
+    pub fn parts(&self) -> Result<(&[u8], &[u8]), AllocError> {
+        let len = addresses_len(self.alloc, self.command)?;
+        Ok((before(self.command, len), from(self.command, len)))
+    }
+
+    /// Puts in a draft with this script, which has so many commands in the stead of so many others.
+    pub fn push(
+        &self,
+        drafts: &mut Vec<Draft>,
+        advice: Advice,
+        text: &str,
+        script: Bytes,
+        removed: usize,
+        written: usize,
+    ) -> Applies {
+        let text = String::from_str(self.alloc, text)?;
+        drafts.push(drafted(advice, text, script, removed, written))?;
+        Ok(true)
+    }
+
+    /// Puts in a remark, which has no script.
+    pub fn remark(&self, drafts: &mut Vec<Draft>, text: &str) -> Applies {
+        drafts.push(Draft {
+            advice: Advice::Spelling,
+            text: String::from_str(self.alloc, text)?,
+            script: None,
+            removed: 0,
+            written: 0,
+            past: 0,
+        })?;
+        Ok(true)
+    }
+
+    /// Puts in a line in the place of the command. Where that gets past too little, a second draft has it as a global command.
+    pub fn push_line(&self, drafts: &mut Vec<Draft>, text: &str, line: &[u8]) -> Applies {
+        let (alloc, number) = (self.alloc, self.place.command);
+        let mended = self.with(joined(alloc, &[line, b"\n"])?.as_slice())?;
+        self.push(drafts, Advice::Spelling, text, mended, 1, 1)?;
+        let Some(global) = global_of(alloc, line, Reach::All, false)? else {
+            return Ok(true);
+        };
         let shown = quoted(alloc, global.as_slice())?;
-        let ends = joined(alloc, &[global.as_slice(), b"\n"])?;
-        let other = replaced(alloc, script, span.low, span.high, ends.as_slice())?;
+        let other = self.with(joined(alloc, &[global.as_slice(), b"\n"])?.as_slice())?;
         let read = read_script(alloc, other.as_slice())?;
-        let on = on_text(&read, spot.number, 1, spot.path);
-        let later = other_text(alloc, other.as_slice(), &read, spot.number, true, true)?;
+        let on = on_text(&read, number, 1, self.path);
+        let later = other_text(alloc, other.as_slice(), &read, number, true, true)?;
         let both = format!(in alloc;
             "{text}; {shown} can't fail: it changes every line that matches, none if none does{on}{later}"
         )?;
-        drafts.push(drafted(Advice::Spelling, text, mended, 1, 1))?;
-        drafts.push(drafted(Advice::Spelling, both, other, 1, 1))?;
-        return Ok(());
+        self.push(drafts, Advice::Spelling, both.as_str(), other, 1, 1)
     }
-    drafts.push(drafted(Advice::Spelling, text, mended, 1, 1))?;
-    Ok(())
+
+    /// Puts in a line in the place of the command, where POSIX spells by these bytes what is foreign to it.
+    pub fn push_spelled(
+        &self,
+        drafts: &mut Vec<Draft>,
+        foreign: &str,
+        posix: &[u8],
+        line: &[u8],
+    ) -> Applies {
+        let shown = quoted(self.alloc, posix)?;
+        let text = format!(in self.alloc; "POSIX has no {foreign}: write {shown}")?;
+        self.push_line(drafts, text.as_str(), line)
+    }
 }

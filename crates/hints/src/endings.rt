@@ -1,8 +1,8 @@
 //! Changes that would be lost: writing them first, ending anyway, and a text whose period is missing.
 
 use crate::bytes::{before, between, first, from, is_blank, joined, replaced};
-use crate::commands::{command_at, first_line, last_command, span_of};
-use crate::drafts::{Draft, drafted};
+use crate::commands::{command_at, first_line, last_command, span_in, span_of};
+use crate::drafts::{Applies, Draft, Spot};
 use crate::hint::Advice;
 use crate::words::quoted;
 use ed_base::{Bytes, Text, count_lines, next_line};
@@ -80,13 +80,8 @@ fn starts_of_lines(alloc: Global, bytes: &[u8]) -> Result<Vec<usize>, AllocError
 }
 
 /// A period in the place of the first line of a text that was meant to be one.
-fn push_meant(
-    drafts: &mut Vec<Draft>,
-    alloc: Global,
-    script: &[u8],
-    span: Span,
-    starts: &[usize],
-) -> Result<(), AllocError> {
+fn push_meant(spot: &Spot<'_>, drafts: &mut Vec<Draft>, span: Span, starts: &[usize]) -> Applies {
+    let (alloc, script) = (spot.alloc, spot.script);
     let text = between(script, span.low, span.high);
     for start in starts {
         let line = first_line(from(text, *start));
@@ -95,32 +90,25 @@ fn push_meant(
             let high = low.saturating_add(line.len());
             let mended = replaced(alloc, script, low, high, b".")?;
             let told = no_period(alloc, script, text, low, "alone in")?;
-            drafts.push(drafted(Advice::Period, told, mended, 0, 1))?;
-            return Ok(());
+            return spot.push(drafts, Advice::Period, told.as_str(), mended, 0, 1);
         }
     }
-    Ok(())
+    Ok(false)
 }
 
 /// A period before the last lines of a text, where these write and end.
-fn push_closing(
-    drafts: &mut Vec<Draft>,
-    alloc: Global,
-    script: &[u8],
-    span: Span,
-    starts: &[usize],
-) -> Result<(), AllocError> {
+fn push_closing(spot: &Spot<'_>, drafts: &mut Vec<Draft>, span: Span, starts: &[usize]) -> Applies {
+    let (alloc, script) = (spot.alloc, spot.script);
     let text = between(script, span.low, span.high);
     for start in from_last(starts) {
         if *start > 0 && are_last_commands(alloc, from(text, *start))? {
             let place = span.low.saturating_add(*start);
             let mended = replaced(alloc, script, place, place, b".\n")?;
             let told = no_period(alloc, script, text, place, "before")?;
-            drafts.push(drafted(Advice::Period, told, mended, 0, 1))?;
-            return Ok(());
+            return spot.push(drafts, Advice::Period, told.as_str(), mended, 0, 1);
         }
     }
-    Ok(())
+    Ok(false)
 }
 
 /// The last three, in their order.
@@ -145,59 +133,41 @@ fn no_period(
     Ok(format!(in alloc; "the text of {shown} has no `.`: write it {side} line {line}, {there}")?)
 }
 
-/// A text without its period.
-fn push_period(
-    drafts: &mut Vec<Draft>,
-    alloc: Global,
-    script: &[u8],
-    number: usize,
-) -> Result<(), AllocError> {
-    if let Some(span) = span_of(alloc, script, number)? {
-        let starts = starts_of_lines(alloc, between(script, span.low, span.high))?;
-        push_meant(drafts, alloc, script, span, starts.as_slice())?;
-        push_closing(drafts, alloc, script, span, starts.as_slice())?;
+/// The text at the end, without its period.
+pub(crate) fn close_text(spot: &Spot<'_>, drafts: &mut Vec<Draft>) -> Applies {
+    let (alloc, script) = (spot.alloc, spot.script);
+    if !ends_in_text(alloc, script, spot.read)? {
+        return Ok(false);
     }
-    Ok(())
+    let Some(span) = span_in(spot.spans, spot.read.commands.len()) else {
+        return Ok(false);
+    };
+    let starts = starts_of_lines(alloc, between(script, span.low, span.high))?;
+    push_meant(spot, drafts, span, starts.as_slice())?;
+    push_closing(spot, drafts, span, starts.as_slice())
 }
 
-/// A command more at the end of a script, that writes or ends it, after the period that a text there needs.
+/// A command more at the end of a script, after the period that a text there needs. What is told of it is another thing after a text.
 fn push_last(
+    spot: &Spot<'_>,
     drafts: &mut Vec<Draft>,
-    alloc: Global,
-    script: &[u8],
-    text: &str,
-    in_text: bool,
+    texts: (&str, &str),
     last: &[u8],
-) -> Result<(), AllocError> {
+) -> Applies {
+    let (alloc, script) = (spot.alloc, spot.script);
+    let in_text = ends_in_text(alloc, script, spot.read)?;
     let front = closed(alloc, script, in_text)?;
     let mended = joined(alloc, &[front.as_slice(), last, b"\n"])?;
-    let text = String::from_str(alloc, text)?;
-    drafts.push(drafted(Advice::Save, text, mended, 0, 1))?;
-    Ok(())
-}
-
-/// What may help at the end of a script, where changes are left.
-pub(crate) fn push_end(
-    drafts: &mut Vec<Draft>,
-    alloc: Global,
-    script: &[u8],
-) -> Result<(), AllocError> {
-    let read = read_script(alloc, script)?;
-    if !ends_in_text(alloc, script, &read)? {
-        push_last(drafts, alloc, script, WRITE, false, b"w")?;
-        return push_last(drafts, alloc, script, GIVE_UP, false, b"Q");
+    let (alone, after_text) = texts;
+    if !in_text {
+        return spot.push(drafts, Advice::Save, alone, mended, 0, 1);
     }
-    let number = read.commands.len();
-    push_period(drafts, alloc, script, number)?;
-    let command = match span_of(alloc, script, number)? {
+    let command = match span_in(spot.spans, spot.read.commands.len()) {
         Some(span) => quoted(alloc, first_line(command_at(script, span)))?,
         None => String::new(alloc),
     };
-    let end = format!(in alloc; "end the text of {command} by a line `.`")?;
-    let write = format!(in alloc; "{end}, and write (w) after it")?;
-    push_last(drafts, alloc, script, write.as_str(), true, b"w")?;
-    let give_up = format!(in alloc; "{end}, and {GIVE_UP}")?;
-    push_last(drafts, alloc, script, give_up.as_str(), true, b"Q")
+    let text = format!(in alloc; "end the text of {command} by a line `.`, and {after_text}")?;
+    spot.push(drafts, Advice::Save, text.as_str(), mended, 0, 1)
 }
 
 /// What is told of a draft that writes the changes, and of one that doesn't.
@@ -205,20 +175,29 @@ const WRITE: &str = "write first (w)";
 
 const GIVE_UP: &str = "end with Q: the changes are lost";
 
-/// What may help at a command that would lose changes.
-pub(crate) fn push_losing(
-    drafts: &mut Vec<Draft>,
-    alloc: Global,
-    script: &[u8],
-    span: Span,
-) -> Result<(), AllocError> {
-    let writes = replaced(alloc, script, span.low, span.low, b"w\n")?;
-    let text = String::from_str(alloc, WRITE)?;
-    drafts.push(drafted(Advice::Save, text, writes, 1, 2))?;
-    if first(command_at(script, span)) == Some(b'q') {
-        let anyway = replaced(alloc, script, span.low, span.low.saturating_add(1), b"Q")?;
-        let text = String::from_str(alloc, GIVE_UP)?;
-        drafts.push(drafted(Advice::Save, text, anyway, 1, 1))?;
+/// Changes that are left at the end, written there.
+pub(crate) fn write_at_end(spot: &Spot<'_>, drafts: &mut Vec<Draft>) -> Applies {
+    push_last(spot, drafts, (WRITE, "write (w) after it"), b"w")
+}
+
+/// Changes that are left at the end, given up.
+pub(crate) fn quit_at_end(spot: &Spot<'_>, drafts: &mut Vec<Draft>) -> Applies {
+    push_last(spot, drafts, (GIVE_UP, GIVE_UP), b"Q")
+}
+
+/// Changes that a command would lose, written before it.
+pub(crate) fn write_first(spot: &Spot<'_>, drafts: &mut Vec<Draft>) -> Applies {
+    let low = spot.span.low;
+    let mended = replaced(spot.alloc, spot.script, low, low, b"w\n")?;
+    spot.push(drafts, Advice::Save, WRITE, mended, 1, 2)
+}
+
+/// Changes that a `q` would lose, given up.
+pub(crate) fn quit_anyway(spot: &Spot<'_>, drafts: &mut Vec<Draft>) -> Applies {
+    if first(spot.command) != Some(b'q') {
+        return Ok(false);
     }
-    Ok(())
+    let low = spot.span.low;
+    let mended = replaced(spot.alloc, spot.script, low, low.saturating_add(1), b"Q")?;
+    spot.push(drafts, Advice::Save, GIVE_UP, mended, 1, 1)
 }

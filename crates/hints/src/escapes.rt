@@ -1,11 +1,10 @@
 //! What GNU's `ed` writes with a backslash in patterns.
 
-use crate::bytes::{before, between, from, replaced};
-use crate::drafts::{Draft, Spot, drafted, push_line, remark, spelled};
+use crate::bytes::{before, between, from};
+use crate::drafts::{Applies, Draft, Spot};
 use crate::following::other_text;
 use crate::hint::Advice;
-use crate::patterns::{Quoted, part_len, patterns_of};
-use crate::words::quoted;
+use crate::patterns::{Quoted, parts_of, patterns_of};
 use ed_base::Bytes;
 use ed_syntax::{Address, Addresses, Base, Command, Sense, Verb, read_script};
 use std::alloc::{AllocError, Global};
@@ -30,20 +29,12 @@ fn push_posix(
     delimiter: u8,
     pattern: &[u8],
 ) -> Result<(), AllocError> {
-    let mut next: usize = 0;
-    for (index, _) in pattern.iter().enumerate() {
-        if index < next {
-            continue;
-        }
-        let rest = from(pattern, index);
-        let len = part_len(alloc, rest)?;
-        let part = before(rest, len);
+    for part in parts_of(alloc, pattern)?.as_slice() {
         let posix = match part {
             [b'\\', byte] => posix_of(delimiter, *byte).unwrap_or(part),
             _ => part,
         };
         new.extend_from_slice(posix)?;
-        next = index.saturating_add(len);
     }
     Ok(())
 }
@@ -73,18 +64,12 @@ fn is_foreign(delimiter: u8, byte: u8) -> bool {
 
 /// The first byte of a pattern that GNU alone writes with a backslash.
 fn foreign_in(alloc: Global, delimiter: u8, pattern: &[u8]) -> Result<Option<u8>, AllocError> {
-    let mut next: usize = 0;
-    for (index, _) in pattern.iter().enumerate() {
-        if index < next {
-            continue;
-        }
-        let rest = from(pattern, index);
-        if let [b'\\', byte, ..] = rest {
+    for part in parts_of(alloc, pattern)?.as_slice() {
+        if let [b'\\', byte] = part {
             if is_foreign(delimiter, *byte) {
                 return Ok(Some(*byte));
             }
         }
-        next = index.saturating_add(part_len(alloc, rest)?);
     }
     Ok(None)
 }
@@ -96,34 +81,24 @@ fn alternatives(
     line: &[u8],
     quoted: Quoted,
 ) -> Result<Option<(Bytes, usize)>, AllocError> {
-    let pattern = between(line, quoted.low, quoted.high);
     let front = before(line, quoted.low);
     let end = from(line, quoted.high);
-    let mut lines = Bytes::new(alloc);
+    let mut lines = Bytes::from_slice(alloc, front)?;
     let mut added: usize = 0;
-    let mut start: usize = 0;
-    let mut next: usize = 0;
-    for (index, _) in pattern.iter().enumerate() {
-        if index < next {
-            continue;
-        }
-        let rest = from(pattern, index);
-        match rest {
-            [b'\\', b'(', ..] => return Ok(None),
-            [b'\\', b'|', ..] => {
-                for part in [front, between(pattern, start, index), end, b"\n"] {
-                    lines.extend_from_slice(part)?;
+    for part in parts_of(alloc, between(line, quoted.low, quoted.high))?.as_slice() {
+        match part {
+            [b'\\', b'('] => return Ok(None),
+            [b'\\', b'|'] => {
+                for piece in [end, b"\n", front] {
+                    lines.extend_from_slice(piece)?;
                 }
                 added = added.saturating_add(1);
-                start = index.saturating_add(2);
-                next = start;
             }
-            _ => next = index.saturating_add(part_len(alloc, rest)?),
+            _ => lines.extend_from_slice(part)?,
         }
     }
-    for part in [front, from(pattern, start), end, b"\n"] {
-        lines.extend_from_slice(part)?;
-    }
+    lines.extend_from_slice(end)?;
+    lines.extend_from_slice(b"\n")?;
     Ok(Some((lines, added)))
 }
 
@@ -159,36 +134,23 @@ fn deletes_matching(command: &Command) -> bool {
 }
 
 /// `\|`: a command for each alternative, where each deletes what it matches.
-fn push_alternatives(
-    drafts: &mut Vec<Draft>,
-    alloc: Global,
-    spot: Spot<'_>,
-    line: &[u8],
-    found: Quoted,
-) -> Result<(), AllocError> {
-    let Spot {
-        script,
-        span,
-        number,
-        ..
-    } = spot;
-    if let Some((lines, added)) = alternatives(alloc, line, found)? {
+fn push_alternatives(spot: &Spot<'_>, drafts: &mut Vec<Draft>, found: Quoted) -> Applies {
+    let alloc = spot.alloc;
+    if let Some((lines, added)) = alternatives(alloc, spot.command, found)? {
         let read = read_script(alloc, lines.as_slice())?;
         if read.fault.is_none() && read.commands.as_slice().iter().all(deletes_matching) {
-            let mended = replaced(alloc, script, span.low, span.high, lines.as_slice())?;
+            let mended = spot.with(lines.as_slice())?;
             let all = read_script(alloc, mended.as_slice())?;
-            let written = added.saturating_add(1);
-            let last = number.saturating_add(added);
+            let last = spot.place.command.saturating_add(added);
             let other = other_text(alloc, mended.as_slice(), &all, last, false, false)?;
             let text = format!(in alloc; "POSIX has no `\\|`: write a command for each{other}")?;
-            drafts.push(drafted(Advice::Spelling, text, mended, 1, written))?;
-            return Ok(());
+            let written = added.saturating_add(1);
+            return spot.push(drafts, Advice::Spelling, text.as_str(), mended, 1, written);
         }
     }
     let text =
         "POSIX has no `\\|`, and no single command does that: of several after one another, each finds what the one before it left";
-    drafts.push(remark(String::from_str(alloc, text)?))?;
-    Ok(())
+    spot.remark(drafts, text)
 }
 
 /// How GNU spells a byte with a backslash.
@@ -210,12 +172,8 @@ fn foreign_word(byte: u8) -> &'static str {
 }
 
 /// What GNU writes with a backslash in the patterns of a line.
-pub(crate) fn push_patterns(
-    drafts: &mut Vec<Draft>,
-    alloc: Global,
-    spot: Spot<'_>,
-    line: &[u8],
-) -> Result<(), AllocError> {
+pub(crate) fn write_posix_escape(spot: &Spot<'_>, drafts: &mut Vec<Draft>) -> Applies {
+    let (alloc, line) = (spot.alloc, spot.command);
     let patterns = patterns_of(alloc, line)?;
     for found in patterns.as_slice() {
         let pattern = between(line, found.low, found.high);
@@ -223,58 +181,44 @@ pub(crate) fn push_patterns(
             continue;
         };
         if byte == b'|' {
-            return push_alternatives(drafts, alloc, spot, line, *found);
+            return push_alternatives(spot, drafts, *found);
         }
         let foreign = foreign_word(byte);
         let Some(posix) = posix_of(found.delimiter, byte) else {
             let text = format!(in alloc;
                 "POSIX has no {foreign}, and nothing that means the same"
             )?;
-            drafts.push(remark(text))?;
-            return Ok(());
+            return spot.remark(drafts, text.as_str());
         };
-        let text = spelled(alloc, foreign, quoted(alloc, posix)?.as_str())?;
         let mended = posix_line(alloc, line, patterns.as_slice())?;
-        return push_line(drafts, alloc, spot, text, mended.as_slice());
+        return spot.push_spelled(drafts, foreign, posix, mended.as_slice());
     }
-    Ok(())
+    Ok(false)
 }
 
 /// Whether a pattern is written as an extended one: by `|`, or by `+` or `?` after what is more than one byte.
 fn is_extended(alloc: Global, pattern: &[u8]) -> Result<bool, AllocError> {
-    let mut next: usize = 0;
     let mut before: u8 = 0;
-    for (index, _) in pattern.iter().enumerate() {
-        if index < next {
-            continue;
-        }
-        let rest = from(pattern, index);
-        let len = part_len(alloc, rest)?;
-        match rest {
+    for (index, part) in parts_of(alloc, pattern)?.as_slice().iter().enumerate() {
+        match part {
             [b'|', ..] if index > 0 => return Ok(true),
             [b'+' | b'?', ..] if matches!(before, b']' | b')' | b'.') => return Ok(true),
-            [b'[', ..] if len > 1 => before = b']',
+            [b'[', _, ..] => before = b']',
             [byte, ..] => before = *byte,
             [] => {}
         }
-        next = index.saturating_add(len);
     }
     Ok(false)
 }
 
 /// What is told of a pattern that no line need match, since it is written as an extended one.
-pub(crate) fn push_extended(
-    drafts: &mut Vec<Draft>,
-    alloc: Global,
-    line: &[u8],
-) -> Result<(), AllocError> {
-    for found in patterns_of(alloc, line)?.as_slice() {
-        if is_extended(alloc, between(line, found.low, found.high))? {
-            let text =
-                "in POSIX patterns `(`, `|`, `+` and `?` are ordinary bytes: `\\(..\\)` is a group, `\\{1,\\}` one or more, `\\{0,1\\}` none or one";
-            drafts.push(remark(String::from_str(alloc, text)?))?;
-            return Ok(());
+pub(crate) fn tell_of_extended_pattern(spot: &Spot<'_>, drafts: &mut Vec<Draft>) -> Applies {
+    let text =
+        "in POSIX patterns `(`, `|`, `+` and `?` are ordinary bytes: `\\(..\\)` is a group, `\\{1,\\}` one or more, `\\{0,1\\}` none or one";
+    for found in patterns_of(spot.alloc, spot.command)?.as_slice() {
+        if is_extended(spot.alloc, between(spot.command, found.low, found.high))? {
+            return spot.remark(drafts, text);
         }
     }
-    Ok(())
+    Ok(false)
 }

@@ -2,7 +2,7 @@
 
 use crate::commands::{command_at, first_line, pair, span_of};
 use crate::words::quoted;
-use ed_syntax::{Address, Addresses, Alteration, Base, Command, Script, Verb, read_script};
+use ed_syntax::{Address, Addresses, Alteration, Base, Command, Script, Verb};
 use std::alloc::{AllocError, Global};
 
 /// Whether an address is counted or searched from the current line.

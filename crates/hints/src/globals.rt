@@ -46,27 +46,16 @@ pub(crate) fn reach_of(command: &Command, state: Option<&KeptState>) -> Reach {
     }
 }
 
-/// The search in front of a command's first line, and what stands after it.
-#[derive(Clone, Copy)]
-struct Searched<'a> {
-    /// The pattern with both of its delimiters.
-    pattern: &'a [u8],
-    rest: &'a [u8],
-}
-
-/// The search that a line begins with. None where it begins otherwise, or where its search isn't closed.
-fn search_in_front(alloc: Global, line: &[u8]) -> Result<Option<Searched<'_>>, AllocError> {
-    match first(line) {
-        Some(b'/' | b'?') => {}
-        _ => return Ok(None),
+/// The search that a line begins with, with both of its delimiters, and what stands after it. None where the line begins otherwise, or where
+/// its search isn't closed.
+fn search_in_front(alloc: Global, line: &[u8]) -> Result<Option<(&[u8], &[u8])>, AllocError> {
+    if !matches!(line, [b'/' | b'?', ..]) {
+        return Ok(None);
     }
     match pattern_at(alloc, line, 0)? {
         Some(quoted) if quoted.high < line.len() => {
             let after = quoted.high.saturating_add(1);
-            Ok(Some(Searched {
-                pattern: before(line, after),
-                rest: after_blanks(from(line, after)),
-            }))
+            Ok(Some((before(line, after), after_blanks(from(line, after)))))
         }
         _ => Ok(None),
     }
@@ -116,7 +105,7 @@ fn searching(
     in_front: bool,
 ) -> Result<Option<Bytes>, AllocError> {
     let line = first_line(bytes);
-    let Some(Searched { pattern, rest }) = search_in_front(alloc, line)? else {
+    let Some((pattern, rest)) = search_in_front(alloc, line)? else {
         return Ok(None);
     };
     let is_alone = rest.is_empty();
@@ -191,7 +180,7 @@ fn substituting(alloc: Global, command: &[u8]) -> Result<Option<Bytes>, AllocErr
 
 /// A command, without the newline after its last line, as a global command that does the same to each line that matches. None where
 /// it searches for nothing, or where nobody knows how to write it so. With `in_front` a text keeps its period, so that more can come after.
-pub(crate) fn as_global(
+pub(crate) fn global_of(
     alloc: Global,
     command: &[u8],
     reach: Reach,

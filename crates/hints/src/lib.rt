@@ -24,6 +24,7 @@ mod patterns;
 mod plain;
 mod reasons;
 mod refusing;
+mod rewritings;
 mod searched;
 mod searches;
 mod sought;

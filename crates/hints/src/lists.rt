@@ -2,10 +2,9 @@
 
 use crate::bytes::{joined, replaced};
 use crate::commands::{command_at, command_of, line_at, pair};
-use crate::drafts::{Draft, Spot, drafted, remark};
+use crate::drafts::{Applies, Draft, Spot};
 use crate::hint::Advice;
-use cert_check::Place;
-use ed_syntax::{Address, Addresses, Base, Verb, read_script};
+use ed_syntax::{Address, Addresses, Base, Command, Verb};
 use std::alloc::{AllocError, Global};
 
 /// How many lines an address of a list goes on from the line that was taken, or back.
@@ -37,56 +36,45 @@ fn distance_text(alloc: Global, distance: i128) -> Result<String, AllocError> {
 }
 
 /// What is told where a command of a list names a line before or after the one that was taken.
-pub(crate) fn push_offset(
-    drafts: &mut Vec<Draft>,
-    alloc: Global,
-    script: &[u8],
-    place: Place,
-) -> Result<(), AllocError> {
-    let read = read_script(alloc, script)?;
-    if let Some(listed) = command_of(&read, place) {
+pub(crate) fn tell_of_line_beside(spot: &Spot<'_>, drafts: &mut Vec<Draft>) -> Applies {
+    if let Some(listed) = command_of(spot.read, spot.place) {
         if let Some(distance) = distance_of(&listed.addresses) {
-            let text = distance_text(alloc, distance)?;
-            drafts.push(remark(text))?;
+            let text = distance_text(spot.alloc, distance)?;
+            return spot.remark(drafts, text.as_str());
         }
     }
-    Ok(())
+    Ok(false)
+}
+
+/// Whether a command moves the line that was taken to the end.
+fn moves_to_end(command: &Command) -> bool {
+    match (&command.verb, &command.addresses) {
+        (Verb::Move(target), Addresses::Without) => {
+            target.base == Base::Last && target.offset == 0 && command.suffix.is_none()
+        }
+        _ => false,
+    }
 }
 
 /// A move to the end, which the last line can't make: the line is marked, copied and deleted where it was.
-pub(crate) fn push_move(
-    drafts: &mut Vec<Draft>,
-    alloc: Global,
-    spot: Spot<'_>,
-    place: Place,
-) -> Result<(), AllocError> {
-    let script = spot.script;
-    let read = read_script(alloc, script)?;
-    let (Some(listed), Some(span)) = (command_of(&read, place), line_at(alloc, script, place)?)
-    else {
-        return Ok(());
+pub(crate) fn move_to_end(spot: &Spot<'_>, drafts: &mut Vec<Draft>) -> Applies {
+    let Some(span) = line_at(spot.alloc, spot.script, spot.place)? else {
+        return Ok(false);
     };
-    let is_to_end = match (&listed.verb, &listed.addresses) {
-        (Verb::Move(target), Addresses::Without) => {
-            target.base == Base::Last && target.offset == 0 && listed.suffix.is_none()
-        }
-        _ => false,
-    };
-    let line = command_at(script, span);
+    match command_of(spot.read, spot.place) {
+        Some(listed) if moves_to_end(listed) => {}
+        _ => return Ok(false),
+    }
+    let line = command_at(spot.script, span);
     let (front, goes_on): (&[u8], &[u8]) = match line {
         [front @ .., b'm', b'$'] => (front, b""),
         [front @ .., b'm', b'$', b'\\'] => (front, b"\\"),
-        _ => return Ok(()),
+        _ => return Ok(false),
     };
-    if !is_to_end {
-        return Ok(());
-    }
-    let lines = joined(alloc, &[front, b"ka\\\nt$\\\n'ad", goes_on])?;
+    let lines = joined(spot.alloc, &[front, b"ka\\\nt$\\\n'ad", goes_on])?;
     let high = span.low.saturating_add(line.len());
-    let mended = replaced(alloc, script, span.low, high, lines.as_slice())?;
-    let text = format!(in alloc;
-        "the last line can't go after itself: write `ka`, `t$` and `'ad` for `m$` in the list; other marks on these lines are lost, and `a`"
-    )?;
-    drafts.push(drafted(Advice::Spelling, text, mended, 1, 1))?;
-    Ok(())
+    let mended = replaced(spot.alloc, spot.script, span.low, high, lines.as_slice())?;
+    let text =
+        "the last line can't go after itself: write `ka`, `t$` and `'ad` for `m$` in the list; other marks on these lines are lost, and `a`";
+    spot.push(drafts, Advice::Spelling, text, mended, 1, 1)
 }

@@ -1,6 +1,6 @@
 //! Where patterns stand in a command's line, also in one that can't be read.
 
-use crate::bytes::{first, from};
+use crate::bytes::{before, first, from};
 use bre_parse::after_bracket;
 use ed_syntax::{address, addresses_end, after_blanks, pattern_end};
 use std::alloc::{AllocError, Global};
@@ -15,7 +15,7 @@ pub(crate) struct Quoted {
 }
 
 /// How many bytes a bracket expression, an escape or an ordinary byte takes in front of a pattern.
-pub(crate) fn part_len(alloc: Global, bytes: &[u8]) -> Result<usize, AllocError> {
+fn part_len(alloc: Global, bytes: &[u8]) -> Result<usize, AllocError> {
     match bytes {
         [b'\\', _, ..] => Ok(2),
         [b'[', rest @ ..] => match after_bracket(alloc, rest)? {
@@ -24,6 +24,22 @@ pub(crate) fn part_len(alloc: Global, bytes: &[u8]) -> Result<usize, AllocError>
         },
         _ => Ok(1),
     }
+}
+
+/// These parts of a pattern, in their order.
+pub(crate) fn parts_of(alloc: Global, pattern: &[u8]) -> Result<Vec<&[u8]>, AllocError> {
+    let mut parts = Vec::new(alloc);
+    let mut left = pattern;
+    // Each time one byte is passed, or more.
+    for _ in 0..pattern.len() {
+        if left.is_empty() {
+            return Ok(parts);
+        }
+        let len = part_len(alloc, left)?;
+        parts.push(before(left, len))?;
+        left = from(left, len);
+    }
+    Ok(parts)
 }
 
 /// The pattern after the delimiter at a place of a line.

@@ -12,6 +12,16 @@ use ed_rules::KeptState;
 use ed_syntax::{Address, Base, Command, Script, Verb, read_script};
 use std::alloc::{AllocError, Global};
 
+/// A need that fails at a place of a script by a fault, and what is known there.
+#[derive(Drop)]
+pub(crate) struct Failed<'a> {
+    pub alloc: Global,
+    pub script: &'a [u8],
+    pub place: Place,
+    pub why: Fault,
+    pub state: Option<&'a KeptState>,
+}
+
 /// How many patterns stand on the line of a command before its own. The first command of a list stands on the line of its global
 /// command, after whose patterns its own come.
 fn patterns_before(script: &Script, place: Place) -> usize {
@@ -28,20 +38,19 @@ fn patterns_before(script: &Script, place: Place) -> usize {
     }
 }
 
-/// The pattern that no line need match, where the line at a place has one: that of the first search that need not find a line, or the
+/// The pattern that no line need match, where the line at the place has one: that of the first search that need not find a line, or the
 /// one after all searches.
 fn match_text(
-    alloc: Global,
+    failed: &Failed<'_>,
     script: &Script,
     line: &[u8],
-    place: Place,
-    state: Option<&KeptState>,
 ) -> Result<Option<String>, AllocError> {
-    let found = match (state, command_of(script, place)) {
+    let alloc = failed.alloc;
+    let found = match (failed.state, command_of(script, failed.place)) {
         (Some(state), Some(command)) => count_of_found(alloc, command, state)?,
         _ => 0,
     };
-    let index = patterns_before(script, place).saturating_add(found);
+    let index = patterns_before(script, failed.place).saturating_add(found);
     match patterns_of(alloc, line)?.as_slice().get(index) {
         Some(pattern) if pattern.low < pattern.high => {
             let shown = quoted(alloc, between(line, pattern.low, pattern.high))?;
@@ -105,23 +114,17 @@ fn command_text(
     Ok(Some(String::from_str(alloc, text)?))
 }
 
-/// The reason why a need may fail at a place by a fault, or none. The line is the one at that place, and the state what is known there.
-pub(crate) fn reason(
-    alloc: Global,
-    script: &[u8],
-    line: &[u8],
-    place: Place,
-    why: Fault,
-    state: Option<&KeptState>,
-) -> Result<Option<String>, AllocError> {
+/// The reason why a need may fail, or none. The line is the one at its place.
+pub(crate) fn reason(failed: &Failed<'_>, line: &[u8]) -> Result<Option<String>, AllocError> {
+    let (alloc, why) = (failed.alloc, failed.why);
     if why == Fault::Unsaved {
         return Ok(Some(String::from_str(alloc, UNSAVED)?));
     }
-    let read = read_script(alloc, script)?;
+    let read = read_script(alloc, failed.script)?;
     if why == Fault::NoMatch {
-        return match_text(alloc, &read, line, place, state);
+        return match_text(failed, &read, line);
     }
-    match (state, command_of(&read, place)) {
+    match (failed.state, command_of(&read, failed.place)) {
         (Some(state), Some(command)) => command_text(alloc, state, command, why),
         _ => Ok(None),
     }

@@ -1,15 +1,15 @@
 //! What may help where a search finds nothing, or a line isn't there.
 
 use crate::bytes::{between, first, from, joined, replaced};
-use crate::commands::{command_at, first_line, span_of};
-use crate::drafts::{Draft, Spot, drafted, remark};
+use crate::commands::{command_at, command_of, first_line, span_in};
+use crate::drafts::{Applies, Draft, Spot};
 use crate::following::{count_of_users, on_text, other_text, sets_line};
-use crate::globals::{Reach, as_global, is_at_one_place, push_lines};
+use crate::globals::{Reach, global_of, is_at_one_place, push_lines};
 use crate::hint::Advice;
 use crate::patterns::{Quoted, pattern_at};
 use crate::words::quoted;
 use ed_base::Bytes;
-use ed_syntax::{Addresses, Base, Command, Script, Verb, after_blanks, read_script};
+use ed_syntax::{Addresses, Base, Command, Verb, after_blanks};
 use std::alloc::{AllocError, Global};
 
 /// How many commands go into one list at most.
@@ -21,82 +21,65 @@ struct Taken<'a> {
     command: &'a Command,
     listed: usize,
     reach: Reach,
-    /// Whether it stands for a search that began elsewhere, but takes all lines.
-    wide: bool,
 }
 
-/// The bytes of so many commands of a script from a number on, without the newline after the last.
-fn bytes_of(
-    alloc: Global,
-    script: &[u8],
-    number: usize,
-    count: usize,
-) -> Result<Option<(usize, usize)>, AllocError> {
-    let last = number.saturating_add(count).saturating_sub(1);
-    match (
-        span_of(alloc, script, number)?,
-        span_of(alloc, script, last)?,
-    ) {
-        (Some(low), Some(high)) => {
-            let len = command_at(script, high).len();
-            Ok(Some((low.low, high.low.saturating_add(len))))
-        }
-        _ => Ok(None),
-    }
+/// Where the commands from one number to another stand, without the newline after the last.
+fn place_of(spot: &Spot<'_>, first: usize, last: usize) -> Option<(usize, usize)> {
+    let low = span_in(spot.spans, first)?.low;
+    let span = span_in(spot.spans, last)?;
+    Some((
+        low,
+        span.low.saturating_add(command_at(spot.script, span).len()),
+    ))
+}
+
+/// The bytes of so many commands after the one at the spot.
+fn bytes_after<'a>(spot: &Spot<'a>, count: usize) -> Option<&'a [u8]> {
+    let number = spot.place.command;
+    let (low, high) = place_of(spot, number.saturating_add(1), number.saturating_add(count))?;
+    Some(between(spot.script, low, high))
 }
 
 /// The global command that stands for these. None where they can't be written so.
-fn global_of(alloc: Global, spot: Spot<'_>, taken: Taken<'_>) -> Result<Option<Bytes>, AllocError> {
-    let script = spot.script;
+fn written(spot: &Spot<'_>, taken: Taken<'_>) -> Result<Option<Bytes>, AllocError> {
     let in_front = taken.listed > 0;
-    let first = command_at(script, spot.span);
-    let Some(mut global) = as_global(alloc, first, taken.reach, in_front)? else {
+    let Some(mut global) = global_of(spot.alloc, spot.command, taken.reach, in_front)? else {
         return Ok(None);
     };
     if !in_front {
         return Ok(Some(global));
     }
-    let next = spot.number.saturating_add(1);
-    match bytes_of(alloc, script, next, taken.listed)? {
-        Some((low, high)) if push_lines(&mut global, between(script, low, high))? => Ok(Some(
-            global,
-        )),
+    match bytes_after(spot, taken.listed) {
+        Some(lines) if push_lines(&mut global, lines)? => Ok(Some(global)),
         _ => Ok(None),
     }
 }
 
 /// What a global command does to the lines that match, and which of them it takes.
-fn effect_text(alloc: Global, taken: Taken<'_>, on: &str) -> Result<String, AllocError> {
+fn effect_text(spot: &Spot<'_>, taken: Taken<'_>, on: &str) -> Result<String, AllocError> {
     let does = match &taken.command.verb {
         Verb::WriteFile(_) => "it writes every line that matches, so that the last one stays",
         Verb::Mark(_) => "it marks every line that matches, so that the last one stays marked",
         verb if verb.takes().alters => "it changes every line that matches",
         _ => "it takes every line that matches",
     };
-    let which = match (taken.reach, taken.wide) {
+    let which = match (taken.reach, spot.reach) {
         (Reach::On, _) => " from the current line on",
         (Reach::Back, _) => " from the current line back",
-        (Reach::All, true) => ", wherever the search began",
-        (Reach::All, false) => "",
+        (Reach::All, Reach::All) => "",
+        (Reach::All, _) => ", wherever the search began",
     };
-    Ok(format!(in alloc; "{does}{which}, none if none does{on}")?)
+    Ok(format!(in spot.alloc; "{does}{which}, none if none does{on}")?)
 }
 
 /// What is told of the lines of a list: of a text, or of the commands that come after.
-fn list_text(
-    alloc: Global,
-    spot: Spot<'_>,
-    read: &Script,
-    taken: Taken<'_>,
-    has_lines: bool,
-) -> Result<String, AllocError> {
-    let count = taken.listed;
-    let next = spot.number.saturating_add(1);
-    let Some((low, high)) = bytes_of(alloc, spot.script, next, 1)? else {
+fn list_text(spot: &Spot<'_>, taken: Taken<'_>, has_lines: bool) -> Result<String, AllocError> {
+    let (alloc, count) = (spot.alloc, taken.listed);
+    let Some(next) = bytes_after(spot, 1) else {
         return Ok(String::new(alloc));
     };
-    let shown = quoted(alloc, first_line(between(spot.script, low, high)))?;
-    let fault = if has_substitution(read, spot.number, spot.number.saturating_add(count)) {
+    let shown = quoted(alloc, first_line(next))?;
+    let fault = if has_substitution(spot, count) {
         ", where an `s` that replaces nothing is no fault"
     } else {
         ""
@@ -117,41 +100,34 @@ fn list_text(
 }
 
 /// A global command in the place of these, as a draft.
-fn push_taken(
-    drafts: &mut Vec<Draft>,
-    alloc: Global,
-    spot: Spot<'_>,
-    read: &Script,
-    taken: Taken<'_>,
-) -> Result<(), AllocError> {
+fn push_taken(spot: &Spot<'_>, drafts: &mut Vec<Draft>, taken: Taken<'_>) -> Applies {
+    let (alloc, number) = (spot.alloc, spot.place.command);
     let count = taken.listed.saturating_add(1);
-    let (Some(global), Some((low, high))) = (
-        global_of(alloc, spot, taken)?,
-        bytes_of(alloc, spot.script, spot.number, count)?,
-    ) else {
-        return Ok(());
+    let last = number.saturating_add(taken.listed);
+    let (Some(global), Some((low, high))) = (written(spot, taken)?, place_of(spot, number, last))
+    else {
+        return Ok(false);
     };
     let line = first_line(global.as_slice());
     let shown = quoted(alloc, line)?;
-    let on = on_text(read, spot.number, count, spot.path);
-    let effect = effect_text(alloc, taken, on)?;
-    let list = list_text(alloc, spot, read, taken, line.len() < global.len())?;
+    let effect = effect_text(spot, taken, on_text(spot.read, number, count, spot.path))?;
+    let list = list_text(spot, taken, line.len() < global.len())?;
     let is_alone = taken.listed == 0;
     let sets = sets_line(taken.command);
     let undo = is_alone && sets && taken.command.verb.takes().alters;
-    let last = spot.number.saturating_add(taken.listed);
-    let other = other_text(alloc, spot.script, read, last, !is_alone || sets, undo)?;
+    let other = other_text(alloc, spot.script, spot.read, last, !is_alone || sets, undo)?;
     let text = format!(in alloc; "{shown} can't fail: {effect}{list}{other}")?;
     let mended = replaced(alloc, spot.script, low, high, global.as_slice())?;
-    drafts.push(drafted(Advice::Global, text, mended, count, 1))?;
-    Ok(())
+    spot.push(drafts, Advice::Global, text.as_str(), mended, count, 1)
 }
 
-/// Whether one of some commands is an `s`; the numbers are those of the first and the last of them.
-fn has_substitution(script: &Script, low: usize, high: usize) -> bool {
-    for (index, command) in script.commands.as_slice().iter().enumerate() {
+/// Whether the command at the spot, or one of so many after it, is an `s`.
+fn has_substitution(spot: &Spot<'_>, count: usize) -> bool {
+    let low = spot.place.command;
+    for (index, command) in spot.read.commands.as_slice().iter().enumerate() {
         let number = index.saturating_add(1);
-        if low <= number && number <= high && matches!(&command.verb, Verb::Substitute { .. }) {
+        let is_one = low <= number && number <= low.saturating_add(count);
+        if is_one && matches!(&command.verb, Verb::Substitute { .. }) {
             return true;
         }
     }
@@ -160,58 +136,42 @@ fn has_substitution(script: &Script, low: usize, high: usize) -> bool {
 
 /// The commands as a global command: with those after them that come at the line that they leave, and with as few as can be. A search
 /// alone writes its line, by which nobody is helped without another command.
-fn push_reach(
-    drafts: &mut Vec<Draft>,
-    alloc: Global,
-    spot: Spot<'_>,
-    read: &Script,
-    taken: Taken<'_>,
-) -> Result<(), AllocError> {
-    let users = count_of_users(read, spot.number);
-    let one = is_at_one_place(taken.command) && sets_line(taken.command);
-    let fewest: usize = match &taken.command.verb {
+fn push_reach(spot: &Spot<'_>, drafts: &mut Vec<Draft>, reach: Reach) -> Applies {
+    let Some(command) = command_of(spot.read, spot.place) else {
+        return Ok(false);
+    };
+    let users = count_of_users(spot.read, spot.place.command);
+    let one = is_at_one_place(command) && sets_line(command);
+    let fewest: usize = match &command.verb {
         Verb::Null => 1,
         _ => 0,
     };
-    if one && fewest < users && users <= MOST_LISTED {
-        let listed = users;
-        push_taken(drafts, alloc, spot, read, Taken { listed, ..taken })?;
-    }
-    if fewest <= users {
-        let listed = fewest;
-        push_taken(drafts, alloc, spot, read, Taken { listed, ..taken })?;
-    }
-    Ok(())
-}
-
-/// The command as a global command. Where it takes the lines on one side of the current one, another one for all comes after it.
-fn push_global(
-    drafts: &mut Vec<Draft>,
-    alloc: Global,
-    spot: Spot<'_>,
-    reach: Reach,
-) -> Result<(), AllocError> {
-    let read = read_script(alloc, spot.script)?;
-    let index = spot.number.saturating_sub(1);
-    let Some(command) = read.commands.as_slice().get(index) else {
-        return Ok(());
-    };
     let taken = Taken {
         command,
-        listed: 0,
+        listed: fewest,
         reach,
-        wide: false,
     };
-    push_reach(drafts, alloc, spot, &read, taken)?;
-    if matches!(reach, Reach::All) {
-        return Ok(());
+    if one && fewest < users && users <= MOST_LISTED {
+        let listed = users;
+        push_taken(spot, drafts, Taken { listed, ..taken })?;
     }
-    let wide = Taken {
-        reach: Reach::All,
-        wide: true,
-        ..taken
-    };
-    push_reach(drafts, alloc, spot, &read, wide)
+    if fewest <= users {
+        push_taken(spot, drafts, taken)?;
+    }
+    Ok(true)
+}
+
+/// The command as a global command.
+pub(crate) fn as_global(spot: &Spot<'_>, drafts: &mut Vec<Draft>) -> Applies {
+    push_reach(spot, drafts, spot.reach)
+}
+
+/// The same for all lines, where it would take those on one side of the current one.
+pub(crate) fn as_global_of_all(spot: &Spot<'_>, drafts: &mut Vec<Draft>) -> Applies {
+    match spot.reach {
+        Reach::All => Ok(false),
+        _ => push_reach(spot, drafts, Reach::All),
+    }
 }
 
 /// The patterns of two searches with a `,` between them, in front of a line.
@@ -236,15 +196,11 @@ fn two_searches(alloc: Global, line: &[u8]) -> Result<Option<(Quoted, Quoted)>, 
 }
 
 /// A `;` in the place of the `,` between two searches.
-fn push_semicolon(
-    drafts: &mut Vec<Draft>,
-    alloc: Global,
-    spot: Spot<'_>,
-) -> Result<(), AllocError> {
-    let Spot { script, span, .. } = spot;
-    let line = first_line(command_at(script, span));
+pub(crate) fn begin_at_first(spot: &Spot<'_>, drafts: &mut Vec<Draft>) -> Applies {
+    let (alloc, low) = (spot.alloc, spot.span.low);
+    let line = first_line(spot.command);
     let Some((one, other)) = two_searches(alloc, line)? else {
-        return Ok(());
+        return Ok(false);
     };
     let comma = one.high.saturating_add(1);
     let changed = replaced(alloc, line, comma, comma.saturating_add(1), b";")?;
@@ -256,81 +212,58 @@ fn push_semicolon(
     let text = format!(in alloc;
         "{shown} looks for {target} after {origin}; with `,` both searches begin at the current line"
     )?;
-    let high = span.low.saturating_add(line.len());
-    let mended = replaced(alloc, script, span.low, high, changed.as_slice())?;
-    drafts.push(drafted(Advice::Semicolon, text, mended, 1, 1))?;
-    Ok(())
+    let high = low.saturating_add(line.len());
+    let mended = replaced(alloc, spot.script, low, high, changed.as_slice())?;
+    spot.push(drafts, Advice::Semicolon, text.as_str(), mended, 1, 1)
 }
 
 /// What is told where a second address after a search and a `,` is counted from the current line.
-fn push_counted(drafts: &mut Vec<Draft>, alloc: Global, spot: Spot<'_>) -> Result<(), AllocError> {
-    let read = read_script(alloc, spot.script)?;
-    let index = spot.number.saturating_sub(1);
-    let Some(command) = read.commands.as_slice().get(index) else {
-        return Ok(());
+pub(crate) fn tell_of_counted_line(spot: &Spot<'_>, drafts: &mut Vec<Draft>) -> Applies {
+    let Some(command) = command_of(spot.read, spot.place) else {
+        return Ok(false);
     };
     let Addresses::Comma(found, counted) = &command.addresses else {
-        return Ok(());
+        return Ok(false);
     };
     let is_search = matches!(&found.base, Base::Forward(_) | Base::Backward(_));
-    if is_search && matches!(&counted.base, Base::Current) {
-        let text =
-            "after a `,` the second address is counted from the current line as it was before; after a `;` from the line that is found";
-        drafts.push(remark(String::from_str(alloc, text)?))?;
+    if !is_search || !matches!(&counted.base, Base::Current) {
+        return Ok(false);
     }
-    Ok(())
+    let text =
+        "after a `,` the second address is counted from the current line as it was before; after a `;` from the line that is found";
+    spot.remark(drafts, text)
 }
 
 /// What `sed` would do by an `s` without addresses.
-fn push_everywhere(
-    drafts: &mut Vec<Draft>,
-    alloc: Global,
-    spot: Spot<'_>,
-) -> Result<(), AllocError> {
-    let command = command_at(spot.script, spot.span);
-    if first(command) != Some(b's') {
-        return Ok(());
+pub(crate) fn tell_of_all_lines(spot: &Spot<'_>, drafts: &mut Vec<Draft>) -> Applies {
+    if first(spot.command) != Some(b's') {
+        return Ok(false);
     }
-    let all = joined(alloc, &[b",", command])?;
-    if let Some(global) = as_global(alloc, all.as_slice(), Reach::All, false)? {
-        let shown = quoted(alloc, global.as_slice())?;
-        drafts.push(remark(format!(in alloc; "for all lines: {shown}")?))?;
-    }
-    Ok(())
+    let all = joined(spot.alloc, &[b",", spot.command])?;
+    let Some(global) = global_of(spot.alloc, all.as_slice(), Reach::All, false)? else {
+        return Ok(false);
+    };
+    let shown = quoted(spot.alloc, global.as_slice())?;
+    let text = format!(in spot.alloc; "for all lines: {shown}")?;
+    spot.remark(drafts, text.as_str())
 }
 
-/// What may help where no line need match.
-pub(crate) fn push_searching(
-    drafts: &mut Vec<Draft>,
-    alloc: Global,
-    spot: Spot<'_>,
-    reach: Reach,
-) -> Result<(), AllocError> {
-    push_global(drafts, alloc, spot, reach)?;
-    push_semicolon(drafts, alloc, spot)?;
-    push_counted(drafts, alloc, spot)?;
-    push_everywhere(drafts, alloc, spot)
-}
-
-/// What may help where a line isn't there: a line of blanks alone goes on to the next line.
-pub(crate) fn push_blank(
-    drafts: &mut Vec<Draft>,
-    alloc: Global,
-    spot: Spot<'_>,
-    reach: Reach,
-) -> Result<(), AllocError> {
-    let Spot { script, span, .. } = spot;
-    let line = first_line(command_at(script, span));
-    if after_blanks(line).is_empty() {
-        let read = read_script(alloc, script)?;
-        let other = other_text(alloc, script, &read, spot.number, false, false)?;
-        let text = format!(in alloc;
-            "a blank line is a command, which goes on to the next line: leave it out{other}"
-        )?;
-        let mended = replaced(alloc, script, span.low, span.high, &[])?;
-        drafts.push(drafted(Advice::LeaveOut, text, mended, 1, 0))?;
-        return Ok(());
+/// A line of blanks alone, which goes on to the next line.
+pub(crate) fn leave_out_blank(spot: &Spot<'_>, drafts: &mut Vec<Draft>) -> Applies {
+    if !after_blanks(first_line(spot.command)).is_empty() {
+        return Ok(false);
     }
-    push_global(drafts, alloc, spot, reach)?;
-    push_semicolon(drafts, alloc, spot)
+    let number = spot.place.command;
+    let other = other_text(spot.alloc, spot.script, spot.read, number, false, false)?;
+    let text = format!(in spot.alloc;
+        "a blank line is a command, which goes on to the next line: leave it out{other}"
+    )?;
+    spot.push(
+        drafts,
+        Advice::LeaveOut,
+        text.as_str(),
+        spot.with(&[])?,
+        1,
+        0,
+    )
 }
