@@ -1,9 +1,9 @@
 -- How often the invariant of the rounds of a list can still be weakened, and that this falls from each round to the next.
-use Rattle.std.proofs.Common.{pos, negsuc, ℤ, ◌≡◌, ◌≤◌, ◌<◌, ◌+◌, ◌*◌, ℕ, zero, suc, Bool, true, false, ◌||◌, ◌&&◌, List, [], ◌∷◌, length, get_or, Option, None, Some, ◌⊎◌, inl, inr, refl, sym, subst, cond, nat_eq, arith}
+use Rattle.std.proofs.Common.{pos, negsuc, ℤ, ◌≡◌, ◌≤◌, ◌<◌, ◌+◌, ◌*◌, ℕ, zero, suc, Bool, true, false, ◌||◌, ◌&&◌, List, [], ◌∷◌, length, get_or, Option, None, Some, ◌⊎◌, inl, inr, refl, sym, subst, cond, arith}
 use Rattle.std.specs.Prelude.{nat_lt}
 use Rattle.std.specs.List.{list_all, filter}
-use Rattle.std.specs.Ordering.{is_eq}
-use Rattle.std.specs.Cmp.Lexicographic.{pointwise, bytes_decides}
+use Rattle.std.specs.Ordering.{is_eq, nat_cmp}
+use Rattle.std.specs.Cmp.Lexicographic.{slice_cmp}
 use Rattle.std.proofs.lemmas.Int.{ints}
 use Rattle.std.proofs.lemmas.Bool.{cases_lt, and_parts, or_cases, or_left, or_right}
 use Rattle.std.proofs.lemmas.List.FromFn.{get_or-map-range_with_len}
@@ -26,7 +26,7 @@ use Rattle.ed_rules.specs.Order.{old_of_both, united, join, widen, CoversOld, Co
 use Rattle.ed_rules.specs.facts.Facts.{Facts}
 use Rattle.ed_rules.specs.facts.FactOrder.{says_line, says_clear, both_facts, cover_facts}
 use Rattle.ed_rules.proofs.Choosing.{choice-itself, same-choices}
-use Rattle.ed_rules.proofs.Texting.{member-passes, members-both, members-both_other}
+use Rattle.ed_rules.proofs.Texting.{same-texts, text-itself, member-passes, members-both, members-both_other}
 use Rattle.cert_check.specs.checker.Covering.{zone_covers, allows, are_among, old_covers, old_has_covers, covers}
 use Rattle.cert_check.proofs.verdicts.Covering.{below-each, says-zone}
 use Rattle.analyser.specs.Rounds.{next_invariant}
@@ -326,9 +326,9 @@ room-fewer a b e f = rw (e, f) (omega arith)
 held-fewer : (texts few many : List (List ℕ)) (t : List ℕ) → HoldsTexts few many → is_member texts t ≡ true →
     is_member few t ≡ false → is_member many t ≡ true → held_of texts few < held_of texts many
 held-fewer [] few many t h i e f = absurd cc
-held-fewer (u ∷ texts) few many t h i e f = elim (or_cases (pointwise nat_eq u t) (is_member texts t) i) [
+held-fewer (u ∷ texts) few many t h i e f = elim (or_cases (is_eq (slice_cmp nat_cmp t u)) (is_member texts t) i) [
   | inl q ↦
-      let same : t ≡ u = sym ((bytes_decides u t).0 q) in
+      let same : t ≡ u = same-texts t u q in
       let here : mark_room (is_member few u) < mark_room (is_member many u) =
       room-fewer (is_member few u) (is_member many u) (subst (λ (x : List ℕ). is_member few x ≡ false) same e)
       (subst (λ (x : List ℕ). is_member many x ≡ true) same f) in
@@ -349,9 +349,9 @@ lost-fewer texts few many other h k (t ∷ some) within g e =
     (elim (is_member other t) as (λ b. is_member other t ≡ b → b && are_members some other ≡ false →
     held_of texts few < held_of texts many) [
       | true ↦ λ q f. lost-fewer texts few many other h k some inside.1
-          (λ u i. g u (or_right (pointwise nat_eq t u) (is_member some u) i)) f
+          (λ u i. g u (or_right (is_eq (slice_cmp nat_cmp u t)) (is_member some u) i)) f
       | false ↦ λ q f. held-fewer texts few many t h inside.0 (no-member (is_member few t) (is_member other t) (k t) q)
-          (g t (or_left (pointwise nat_eq t t) (is_member some t) ((bytes_decides t t).1 refl)))
+          (g t (or_left (is_eq (slice_cmp nat_cmp t t)) (is_member some t) (text-itself t)))
     ]) refl e
   where
     no-member : (a b : Bool) → (a ≡ true → b ≡ true) → b ≡ false → a ≡ false

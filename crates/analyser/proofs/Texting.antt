@@ -13,9 +13,10 @@ use Rattle.ed_syntax.specs.Commands.{Script}
 use Rattle.ed_rules.specs.declared.known_matches.Matches.{Matches}
 use Rattle.ed_rules.specs.declared.state.Old.{Old}
 use Rattle.ed_rules.specs.declared.state.State.{State}
-use Rattle.ed_rules.specs.Choices.{Choice, order_of}
+use Rattle.ed_rules.specs.Choices.{Choice}
+use Rattle.ed_rules.specs.Texts.{are_rising}
 use Rattle.ed_rules.specs.KnownMatches.{no_matches}
-use Rattle.ed_rules.specs.Formed.{ChoiceIsBytes, TextsAreFormed, IsOfLines, is_rising}
+use Rattle.ed_rules.specs.Formed.{ChoiceIsBytes, TextsAreFormed, IsOfLines}
 use Rattle.ed_rules.specs.LineBounds.{IsAtMost, is_few, is_limit, is_within}
 use Rattle.cert_check.specs.declared.certificate.Version.{Version}
 use Rattle.cert_check.specs.declared.certificate.Version.TheVariants as version
@@ -51,13 +52,13 @@ high-limit (Some (pos n)) =
     (elim (nat_lt most_lines n) as (λ r. nat_lt most_lines n ≡ r → is_limit (cond r None (Some n)) ≡ true) [ true ↦ λ e. refl | false ↦ λ e. few n (ltb-false most_lines n e) ]) refl
 high-limit (Some (negsuc n)) = refl
 
-rising : (paths : List (List ℕ)) → IsStrictlySortedBy (slice_cmp nat_cmp) paths → is_rising (map (λ path. Some path) paths) ≡ true
+rising : (paths : List (List ℕ)) → IsStrictlySortedBy (slice_cmp nat_cmp) paths → are_rising paths ≡ true
 unfolding IsStrictlySortedBy
 rising [] h = refl
 rising (p ∷ []) h = refl
 rising (p ∷ q ∷ paths) h =
     let less : slice_cmp nat_cmp p q ≡ Less = h.0.0 in
-    and_from (is_lt (order_of (Some p) (Some q))) (is_rising (map (λ path. Some path) (q ∷ paths))) (rw less refl) (rising (q ∷ paths) h.1)
+    and_from (is_lt (slice_cmp nat_cmp p q)) (are_rising (q ∷ paths)) (rw less refl) (rising (q ∷ paths) h.1)
 
 -- WHAT IS SAID OF MATCHES
 

@@ -1,7 +1,8 @@
 -- A start that doesn't state a pattern that a script wants: the search for it fails, since no command before it brings a line that matches.
-use Rattle.std.proofs.Common.{◌≡◌, ◌<◌, ◌+◌, length, get_or, ℕ, ℤ, negsuc, Bool, true, false, not, ◌&&◌, ◌||◌, List, [], ◌∷◌, Option, None, Some, is_none, Result, Ok, Err, IfOk, nat_eq, inl, inr, refl, sym, ap, ◌∙◌, subst}
+use Rattle.std.proofs.Common.{◌≡◌, ◌<◌, ◌+◌, length, get_or, ℕ, ℤ, negsuc, Bool, true, false, not, ◌&&◌, ◌||◌, List, [], ◌∷◌, Option, None, Some, is_none, Result, Ok, Err, IfOk, inl, inr, refl, sym, ap, ◌∙◌, subst}
 use Rattle.std.specs.List.{list_all, list_any}
-use Rattle.std.specs.Cmp.Lexicographic.{pointwise, bytes_decides}
+use Rattle.std.specs.Cmp.Lexicographic.{slice_cmp, bytes_decides}
+use Rattle.std.specs.Ordering.{nat_cmp, is_eq}
 use Rattle.std.proofs.lemmas.Bool.{and_from, and_parts, or_cases}
 use Rattle.ed_base.specs.declared.fault.Fault.{Fault}
 use Rattle.ed_base.specs.declared.fault.Fault.TheVariants as fault
@@ -22,14 +23,12 @@ use Rattle.ed_rules.specs.Texts.{is_member}
 use Rattle.ed_rules.specs.Matched.{gained, sought}
 use Rattle.ed_rules.specs.Matching.{matches_after}
 use Rattle.ed_rules.specs.Pieces.{needing}
-use Rattle.ed_rules.specs.declared.following.Way.{Way}
-use Rattle.ed_rules.specs.declared.following.Way.TheVariants as ways
 use Rattle.ed_rules.specs.facts.FoundLines.{is_witnessed}
 use Rattle.ed_rules.specs.Following.{is_followed}
-use Rattle.ed_rules.specs.Addresses.{is_found, with_found, searched, in_buffer, copied, evaluated_base, evaluated, addressed, standing}
+use Rattle.ed_rules.specs.Addresses.{is_found, copied, evaluated_base, evaluated, addressed, standing}
 use Rattle.ed_rules.specs.Rules.{effect, step_at, step, fault_of}
 use Rattle.ed_rules.specs.States as states
-use Rattle.ed_rules.proofs.Texting.{filter-passes, filter-implied, with_texts-passes}
+use Rattle.ed_rules.proofs.Texting.{same-texts, filter-passes, filter-implied, with_texts-passes}
 use Rattle.ed_rules.proofs.matches.Sayings.{OfSets, AreSaid, Says, says-after}
 use Rattle.ed_rules.proofs.through.Needs.{Any, all-any, anyway}
 use Rattle.ed_rules.proofs.through.Addresses.{beside}
@@ -47,7 +46,7 @@ use Rattle.analyser.specs.Wanted.{seeks_at, seeks_first, enters_match, brings_no
 
 -- a set is without a text
 abbrev pub is_other : (text member : List ℕ) → Bool
-is_other text member = not (pointwise nat_eq member text)
+is_other text member = not (is_eq (slice_cmp nat_cmp text member))
 
 abbrev pub Lacks : (text : List ℕ) → (set : List (List ℕ)) → Type 0
 Lacks text set = list_all (is_other text) set ≡ true
@@ -60,7 +59,7 @@ lacks-none : (text : List ℕ) (set : List (List ℕ)) → Lacks text set → is
 lacks-none text [] h = refl
 lacks-none text (m ∷ set) h =
     let both = and_parts (is_other text m) (list_all (is_other text) set) h in
-    let here = not-is (pointwise nat_eq m text) both.0 in
+    let here = not-is (is_eq (slice_cmp nat_cmp text m)) both.0 in
     rw here (lacks-none text set both.1)
 
 or-parts : (a b : Bool) → a || b ≡ false → (a ≡ false) × (b ≡ false)
@@ -70,22 +69,22 @@ or-parts false b h = (refl, h)
 pub none-lacks : (text : List ℕ) (set : List (List ℕ)) → is_member set text ≡ false → Lacks text set
 none-lacks text [] h = refl
 none-lacks text (m ∷ set) h =
-    let both = or-parts (pointwise nat_eq m text) (is_member set text) h in
+    let both = or-parts (is_eq (slice_cmp nat_cmp text m)) (is_member set text) h in
     and_from (is_other text m) (list_all (is_other text) set) (ap not both.0) (none-lacks text set both.1)
 
 -- of what is watched for, no line that is entered matches the text
 other-if : (text t : List ℕ) (entered : List (List ℕ)) → list_any (matches text) entered ≡ false → list_any (matches t) entered ≡ true →
-    (b : Bool) → pointwise nat_eq t text ≡ b → not b ≡ true
+    (b : Bool) → is_eq (slice_cmp nat_cmp text t) ≡ b → not b ≡ true
 other-if text t entered none some false e = refl
 other-if text t entered none some true e =
     let same : list_any (matches text) entered ≡ true =
-    subst (λ (u : List ℕ). list_any (matches u) entered ≡ true) ((bytes_decides t text).0 e) some in
+    subst (λ (u : List ℕ). list_any (matches u) entered ≡ true) (sym (same-texts text t e)) some in
     absurd cc
 
 lacks-gained : (text : List ℕ) (watched entered : List (List ℕ)) → list_any (matches text) entered ≡ false → Lacks text (gained watched entered)
 lacks-gained text watched entered none =
     filter-implied (is_other text) (λ t. list_any (matches t) entered) watched
-    (λ t some. other-if text t entered none some (pointwise nat_eq t text) refl)
+    (λ t some. other-if text t entered none some (is_eq (slice_cmp nat_cmp text t)) refl)
 
 module _ (text : List ℕ) where
   sets : OfSets (Lacks text)
@@ -160,19 +159,24 @@ module _ (text : List ℕ) where
       ∙ ap (λ (b : Bool). (known_line && b) && true) never
       ∙ ap (λ (b : Bool). b && true) (and-false known_line)
 
-  lost-search : (way : Way) (x : ℕ) (k : ℤ) (s : State) → text_is_always text ≡ false → s.follows ≡ false →
-      is_member s.matches.has text ≡ false → searched way x (Some text) k s ≡ Err fault.NoMatch
-  lost-search way x k s never plain lacks =
-      ap (λ (b : Bool). needing b fault.NoMatch (with_found way (Some text ∷ []) x k s) >> in_buffer x) (unfound s never plain lacks)
+  lost-forward : (x : ℕ) (k : ℤ) (s : State) → text_is_always text ≡ false → s.follows ≡ false → is_member s.matches.has text ≡ false →
+      evaluated_base x (ed.Forward (Some text)) k s ≡ Err fault.NoMatch
+  lost-forward x k s never plain lacks =
+      rw (unfound s never plain lacks) refl
+
+  lost-backward : (x : ℕ) (k : ℤ) (s : State) → text_is_always text ≡ false → s.follows ≡ false → is_member s.matches.has text ≡ false →
+      evaluated_base x (ed.Backward (Some text)) k s ≡ Err fault.NoMatch
+  lost-backward x k s never plain lacks =
+      rw (unfound s never plain lacks) refl
 
   lost-base : (x : ℕ) (b : Base) (k : ℤ) (s : State) → seeks_at text b ≡ true → text_is_always text ≡ false → s.follows ≡ false → is_member s.matches.has text ≡ false →
       evaluated_base x b k s ≡ Err fault.NoMatch
   lost-base x (ed.Forward (Some given)) k s e never plain lacks =
-      subst (λ (t : List ℕ). searched ways.Forward x (Some t) k s ≡ Err fault.NoMatch) (sym ((bytes_decides given text).0 e))
-      (lost-search ways.Forward x k s never plain lacks)
+      subst (λ (t : List ℕ). evaluated_base x (ed.Forward (Some t)) k s ≡ Err fault.NoMatch) (sym ((bytes_decides given text).0 e))
+      (lost-forward x k s never plain lacks)
   lost-base x (ed.Backward (Some given)) k s e never plain lacks =
-      subst (λ (t : List ℕ). searched ways.Backward x (Some t) k s ≡ Err fault.NoMatch) (sym ((bytes_decides given text).0 e))
-      (lost-search ways.Backward x k s never plain lacks)
+      subst (λ (t : List ℕ). evaluated_base x (ed.Backward (Some t)) k s ≡ Err fault.NoMatch) (sym ((bytes_decides given text).0 e))
+      (lost-backward x k s never plain lacks)
   lost-base x (ed.Forward None) k s e never plain lacks = absurd cc
   lost-base x (ed.Backward None) k s e never plain lacks = absurd cc
   lost-base x (ed.Number n) k s e never plain lacks = absurd cc

@@ -11,7 +11,7 @@ ghost use Rattle.analyser.specs.Walking.{IsLastRound, looped_of, IsTaken, IsWalk
 use crate::paths::list_taken;
 use crate::rounds::{Round, settle};
 use cert_check::{Looped, Note, Place, Sight};
-use ed_base::{Bytes, Fault};
+use ed_base::{Bytes, Fault, Texts};
 use ed_rules::{KeptState, State, loop_end, needs_are_the_same_whatever_is_watched, outcome_into};
 use ed_syntax::Command;
 use std::alloc::{AllocError, Global};
@@ -183,7 +183,7 @@ pub(crate) fn go_through(
     ensures value { IfOk result (λ walk. IsWalk sight.now (steps_value commands.now) start walk) }
 {
     let mut notes = Vec::new(alloc);
-    let mut writes = Vec::new(alloc);
+    let mut writes = Texts::none(alloc);
     let mut coming = Box::new(alloc, start)?;
     // Room for the result of each command. A state is large, so the boxes are exchanged and not what they hold.
     let mut left = Box::new(alloc, coming.try_copy()?)?;
@@ -196,7 +196,7 @@ pub(crate) fn go_through(
                 notes.push(note)?;
                 let place = place_of(index + 1, inner);
                 let outcome = Outcome::Fails { place, why };
-                return Ok(Walk::of(notes, writes, false, outcome));
+                return Ok(Walk::of(notes, writes.into_members(), false, outcome));
             }
             End::Leaves => {
                 list_taken(&mut writes, command, &known, &looped)?;
@@ -207,9 +207,9 @@ pub(crate) fn go_through(
         }
         if command.verb.takes().ends.is_some() {
             let outcome = Outcome::Left(coming.try_keep()?);
-            return Ok(Walk::of(notes, writes, true, outcome));
+            return Ok(Walk::of(notes, writes.into_members(), true, outcome));
         }
     }
     let outcome = Outcome::Left(coming.try_keep()?);
-    Ok(Walk::of(notes, writes, false, outcome))
+    Ok(Walk::of(notes, writes.into_members(), false, outcome))
 }

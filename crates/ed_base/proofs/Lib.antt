@@ -3,3 +3,4 @@ pub mod LineLemmas
 pub mod Letters
 pub mod PartLemmas
 pub mod PieceLemmas
+pub mod SortedLemmas

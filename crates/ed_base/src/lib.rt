@@ -5,10 +5,12 @@ mod bytes;
 mod fault;
 mod letter;
 mod lines;
+mod member;
 mod newlines;
 mod numbers;
 mod part;
 mod pieces;
+mod sorted;
 mod text;
 mod walk;
 
@@ -19,7 +21,9 @@ pub use lines::{
     bytes_hold_their_lines, count_lines, join_lines, next_line, split_lines,
     written_lines_are_read_back,
 };
+pub use member::Member;
 pub use numbers::push_number;
 pub use pieces::Pieces;
+pub use sorted::{Sorted, Texts, do_rise};
 pub use text::Text;
 pub use walk::Walk;

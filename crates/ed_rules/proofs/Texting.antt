@@ -1,33 +1,33 @@
 -- Sets of texts, and what lines match of them.
-use Rattle.std.proofs.Common.{◌≡◌, inl, inr, ℕ, Bool, true, false, cond, List, [], ◌∷◌, ◌++◌, refl, subst, nat_eq}
+use Rattle.std.proofs.Common.{◌≡◌, ℕ, Bool, true, false, cond, List, [], ◌∷◌, ◌++◌, refl}
 use Rattle.std.specs.List.{list_all, filter}
-use Rattle.std.specs.Cmp.Lexicographic.{pointwise, slice_cmp, bytes_decides}
-use Rattle.std.specs.Ordering.{nat_cmp}
-use Rattle.std.specs.declared.cmp.Ordering.TheVariants.{Less, Equal, Greater}
-use Rattle.std.proofs.lemmas.Bool.{and_from, and_parts, or_cases, or_left, or_right}
+use Rattle.std.specs.Cmp.Lexicographic.{slice_cmp, nat_list_cmp_total}
+use Rattle.std.specs.Ordering.{nat_cmp, is_eq}
+use Rattle.std.proofs.lemmas.Bool.{and_from, and_parts}
+use Rattle.std.proofs.lemmas.Map.Lookups.{exact_bytes}
 use Rattle.ed_base.specs.Buffer.{Line}
+use Rattle.ed_base.proofs.SortedLemmas as sorted
+use Rattle.ed_base.proofs.SortedLemmas.{with_member-passes, with_members-passes, with_members-append}
 use Rattle.ed_rules.specs.Texts.{is_member, are_members, both_texts, with_text, with_texts}
 use Rattle.ed_rules.specs.Matched.{is_matched, AreMatched}
 
+-- equal texts are the same
+pub same-texts : (text other : List ℕ) → is_eq (slice_cmp nat_cmp text other) ≡ true → text ≡ other
+same-texts = sorted.same nat_list_cmp_total exact_bytes
+
+pub text-itself : (text : List ℕ) → is_eq (slice_cmp nat_cmp text text) ≡ true
+text-itself = sorted.itself nat_list_cmp_total
+
 -- what is true of each member is true of one
 pub member-passes : (p : List ℕ → Bool) (set : List (List ℕ)) (text : List ℕ) → is_member set text ≡ true → list_all p set ≡ true → p text ≡ true
-member-passes p [] text m h = absurd cc
-member-passes p (t ∷ set) text m h =
-    let both = and_parts (p t) (list_all p set) h in
-    elim (or_cases (pointwise nat_eq t text) (is_member set text) m) [
-      | inl e ↦ subst (λ (u : List ℕ). p u ≡ true) ((bytes_decides t text).0 e) both.0
-      | inr e ↦ member-passes p set text e both.1
-    ]
+member-passes = sorted.member-passes nat_list_cmp_total exact_bytes
 
 pub member-matched : (set : List (List ℕ)) (text : List ℕ) (lines : List Line) → is_member set text ≡ true → AreMatched set lines → is_matched lines text ≡ true
 member-matched set text lines m h = member-passes (is_matched lines) set text m h
 
 -- and so it is of those that are among them
 pub members-pass : (p : List ℕ → Bool) (few many : List (List ℕ)) → are_members few many ≡ true → list_all p many ≡ true → list_all p few ≡ true
-members-pass p [] many m h = refl
-members-pass p (t ∷ few) many m h =
-    let both = and_parts (is_member many t) (are_members few many) m in
-    and_from (p t) (list_all p few) (member-passes p many t both.0 h) (members-pass p few many both.1 h)
+members-pass = sorted.members-pass nat_list_cmp_total exact_bytes
 
 -- a test that passes where another does
 pub passes-more : (p q : List ℕ → Bool) (set : List (List ℕ)) → ((text : List ℕ) → p text ≡ true → q text ≡ true) → list_all p set ≡ true → list_all q set ≡ true
@@ -64,36 +64,23 @@ both-passes p one other h = filter-passes p (is_member other) one h
 pub both-passes_other : (p : List ℕ → Bool) (one other : List (List ℕ)) → list_all p other ≡ true → list_all p (both_texts one other) ≡ true
 both-passes_other p one other h = filter-implied p (is_member other) one (λ text m. member-passes p other text m h)
 
--- those of a set and one more
+-- those of a set and more
 pub with_text-passes : (p : List ℕ → Bool) (text : List ℕ) (set : List (List ℕ)) → p text ≡ true → list_all p set ≡ true → list_all p (with_text text set) ≡ true
-with_text-passes p text [] k h = and_from (p text) true k refl
-with_text-passes p text (t ∷ set) k h =
-    let both = and_parts (p t) (list_all p set) h in
-    elim (slice_cmp nat_cmp text t) as (λ o. list_all p (elim o as (λ _. List (List ℕ)) [ Less ↦ text ∷ t ∷ set | Equal ↦ t ∷ set | Greater ↦ t ∷ with_text text set ]) ≡ true) [
-      | Less ↦ and_from (p text) (list_all p (t ∷ set)) k h
-      | Equal ↦ h
-      | Greater ↦ and_from (p t) (list_all p (with_text text set)) both.0 (with_text-passes p text set k both.1)
-    ]
+with_text-passes = with_member-passes (slice_cmp nat_cmp)
 
 pub with_texts-passes : (p : List ℕ → Bool) (texts set : List (List ℕ)) → list_all p texts ≡ true → list_all p set ≡ true → list_all p (with_texts texts set) ≡ true
-with_texts-passes p [] set k h = h
-with_texts-passes p (t ∷ texts) set k h =
-    let both = and_parts (p t) (list_all p texts) k in
-    with_texts-passes p texts (with_text t set) both.1 (with_text-passes p t set both.0 h)
+with_texts-passes = with_members-passes (slice_cmp nat_cmp)
 
 -- WHICH ARE AMONG OTHERS
 
 pub members-more : (few many : List (List ℕ)) → ((text : List ℕ) → is_member few text ≡ true → is_member many text ≡ true) → are_members few many ≡ true
-members-more [] many h = refl
-members-more (t ∷ few) many h =
-    and_from (is_member many t) (are_members few many) (h t (or_left (pointwise nat_eq t t) (is_member few t) ((bytes_decides t t).1 refl)))
-    (members-more few many (λ text k. h text (or_right (pointwise nat_eq t text) (is_member few text) k)))
+members-more = sorted.members-more nat_list_cmp_total
 
 pub members-same : (set : List (List ℕ)) → are_members set set ≡ true
-members-same set = members-more set set (λ text h. h)
+members-same = sorted.members-same nat_list_cmp_total
 
 pub members-through : (few many more : List (List ℕ)) → are_members few many ≡ true → are_members many more ≡ true → are_members few more ≡ true
-members-through few many more h k = members-pass (is_member more) few many h k
+members-through = sorted.members-through nat_list_cmp_total exact_bytes
 
 pub members-both : (one other : List (List ℕ)) → are_members (both_texts one other) one ≡ true
 members-both one other = both-passes (is_member one) one other (members-same one)
@@ -102,5 +89,4 @@ pub members-both_other : (one other : List (List ℕ)) → are_members (both_tex
 members-both_other one other = both-passes_other (is_member other) one other (members-same other)
 
 pub with_texts-append : (one other set : List (List ℕ)) → with_texts (one ++ other) set ≡ with_texts other (with_texts one set)
-with_texts-append [] other set = refl
-with_texts-append (t ∷ one) other set = with_texts-append one other (with_text t set)
+with_texts-append = with_members-append (slice_cmp nat_cmp)

@@ -10,8 +10,7 @@ use Rattle.ed_syntax.specs.Commands.{Base, Address, Addresses, Without, One, Com
 use Rattle.ed_syntax.specs.meaning.Verbs.{takes}
 use Rattle.ed_rules.specs.declared.state.Old.{Old}
 use Rattle.ed_rules.specs.declared.state.State.{State}
-use Rattle.ed_rules.specs.Choices.{Choice}
-pub use Rattle.ed_rules.specs.Choices.{is_rising}
+use Rattle.ed_rules.specs.Choices.{Choice, is_rising}
 use Rattle.ed_rules.specs.Marks.{is_sure}
 use Rattle.ed_rules.specs.Texts.{are_rising}
 

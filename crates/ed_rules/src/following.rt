@@ -11,8 +11,7 @@ use crate::choices::Choices;
 use crate::line_facts::{ClearStretch, LineFacts, is_witnessed, search_backward, search_forward};
 use crate::marks::Marks;
 use crate::state::State;
-use crate::texts::Texts;
-use ed_base::Bytes;
+use ed_base::{Bytes, Texts};
 use std::alloc::{AllocError, Global};
 use zones::{Name, Zone};
 

@@ -5,7 +5,7 @@ ghost use Rattle.ed_rules.specs.KnownMatches.{no_matches, old_has_of_both, match
 ghost use Rattle.ed_rules.specs.Matching.{matches_by_undo};
 
 use crate::state::{Old, Undo};
-use crate::texts::Texts;
+use ed_base::Texts;
 use std::alloc::{AllocError, Global};
 
 /// What is known of matches. What is done with all of it at once is a function here.

@@ -24,11 +24,11 @@ mod pieces;
 mod rules;
 mod state;
 mod substitution;
-mod texts;
 mod undoing;
 mod watch;
 
 pub use choices::Choices;
+pub use ed_base::Texts;
 pub use fact_laws::{
     assigned_facts_are_true, carried_facts_are_true, edited_facts_are_true,
     facts_are_left_by_commands, facts_go_by_bytes, joined_facts_are_covered,
@@ -53,5 +53,4 @@ pub use marks::Marks;
 pub use matched::some_line_matches;
 pub use rules::{after, needs, outcome_into};
 pub use state::{Changed, Old, Replacements, State, Undo};
-pub use texts::{Texts, put_text, texts_rise};
 pub use watch::Watch;

@@ -7,9 +7,8 @@ ghost use Rattle.ed_rules.specs.KnownMatches.{old_has_of_both};
 
 use crate::known_matches::Matches;
 use crate::state::State;
-use crate::texts::Texts;
 use crate::watch::Watch;
-use ed_base::Text;
+use ed_base::{Text, Texts};
 use ed_syntax::{Addresses, Alteration};
 use std::alloc::AllocError;
 use zones::{Name, Zone};

@@ -12,8 +12,7 @@ use crate::choices::Choices;
 use crate::known_matches::Matches;
 use crate::line_facts::LineFacts;
 use crate::marks::Marks;
-use crate::texts::Texts;
-use ed_base::Bytes;
+use ed_base::{Bytes, Texts};
 use std::alloc::{AllocError, Global};
 use zones::{Name, Zone};
 

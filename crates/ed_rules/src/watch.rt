@@ -8,8 +8,7 @@ ghost use Rattle.ed_rules.specs.Texts.{with_texts};
 ghost use Rattle.ed_rules.specs.Matched.{gained, sought_at, sought_by, sought_at_target, sought, sought_by_step, watched};
 
 use crate::matched::some_line_matches;
-use crate::texts::Texts;
-use ed_base::Text;
+use ed_base::{Text, Texts};
 use ed_syntax::{Address, Addresses, Base, Command, Script};
 use std::alloc::{AllocError, Global};
 use std::marker::Model;

@@ -4,7 +4,7 @@ use Rattle.std.specs.Prelude.{codes, IsTrue, IsFalse}
 use Rattle.ed_syntax.specs.spelling.Characters.{ampersand, is_digit, begins, after_blanks}
 use Rattle.landmarks.specs.declared.which.Which.{Which}
 use Rattle.landmarks.specs.declared.which.Which.TheVariants as named
-use Rattle.landmarks.specs.Patterns.{with_pattern}
+use Rattle.ed_base.specs.Texts.{with_text}
 use Rattle.landmarks.specs.Words.{SpellsKey, SpellsWord, SpellsCount, NoKey, NoWord, NoCount}
 use Rattle.landmarks.specs.Spelled.{SpellsNone, SpellsWhich, SpellsDistance, SpellsTests}
 use Rattle.landmarks.specs.Stops.{NoWhich, NoDistance}
@@ -12,12 +12,12 @@ use Rattle.landmarks.proofs.Keys.{key-one, count-one, word-one, key-no_word, cou
 
 -- what goes on after one `lacking`
 pub none-next : {set none : List (List ℕ)} {text key more rest pattern : List ℕ} → SpellsWord (codes "no") text key → SpellsKey key more pattern →
-    SpellsNone set text rest none → SpellsNone (with_pattern pattern set) more rest none
+    SpellsNone set text rest none → SpellsNone (with_text pattern set) more rest none
 none-next {set} {none} {text} {key} {more} {rest} {pattern} word is (SpellsNone.over s t lacking) = absurd (lacking key word)
 none-next {set} {none} {text} {key} {more} {rest} {pattern} word is (SpellsNone.next s n t k m r p word' is' later) =
     let same = word-one word' word in
     let found = key-one (subst (λ k. SpellsKey k m p) same is') is in
-    subst (λ p. SpellsNone (with_pattern p set) more rest none) found.0 (subst (λ m. SpellsNone (with_pattern p set) m rest none) found.1 later)
+    subst (λ p. SpellsNone (with_text p set) more rest none) found.0 (subst (λ m. SpellsNone (with_text p set) m rest none) found.1 later)
 
 pub none-one : {set n1 n2 : List (List ℕ)} {text r1 r2 : List ℕ} → SpellsNone set text r1 n1 → SpellsNone set text r2 n2 → (n1 ≡ n2) × (r1 ≡ r2)
 none-one (SpellsNone.next s n t k m r p word is later) other = none-one later (none-next word is other)
@@ -71,27 +71,27 @@ same_more text a b one other = cc
 
 -- what goes on after `&` and a pattern
 pub tests-also : {also lacks all_also all_lacks : List (List ℕ)} {text key more rest pattern : List ℕ} → after_blanks text ≡ ampersand ∷ key →
-    SpellsKey key more pattern → SpellsTests also lacks text rest all_also all_lacks → SpellsTests (with_pattern pattern also) lacks more rest all_also all_lacks
+    SpellsKey key more pattern → SpellsTests also lacks text rest all_also all_lacks → SpellsTests (with_text pattern also) lacks more rest all_also all_lacks
 tests-also {also} {lacks} {all_also} {all_lacks} {text} {key} {more} {rest} {pattern} sign is (SpellsTests.over a l t lacking) = is_ampersand text key sign lacking
 tests-also {also} {lacks} {all_also} {all_lacks} {text} {key} {more} {rest} {pattern} sign is (SpellsTests.also a l t k m r p aa al sign' is' later) =
     let found = key-one (subst (λ k. SpellsKey k m p) (same_more text k key sign' sign) is') is in
-    subst (λ p. SpellsTests (with_pattern p also) lacks more rest all_also all_lacks) found.0
-    (subst (λ m. SpellsTests (with_pattern p also) lacks m rest all_also all_lacks) found.1 later)
+    subst (λ p. SpellsTests (with_text p also) lacks more rest all_also all_lacks) found.0
+    (subst (λ m. SpellsTests (with_text p also) lacks m rest all_also all_lacks) found.1 later)
 tests-also {also} {lacks} {all_also} {all_lacks} {text} {key} {more} {rest} {pattern} sign is (SpellsTests.lacks a l t w k m r p aa al sign' word is' later) =
     absurd (key-no_word 110 (codes "ot") refl is (subst (λ w. SpellsWord (codes "not") w k) (same_more text w key sign' sign) word))
 
 -- what goes on after `&`, `not` and a pattern
 pub tests-lacks : {also lacks all_also all_lacks : List (List ℕ)} {text word key more rest pattern : List ℕ} → after_blanks text ≡ ampersand ∷ word →
     SpellsWord (codes "not") word key → SpellsKey key more pattern → SpellsTests also lacks text rest all_also all_lacks →
-    SpellsTests also (with_pattern pattern lacks) more rest all_also all_lacks
+    SpellsTests also (with_text pattern lacks) more rest all_also all_lacks
 tests-lacks {also} {lacks} {all_also} {all_lacks} {text} {word} {key} {more} {rest} {pattern} sign w is (SpellsTests.over a l t lacking) = is_ampersand text word sign lacking
 tests-lacks {also} {lacks} {all_also} {all_lacks} {text} {word} {key} {more} {rest} {pattern} sign w is (SpellsTests.also a l t k m r p aa al sign' is' later) =
     absurd (key-no_word 110 (codes "ot") refl is' (subst (λ w. SpellsWord (codes "not") w key) (same_more text word k sign sign') w))
 tests-lacks {also} {lacks} {all_also} {all_lacks} {text} {word} {key} {more} {rest} {pattern} sign w is (SpellsTests.lacks a l t w' k m r p aa al sign' word' is' later) =
     let same = word-one (subst (λ w. SpellsWord (codes "not") w k) (same_more text w' word sign' sign) word') w in
     let found = key-one (subst (λ k. SpellsKey k m p) same is') is in
-    subst (λ p. SpellsTests also (with_pattern p lacks) more rest all_also all_lacks) found.0
-    (subst (λ m. SpellsTests also (with_pattern p lacks) m rest all_also all_lacks) found.1 later)
+    subst (λ p. SpellsTests also (with_text p lacks) more rest all_also all_lacks) found.0
+    (subst (λ m. SpellsTests also (with_text p lacks) m rest all_also all_lacks) found.1 later)
 
 -- the same sets, and the same rest
 pub record AreSame (also1 lacks1 also2 lacks2 : List (List ℕ)) (r1 r2 : List ℕ) : Type 0 where

@@ -2,7 +2,6 @@ mod Lines
 mod Firsts
 mod Placed
 mod OneAfterAnother
-mod Rising
 mod Ends
 mod Keys
 mod Determined

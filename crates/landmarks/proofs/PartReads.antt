@@ -3,7 +3,7 @@ use Rattle.std.proofs.Common.{◌≡◌, ℕ, true, false, nat_eq, List, [], ◌
 use Rattle.std.specs.Prelude.{codes, IsFalse}
 use Rattle.ed_syntax.specs.spelling.Characters.{ampersand, semicolon_byte, begins, after_blanks}
 use Rattle.landmarks.specs.declared.landmark.Landmark.{Landmark}
-use Rattle.landmarks.specs.Patterns.{with_pattern}
+use Rattle.ed_base.specs.Texts.{with_text}
 use Rattle.landmarks.specs.Words.{SpellsKey, SpellsWord, NoKey, NoWord}
 use Rattle.landmarks.specs.Spelled.{SpellsNone, SpellsTests, SpellsLandmark, SpellsLandmarks}
 use Rattle.landmarks.specs.Stops.{IsEnd, NoNone, NoTests, NoLandmarks}
@@ -22,7 +22,7 @@ pub none_start : (text : List ℕ) → NoneLeft text text []
 none_start text = record { forward = λ rest none is. is; back = λ rest none is. is; end = end_all text }
 
 pub none_step : {text left key more pattern : List ℕ} {set after : List (List ℕ)} → SpellsWord (codes "no") left key → IsEnd left key → SpellsKey key more pattern →
-    IsEnd key more → after ≡ with_pattern pattern set → NoneLeft text left set → NoneLeft text more after
+    IsEnd key more → after ≡ with_text pattern set → NoneLeft text left set → NoneLeft text more after
 none_step {text} {left} {key} {more} {pattern} {set} {after} word to_key is to_more put h =
     subst (NoneLeft text more) (sym put) (record {
       forward = λ rest none later. h.forward rest none (SpellsNone.next set none left key more rest pattern word is later);
@@ -53,7 +53,7 @@ pub end_ampersand : {left key : List ℕ} → after_blanks left ≡ ampersand �
 end_ampersand {left} {key} sign = end_later (end_is (end_blanks left) sign) (end_after ampersand (end_all key))
 
 pub tests_also : {text left key more pattern : List ℕ} {also lacks after : List (List ℕ)} → after_blanks left ≡ ampersand ∷ key → SpellsKey key more pattern →
-    IsEnd key more → after ≡ with_pattern pattern also → TestsLeft text left also lacks → TestsLeft text more after lacks
+    IsEnd key more → after ≡ with_text pattern also → TestsLeft text left also lacks → TestsLeft text more after lacks
 tests_also {text} {left} {key} {more} {pattern} {also} {lacks} {after} sign is to_more put h =
     subst (λ a. TestsLeft text more a lacks) (sym put) (record {
       forward = λ rest a l later. h.forward rest a l (SpellsTests.also also lacks left key more rest pattern a l sign is later);
@@ -62,7 +62,7 @@ tests_also {text} {left} {key} {more} {pattern} {also} {lacks} {after} sign is t
     })
 
 pub tests_lacks : {text left word key more pattern : List ℕ} {also lacks after : List (List ℕ)} → after_blanks left ≡ ampersand ∷ word →
-    SpellsWord (codes "not") word key → IsEnd word key → SpellsKey key more pattern → IsEnd key more → after ≡ with_pattern pattern lacks →
+    SpellsWord (codes "not") word key → IsEnd word key → SpellsKey key more pattern → IsEnd key more → after ≡ with_text pattern lacks →
     TestsLeft text left also lacks → TestsLeft text more also after
 tests_lacks {text} {left} {word} {key} {more} {pattern} {also} {lacks} {after} sign w to_key is to_more put h =
     subst (λ a. TestsLeft text more also a) (sym put) (record {

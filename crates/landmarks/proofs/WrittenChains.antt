@@ -3,18 +3,18 @@ use Rattle.std.proofs.Common.{◌≡◌, ◌≢◌, ◌⊎◌, ℕ, ◌<◌, Boo
 use Rattle.std.specs.Prelude.{codes, not, IsFalse, All, decimal}
 use Rattle.std.specs.List.{flat_map, list_all}
 use Rattle.std.specs.Ordering.{nat_cmp}
-use Rattle.std.specs.Cmp.Lexicographic.{slice_cmp}
-use Rattle.std.specs.declared.cmp.Ordering.TheVariants.{Less, Equal, Greater}
+use Rattle.std.specs.Cmp.Lexicographic.{slice_cmp, nat_list_cmp_total}
 use Rattle.std.proofs.lemmas.Bool.{eqb-true, eqb-false, eq-eqb, and_parts, cases_Bool}
 use Rattle.std.proofs.lemmas.List.Elements.{All-nil, All-cons, All-head, All-tail}
 use Rattle.ed_base.specs.Lines.{newline, IsLine}
+use Rattle.ed_base.specs.Texts.{are_rising, with_text}
+use Rattle.ed_base.proofs.SortedLemmas.{All-with_member, rising-with_member, with_member-last}
 use Rattle.ed_syntax.specs.spelling.Quoting.{SpellsPattern}
 use Rattle.ed_syntax.proofs.reader.EndLemmas.{quoted-end}
 use Rattle.ed_syntax.specs.spelling.Characters.{ampersand, semicolon_byte, is_digit, begins, after_blanks}
 use Rattle.landmarks.specs.declared.which.Which.{Which}
 use Rattle.landmarks.specs.declared.which.Which.TheVariants.{First, Only, Numbered}
 use Rattle.landmarks.specs.declared.landmark.Landmark.{Landmark}
-use Rattle.landmarks.specs.Patterns.{are_rising, with_pattern}
 use Rattle.landmarks.specs.Words.{SpellsKey, SpellsWord, SpellsCount, NoWord}
 use Rattle.landmarks.specs.Spelled.{SpellsNone, SpellsWhich, SpellsDistance, SpellsTests, SpellsLandmark, SpellsLandmarks, SpellsChain, CanBe, NoChain}
 use Rattle.landmarks.specs.Written.{key_text, which_text, distance_text, landmark_text, chain_text}
@@ -22,7 +22,6 @@ use Rattle.landmarks.specs.Stops.{IsEnd}
 use Rattle.landmarks.proofs.Ends.{end_all, end_after, end_blanks, end_later, end_is}
 use Rattle.landmarks.proofs.Keys.{key-no_word, count-no_word}
 use Rattle.landmarks.proofs.Chains.{chain-one}
-use Rattle.landmarks.proofs.Rising.{rising-with, with-last}
 use Rattle.landmarks.proofs.WordReads.{word_end, end_number}
 use Rattle.landmarks.proofs.WrittenKeys.{IsWritable, key-writable, key-here, line-rest, line-both}
 use Rattle.landmarks.proofs.WrittenCounts.{IsCount, count-writable, count-here}
@@ -40,17 +39,11 @@ record IsWritableSet (set : List (List ℕ)) : Type 0 where
 nothing-writable : IsWritableSet []
 nothing-writable = record { each = All-nil IsWritable; rising = refl }
 
-each-with : (text : List ℕ) (set : List (List ℕ)) → IsWritable text → All IsWritable set → All IsWritable (with_pattern text set)
-each-with text [] h all = All-cons IsWritable text [] h all
-each-with text (member ∷ set) h all =
-    elim (slice_cmp nat_cmp text member) as (λ o. All IsWritable (elim o as (λ _. List (List ℕ)) [ Less ↦ text ∷ member ∷ set | Equal ↦ member ∷ set | Greater ↦ member ∷ with_pattern text set ])) [
-      | Less ↦ All-cons IsWritable text (member ∷ set) h all
-      | Equal ↦ all
-      | Greater ↦ All-cons IsWritable member (with_pattern text set) (All-head IsWritable member set all) (each-with text set h (All-tail IsWritable member set all))
-    ]
-
-set-with : {text : List ℕ} {set : List (List ℕ)} → IsWritable text → IsWritableSet set → IsWritableSet (with_pattern text set)
-set-with {text} {set} h s = record { each = each-with text set h s.each; rising = rising-with text set s.rising }
+set-with : {text : List ℕ} {set : List (List ℕ)} → IsWritable text → IsWritableSet set → IsWritableSet (with_text text set)
+set-with {text} {set} h s = record {
+  each = All-with_member (slice_cmp nat_cmp) IsWritable text set h s.each;
+  rising = rising-with_member nat_list_cmp_total text set s.rising;
+}
 
 abbrev WhichIsWritable : Which → Type 0
 WhichIsWritable (First pattern) = IsWritable pattern
@@ -190,7 +183,7 @@ none-here done (p ∷ none) text end rising h no_word same =
     let key = 32 ∷ (key_text p ++ more) in
     let word : SpellsWord (codes "no") text key = record { stands = same ∙ ap after_blanks (none-text p none end); over = refl } in
     let is : SpellsKey key more p = key-here p key more (All-head IsWritable p none h) refl in
-    let put = with-last p done none rising in
+    let put = with_member-last nat_list_cmp_total p done none rising in
     let later = none-here (done ++ p ∷ []) none more end (ap are_rising (one-more done none p) ∙ rising) (All-tail IsWritable p none h) no_word refl in
     record {
       rest = later.rest;
@@ -297,7 +290,7 @@ lacks-here also done (p ∷ lacks) end rising h over =
     let key = 32 ∷ (key_text p ++ more) in
     let word = 32 ∷ (codes "not" ++ key) in
     let text : flat_map lacks_text (p ∷ lacks) ++ end ≡ 32 ∷ ampersand ∷ word = append_assoc (lacks_text p) (flat_map lacks_text lacks) end in
-    let put = with-last p done lacks rising in
+    let put = with_member-last nat_list_cmp_total p done lacks rising in
     let later = lacks-here also (done ++ p ∷ []) lacks end (ap are_rising (one-more done lacks p) ∙ rising) (All-tail IsWritable p lacks h) over in
     subst (λ t. SpellsTests also done t end also (done ++ p ∷ lacks)) (sym text)
     (subst (SpellsTests also done (32 ∷ ampersand ∷ word) end also) (one-more done lacks p)
@@ -312,7 +305,7 @@ also-here done (p ∷ also) lacks all_lacks tests end rising h others =
     let more = flat_map also_text also ++ tests in
     let key = 32 ∷ (key_text p ++ more) in
     let text : flat_map also_text (p ∷ also) ++ tests ≡ 32 ∷ ampersand ∷ key = append_assoc (also_text p) (flat_map also_text also) tests in
-    let put = with-last p done also rising in
+    let put = with_member-last nat_list_cmp_total p done also rising in
     let regrouped = one-more done also p in
     let later = also-here (done ++ p ∷ []) also lacks all_lacks tests end (ap are_rising regrouped ∙ rising) (All-tail IsWritable p also h)
     (subst (λ set. SpellsTests set lacks tests end set all_lacks) (sym regrouped) others) in

@@ -15,7 +15,7 @@ use Rattle.landmarks.specs.declared.chain_fault.ChainWrong.{ChainWrong}
 use Rattle.landmarks.specs.declared.chain_fault.ChainWrong.TheVariants as wrong
 use Rattle.landmarks.specs.declared.chain_fault.ChainFault.{ChainFault}
 use Rattle.landmarks.specs.declared.chain_fault.ChainFault.TheVariants as fault
-use Rattle.landmarks.specs.Patterns.{is_among}
+use Rattle.ed_base.specs.Texts.{is_member}
 use Rattle.landmarks.specs.Words.{is_key_delimiter}
 use Rattle.landmarks.specs.Spelled.{SpellsParts, matched_by}
 
@@ -59,7 +59,7 @@ pub record IsBroken (here : List ℕ) (reason : BreFault) : Type 0 where
 
 -- why no line can be a landmark: one pattern is matched and not matched, or one that isn't matched is matched by each line
 abbrev pub IsNever : Landmark → Never → Type 0
-IsNever landmark (Both pattern) = Contains landmark.lacks pattern × IsTrue (is_among (matched_by landmark) pattern)
+IsNever landmark (Both pattern) = Contains landmark.lacks pattern × IsTrue (is_member (matched_by landmark) pattern)
 IsNever landmark (Always pattern) = Contains landmark.lacks pattern × IsTrue (text_is_always pattern)
 
 -- The parts of a landmark stand here that no line can be, for this reason.

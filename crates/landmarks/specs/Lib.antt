@@ -1,5 +1,4 @@
 -- to be read, and believed or refused
-pub mod Patterns
 pub mod Places
 pub mod Misplaced
 pub mod Placings

@@ -7,14 +7,14 @@ use Rattle.ed_syntax.specs.spelling.Characters.{ampersand, semicolon_byte, begin
 use Rattle.landmarks.specs.declared.which.Which.{Which}
 use Rattle.landmarks.specs.declared.which.Which.TheVariants.{First, Only, Numbered}
 use Rattle.landmarks.specs.declared.landmark.Landmark.{Landmark}
-use Rattle.landmarks.specs.Patterns.{is_among, with_pattern}
+use Rattle.ed_base.specs.Texts.{is_member, with_text}
 use Rattle.landmarks.specs.Words.{SpellsKey, SpellsWord, SpellsCount, NoWord}
 
 -- Patterns that no line between may match, each after the word `no`; they go into a set, and the last is the set with all of them.
 pub data SpellsNone : (set : List (List ℕ)) → (text rest : List ℕ) → (none : List (List ℕ)) → Type 0 where
   over : (set : List (List ℕ)) (text : List ℕ) → NoWord (codes "no") text → SpellsNone set text text set
   next : (set none : List (List ℕ)) (text key more rest pattern : List ℕ) → SpellsWord (codes "no") text key → SpellsKey key more pattern →
-      SpellsNone (with_pattern pattern set) more rest none → SpellsNone set text rest none
+      SpellsNone (with_text pattern set) more rest none → SpellsNone set text rest none
 
 -- Which line: the first that matches a pattern, the only one, or the one of a number.
 pub data SpellsWhich : (text rest : List ℕ) → Which → Type 0 where
@@ -35,10 +35,10 @@ pub data SpellsTests : (also lacks : List (List ℕ)) → (text rest : List ℕ)
       SpellsTests also lacks text text also lacks
   also : (also lacks : List (List ℕ)) (text key more rest pattern : List ℕ) (all_also all_lacks : List (List ℕ)) →
       after_blanks text ≡ ampersand ∷ key → SpellsKey key more pattern →
-      SpellsTests (with_pattern pattern also) lacks more rest all_also all_lacks → SpellsTests also lacks text rest all_also all_lacks
+      SpellsTests (with_text pattern also) lacks more rest all_also all_lacks → SpellsTests also lacks text rest all_also all_lacks
   lacks : (also lacks : List (List ℕ)) (text word key more rest pattern : List ℕ) (all_also all_lacks : List (List ℕ)) →
       after_blanks text ≡ ampersand ∷ word → SpellsWord (codes "not") word key → SpellsKey key more pattern →
-      SpellsTests also (with_pattern pattern lacks) more rest all_also all_lacks → SpellsTests also lacks text rest all_also all_lacks
+      SpellsTests also (with_text pattern lacks) more rest all_also all_lacks → SpellsTests also lacks text rest all_also all_lacks
 
 -- The parts of a landmark, one after another.
 pub record SpellsParts (text rest : List ℕ) (landmark : Landmark) : Type 0 where
@@ -64,7 +64,7 @@ matched_by landmark = sought_by landmark.which ++ landmark.also
 
 -- a pattern that the line of a landmark doesn't match: it is none of those that it matches, and isn't seen to match each line
 abbrev pub CanLack : Landmark → (pattern : List ℕ) → Type 0
-CanLack landmark pattern = IsFalse (is_among (matched_by landmark) pattern) × IsFalse (text_is_always pattern)
+CanLack landmark pattern = IsFalse (is_member (matched_by landmark) pattern) × IsFalse (text_is_always pattern)
 
 -- some line may be the landmark, as far as that is seen from its words
 abbrev pub CanBe : Landmark → Type 0

@@ -10,7 +10,6 @@ mod looking;
 mod misplaced;
 mod never;
 mod parts;
-mod patterns;
 mod places;
 mod quoting;
 mod sameness;
@@ -27,7 +26,6 @@ pub use laws::{
     spelled_chains_are_written,
 };
 pub use misplaced::{Misfit, Misplaced};
-pub use patterns::Patterns;
 pub use places::{Placing, find_places};
 pub use starting::know_landmarks;
 pub use which::Which;

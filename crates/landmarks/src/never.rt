@@ -2,7 +2,7 @@
 
 ghost use Rattle.std.specs.Prelude.{◌≡◌, IfOk, MatchOption};
 ghost use Rattle.bre_parse.specs.Always.{text_is_always};
-ghost use Rattle.landmarks.specs.Patterns.{is_among};
+ghost use Rattle.ed_base.specs.Texts.{is_member};
 ghost use Rattle.landmarks.specs.Spelled.{matched_by, sought_by, CanBe};
 ghost use Rattle.landmarks.specs.ChainFaults.{IsNever};
 
@@ -11,6 +11,7 @@ use crate::{Landmark, Which};
 use bre_parse::Bre;
 use bre_parse::fault::BreFault;
 use std::alloc::{AllocError, Global};
+use std::cmp::Ordering;
 
 /// Why no line can be a landmark, where that is seen from its words.
 pub fn never(alloc: Global, landmark: &Landmark) -> Result<Option<Never>, AllocError>
@@ -31,18 +32,18 @@ pub fn never(alloc: Global, landmark: &Landmark) -> Result<Option<Never>, AllocE
 
 /// Whether a pattern is one that the line of a landmark matches.
 fn is_matched(landmark: &Landmark, pattern: &[u8]) -> bool
-    ensures value { result ≡ is_among (matched_by landmark.now) pattern.now }
+    ensures value { result ≡ is_member (matched_by landmark.now) pattern.now }
 {
     is_sought(&landmark.which, pattern) || landmark.also.has(pattern)
 }
 
 /// Whether a pattern is the one by which the line is looked for.
 fn is_sought(which: &Which, pattern: &[u8]) -> bool
-    ensures value { result ≡ is_among (sought_by which.now) pattern.now }
+    ensures value { result ≡ is_member (sought_by which.now) pattern.now }
 {
     match which {
-        Which::First(sought) => sought.as_slice() == pattern,
-        Which::Only(sought) => sought.as_slice() == pattern,
+        Which::First(sought) => pattern.cmp(&sought.as_slice()) == Ordering::Equal,
+        Which::Only(sought) => pattern.cmp(&sought.as_slice()) == Ordering::Equal,
         Which::Numbered(_) => false,
     }
 }

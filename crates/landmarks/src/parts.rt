@@ -8,16 +8,17 @@ ghost use Rattle.landmarks.specs.Stops.{IsEnd, StopsIn, Unless, NoNone, NoWhich,
 use crate::chain_fault::{ChainWrong, Stop};
 use crate::never::never;
 use crate::words::{after_sign, after_word, begins_with_digit, count, key};
-use crate::{Landmark, Patterns, Which};
+use crate::{Landmark, Which};
+use ed_base::Texts;
 use std::alloc::Global;
 
 /// The patterns after each `no` in front.
-fn none(alloc: Global, text: &[u8]) -> Result<(Patterns, &[u8]), Stop>
+fn none(alloc: Global, text: &[u8]) -> Result<(Texts, &[u8]), Stop>
     ensures spelled { MatchResult result (λ (none, rest). SpellsNone [] text.now rest.now none) (Unless (NoNone [] text.now)) }
     ensures told { IfErr result (StopsIn text.now) }
     ensures end { IfOk result (λ (none, rest). IsEnd text.now rest.now) }
 {
-    let mut none = Patterns::none(alloc);
+    let mut none = Texts::none(alloc);
     let mut left = text;
     'patterns: while let Some(key_text) = after_word(left, b"no") {
         let (pattern, rest) = key(alloc, key_text)?;
@@ -62,14 +63,14 @@ fn distance<'a>(text: &'a [u8], word: &[u8], unsaid: u32) -> Result<(u32, &'a [u
 }
 
 /// The patterns after each `&`: those that are matched too, and those that aren't.
-fn tests(alloc: Global, text: &[u8]) -> Result<(Patterns, Patterns, &[u8]), Stop>
+fn tests(alloc: Global, text: &[u8]) -> Result<(Texts, Texts, &[u8]), Stop>
     ensures spelled { MatchResult result (λ (also, lacks, rest). SpellsTests [] [] text.now rest.now also lacks)
         (Unless (NoTests [] [] text.now)) }
     ensures told { IfErr result (StopsIn text.now) }
     ensures end { IfOk result (λ (also, lacks, rest). IsEnd text.now rest.now) }
 {
-    let mut also = Patterns::none(alloc);
-    let mut lacks = Patterns::none(alloc);
+    let mut also = Texts::none(alloc);
+    let mut lacks = Texts::none(alloc);
     let mut left = text;
     'tests: while let Some(test) = after_sign(left, b'&') {
         let Some(key_text) = after_word(test, b"not") else {

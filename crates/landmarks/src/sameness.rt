@@ -4,6 +4,7 @@ ghost use Rattle.std.specs.Prelude.{◌≡◌};
 ghost use Rattle.std.specs.Bool.{Decides};
 
 use crate::{Landmark, Which};
+use ed_base::Texts;
 
 /// Whether two chains have the same landmarks.
 pub fn are_same(one: &[Landmark], other: &[Landmark]) -> bool
@@ -20,16 +21,24 @@ pub fn are_same(one: &[Landmark], other: &[Landmark]) -> bool
     true
 }
 
-#[tactic(auto, using(crate::proofs::SameChains::landmark_decides, crate::proofs::SameChains::sets_decide))]
+/// Whether two sets have the same members.
+fn are_one(one: &Texts, other: &Texts) -> bool
+    ensures exact { Decides result (one.now ≡ other.now) }
+{
+    one.members() == other.members()
+}
+
+/// Whether two landmarks say the same.
+#[tactic(auto, using(crate::proofs::SameChains::landmark_decides))]
 fn is_same(one: &Landmark, other: &Landmark) -> bool
     ensures exact { Decides result (one.now ≡ other.now) }
 {
-    let none = one.none == other.none;
+    let none = are_one(&one.none, &other.none);
     let which = is_same_line(&one.which, &other.which);
     let gap = one.gap == other.gap;
     let tail = one.tail == other.tail;
-    let also = one.also == other.also;
-    let lacks = one.lacks == other.lacks;
+    let also = are_one(&one.also, &other.also);
+    let lacks = are_one(&one.lacks, &other.lacks);
     none && which && gap && tail && also && lacks
 }
 

@@ -6,8 +6,8 @@ ghost use Rattle.landmarks.specs.Written.{key_text, which_text, distance_text, l
 
 use crate::quoting::push_key;
 use crate::sameness::are_same;
-use crate::{ChainFault, Landmark, Patterns, Which, read_chain};
-use ed_base::{Bytes, push_number};
+use crate::{ChainFault, Landmark, Which, read_chain};
+use ed_base::{Bytes, Texts, push_number};
 use std::alloc::{AllocError, Global};
 
 /// The text of a chain, which `read_chain` reads as the same: one blank between words, no `gap 1` and no `tail 0`, patterns in their order
@@ -65,7 +65,7 @@ fn push_landmark(alloc: Global, out: &mut Bytes, landmark: &Landmark) -> Result<
 }
 
 /// Patterns that no line between may match.
-fn push_none(alloc: Global, out: &mut Bytes, none: &Patterns) -> Result<(), AllocError>
+fn push_none(alloc: Global, out: &mut Bytes, none: &Texts) -> Result<(), AllocError>
     ensures appended { OnOk result (out.new ≡ out.old ++ flat_map (λ pattern. codes "no " ++ key_text pattern ++ codes " ") none.now) }
 {
     for pattern in none.members() {
@@ -105,7 +105,7 @@ fn push_tests(
     alloc: Global,
     out: &mut Bytes,
     word: &[u8],
-    patterns: &Patterns,
+    patterns: &Texts,
 ) -> Result<(), AllocError>
     ensures appended { OnOk result (out.new ≡ out.old ++ flat_map (λ pattern. word.now ++ key_text pattern) patterns.now) }
 {

@@ -152,6 +152,40 @@ fn most_of(bounds: &[Most], x: u8, y: u8) -> Option<i64> {
     None
 }
 
+/// Whether the zone knows what a row says of each difference, and no more.
+fn are_bounds(zone: &Zone, bounds: &[Most]) -> bool {
+    for x in &NAMES {
+        for y in &NAMES {
+            if x != y && zone.bound(name_of(*x), name_of(*y)) != most_of(bounds, *x, *y) {
+                return false;
+            }
+        }
+    }
+    true
+}
+
+/// Whether facts of single lines are those of a row.
+fn are_lines(facts: &LineFacts, lines: &[Told]) -> bool {
+    for (fact, Told(name, pattern, matches)) in facts.lines.iter().zip(lines.iter()) {
+        let is_same = fact.name == name_of(*name) && fact.matches == *matches;
+        if !is_same || fact.pattern.as_slice() != *pattern {
+            return false;
+        }
+    }
+    facts.lines.len() == lines.len()
+}
+
+/// Whether facts of stretches are those of a row.
+fn are_clear(facts: &LineFacts, clear: &[Clear]) -> bool {
+    for (stretch, Clear(after, before, pattern)) in facts.clear.iter().zip(clear.iter()) {
+        let is_same = stretch.after == *after && stretch.before == *before;
+        if !is_same || stretch.pattern.as_slice() != *pattern {
+            return false;
+        }
+    }
+    facts.clear.len() == clear.len()
+}
+
 #[test]
 fn what_chains_say_is_known(rt: HostRuntime) -> Result<(), Fail> {
     let names = [name_of(Z), name_of(Y), name_of(X)];
@@ -159,28 +193,9 @@ fn what_chains_say_is_known(rt: HostRuntime) -> Result<(), Fail> {
         let chains = chains_of(rt.alloc(), row.chains)?;
         let mut zone = Zone::any();
         let facts = know_landmarks(rt.alloc(), &mut zone, &names, chains.as_slice())?;
-        for x in NAMES {
-            for y in NAMES {
-                if x != y {
-                    let most = most_of(row.bounds, x, y);
-                    assert_eq!(rt; zone.bound(name_of(x), name_of(y)), most, "{x} {y}");
-                }
-            }
-        }
-        assert_eq!(rt; facts.lines.len(), row.lines.len());
-        for (fact, told) in facts.lines.iter().zip(row.lines.iter()) {
-            let Told(name, pattern, matches) = told;
-            assert_eq!(rt; fact.name.place(), usize::from(*name));
-            assert_eq!(rt; fact.pattern.as_slice(), *pattern);
-            assert_eq!(rt; fact.matches, *matches);
-        }
-        assert_eq!(rt; facts.clear.len(), row.clear.len());
-        for (stretch, clear) in facts.clear.iter().zip(row.clear.iter()) {
-            let Clear(after, before, pattern) = clear;
-            assert_eq!(rt; stretch.after, *after);
-            assert_eq!(rt; stretch.before, *before);
-            assert_eq!(rt; stretch.pattern.as_slice(), *pattern);
-        }
+        assert!(rt; are_bounds(&zone, row.bounds), "{zone:?}");
+        assert!(rt; are_lines(&facts, row.lines), "{facts:?}");
+        assert!(rt; are_clear(&facts, row.clear), "{facts:?}");
     }
     Ok(())
 }
@@ -225,9 +240,42 @@ fn stands_in(line: &[u8], text: &[u8]) -> bool {
     false
 }
 
+/// Whether each bound is true of the numbers.
+fn are_true(zone: &Zone) -> bool {
+    for x in &NAMES {
+        for y in &NAMES {
+            if let Some(most) = zone.bound(name_of(*x), name_of(*y)) {
+                if number_of(*x).saturating_sub(number_of(*y)) > most {
+                    return false;
+                }
+            }
+        }
+    }
+    true
+}
+
+/// Whether the line of a number matches the text, or doesn't, as it is said; where there is no such line it isn't so.
+fn is_line(number: i64, text: &[u8], matches: bool) -> bool {
+    for (line, bytes) in (1i64..7).zip(FILE.iter()) {
+        if line == number {
+            return stands_in(bytes, text) == matches;
+        }
+    }
+    false
+}
+
+/// Whether no line between two matches the text.
+fn is_clear(after: i64, before: i64, text: &[u8]) -> bool {
+    for (line, bytes) in (1i64..7).zip(FILE.iter()) {
+        if after < line && line < before && stands_in(bytes, text) {
+            return false;
+        }
+    }
+    true
+}
+
 #[test]
-fn what_is_known_is_true_where_they_are(rt: HostRuntime) -> Result<(), Fail> {
-    let names = [name_of(Z), name_of(Y), name_of(X), name_of(W)];
+fn landmarks_of_the_file_are_found(rt: HostRuntime) -> Result<(), Fail> {
     let chains = chains_of(rt.alloc(), &CHAINS)?;
     let wanted: [&[usize]; 2] = [&[2, 4, 6], &[1]];
     for (chain, places) in chains.iter().zip(wanted.iter()) {
@@ -238,39 +286,29 @@ fn what_is_known_is_true_where_they_are(rt: HostRuntime) -> Result<(), Fail> {
             }
         }
     }
+    Ok(())
+}
+
+#[test]
+fn what_is_known_is_true_where_they_are(rt: HostRuntime) -> Result<(), Fail> {
+    let names = [name_of(Z), name_of(Y), name_of(X), name_of(W)];
+    let chains = chains_of(rt.alloc(), &CHAINS)?;
     let mut zone = Zone::any();
     let facts = know_landmarks(rt.alloc(), &mut zone, &names, chains.as_slice())?;
-    for x in NAMES {
-        for y in NAMES {
-            if let Some(most) = zone.bound(name_of(x), name_of(y)) {
-                assert!(rt;
-                    number_of(x).saturating_sub(number_of(y)) <= most,
-                    "{x} {y}"
-                );
-            }
-        }
-    }
+    assert!(rt; are_true(&zone), "{zone:?}");
     for fact in &facts.lines {
         let number = number_of(fact.name.place() as u8);
-        for (line, bytes) in (1i64..7).zip(FILE.iter()) {
-            if line == number {
-                assert_eq!(rt;
-                    stands_in(bytes, fact.pattern.as_slice()),
-                    fact.matches,
-                    "{fact:?}"
-                );
-            }
-        }
+        assert!(rt;
+            is_line(number, fact.pattern.as_slice(), fact.matches),
+            "{fact:?}"
+        );
     }
     for stretch in &facts.clear {
-        for (line, bytes) in (1i64..7).zip(FILE.iter()) {
-            if number_of(stretch.after) < line && line < number_of(stretch.before) {
-                assert!(rt;
-                    !stands_in(bytes, stretch.pattern.as_slice()),
-                    "{stretch:?}"
-                );
-            }
-        }
+        let (after, before) = (number_of(stretch.after), number_of(stretch.before));
+        assert!(rt;
+            is_clear(after, before, stretch.pattern.as_slice()),
+            "{stretch:?}"
+        );
     }
     Ok(())
 }

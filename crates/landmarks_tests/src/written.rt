@@ -1,7 +1,7 @@
 //! Landmarks as rows write them.
 
-use ed_base::Bytes;
-use landmarks::{Landmark, Patterns, Which};
+use ed_base::{Bytes, Texts};
+use landmarks::{Landmark, Which};
 use std::alloc::{AllocError, Global};
 
 /// Which line is looked for.
@@ -74,8 +74,8 @@ fn which_of(alloc: Global, named: Named) -> Result<Which, AllocError> {
 }
 
 /// The set of these texts, which are put in one after another.
-pub(crate) fn set_of(alloc: Global, texts: &[&[u8]]) -> Result<Patterns, AllocError> {
-    let mut set = Patterns::none(alloc);
+pub(crate) fn set_of(alloc: Global, texts: &[&[u8]]) -> Result<Texts, AllocError> {
+    let mut set = Texts::none(alloc);
     for text in texts {
         set.add(text)?;
     }

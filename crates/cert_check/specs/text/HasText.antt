@@ -3,7 +3,8 @@ use Rattle.std.specs.Prelude.{◌≡◌, ℕ, true, false, ◌&&◌, List, [], m
 use Rattle.ed_rules.specs.declared.known_matches.Matches.{Matches}
 use Rattle.ed_rules.specs.declared.state.Old.{Old}
 use Rattle.ed_rules.specs.declared.state.State.{State}
-use Rattle.ed_rules.specs.Formed.{ChoiceIsBytes, is_rising, TextsAreFormed, StateIsFormed}
+use Rattle.ed_rules.specs.Formed.{ChoiceIsBytes, TextsAreFormed, StateIsFormed}
+use Rattle.ed_rules.specs.Texts.{are_rising}
 use Rattle.ed_rules.specs.facts.Facts.{no_facts}
 use Rattle.ed_rules.specs.LineBounds.{is_few, is_limit, is_within}
 use Rattle.cert_check.specs.declared.certificate.Version.{Version}
@@ -54,7 +55,7 @@ pub record HasText (c : Certificate) : Type 0 where
   pub last : StateHasText c.version c.last
   pub final : (is_few c.low && is_limit c.high) ≡ true
   pub bytes : All ChoiceIsBytes (map (λ path. Some path) c.writes)
-  pub rising : is_rising (map (λ path. Some path) c.writes) ≡ true
+  pub rising : are_rising c.writes ≡ true
 
 -- these bytes are the text of the certificate
 abbrev pub IsText : List ℕ → Certificate → Type 0

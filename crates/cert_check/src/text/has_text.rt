@@ -8,10 +8,9 @@ ghost use Rattle.cert_check.specs.text.HasText.{IsSaidIn, OldIsSaidIn, OldSaysNo
 ghost use Rattle.ed_rules.specs.Formed.{says_nothing};
 
 use crate::certificate::{Certificate, Looped, Note, Version};
-use ed_base::{Bytes, Letter};
+use ed_base::{Bytes, Letter, do_rise};
 use ed_rules::{
     Changed, Choices, KeptOld, KeptState, KeptUndo, LineBounds, Marks, Replacements, Texts,
-    texts_rise,
 };
 use zones::{KeptZone, Name};
 
@@ -263,6 +262,6 @@ impl Certificate {
             min: self.low,
             max: self.high,
         };
-        end.are_few() && texts_rise(self.writes.as_slice())
+        end.are_few() && do_rise(self.writes.as_slice())
     }
 }

@@ -10,8 +10,8 @@ use crate::text::has_text::{choices_are_bytes, some_changed, some_replacement, t
 use crate::text::words_in::{
     after_key, choice_in, limit_in, next_word, number_in, path_word_in, possible_in,
 };
-use ed_base::Bytes;
-use ed_rules::{Changed, Choices, LineBounds, Replacements, Texts, texts_rise};
+use ed_base::{Bytes, do_rise};
+use ed_rules::{Changed, Choices, LineBounds, Replacements, Texts};
 use std::alloc::{AllocError, Global};
 
 /// What undo may find: nothing, the buffer as it is, an earlier one.
@@ -236,7 +236,7 @@ pub(crate) fn writes_in(alloc: Global, line: &[u8]) -> Result<Option<Vec<Bytes>>
     let Some(paths) = texts_of(alloc, b"writes", line)? else {
         return Ok(None);
     };
-    if !texts_rise(paths.as_slice()) {
+    if !do_rise(paths.as_slice()) {
         return Ok(None);
     }
     Ok(Some(paths))

@@ -9,8 +9,7 @@ ghost use Rattle.ed_rules.specs.facts.AssignedFacts.{told_as, from_as, to_as, as
 
 use crate::line_facts::known::is_line;
 use crate::line_facts::{ClearStretch, KnownLine, LineFacts, edge_of};
-use crate::texts::Texts;
-use ed_base::Bytes;
+use ed_base::{Bytes, Texts};
 use std::alloc::{AllocError, Global};
 use zones::{Name, Zone};
 

@@ -1,6 +1,6 @@
 use Rattle.std.proofs.Common.{ap, ◌∙◌}
 use Rattle.std.proofs.lemmas.Result.{err_from_is_err_and}
-use Rattle.landmarks.specs.Patterns.{with_pattern}
+use Rattle.ed_base.specs.Texts.{with_text}
 use Rattle.landmarks.proofs.Ends.{end_later, stops_later, unless_map}
 use Rattle.landmarks.proofs.PartReads.{none_step, none_done, none_stuck}
 use Rattle.landmarks.proofs.parts.none.Goals as goal
@@ -18,7 +18,7 @@ returns-in_err-pattern-clause-told c =
 pub patterns-preserved : goal.patterns-preserved
 patterns-preserved c =
     none_step c.in-Some.ensures.spelled c.in-Some.ensures.end c.in_ok-pattern.ensures.spelled c.in_ok-pattern.ensures.end
-    (c.in_ok-add.ensures.value ∙ ap (λ text. with_pattern text c.patterns.none) c.as_slice.ensures.value) c.patterns.invariant
+    (c.in_ok-add.ensures.value ∙ ap (λ text. with_text text c.patterns.none) c.as_slice.ensures.value) c.patterns.invariant
 
 pub returns-clause-spelled : goal.returns-clause-spelled
 returns-clause-spelled c = none_done c.in_default.ensures.spelled c.patterns.invariant

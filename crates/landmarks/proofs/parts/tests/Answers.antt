@@ -1,6 +1,6 @@
 use Rattle.std.proofs.Common.{ap, ◌∙◌}
 use Rattle.std.proofs.lemmas.Result.{err_from_is_err_and}
-use Rattle.landmarks.specs.Patterns.{with_pattern}
+use Rattle.ed_base.specs.Texts.{with_text}
 use Rattle.landmarks.proofs.Ends.{end_later, stops_later, unless_map}
 use Rattle.landmarks.proofs.PartReads.{tests_also, tests_lacks, tests_done, tests_stuck_also, tests_stuck_lacks, end_ampersand}
 use Rattle.landmarks.proofs.parts.tests.Goals as goal
@@ -31,12 +31,12 @@ returns-in_err-lacking-clause-told c =
 pub tests-preserved-in_default-after_word : goal.tests-preserved-in_default-after_word
 tests-preserved-in_default-after_word c =
     tests_also c.in-Some.ensures.value c.in_ok-matched.ensures.spelled c.in_ok-matched.ensures.end
-    (c.in_ok-add.ensures.value ∙ ap (λ text. with_pattern text c.tests.also) c.as_slice.ensures.value) c.tests.invariant
+    (c.in_ok-add.ensures.value ∙ ap (λ text. with_text text c.tests.also) c.as_slice.ensures.value) c.tests.invariant
 
 pub tests-preserved : goal.tests-preserved
 tests-preserved c =
     tests_lacks c.in-Some.ensures.value c.in-Some-after_word.ensures.spelled c.in-Some-after_word.ensures.end c.in_ok-lacking.ensures.spelled c.in_ok-lacking.ensures.end
-    (c.in_ok-add-2.ensures.value ∙ ap (λ text. with_pattern text c.tests.lacks) c.as_slice-in-Some.ensures.value) c.tests.invariant
+    (c.in_ok-add-2.ensures.value ∙ ap (λ text. with_text text c.tests.lacks) c.as_slice-in-Some.ensures.value) c.tests.invariant
 
 pub returns-clause-spelled : goal.returns-clause-spelled
 returns-clause-spelled c = tests_done c.in_default.ensures.value c.tests.invariant
