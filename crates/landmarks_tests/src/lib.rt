@@ -10,6 +10,8 @@ mod refused;
 #[cfg(test)]
 mod sets;
 #[cfg(test)]
+mod spelling;
+#[cfg(test)]
 mod starting;
 #[cfg(test)]
 mod written;
