@@ -7,6 +7,7 @@ pub mod Zoned
 pub mod Chosen
 pub mod Unambiguous
 pub mod OneText
+pub mod FactWords
 pub mod Names
 pub mod Limited
 pub mod Known
@@ -14,6 +15,8 @@ pub mod Cutting
 pub mod Codes
 pub mod ReadWords
 pub mod ReadSets
+pub mod ReadNamed
+pub mod ReadFacts
 pub mod ReadLines
 pub mod ReadLetters
 pub mod ReadZone

@@ -1,7 +1,7 @@
 //! Laws about certificates: contracts of functions that do nothing.
 
 ghost use Rattle.std.specs.List.{list_all};
-ghost use Rattle.std.specs.Prelude.{◌≡◌, ℕ, List, length, IsTrue, ◌↔◌};
+ghost use Rattle.std.specs.Prelude.{◌≡◌, ℕ, Bool, List, length, IsTrue, ◌↔◌};
 ghost use Rattle.ed_syntax.specs.Commands as ed;
 ghost use Rattle.ed_syntax.specs.meaning.Verbs.{is_step};
 ghost use Rattle.ed_rules.specs.declared.state.State.{State};
@@ -12,6 +12,9 @@ ghost use Rattle.cert_check.specs.declared.checker.verdict.Verdict.TheVariants.{
 ghost use Rattle.cert_check.specs.Certificates as plain;
 ghost use Rattle.cert_check.specs.checker.Covering.{covers};
 ghost use Rattle.cert_check.specs.checker.Valid.{judged};
+ghost use Rattle.ed_rules.specs.facts.Facts.{Facts};
+ghost use Rattle.cert_check.specs.text.Text.{lines_text};
+ghost use Rattle.cert_check.specs.text.FactsText.{FactsAreFormed, facts_lines, old_facts_lines};
 ghost use Rattle.cert_check.specs.text.HasText.{IsText};
 ghost use Rattle.cert_check.specs.text.Faults.{IsVersionFault, IsLineFault, IsSizeFault};
 ghost use Rattle.cert_check.specs.checker.MarkedStart.{MarkedStartsSuffice, MarkedStartsStand};
@@ -115,4 +118,12 @@ pub fn readings_are_told_apart()
         ((number : ℕ) → IsLineFault number bytes → ⊥) × (IsSizeFault bytes → ⊥) }
     ensures line { (bytes : List ℕ) (one other : ℕ) → IsLineFault one bytes → IsLineFault other bytes → one ≡ other }
     ensures size { (bytes : List ℕ) (number : ℕ) → IsLineFault number bytes → IsSizeFault bytes → ⊥ }
+{}
+
+/// Facts that can be written beside some letters have lines of their own: no others have the same. So do those of an earlier buffer.
+pub fn facts_have_one_text()
+    ensures one { (marks letters : List Bool) (one other : Facts) → FactsAreFormed marks one → FactsAreFormed letters other →
+        lines_text (facts_lines one) ≡ lines_text (facts_lines other) → one ≡ other }
+    ensures old { (marks letters : List Bool) (one other : Facts) → FactsAreFormed marks one → FactsAreFormed letters other →
+        lines_text (old_facts_lines one) ≡ lines_text (old_facts_lines other) → one ≡ other }
 {}

@@ -12,10 +12,12 @@ pub use checker::check;
 pub use checker::verdict::{Place, Verdict};
 pub use laws::{
     accepted_scripts_cannot_fail, checked_globals_go_well, covering_is_decided,
-    marked_starts_stand, marked_starts_suffice, readings_are_told_apart, starts_are_sound,
-    texts_are_unambiguous, version_one_is_as_before,
+    facts_have_one_text, marked_starts_stand, marked_starts_suffice, readings_are_told_apart,
+    starts_are_sound, texts_are_unambiguous, version_one_is_as_before,
 };
 pub use sight::Sight;
+pub use text::fact_reading::{clear_in, known_in};
+pub use text::fact_writing::{write_facts, write_old_facts};
 pub use text::fault::CertFault;
 pub use text::reading::wanted;
 pub use text::transcript::Transcript;

@@ -1,6 +1,8 @@
 //! The text of a certificate, written and read.
 
 pub(crate) mod cursor;
+pub(crate) mod fact_reading;
+pub(crate) mod fact_writing;
 pub(crate) mod fault;
 pub(crate) mod has_text;
 pub(crate) mod kept;

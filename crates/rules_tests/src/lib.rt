@@ -12,6 +12,8 @@ mod choices;
 #[cfg(test)]
 mod collecting;
 #[cfg(test)]
+mod fact_texts;
+#[cfg(test)]
 mod followed_lines;
 #[cfg(test)]
 mod globals;

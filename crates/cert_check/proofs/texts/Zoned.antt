@@ -20,7 +20,7 @@ pub data Said (x y : ℕ) (b : Option ℤ) : Type 0 where
   spoken : (c : ℤ) → b ≡ Some c → bound_words x y b ≡ bound_word x y c ∷ [] → Named x → Named y → mag c < 2 ^ 63 →
       Said x y b
 
-named : (marks : List Bool) (x : ℕ) → has_name marks x ≡ true → Named x
+pub named : (marks : List Bool) (x : ℕ) → has_name marks x ≡ true → Named x
 named marks x e = elim (or_cases (nat_lt x 3) (nat_le 6 x && is_sure marks (x - 6)) e) [
   | inl h ↦ inl (ltb-true x 3 h)
   | inr h ↦ inr (let six = and_parts (nat_le 6 x) (is_sure marks (x - 6)) h in leb-true 6 x six.0)

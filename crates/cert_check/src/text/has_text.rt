@@ -21,7 +21,7 @@ fn is_fixed(name: Name) -> bool
     name == Name::ZERO || name == Name::CURRENT_LINE || name == Name::LAST_LINE
 }
 
-fn has_name(marks: &Marks, name: Name) -> bool
+pub(crate) fn has_name(marks: &Marks, name: Name) -> bool
     ensures value { result ≡ has_name marks.now name }
 {
     match name.letter() {

@@ -115,7 +115,7 @@ fn push_byte<W: TextWriter>(out: &mut W, byte: u8)
     }
 }
 
-fn push_text<W: TextWriter>(out: &mut W, text: &[u8])
+pub(crate) fn push_text<W: TextWriter>(out: &mut W, text: &[u8])
     ensures appended { W.written out.new ≡ W.written out.old ++ flat_map byte_text text.now }
 {
     for byte in text {

@@ -93,8 +93,9 @@ fn bound_in(x: Name, y: Name, text: &[u8]) -> Option<(i64, &[u8])>
 }
 
 /// The name that a byte stands for.
-fn name_said(byte: u8) -> Option<Name>
+pub(crate) fn name_said(byte: u8) -> Option<Name>
     ensures named { IfSome result IsNamed }
+    ensures byte { IfSome result (λ place. name_word place ≡ byte ∷ []) }
     ensures exact { (place : ℕ) → place < 32 → IsNamed place → name_word place ≡ byte ∷ [] → result ≡ Some place }
 {
     match byte {
