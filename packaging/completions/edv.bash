@@ -18,8 +18,8 @@ _edv() {
   -*)
     local words=
     case $job in
-    edit) words="--vouched --whole -n --dry-run -s -p -f --help" ;;
-    vouch) words="--min --max --all -q --quiet --patterns --has -f --help" ;;
+    edit) words="--vouched --like --whole -n --dry-run -s -p -f --help" ;;
+    vouch) words="--like --min --max --all -q --quiet --patterns --has -f --help" ;;
     check) words="-f --help" ;;
     run) words="--whole -n --dry-run -s -f --help" ;;
     fits) words="--help" ;;

@@ -20,6 +20,8 @@ mod found;
 #[cfg(test)]
 mod judging;
 #[cfg(test)]
+mod like;
+#[cfg(test)]
 mod runs;
 #[cfg(test)]
 mod vouching;

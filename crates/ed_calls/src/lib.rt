@@ -32,7 +32,8 @@ pub use stderr::command_line::quoted;
 pub use stderr::file_name::{is_named_as_script, quoted_word};
 pub use stderr::pattern::wrong_in_pattern;
 pub use stderr::refusals::{
-    Explains, Watched, show_input, show_memory, show_output, show_unjudged, show_unread,
+    Explains, Watched, show_absent, show_input, show_memory, show_output, show_too_long,
+    show_unjudged, show_unread,
 };
 pub use stderr::shown::shown_lines;
 pub use stderr::unput::show_unput;

@@ -1,12 +1,14 @@
 //! The start that a script is judged over.
-ghost use Rattle.std.specs.Prelude.{◌≡◌, IfOk};
+ghost use Rattle.std.specs.Prelude.{◌≡◌, ◌≤◌, IfOk};
+ghost use Rattle.ed_rules.specs.LineBounds.{most_lines};
+ghost use Rattle.hints.specs.Like.{lines_in};
 ghost use Rattle.hints.specs.Passing.{IsAllowed};
-ghost use Rattle.ed_calls.specs.Starts.{AreAllowed, IsJudgedFor, path_of};
+ghost use Rattle.ed_calls.specs.Starts.{AreAllowed, IsJudgedFor, IsPartOfStart, path_of};
 
 use analyser::Start;
 use ed_base::Bytes;
 use ed_rules::Texts;
-use hints::{Given, copy_of, fullest_start, widest_start};
+use hints::{Given, Like, copy_of, fullest_like, fullest_start, like_start, widest_start};
 use std::alloc::{AllocError, Global};
 
 /// The start that a script is judged over.
@@ -16,6 +18,8 @@ pub enum Starts {
     Given(Start),
     /// The widest one of what is given of it, which is found (`hints::widest_start`).
     Widest(Given),
+    /// The widest one that a file is one of, which is proposed (`hints::like_start`).
+    Like(Like),
 }
 
 impl Starts {
@@ -26,6 +30,7 @@ impl Starts {
         match self {
             Starts::Given(start) => &start.path,
             Starts::Widest(given) => &given.path,
+            Starts::Like(like) => &like.path,
         }
     }
 
@@ -36,19 +41,28 @@ impl Starts {
         match self {
             Starts::Given(start) => Ok(Starts::Given(copy_of(start)?)),
             Starts::Widest(given) => Ok(Starts::Widest(copy_of_given(given)?)),
+            Starts::Like(like) => Ok(Starts::Like(copy_of_like(like)?)),
         }
     }
 
     /// Whether the start is to be found.
     pub(crate) fn are_sought(&self) -> bool {
-        matches!(self, Starts::Widest(_))
+        matches!(self, Starts::Widest(_) | Starts::Like(_))
     }
 
-    /// Whether its least number of lines is.
+    /// Whether its least number of lines is, with nothing but a limit to go by.
     pub(crate) fn least_sought(&self) -> bool {
         match self {
-            Starts::Given(_) => false,
             Starts::Widest(given) => given.min.is_none(),
+            Starts::Given(_) | Starts::Like(_) => false,
+        }
+    }
+
+    /// Whether it may have any number of lines, as far as is given.
+    pub(crate) fn are_unbounded(&self) -> bool {
+        match self {
+            Starts::Widest(given) => given.min.is_none() && given.max.is_none(),
+            Starts::Given(_) | Starts::Like(_) => false,
         }
     }
 }
@@ -62,6 +76,17 @@ fn copy_of_given(given: &Given) -> Result<Given, AllocError>
         min: given.min,
         max: given.max,
         has: copy_of_has(&given.has)?,
+    })
+}
+
+/// A file to propose a start from, once more.
+fn copy_of_like(like: &Like) -> Result<Like, AllocError>
+    ensures value { IfOk result (λ copy. copy ≡ like.now) }
+{
+    Ok(Like {
+        path: copy_of_path(&like.path)?,
+        patterns: like.patterns,
+        file: like.file.try_copy()?,
     })
 }
 
@@ -83,7 +108,7 @@ fn copy_of_has(has: &Option<Texts>) -> Result<Option<Texts>, AllocError>
     }
 }
 
-/// The start that a script is judged over. Where none is found it is the fullest one of what is given, over which the script isn't vouched for.
+/// The start that a script is judged over. Where none is found it is the fullest one, over which the script isn't vouched for.
 pub(crate) fn start_of(alloc: Global, script: &[u8], starts: Starts) -> Result<Start, AllocError>
     requires allowed { AreAllowed starts }
     ensures judged { IfOk result (IsJudgedFor script.now starts) }
@@ -91,12 +116,33 @@ pub(crate) fn start_of(alloc: Global, script: &[u8], starts: Starts) -> Result<S
 {
     match starts {
         Starts::Given(start) => Ok(start),
-        Starts::Widest(given) => {
-            let found = widest_start(alloc, script, &given)?;
-            match found {
-                Some(start) => Ok(start),
-                None => fullest_start(alloc, script, &given),
-            }
-        }
+        Starts::Widest(given) => widest_of(alloc, script, &given),
+        Starts::Like(like) => proposed_from(alloc, script, &like),
+    }
+}
+
+/// The widest start of what is given with which a script is vouched for, or else the fullest one.
+fn widest_of(alloc: Global, script: &[u8], given: &Given) -> Result<Start, AllocError>
+    requires allowed { IsPartOfStart given.now.min given.now.max }
+    ensures judged { IfOk result (IsJudgedFor script.now (Starts.Widest given.now)) }
+    ensures allowed { IfOk result IsAllowed }
+{
+    let found = widest_start(alloc, script, given)?;
+    match found {
+        Some(start) => Ok(start),
+        None => fullest_start(alloc, script, given),
+    }
+}
+
+/// The start that is proposed for a script from a file, or else the fullest one.
+fn proposed_from(alloc: Global, script: &[u8], like: &Like) -> Result<Start, AllocError>
+    requires few { lines_in like.now ≤ most_lines }
+    ensures judged { IfOk result (IsJudgedFor script.now (Starts.Like like.now)) }
+    ensures allowed { IfOk result IsAllowed }
+{
+    let found = like_start(alloc, script, like)?;
+    match found {
+        Some(start) => Ok(start),
+        None => fullest_like(alloc, script, like),
     }
 }

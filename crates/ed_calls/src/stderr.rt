@@ -5,7 +5,6 @@ pub mod file_name;
 mod found;
 mod hinted;
 mod named;
-mod numbered;
 pub mod pattern;
 mod reasons;
 pub mod refusals;

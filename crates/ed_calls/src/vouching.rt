@@ -43,12 +43,13 @@ pub fn vouch_text<W: Sink>(
     ensures status { result ≤ 4 }
 {
     let (are_sought, least_sought) = (starts.are_sought(), starts.least_sought());
+    let unbounded = starts.are_unbounded();
     match judge(alloc, script, starts) {
         Ok(Finding::Unusable(number)) => refuse_name(alloc, script, number, sink, aside),
         Ok(Finding::Judged(one)) => {
             let status = tell_answer(alloc, &one.analysis, sink);
             match status {
-                VOUCHED_STATUS if are_sought => aside.found(&one.script, &one.start),
+                VOUCHED_STATUS if are_sought => aside.found(&one.script, &one.start, unbounded),
                 CANNOT_STATUS => aside.cannot(&one.start, &one.analysis, least_sought, all),
                 _ => {}
             }

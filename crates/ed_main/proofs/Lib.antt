@@ -1,4 +1,3 @@
-mod Editing
 mod GivenPatterns
 mod Holding
 mod Made

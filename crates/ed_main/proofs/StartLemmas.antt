@@ -1,12 +1,18 @@
 -- Starts that are allowed, and what two bounds say of them.
-use Rattle.std.proofs.Common.{◌≡◌, ◌≢◌, ◌≤◌, ◌∙◌, ℕ, Bool, true, false, List, [], ◌∷◌, Option, Some, None, refl, sym, lit≤}
+use Rattle.std.proofs.Common.{◌≡◌, ◌≤◌, ◌∙◌, ℕ, Bool, true, false, List, [], ◌∷◌, Option, Some, None, refl, sym, subst, lit≤}
 use Rattle.std.specs.Prelude.{IfSome}
 use Rattle.std.proofs.lemmas.Bool.{leb-true}
 use Rattle.ed_rules.specs.LineBounds.{IsAtMost, is_within, most_lines}
 use Rattle.ed_calls.specs.Starts.{AreAllowed, path_of}
 use Rattle.ed_calls.specs.declared.starts.Starts.{Starts}
-use Rattle.ed_main.specs.Job.{AreStarts, IsGiven, any_start}
-use Rattle.ed_main.specs.Words.{are_in_order, is_path, starts_of, vouching_of}
+use Rattle.ed_main.specs.Job.{IsGiven}
+use Rattle.ed_main.specs.Starts.{AreStarts, HasBytes, any_start}
+use Rattle.ed_main.specs.Wanted.{AreWanted, IsFromFile, IsWanted, WithStarts, read, unread}
+use Rattle.ed_main.specs.declared.wanted.Wanted.{Wanted}
+use Rattle.ed_main.specs.declared.wanted.Wanted.TheVariants as wanted
+use Rattle.ed_main.specs.Several.{status_of_unread}
+use Rattle.sources.specs.declared.source.ReadFault.{ReadFault}
+use Rattle.ed_main.specs.Words.{are_in_order, is_path, judged_if, judged_over, starts_of, vouching_of}
 
 -- any start with a file, or the empty buffer
 pub any_allowed : (path : Option (List ℕ)) (has : Option (List (List ℕ))) → AreAllowed (any_start path has)
@@ -41,7 +47,7 @@ module _ (path : Option (List ℕ)) (has : Option (List (List ℕ))) where
   path_kept None (Some most) = refl
   path_kept None None = any_kept path has
 
-path_has_bytes : (path : Option (List ℕ)) → is_path path ≡ true → path ≢ Some []
+pub path_has_bytes : (path : Option (List ℕ)) → is_path path ≡ true → HasBytes path
 path_has_bytes None named is = cc
 path_has_bytes (Some []) named is = cc
 path_has_bytes (Some (byte ∷ bytes)) named is = cc
@@ -55,9 +61,33 @@ starts_given path least most has order low high named =
       path = λ is. path_has_bytes path named (sym (path_kept path has least most) ∙ is);
     }
 
--- a job of `vouch` has the starts that it was made of
-pub vouching_given : (starts : Starts) (scripts : List (List ℕ)) (all quiet : Bool) → AreStarts starts → IsGiven (vouching_of starts scripts all quiet)
-vouching_given starts scripts all true given = given
-vouching_given starts [] all false given = given
-vouching_given starts (script ∷ []) all false given = given
-vouching_given starts (script ∷ next ∷ scripts) all false given = given
+-- any start with a file is one of these
+any_given : (path : Option (List ℕ)) (has : Option (List (List ℕ))) → is_path path ≡ true → AreStarts (any_start path has)
+any_given path has named = record { allowed = any_allowed path has; path = λ is. path_has_bytes path named (sym (any_kept path has) ∙ is) }
+
+-- so is what `edit --vouched` judges a script over
+over_given : (path like : Option (List ℕ)) → is_path path ≡ true → IsWanted (judged_over path like)
+over_given path None named = any_given path (Some []) named
+over_given path (Some like) named = path_has_bytes path named
+
+pub judged_given : (vouched : Bool) (path like : Option (List ℕ)) → is_path path ≡ true → IfSome (judged_if vouched path like) IsWanted
+judged_given true path like named = over_given path like named
+judged_given false path like named = tt
+
+-- a job of `vouch` has the start that it was made of
+pub vouching_given : (over : Wanted) (scripts : List (List ℕ)) (all quiet : Bool) → IsWanted over → IsGiven (vouching_of over scripts all quiet)
+vouching_given over scripts all true given = given
+vouching_given over [] all false given = given
+vouching_given over (script ∷ []) all false given = given
+vouching_given over (script ∷ next ∷ scripts) all false given = given
+
+module _ (Used : Starts → ℕ → Type 0) (status : ℕ) where
+  -- what was asked for was used
+  pub used : (over : Wanted) (starts : Starts) → AreWanted over starts → Used starts status → WithStarts over Used status
+  used (wanted.Stated given) starts is came = subst (λ s. Used s status) is came
+  used (wanted.Like path patterns like) starts is came = read is.0 (subst (λ s. Used s status) is.1 came)
+
+  -- or the file wasn't read
+  pub unused : (over : Wanted) (fault : ReadFault) → IsFromFile over → status ≡ status_of_unread fault → WithStarts over Used status
+  unused (wanted.Stated given) fault from is = absurd from
+  unused (wanted.Like path patterns like) fault from is = unread fault is

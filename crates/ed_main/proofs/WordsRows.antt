@@ -8,44 +8,67 @@ use Rattle.ed_main.specs.Subcommands.{program}
 use Rattle.ed_main.specs.Words.{job_of, writing_of}
 use Rattle.ed_main.specs.declared.job.Job.{Job}
 use Rattle.ed_main.specs.declared.job.Job.TheVariants as job
+use Rattle.ed_main.specs.declared.wanted.Wanted.{Wanted}
+use Rattle.ed_main.specs.declared.wanted.Wanted.TheVariants.{Like, Stated}
 use Rattle.ed_main.specs.declared.writing.Writing.TheVariants as writing
 use Rattle.ed_main.proofs.Worked.{Row, row}
 
 -- a run with these options
 abbrev edit : Bool → Option (List ℕ) → Option (List ℕ) → Option Job
-edit silent prompt path = Some (job.Edit (record { silent = silent; prompt = prompt; path = path }) None writing.AtOnce false)
+edit silent prompt path = Some (job.Edit (record { silent = silent; prompt = prompt; path = path }) None writing.AtOnce None)
 
 -- its rehearsal
 abbrev rehearsal : Bool → Option (List ℕ) → Option (List ℕ) → Option Job
-rehearsal silent prompt path = Some (job.Edit (record { silent = silent; prompt = prompt; path = path }) None writing.Never false)
+rehearsal silent prompt path = Some (job.Edit (record { silent = silent; prompt = prompt; path = path }) None writing.Never None)
 
--- a run only if the script is vouched for, or its rehearsal
-abbrev edit_vouched : (rehearsed : Bool) → (path : Option (List ℕ)) → Option Job
-edit_vouched rehearsed path = Some (job.Edit (record { silent = false; prompt = None; path = path }) None (writing_of rehearsed false) true)
+-- what a script is judged over on a file F, where it is: any such file
+abbrev over_any : (vouched : Bool) → Option Wanted
+over_any true = Some (Stated (Widest (record { path = Some (codes "F"); min = None; max = None; has = Some [] })))
+over_any false = None
+
+-- a run on F only if the script is vouched for, or its rehearsal
+abbrev edit_vouched : (rehearsed : Bool) → Option Job
+edit_vouched rehearsed = Some (job.Edit (record { silent = false; prompt = None; path = Some (codes "F") }) None (writing_of rehearsed false) (over_any true))
+
+-- the same on the empty buffer
+abbrev edit_empty_vouched : Option Job
+edit_empty_vouched =
+    let over = Stated (Given (record { path = None; min = 0; max = Some 0; has = Some [] })) in
+    Some (job.Edit (record { silent = false; prompt = None; path = None }) None writing.AtOnce (Some over))
+
+-- a run on F only if the script is vouched for over files like G
+abbrev edit_like : Option Job
+edit_like =
+    let over = Like (Some (codes "F")) true (codes "G") in
+    Some (job.Edit (record { silent = true; prompt = None; path = Some (codes "F") }) None writing.AtOnce (Some over))
 
 -- a run that replaces a file F whole
 abbrev edit_whole : (vouched : Bool) → Option Job
-edit_whole vouched = Some (job.Edit (record { silent = false; prompt = None; path = Some (codes "F") }) None writing.AtTheEnd vouched)
+edit_whole vouched = Some (job.Edit (record { silent = false; prompt = None; path = Some (codes "F") }) None writing.AtTheEnd (over_any vouched))
 
 -- a certificate for these bounds
 abbrev vouch : ℕ → Option ℕ → Option (List ℕ) → Option Job
-vouch min max path = Some (job.Vouch (Given (record { path = path; min = min; max = max; has = None })) None false)
+vouch min max path = Some (job.Vouch (Stated (Given (record { path = path; min = min; max = max; has = None }))) None false)
 
 -- the same, or else all refusals
 abbrev vouch_all : ℕ → Option ℕ → Option (List ℕ) → Option Job
-vouch_all min max path = Some (job.Vouch (Given (record { path = path; min = min; max = max; has = None })) None true)
+vouch_all min max path = Some (job.Vouch (Stated (Given (record { path = path; min = min; max = max; has = None }))) None true)
 
 -- a certificate that tells of patterns, which states these
 abbrev vouch_with : List (List ℕ) → Option Job
-vouch_with has = Some (job.Vouch (Given (record { path = Some (codes "F"); min = 1; max = None; has = Some has })) None false)
+vouch_with has = Some (job.Vouch (Stated (Given (record { path = Some (codes "F"); min = 1; max = None; has = Some has }))) None false)
 
 -- a certificate for the widest start of these bounds, as far as they are given
 abbrev vouch_widest : (min max : Option ℕ) → Option Job
-vouch_widest min max = Some (job.Vouch (Widest (record { path = Some (codes "F"); min = min; max = max; has = None })) None false)
+vouch_widest min max = Some (job.Vouch (Stated (Widest (record { path = Some (codes "F"); min = min; max = max; has = None }))) None false)
 
 -- a certificate for the empty buffer, with these patterns, or else all refusals
 abbrev vouch_empty_with : List (List ℕ) → Option Job
-vouch_empty_with has = Some (job.Vouch (Given (record { path = None; min = 0; max = Some 0; has = Some has })) None true)
+vouch_empty_with has = Some (job.Vouch (Stated (Given (record { path = None; min = 0; max = Some 0; has = Some has }))) None true)
+
+-- a certificate for files F like G, or all refusals; one that tells of patterns, if it is asked for
+abbrev vouch_like : (patterns all : Bool) → Option Job
+vouch_like patterns all = Some (job.Vouch (Like (Some (codes "F")) patterns (codes "G")) None all)
 
 -- a check
 abbrev check : List ℕ → Option Job
@@ -65,14 +88,17 @@ rehearsed_run certificate silent path = Some (job.Run certificate (record { sile
 
 -- what each does with a file F and the script in a file S
 abbrev edit_from_file : (silent vouched : Bool) → Option Job
-edit_from_file silent vouched = Some (job.Edit (record { silent = silent; prompt = None; path = Some (codes "F") }) (Some (codes "S")) writing.AtOnce vouched)
+edit_from_file silent vouched = Some (job.Edit (record { silent = silent; prompt = None; path = Some (codes "F") }) (Some (codes "S")) writing.AtOnce (over_any vouched))
 
 abbrev vouch_from_file : Option Job
-vouch_from_file = Some (job.Vouch (Widest (record { path = Some (codes "F"); min = None; max = None; has = None })) (Some (codes "S")) false)
+vouch_from_file = Some (job.Vouch (Stated (Widest (record { path = Some (codes "F"); min = None; max = None; has = None }))) (Some (codes "S")) false)
 
 -- scripts that are judged without certificates
 abbrev judge : (scripts : List (List ℕ)) → Detail → Option Job
-judge scripts detail = Some (job.Judge (Widest (record { path = Some (codes "F"); min = None; max = None; has = None })) scripts detail)
+judge scripts detail = Some (job.Judge (Stated (Widest (record { path = Some (codes "F"); min = None; max = None; has = None }))) scripts detail)
+
+abbrev judge_like : (scripts : List (List ℕ)) → Detail → Option Job
+judge_like scripts detail = Some (job.Judge (Like (Some (codes "F")) false (codes "G")) scripts detail)
 
 abbrev check_from_file : Option Job
 check_from_file = Some (job.Check (codes "C") (Some (codes "S")))
@@ -191,9 +217,9 @@ words =
     ∷ row (job_given (codes "edit" ∷ codes "-sn" ∷ codes "-p" ∷ codes "> " ∷ codes "F" ∷ []) ≡ rehearsal true (Some (codes "> ")) (Some (codes "F"))) refl  -- rehearsed and silent
     ∷ row (job_given (codes "edit" ∷ codes "-n" ∷ []) ≡ rehearsal false None None) refl  -- rehearsed without a file
     ∷ row (job_given (codes "edit" ∷ codes "-n" ∷ codes "-n" ∷ codes "F" ∷ []) ≡ None) refl  -- rehearsed twice
-    ∷ row (job_given (codes "edit" ∷ codes "--vouched" ∷ codes "F" ∷ []) ≡ edit_vouched false (Some (codes "F"))) refl  -- if it is vouched for
-    ∷ row (job_given (codes "edit" ∷ codes "F" ∷ codes "-n" ∷ codes "--vouched" ∷ []) ≡ edit_vouched true (Some (codes "F"))) refl  -- rehearsed if it is vouched for
-    ∷ row (job_given (codes "edit" ∷ codes "--vouched" ∷ []) ≡ edit_vouched false None) refl  -- without a file if it is vouched for
+    ∷ row (job_given (codes "edit" ∷ codes "--vouched" ∷ codes "F" ∷ []) ≡ edit_vouched false) refl  -- if it is vouched for
+    ∷ row (job_given (codes "edit" ∷ codes "F" ∷ codes "-n" ∷ codes "--vouched" ∷ []) ≡ edit_vouched true) refl  -- rehearsed if it is vouched for
+    ∷ row (job_given (codes "edit" ∷ codes "--vouched" ∷ []) ≡ edit_empty_vouched) refl  -- without a file if it is vouched for
     ∷ row (job_given (codes "edit" ∷ codes "--vouched" ∷ codes "--vouched" ∷ codes "F" ∷ []) ≡ None) refl  -- vouched for twice
     ∷ row (job_given (codes "run" ∷ codes "--vouched" ∷ codes "C" ∷ codes "F" ∷ []) ≡ None) refl  -- run if it is vouched for
     ∷ row (job_given (codes "vouch" ∷ codes "--vouched" ∷ codes "F" ∷ []) ≡ None) refl  -- vouched if it is vouched for
@@ -233,4 +259,24 @@ words =
     ∷ row (job_given (codes "edit" ∷ codes "--whole" ∷ codes "--whole" ∷ codes "F" ∷ []) ≡ None) refl  -- whole twice
     ∷ row (job_given (codes "vouch" ∷ codes "--whole" ∷ codes "F" ∷ []) ≡ None) refl  -- vouched whole
     ∷ row (job_given (codes "fits" ∷ codes "--whole" ∷ codes "C" ∷ []) ≡ None) refl  -- fits whole
+    ∷ row (job_given (codes "vouch" ∷ codes "--like" ∷ codes "G" ∷ codes "F" ∷ []) ≡ vouch_like false false) refl  -- files like another
+    ∷ row (job_given (codes "vouch" ∷ codes "F" ∷ codes "--all" ∷ codes "--like=G" ∷ codes "--patterns" ∷ []) ≡ vouch_like true true) refl  -- files like another, with patterns and all refusals
+    ∷ row (job_given (codes "vouch" ∷ codes "--like" ∷ codes "G" ∷ []) ≡ None) refl  -- files like another, and none that is edited
+    ∷ row (job_given (codes "vouch" ∷ codes "--like" ∷ codes "F" ∷ codes "--min" ∷ codes "1" ∷ codes "F" ∷ []) ≡ None) refl  -- files like one, of so many lines at least
+    ∷ row (job_given (codes "vouch" ∷ codes "--like" ∷ codes "F" ∷ codes "--max" ∷ codes "any" ∷ codes "F" ∷ []) ≡ None) refl  -- files like one, of any number of lines
+    ∷ row (job_given (codes "vouch" ∷ codes "--has" ∷ codes "a" ∷ codes "--like" ∷ codes "F" ∷ codes "F" ∷ []) ≡ None) refl  -- files like one, with a pattern
+    ∷ row (job_given (codes "vouch" ∷ codes "--like" ∷ codes "-" ∷ codes "F" ∷ []) ≡ None) refl  -- files like a hyphen
+    ∷ row (job_given (codes "vouch" ∷ codes "--like" ∷ [] ∷ codes "F" ∷ []) ≡ None) refl  -- files like one without a name
+    ∷ row (job_given (codes "vouch" ∷ codes "--like" ∷ codes "G" ∷ codes "-" ∷ []) ≡ None) refl  -- a hyphen like another file
+    ∷ row (job_given (codes "vouch" ∷ codes "--like" ∷ codes "G" ∷ codes "--like" ∷ codes "H" ∷ codes "F" ∷ []) ≡ None) refl  -- files like two
+    ∷ row (job_given (codes "vouch" ∷ codes "--like" ∷ []) ≡ None) refl  -- files like nothing
+    ∷ row (job_given (codes "vouch" ∷ codes "-f" ∷ codes "S" ∷ codes "--like" ∷ codes "G" ∷ codes "-f" ∷ codes "T" ∷ codes "F" ∷ []) ≡ judge_like (codes "S" ∷ codes "T" ∷ []) First) refl  -- two scripts for files like another
+    ∷ row (job_given (codes "vouch" ∷ codes "-q" ∷ codes "--like" ∷ codes "G" ∷ codes "F" ∷ []) ≡ judge_like [] Nothing) refl  -- quiet for files like another
+    ∷ row (job_given (codes "vouch" ∷ codes "--like" ∷ codes "G" ∷ codes "-f" ∷ codes "-" ∷ codes "F" ∷ []) ≡ None) refl  -- a hyphen as a script for files like another
+    ∷ row (job_given (codes "edit" ∷ codes "--vouched" ∷ codes "--like" ∷ codes "G" ∷ codes "-s" ∷ codes "F" ∷ []) ≡ edit_like) refl  -- a run on files like another
+    ∷ row (job_given (codes "edit" ∷ codes "--like" ∷ codes "G" ∷ codes "F" ∷ []) ≡ None) refl  -- a run that isn't vouched for on files like another
+    ∷ row (job_given (codes "edit" ∷ codes "--vouched" ∷ codes "--like" ∷ codes "G" ∷ []) ≡ None) refl  -- a run on the empty buffer, like a file
+    ∷ row (job_given (codes "edit" ∷ codes "--vouched" ∷ codes "--like" ∷ codes "-" ∷ codes "F" ∷ []) ≡ None) refl  -- a run on files like a hyphen
+    ∷ row (job_given (codes "run" ∷ codes "--like" ∷ codes "G" ∷ codes "C" ∷ codes "F" ∷ []) ≡ None) refl  -- a run by a certificate on files like another
+    ∷ row (job_given (codes "fits" ∷ codes "--like" ∷ codes "G" ∷ codes "C" ∷ codes "F" ∷ []) ≡ None) refl  -- a test of files like another
     ∷ []

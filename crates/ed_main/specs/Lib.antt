@@ -1,6 +1,8 @@
 -- what a reader has to believe
 pub mod Subcommands
+pub mod Starts
+pub mod Several
+pub mod Wanted
 pub mod Words
 pub mod Job
-pub mod Several
 pub mod Program

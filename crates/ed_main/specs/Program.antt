@@ -1,12 +1,13 @@
 -- The status that the program ends with, whatever its words, its script and its certificate are, and whatever the files answer (our
 -- choice; where memory ran out or an input isn't read, it is that of the editor's fault).
-use Rattle.std.specs.Prelude.{◌≡◌, ◌⊎◌, ℕ, ◌^◌, Bool, true, false, ◌&&◌, List, [], Option, None, Some, is_none, IsTrue}
+use Rattle.std.specs.Prelude.{◌≡◌, ◌⊎◌, ℕ, ◌^◌, Bool, true, false, ◌&&◌, List, Option, None, Some, is_none, IsTrue}
 use Rattle.ed_base.specs.Fault.{status_of}
 use Rattle.ed_base.specs.declared.fault.Fault.TheVariants as fault
 use Rattle.ed_syntax.specs.declared.options.Options.{Options}
 use Rattle.ed_session.specs.Drives.{Log}
 use Rattle.ed_session.specs.Sinks.{SinkChange}
 use Rattle.sources.specs.declared.source.ReadFault.{ReadFault}
+use Rattle.ed_calls.specs.declared.starts.Starts.{Starts}
 use Rattle.ed_calls.specs.Check.{Checks}
 use Rattle.ed_calls.specs.Edit.{Correct}
 use Rattle.ed_calls.specs.Fits.{Fits}
@@ -14,6 +15,7 @@ use Rattle.ed_calls.specs.Headline.{MayFail}
 use Rattle.ed_calls.specs.HeldBack.{HeldBack}
 use Rattle.ed_calls.specs.Rehearsed.{Rehearsed}
 use Rattle.ed_calls.specs.Run.{Runs}
+use Rattle.ed_calls.specs.Starts.{AreAllowed}
 use Rattle.ed_calls.specs.Told.{Says}
 use Rattle.ed_calls.specs.Vouch.{Vouches}
 use Rattle.ed_calls.specs.Vouched.{RunsVouched}
@@ -26,8 +28,9 @@ use Rattle.ed_main.specs.declared.words.WordsFault.{WordsFault}
 use Rattle.ed_main.specs.declared.words.WordsFault.TheVariants as words
 use Rattle.ed_main.specs.declared.writing.Writing.{Writing}
 use Rattle.ed_main.specs.declared.writing.Writing.TheVariants as writing
-use Rattle.ed_main.specs.Job.{IsGiven, any_start}
+use Rattle.ed_main.specs.Job.{IsGiven}
 use Rattle.ed_main.specs.Several.{Judges, names_none, status_of_unread}
+use Rattle.ed_main.specs.Wanted.{WithFile, WithStarts}
 
 -- how many bytes of a script, and of a certificate, are read at most
 abbrev pub most_bytes : ℕ
@@ -36,8 +39,8 @@ most_bytes = 2 ^ 30
 -- a job wants a script before it is begun: each does but the test of a start, and the judging of scripts in files
 abbrev pub wants_script : Job → Bool
 wants_script (job.Edit options script writes vouched) = true
-wants_script (job.Vouch starts script all) = true
-wants_script (job.Judge starts scripts detail) = names_none scripts
+wants_script (job.Vouch wanted script all) = true
+wants_script (job.Judge wanted scripts detail) = names_none scripts
 wants_script (job.Check certificate script) = true
 wants_script (job.Run certificate options script writes) = true
 wants_script (job.Fits certificate path) = false
@@ -45,8 +48,8 @@ wants_script (job.Fits certificate path) = false
 -- the file that is named for a job's script, if one is
 abbrev pub script_named : Job → Option (List ℕ)
 script_named (job.Edit options script writes vouched) = script
-script_named (job.Vouch starts script all) = script
-script_named (job.Judge starts scripts detail) = None
+script_named (job.Vouch wanted script all) = script
+script_named (job.Judge wanted scripts detail) = None
 script_named (job.Check certificate script) = script
 script_named (job.Run certificate options script writes) = script
 script_named (job.Fits certificate path) = None
@@ -76,31 +79,26 @@ Somehow Came status = (met : Met) × Came met status
 abbrev pub Edits : (script : List ℕ) → Options → Met → ℕ → Type 0
 Edits script options met status = Correct script options met.log met.refusals_before met.refusals met.sink status
 
--- what `edit --vouched` came to with what it met, for a script of these bytes
-abbrev pub EditsVouched : (script : List ℕ) → Options → Met → ℕ → Type 0
-EditsVouched script options met status =
-    RunsVouched script (any_start options.path (Some [])) options met.log (MayFail options.path met.log met.refusals_before met.refusals met.sink) met.sink status
-
--- what came of the one or the other
-abbrev pub EditsBy : (vouched : Bool) → (script : List ℕ) → Options → Met → ℕ → Type 0
-EditsBy true = EditsVouched
-EditsBy false = Edits
+-- what `edit --vouched` came to with what it met, for a script of these bytes that is judged over this start
+abbrev pub EditsVouched : Starts → (script : List ℕ) → Options → Met → ℕ → Type 0
+EditsVouched starts script options met status =
+    RunsVouched script starts options met.log (MayFail options.path met.log met.refusals_before met.refusals met.sink) met.sink status
 
 -- what `run` came to with what it met, for a script and a certificate of these bytes
 abbrev pub RunsOn : (script certificate : List ℕ) → Options → Met → ℕ → Type 0
 RunsOn script certificate options met status =
     Runs script certificate options met.log (MayFail options.path met.log met.refusals_before met.refusals met.sink) met.sink status
 
+-- a script that is only run if it is vouched for may be judged over the start that is asked for
+abbrev pub IsTrusted : Trust → Type 0
+IsTrusted (trust.Vouched starts) = AreAllowed starts
+IsTrusted other = Unit {0}
+
 -- what a script came to with what it met, by what its run rests on
 abbrev pub ComesBy : Trust → (script : List ℕ) → Options → Met → ℕ → Type 0
 ComesBy trust.Unchecked script = Edits script
 ComesBy (trust.Certified name certificate) script = RunsOn script certificate.now
-ComesBy trust.Vouched script = EditsVouched script
-
--- what the run of a script without a certificate rests on
-abbrev pub trust_of : (vouched : Bool) → Trust
-trust_of true = trust.Vouched
-trust_of false = trust.Unchecked
+ComesBy (trust.Vouched starts) script = EditsVouched starts script
 
 -- how the writes of a run were made that came to one status by itself, and the program's status then: each was made when it was asked for;
 -- or they were held back until the run had ended; or nothing was written
@@ -121,19 +119,15 @@ Ran task log status = (met : Met) × ((met.log ≡ log) × ComesBy task.trust ta
 abbrev pub Comes : Task → Met → ℕ → Type 0
 Comes task = Writes task.writing (ComesBy task.trust task.script.now task.options)
 
--- a certificate was read and used so, or it wasn't read
-pub data WithCertificate (Used : List ℕ → ℕ → Type 0) (status : ℕ) : Type 0 where
-  read : (certificate : List ℕ) → Used certificate status → WithCertificate Used status
-  unread : (fault : ReadFault) → status ≡ status_of_unread fault → WithCertificate Used status
-
 -- what a job comes to, for a script of these bytes; a test of a start has none, and scripts in files are read as they are judged
 abbrev pub Does : List ℕ → Job → ℕ → Type 0
-Does script (job.Edit options named writes vouched) = Somehow (Writes writes (EditsBy vouched script options))
-Does script (job.Vouch starts named all) = Somehow (λ met. Says (Vouches script starts) met.sink)
-Does script (job.Judge starts scripts detail) = Judges script starts scripts
-Does script (job.Check path named) = WithCertificate (λ certificate. Somehow (λ met. Says (Checks script certificate) met.sink))
-Does script (job.Run path options named writes) = WithCertificate (λ certificate. Somehow (Writes writes (RunsOn script certificate options)))
-Does script (job.Fits certificate path) = WithCertificate (λ bytes. Somehow (λ met. Fits bytes path met.log met.sink))
+Does script (job.Edit options named writes None) = Somehow (Writes writes (Edits script options))
+Does script (job.Edit options named writes (Some wanted)) = WithStarts wanted (λ starts. Somehow (Writes writes (EditsVouched starts script options)))
+Does script (job.Vouch wanted named all) = WithStarts wanted (λ starts. Somehow (λ met. Says (Vouches script starts) met.sink))
+Does script (job.Judge wanted scripts detail) = WithStarts wanted (λ starts. Judges script starts scripts)
+Does script (job.Check path named) = WithFile (λ certificate. Somehow (λ met. Says (Checks script certificate) met.sink))
+Does script (job.Run path options named writes) = WithFile (λ certificate. Somehow (Writes writes (RunsOn script certificate options)))
+Does script (job.Fits certificate path) = WithFile (λ bytes. Somehow (λ met. Fits bytes path met.log met.sink))
 
 -- the words weren't understood, the script wasn't read for a job that wants one, or a job was done for a script
 pub data IsEnding (status : ℕ) : Type 0 where

@@ -44,6 +44,10 @@ min = record (new_rule (codes "min")) { long = Some (codes "min"); action = Some
 abbrev pub max : Rule
 max = record (new_rule (codes "max")) { long = Some (codes "max"); action = Some Set; value_names = 1 }
 
+-- `--like FILE`
+abbrev pub like : Rule
+like = record (new_rule (codes "like")) { long = Some (codes "like"); action = Some Set; value_names = 1 }
+
 -- `--all`
 abbrev pub all : Rule
 all = record (new_rule (codes "all")) { long = Some (codes "all"); action = Some SetTrue }
@@ -68,13 +72,13 @@ certificate = record (new_rule (codes "certificate")) { action = Some Set; value
 abbrev pub subcommand : List ℕ → List Rule → App
 subcommand name takes = on_top (λ s. record s { rules = takes }) (new_app name)
 
--- `edit [--vouched] [--whole] [-n] [-s] [-p STRING] [-f SCRIPT] [FILE]`
+-- `edit [--vouched] [--like FILE] [--whole] [-n] [-s] [-p STRING] [-f SCRIPT] [FILE]`
 abbrev pub edit : App
-edit = subcommand (codes "edit") (vouched ∷ whole ∷ rehearsed ∷ silent ∷ prompt ∷ script ∷ file ∷ [])
+edit = subcommand (codes "edit") (vouched ∷ like ∷ whole ∷ rehearsed ∷ silent ∷ prompt ∷ script ∷ file ∷ [])
 
--- `vouch [--min N] [--max M] [--all] [-q] [--patterns] [--has RE] [-f SCRIPT] [FILE]`
+-- `vouch [--like FILE] [--min N] [--max M] [--all] [-q] [--patterns] [--has RE] [-f SCRIPT] [FILE]`
 abbrev pub vouch : App
-vouch = subcommand (codes "vouch") (min ∷ max ∷ all ∷ quiet ∷ patterns ∷ has ∷ scripts ∷ file ∷ [])
+vouch = subcommand (codes "vouch") (like ∷ min ∷ max ∷ all ∷ quiet ∷ patterns ∷ has ∷ scripts ∷ file ∷ [])
 
 -- `check [-f SCRIPT] CERT`
 abbrev pub check : App

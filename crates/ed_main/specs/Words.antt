@@ -1,6 +1,6 @@
 -- The words that the program is given, as `clap` reads them, and the job that they give (XCU ed, "Synopsis"; our choice: no prompt or file
 -- that reads as an option).
-use Rattle.std.specs.Prelude.{◌≡◌, ◌≢◌, ◌⊎◌, ℕ, Bool, true, false, not, ◌&&◌, List, [], ◌∷◌, codes, length, nat_eq, nat_lt, Option, Some, None, option_map, unwrap_or, is_ok, if◌then◌else◌}
+use Rattle.std.specs.Prelude.{◌≡◌, ◌≢◌, ◌⊎◌, ℕ, Bool, true, false, not, ◌&&◌, ◌||◌, List, [], ◌∷◌, codes, length, nat_eq, nat_lt, Option, Some, None, option_map, unwrap_or, is_ok, is_some, if◌then◌else◌}
 use Rattle.std.specs.List.{list_all}
 use Rattle.std.specs.Option.{option_map_or}
 use Rattle.std.specs.Char.{digit_value}
@@ -21,9 +21,11 @@ use Rattle.ed_main.specs.declared.words.WordsFault.{WordsFault}
 use Rattle.ed_main.specs.declared.words.WordsFault.TheVariants as words
 use Rattle.ed_main.specs.declared.job.Job.{Job}
 use Rattle.ed_main.specs.declared.job.Job.TheVariants as job
+use Rattle.ed_main.specs.declared.wanted.Wanted.{Wanted}
+use Rattle.ed_main.specs.declared.wanted.Wanted.TheVariants as wanted
 use Rattle.ed_main.specs.declared.writing.Writing.{Writing}
 use Rattle.ed_main.specs.declared.writing.Writing.TheVariants as writing
-use Rattle.ed_main.specs.Job.{any_start}
+use Rattle.ed_main.specs.Starts.{any_start}
 use Rattle.ed_main.specs.Subcommands.{program}
 
 -- a string that may be a prompt: it doesn't begin with a hyphen
@@ -76,14 +78,39 @@ shows_all rows = is_given (first_of (codes "all") rows)
 abbrev pub is_quiet : List Row → Bool
 is_quiet rows = is_given (first_of (codes "quiet") rows)
 
+-- the file that a start is to be proposed from
+abbrev pub like_in : List Row → Option (List ℕ)
+like_in rows = first_of (codes "like") rows
+
+-- a bound of the start is stated, or a pattern
+abbrev pub states_start : List Row → Bool
+states_start rows =
+    is_some (first_of (codes "min") rows) || (is_some (first_of (codes "max") rows) || is_some (first_of (codes "has") rows))
+
 -- the file that a script is to be read from
 abbrev pub script_in : List Row → Option (List ℕ)
 script_in rows = first_of (codes "script") rows
 
+-- the start over which `edit --vouched` judges a script: any with the file at this path, which is found with the patterns that it has to
+-- match; or one that is proposed from another file
+abbrev pub judged_over : (path like : Option (List ℕ)) → Wanted
+judged_over path None = wanted.Stated (any_start path (Some []))
+judged_over path (Some like) = wanted.Like path true like
+
+-- `edit` judges a script where it is asked to
+abbrev pub judged_if : (vouched : Bool) → (path like : Option (List ℕ)) → Option Wanted
+judged_if true path like = Some (judged_over path like)
+judged_if false path like = None
+
+-- a start may be proposed from a file where it is sought, and nothing else is given of it, for a file that is named
+abbrev pub may_propose : (sought : Bool) → (path like : Option (List ℕ)) → Bool
+may_propose sought path None = true
+may_propose sought path (Some like) = is_some path && (sought && is_path (Some like))
+
 -- a run with these options, where they may be given
-abbrev pub editing : Options → (script : Option (List ℕ)) → Writing → (vouched : Bool) → Option Job
-editing o script writes vouched = elim (is_prompt o.prompt && (is_path o.path && is_path script)) [
-  | true ↦ Some (job.Edit o script writes vouched)
+abbrev pub editing : Options → (script : Option (List ℕ)) → Writing → (vouched : Bool) → (like : Option (List ℕ)) → Option Job
+editing o script writes vouched like = elim (is_prompt o.prompt && (is_path o.path && (is_path script && may_propose vouched o.path like))) [
+  | true ↦ Some (job.Edit o script writes (judged_if vouched o.path like))
   | false ↦ None
 ]
 
@@ -143,43 +170,64 @@ detail_of true = Each
 detail_of false = First
 
 -- a certificate is asked for of one script, in a file or on standard input; several are judged without
-abbrev pub telling_of : Starts → (scripts : List (List ℕ)) → (all : Bool) → Job
-telling_of starts [] all = job.Vouch starts None all
-telling_of starts (script ∷ []) all = job.Vouch starts (Some script) all
-telling_of starts (script ∷ next ∷ scripts) all = job.Judge starts (script ∷ next ∷ scripts) (detail_of all)
+abbrev pub telling_of : Wanted → (scripts : List (List ℕ)) → (all : Bool) → Job
+telling_of over [] all = job.Vouch over None all
+telling_of over (script ∷ []) all = job.Vouch over (Some script) all
+telling_of over (script ∷ next ∷ scripts) all = job.Judge over (script ∷ next ∷ scripts) (detail_of all)
 
 -- where nothing is to be told, one is judged without, too
-abbrev pub vouching_of : Starts → (scripts : List (List ℕ)) → (all quiet : Bool) → Job
-vouching_of starts scripts all true = job.Judge starts scripts Nothing
-vouching_of starts scripts all false = telling_of starts scripts all
+abbrev pub vouching_of : Wanted → (scripts : List (List ℕ)) → (all quiet : Bool) → Job
+vouching_of over scripts all true = job.Judge over scripts Nothing
+vouching_of over scripts all false = telling_of over scripts all
 
--- what `vouch` is asked besides its bounds
-pub record Asked : Type 0 where
-  pub path : Option (List ℕ)
-  pub scripts : List (List ℕ)
-  pub patterns : Bool
-  pub has : List (List ℕ)
-  pub all : Bool
-  pub quiet : Bool
-
--- it is vouched for starts of these bounds, where the low one isn't above the high one
-abbrev pub vouching_within : (least : Option ℕ) → (most : Option (Option ℕ)) → Asked → Option Job
-vouching_within least most asked = elim (are_in_order least most && (is_path asked.path && (are_paths asked.scripts && are_patterns asked.has))) [
-  | true ↦ Some (vouching_of (starts_of asked.path least most (stated asked.patterns asked.has)) asked.scripts asked.all asked.quiet)
+-- the start of these bounds, where the low one isn't above the high one, and of these patterns, where each is one
+abbrev pub stated_within : (least : Option ℕ) → (most : Option (Option ℕ)) → (path : Option (List ℕ)) → (asked : Bool) → (has : List (List ℕ)) → Option Wanted
+stated_within least most path asked has = elim (are_in_order least most && are_patterns has) [
+  | true ↦ Some (wanted.Stated (starts_of path least most (stated asked has)))
   | false ↦ None
 ]
 
-abbrev pub vouching_from : (least : Option ℕ) → Option (Option (Option ℕ)) → Asked → Option Job
-vouching_from least None asked = None
-vouching_from least (Some most) asked = vouching_within least most asked
+abbrev pub stated_from : (least : Option ℕ) → Option (Option (Option ℕ)) → (path : Option (List ℕ)) → (asked : Bool) → (has : List (List ℕ)) → Option Wanted
+stated_from least None path asked has = None
+stated_from least (Some most) path asked has = stated_within least most path asked has
 
-abbrev pub vouching_read : Option (Option ℕ) → Option (Option (Option ℕ)) → Asked → Option Job
-vouching_read None most asked = None
-vouching_read (Some least) most asked = vouching_from least most asked
+abbrev pub stated_read : Option (Option ℕ) → Option (Option (Option ℕ)) → (path : Option (List ℕ)) → (asked : Bool) → (has : List (List ℕ)) → Option Wanted
+stated_read None most path asked has = None
+stated_read (Some least) most path asked has = stated_from least most path asked has
 
--- the same by the texts of the bounds
-abbrev pub vouching : (min max : Option (List ℕ)) → Asked → Option Job
-vouching min max asked = vouching_read (least_in min) (most_in max) asked
+-- certificates that tell of patterns are asked for by their flag
+abbrev pub tells_of_patterns : List Row → Bool
+tells_of_patterns rows = is_given (first_of (codes "patterns") rows)
+
+-- the start for the file at this path that is stated, as far as it is
+abbrev pub stated_in : (path : Option (List ℕ)) → List Row → Option Wanted
+stated_in path rows =
+    stated_read (least_in (first_of (codes "min") rows)) (most_in (first_of (codes "max") rows)) path (tells_of_patterns rows) (texts_in (codes "has") rows)
+
+-- the one that is proposed from another file, where neither a bound nor a pattern is stated
+abbrev pub proposed_in : (path : Option (List ℕ)) → (like : List ℕ) → List Row → Option Wanted
+proposed_in path like rows = elim (may_propose (not (states_start rows)) path (Some like)) [
+  | true ↦ Some (wanted.Like path (tells_of_patterns rows) like)
+  | false ↦ None
+]
+
+-- the start for the file at this path that is asked for
+abbrev pub wanted_by : (like : Option (List ℕ)) → (path : Option (List ℕ)) → List Row → Option Wanted
+wanted_by None path rows = stated_in path rows
+wanted_by (Some like) path rows = proposed_in path like rows
+
+abbrev pub wanted_in : (path : Option (List ℕ)) → List Row → Option Wanted
+wanted_in path rows = wanted_by (like_in rows) path rows
+
+-- it is vouched for over the start that is asked for
+abbrev pub vouching_over : Option Wanted → (scripts : List (List ℕ)) → (all quiet : Bool) → Option Job
+vouching_over None scripts all quiet = None
+vouching_over (Some over) scripts all quiet = Some (vouching_of over scripts all quiet)
+
+-- where each name may be one of a file
+abbrev pub vouching_if : (named : Bool) → Option Wanted → (scripts : List (List ℕ)) → (all quiet : Bool) → Option Job
+vouching_if true over scripts all quiet = vouching_over over scripts all quiet
+vouching_if false over scripts all quiet = None
 
 -- a check of the certificate at a path that may be given
 abbrev pub checking : (certificate script : Option (List ℕ)) → Option Job
@@ -201,21 +249,13 @@ fitting (Some certificate) path = elim (is_path (Some certificate) && is_path pa
 
 -- the job of each subcommand with what it was given
 abbrev pub edit_job : List Row → Option Job
-edit_job rows = editing (options_in rows) (script_in rows) (writing_in rows) (is_to_be_vouched rows)
+edit_job rows = editing (options_in rows) (script_in rows) (writing_in rows) (is_to_be_vouched rows) (like_in rows)
 
--- what `vouch` was asked, of these scripts
-abbrev pub asked_of : List Row → (scripts : List (List ℕ)) → Asked
-asked_of rows scripts = record {
-  path = first_of (codes "file") rows;
-  scripts = scripts;
-  patterns = is_given (first_of (codes "patterns") rows);
-  has = texts_in (codes "has") rows;
-  all = shows_all rows;
-  quiet = is_quiet rows;
-}
-
+-- the job of `vouch` with these scripts
 abbrev pub vouch_job_of : List Row → (scripts : List (List ℕ)) → Option Job
-vouch_job_of rows scripts = vouching (first_of (codes "min") rows) (first_of (codes "max") rows) (asked_of rows scripts)
+vouch_job_of rows scripts =
+    let path = first_of (codes "file") rows in
+    vouching_if (is_path path && are_paths scripts) (wanted_in path rows) scripts (shows_all rows) (is_quiet rows)
 
 abbrev pub vouch_job : List Row → Option Job
 vouch_job rows = vouch_job_of rows (texts_in (codes "script") rows)

@@ -1,6 +1,6 @@
 //! The start that a script is judged over where no bounds are given.
 ghost use Rattle.std.specs.Prelude.{◌≡◌};
-ghost use Rattle.ed_main.specs.Job as meaning;
+ghost use Rattle.ed_main.specs.Starts as meaning;
 
 use analyser::Start;
 use ed_base::Bytes;

@@ -4,31 +4,32 @@ ghost use Rattle.std.specs.Option.{option_copied};
 ghost use Rattle.ed_main.specs.Program.{script_named, wants_input};
 
 use crate::paths::Paths;
+use crate::wanted::Wanted;
 use crate::writing::Writing;
 use ed_base::Bytes;
-use ed_calls::{Detail, Starts};
+use ed_calls::Detail;
 use ed_syntax::Options;
 
 /// What the program is to do. A script comes from the file at the path `script`, or without one from standard input.
 #[derive(Debug, Drop)]
 pub enum Job {
-    /// To run a script on a file, or to rehearse that; where `vouched` is true, only if the script is vouched for and the file fits.
+    /// To run a script on a file, or to rehearse that; where `judged` has a start, only if the script is vouched for over it and the file fits.
     Edit {
         options: Options,
         script: Option<Bytes>,
         writing: Writing,
-        vouched: bool,
+        judged: Option<Wanted>,
     },
     /// To make a script's certificate for a start that is given or found, or to show its first refusal, or all of them.
     Vouch {
-        starts: Starts,
+        wanted: Wanted,
         script: Option<Bytes>,
         all: bool,
     },
     /// To judge the scripts in the files at these paths, or where there is none the one on standard input, without their certificates, and to tell
     /// a person so much of those that aren't vouched for.
     Judge {
-        starts: Starts,
+        wanted: Wanted,
         scripts: Paths,
         detail: Detail,
     },

@@ -10,11 +10,12 @@ use ed_rules::Texts;
 use std::alloc::Global;
 
 /// The patterns that a start states: the set of these texts, each of which has to be a pattern. There is none where it isn't asked for and no
-/// text is given.
+/// text is given. What is wrong is shown with this usage.
 pub(crate) fn stated_of(
     alloc: Global,
     asked: bool,
     texts: &[&str],
+    usage: &str,
 ) -> Result<Option<Texts>, WordsFault>
     ensures patterns { IfOk result (λ _. meaning.are_patterns (map (λ text. text.now) texts.now) ≡ true) }
     ensures value { IfOk result (λ has. has ≡ meaning.stated asked (map (λ text. text.now) texts.now)) }
@@ -22,7 +23,7 @@ pub(crate) fn stated_of(
         meaning.are_patterns (map (λ text. text.now) texts.now) ≡ false) }
     ensures unasked { IfErr result (λ fault. ¬ meaning.IsAsked fault) }
 {
-    let set = set_of(alloc, texts)?;
+    let set = set_of(alloc, texts, usage)?;
     if asked {
         return Ok(Some(set));
     }
@@ -33,7 +34,7 @@ pub(crate) fn stated_of(
 }
 
 /// The set of these texts.
-fn set_of(alloc: Global, texts: &[&str]) -> Result<Texts, WordsFault>
+fn set_of(alloc: Global, texts: &[&str], usage: &str) -> Result<Texts, WordsFault>
     ensures patterns { IfOk result (λ _. meaning.are_patterns (map (λ text. text.now) texts.now) ≡ true) }
     ensures value { IfOk result (λ set. set ≡ with_texts (map (λ text. text.now) texts.now) []) }
     ensures only_if_refused { IfErr result (λ fault. fault ≢ WordsFault.Memory →
@@ -44,7 +45,7 @@ fn set_of(alloc: Global, texts: &[&str]) -> Result<Texts, WordsFault>
     for text in texts {
         let pattern = text.as_bytes();
         if let Err(fault) = Bre::read(alloc, pattern) {
-            return Err(wrong_pattern(alloc, pattern, fault));
+            return Err(wrong_pattern(alloc, pattern, fault, usage));
         }
         set.add(pattern)?;
     }

@@ -1,22 +1,29 @@
 //! One run of the program: its words, its script, its files, and the status that it ends with.
-ghost use Rattle.std.specs.Prelude.{◌≤◌, IfOk};
+ghost use Rattle.std.specs.Prelude.{◌≤◌, ℕ, List, Option, IfOk, IfSome};
 ghost use Rattle.ed_calls.specs.Check.{Checks};
 ghost use Rattle.ed_calls.specs.Fits.{Fits};
 ghost use Rattle.ed_calls.specs.Told.{Says};
 ghost use Rattle.ed_calls.specs.Vouch.{Vouches};
-ghost use Rattle.ed_main.specs.Job.{AreStarts, IsGiven};
-ghost use Rattle.ed_main.specs.Program.{Does, EditsBy, EndsWords, IsEnding, RunsOn, Somehow, WithCertificate, Writes};
+ghost use Rattle.ed_main.specs.Job.{IsGiven};
+ghost use Rattle.ed_main.specs.Program.{Does, Edits, EditsVouched, EndsWords, IsEnding, RunsOn, Somehow, Writes};
+ghost use Rattle.ed_main.specs.Several.{Judges};
+ghost use Rattle.ed_main.specs.Starts.{AreStarts};
+ghost use Rattle.ed_main.specs.Wanted.{IsWanted, WithFile, WithStarts};
+ghost use Rattle.ed_main.specs.declared.job.Job.TheVariants as jobs;
 
 use crate::inputs::{bytes_at, refuse_script, script_from, status_of_read};
 use crate::job::Job;
+use crate::paths::Paths;
+use crate::proposing::starts_from;
 use crate::several::judge_scripts;
 use crate::stderr::notes::{show_empty, show_terminal};
 use crate::stderr::usage::USAGE;
 use crate::task::{Task, Trust, do_task, files_of};
+use crate::wanted::Wanted;
 use crate::words::{WordsFault, job_of_words};
 use crate::writing::Writing;
 use ed_base::{Bytes, Fault};
-use ed_calls::{Aside, Starts, check_text, fit, show_output, vouch_text};
+use ed_calls::{Aside, Detail, Starts, check_text, fit, show_output, vouch_text};
 use ed_session::Out;
 use ed_syntax::Options;
 use sources::In;
@@ -98,15 +105,15 @@ where
         Job::Edit {
             options,
             writing,
-            vouched,
+            judged,
             ..
-        } => edit_file(rt, script, options, writing, vouched),
-        Job::Vouch { starts, all, .. } => vouch_file(rt, script, starts, all),
+        } => edit_by(rt, script, options, writing, judged),
+        Job::Vouch { wanted, all, .. } => vouch_wanted(rt, script, wanted, all),
         Job::Judge {
-            starts,
+            wanted,
             scripts,
             detail,
-        } => judge_scripts(rt, script, starts, &scripts, detail),
+        } => judge_wanted(rt, script, wanted, &scripts, detail),
         Job::Check {
             certificate: path,
             ..
@@ -130,12 +137,32 @@ where
     }
 }
 
-/// Runs a script on a file, or rehearses that; only if it is vouched for, where that is asked for.
-fn edit_file<R>(rt: &R, script: &[u8], options: Options, writing: Writing, vouched: bool) -> u8
+/// Runs a script on a file, or rehearses that; only if it is vouched for, where a start is asked for to judge it over.
+fn edit_by<R>(
+    rt: &R,
+    script: &[u8],
+    options: Options,
+    writing: Writing,
+    judged: Option<Wanted>,
+) -> u8
+where
+    R: Files<File = File> + Print + Eprint + AllocGlobal,
+    requires given { IfSome judged IsWanted }
+    ensures status { result ≤ 4 }
+    ensures did { (named : Option (List ℕ)) → Does script.now (jobs.Edit options named writing judged) result }
+{
+    match judged {
+        Some(wanted) => edit_wanted(rt, script, options, writing, wanted),
+        None => edit_file(rt, script, options, writing),
+    }
+}
+
+/// Runs a script on a file, or rehearses that.
+fn edit_file<R>(rt: &R, script: &[u8], options: Options, writing: Writing) -> u8
 where
     R: Files<File = File> + Print + Eprint + AllocGlobal,
     ensures status { result ≤ 4 }
-    ensures came { Somehow (Writes writing (EditsBy vouched script.now options)) result }
+    ensures came { Somehow (Writes writing (Edits script.now options)) result }
 {
     do_task(
         rt,
@@ -143,9 +170,70 @@ where
             script,
             options,
             writing,
-            trust: Trust::of(vouched),
+            trust: Trust::Unchecked,
         },
     )
+}
+
+/// The same, only if the script is vouched for over the start that is asked for.
+fn edit_wanted<R>(rt: &R, script: &[u8], options: Options, writing: Writing, wanted: Wanted) -> u8
+where
+    R: Files<File = File> + Print + Eprint + AllocGlobal,
+    requires given { IsWanted wanted }
+    ensures status { result ≤ 4 }
+    ensures came { WithStarts wanted (λ starts. Somehow (Writes writing (EditsVouched starts script.now options))) result }
+{
+    match starts_from(rt, wanted, false) {
+        Ok(starts) => edit_over(rt, script, options, writing, starts),
+        Err(fault) => status_of_read(fault),
+    }
+}
+
+/// The same, only if the script is vouched for over this start.
+fn edit_over<R>(rt: &R, script: &[u8], options: Options, writing: Writing, starts: Starts) -> u8
+where
+    R: Files<File = File> + Print + Eprint + AllocGlobal,
+    requires given { AreStarts starts }
+    ensures status { result ≤ 4 }
+    ensures came { Somehow (Writes writing (EditsVouched starts script.now options)) result }
+{
+    do_task(
+        rt,
+        Task {
+            script,
+            options,
+            writing,
+            trust: Trust::Vouched(starts),
+        },
+    )
+}
+
+/// Tells the certificate of the script's bytes, or why there is none, over the start that is asked for.
+fn vouch_wanted<R>(rt: &R, script: &[u8], wanted: Wanted, all: bool) -> u8
+where
+    R: Files<File = File> + Print + Eprint + AllocGlobal,
+    requires given { IsWanted wanted }
+    ensures status { result ≤ 4 }
+    ensures came { WithStarts wanted (λ starts. Somehow (λ met. Says (Vouches script.now starts) met.sink)) result }
+{
+    match starts_from(rt, wanted, false) {
+        Ok(starts) => vouch_file(rt, script, starts, all),
+        Err(fault) => status_of_read(fault),
+    }
+}
+
+/// Judges the scripts at these paths, or where there is none the one of these bytes, over the start that is asked for.
+fn judge_wanted<R>(rt: &R, script: &[u8], wanted: Wanted, scripts: &Paths, detail: Detail) -> u8
+where
+    R: Files<File = File> + Eprint + AllocGlobal,
+    requires given { IsWanted wanted }
+    ensures status { result ≤ 4 }
+    ensures came { WithStarts wanted (λ starts. Judges script.now starts scripts.now) result }
+{
+    match starts_from(rt, wanted, detail == Detail::Nothing) {
+        Ok(starts) => judge_scripts(rt, script, starts, scripts, detail),
+        Err(fault) => status_of_read(fault),
+    }
 }
 
 /// Tells the standard output the certificate of the script's bytes, or why there is none. All that is to be mended is shown if `all` is true.
@@ -190,7 +278,7 @@ fn run_file<'a, R>(
 where
     R: Files<File = File> + Print + Eprint + AllocGlobal,
     ensures status { result ≤ 4 }
-    ensures came { WithCertificate (λ certificate. Somehow (Writes writing (RunsOn script.now certificate options))) result }
+    ensures came { WithFile (λ certificate. Somehow (Writes writing (RunsOn script.now certificate options))) result }
 {
     match bytes_at(rt, name) {
         Ok(certificate) => do_task(

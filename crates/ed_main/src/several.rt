@@ -1,7 +1,7 @@
 //! Scripts that are judged one after another, each as `vouch` judges one, without their certificates.
 ghost use Rattle.std.specs.Prelude.{◌≡◌, ◌≤◌, ℕ, length};
 ghost use Rattle.ed_calls.specs.Judging.{IsJudgement};
-ghost use Rattle.ed_main.specs.Job.{AreStarts};
+ghost use Rattle.ed_main.specs.Starts.{AreStarts};
 ghost use Rattle.ed_main.specs.Several as meaning;
 ghost use Rattle.ed_main.specs.Several.{AreJudged, IsOutcome, Judges};
 

@@ -34,6 +34,7 @@ fn edit<'a>(alloc: Global) -> Result<Command<'a>, AllocError>
         "Example: edv edit FILE <script.ed",
         vec![in alloc;
             vouched(alloc),
+            like(alloc),
             whole(alloc),
             rehearsed(alloc),
             silent(alloc),
@@ -54,6 +55,7 @@ fn vouch<'a>(alloc: Global) -> Result<Command<'a>, AllocError>
         "Writes a certificate that a script can't fail, or where it can",
         "Example: edv vouch FILE <script.ed >CERT",
         vec![in alloc;
+            like(alloc),
             min(alloc),
             max(alloc),
             all(alloc),
@@ -228,6 +230,17 @@ fn max<'a>(alloc: Global) -> Arg<'a>
         .action(ArgAction::Set)
         .value_name("M")
         .help("The most lines that the file may have, at most 10^12, or any, which is the default")
+}
+
+fn like<'a>(alloc: Global) -> Arg<'a>
+    ensures value { rule_of result ≡ meaning.like }
+    ensures local { result.global ≡ false }
+{
+    Arg::new(alloc, "like")
+        .long("like")
+        .action(ArgAction::Set)
+        .value_name("FILE")
+        .help("Vouches for files like this one: it has the bounds and the patterns that are found")
 }
 
 fn all<'a>(alloc: Global) -> Arg<'a>

@@ -1,28 +1,23 @@
 //! A script that is to be run, and its run over the system's files, or over a rehearsal of them.
-ghost use Rattle.std.specs.Prelude.{◌≡◌, ◌<◌, ◌≤◌, ◌-◌, ◌^◌, [], Some, IfOk};
+ghost use Rattle.std.specs.Prelude.{◌≡◌, ◌<◌, ◌≤◌, ◌-◌, ◌^◌};
 ghost use Rattle.ed_session.specs.Drives.{added};
 ghost use Rattle.ed_session.specs.Sinks.{change};
-ghost use Rattle.ed_calls.specs.Headline.{MayFail};
-ghost use Rattle.ed_calls.specs.Vouched.{RunsVouched};
-ghost use Rattle.ed_main.specs.Job as meaning;
-ghost use Rattle.ed_main.specs.Program.{Comes, ComesBy, Ran, Somehow, trust_of};
+ghost use Rattle.ed_main.specs.Program.{Comes, ComesBy, IsTrusted, Ran, Somehow};
 
-use crate::any_start::any_start;
 use crate::whole_files::replace_whole;
 use crate::writing::Writing;
-use ed_base::{Bytes, Fault};
+use ed_base::Bytes;
 use ed_calls::{Aside, Explains, Starts, Watched, edit, edit_vouched, run, show_held};
-use ed_rules::Texts;
 use ed_session::{DiskFiles, Out, Outside, Sink};
 use ed_syntax::Options;
 use rehearsal::Rehearsal;
-use std::alloc::{AllocError, Global};
+use std::alloc::Global;
 use std::fs::File;
 use std::io;
 use std::rt::Files;
 
 /// What the run of a script rests on.
-#[derive(Clone, Copy, Debug)]
+#[derive(Debug, Drop)]
 pub enum Trust<'a> {
     /// Nothing: it is run as it is.
     Unchecked,
@@ -31,21 +26,8 @@ pub enum Trust<'a> {
         name: &'a Bytes,
         certificate: &'a [u8],
     },
-    /// A certificate that is made for it, over any start with its file.
-    Vouched,
-}
-
-impl<'a> Trust<'a> {
-    /// What the run of a script without a certificate rests on.
-    pub fn of(vouched: bool) -> Trust<'a>
-        ensures value { result ≡ trust_of vouched }
-    {
-        if vouched {
-            Trust::Vouched
-        } else {
-            Trust::Unchecked
-        }
-    }
+    /// A certificate that is made for it, over this start.
+    Vouched(Starts),
 }
 
 /// A script that is to be run, or whose run is to be rehearsed.
@@ -60,9 +42,9 @@ pub struct Task<'a> {
 impl<'a> Task<'a> {
     /// Nothing that a person is told so far of this task.
     fn aside(&self, alloc: Global) -> Aside<'a> {
-        match self.trust {
-            Trust::Unchecked | Trust::Vouched => Aside::new(alloc, self.script, b""),
-            Trust::Certified { name, .. } => Aside::new(alloc, self.script, name.as_slice()),
+        match &self.trust {
+            Trust::Unchecked | Trust::Vouched(_) => Aside::new(alloc, self.script, b""),
+            Trust::Certified { name, .. } => Aside::new(alloc, self.script, (*name).as_slice()),
         }
     }
 
@@ -75,6 +57,7 @@ impl<'a> Task<'a> {
         aside: &mut Aside<'_>,
     ) -> u8
         requires count { (W.state sink.old).failures < 2 ^ 64 - 1 }
+        requires trusted { IsTrusted self.trust }
         ensures status { result ≤ 4 }
 
         // How its writes are made, the files tell.
@@ -98,48 +81,18 @@ impl<'a> Task<'a> {
             Trust::Certified { certificate, .. } => {
                 run(alloc, script, certificate, options, outside, sink, aside)
             }
-            Trust::Vouched => edit_if_vouched(alloc, script, options, outside, sink, aside),
+            Trust::Vouched(starts) => {
+                edit_vouched(alloc, script, starts, options, outside, sink, aside)
+            }
         }
     }
-}
-
-/// Runs a script if it is vouched for over some start with its file, and the file is such a start.
-fn edit_if_vouched<O: Outside, W: Sink>(
-    alloc: Global,
-    script: &[u8],
-    options: Options,
-    outside: &mut O,
-    sink: &mut W,
-    aside: &mut Aside<'_>,
-) -> u8
-    requires count { (W.state sink.old).failures < 2 ^ 64 - 1 }
-    ensures status { result ≤ 4 }
-    ensures came { let log = added (O.log outside.old) (O.log outside.new) in
-        let sink = change (W.state sink.old) (W.state sink.new) in
-        RunsVouched script.now (meaning.any_start options.path (Some [])) options log
-        (MayFail options.path log (O.failures outside.old) (O.failures outside.new) sink) sink result }
-{
-    match start_with(alloc, &options.path) {
-        Ok(starts) => edit_vouched(alloc, script, starts, options, outside, sink, aside),
-        Err(AllocError) => Fault::Memory.status(),
-    }
-}
-
-/// Any start with the file at this path, which is found with the patterns that it has to match; without a file the empty buffer.
-fn start_with(alloc: Global, path: &Option<Bytes>) -> Result<Starts, AllocError>
-    ensures value { IfOk result (λ starts. starts ≡ meaning.any_start path.now (Some [])) }
-{
-    let path = match path {
-        Some(path) => Some(path.try_copy()?),
-        None => None,
-    };
-    Ok(any_start(path, Some(Texts::none(alloc))))
 }
 
 /// Does a task over the system's files and the standard output, or rehearses it.
 pub fn do_task<R>(rt: &R, task: Task<'_>) -> u8
 where
     R: Files<File = File> + Print + Eprint + AllocGlobal,
+    requires trusted { IsTrusted task.trust }
     ensures status { result ≤ 4 }
     ensures came { Somehow (Comes task.entry) result }
 {
@@ -158,6 +111,7 @@ fn rehearse<R>(rt: &R, task: Task<'_>) -> u8
 where
     R: Files<File = File> + Print + Eprint + AllocGlobal,
     requires writing { task.writing ≡ Writing.Never }
+    requires trusted { IsTrusted task.trust }
     ensures status { result ≤ 4 }
     ensures came { Somehow (Comes task.entry) result }
 {
@@ -177,6 +131,7 @@ pub fn do_over<R, O>(rt: &R, task: Task<'_>, files: &mut Watched<O>) -> u8
 where
     R: Print + Eprint + AllocGlobal,
     O: Outside + Explains + Drop,
+    requires trusted { IsTrusted task.trust }
     ensures status { result ≤ 4 }
     ensures came { Ran task.entry (added (O.log files.old.files) (O.log files.new.files)) result }
 {

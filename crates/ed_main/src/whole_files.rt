@@ -1,7 +1,7 @@
 //! A task whose writes are held back until its run has ended.
 ghost use Rattle.std.specs.Prelude.{◌≡◌, ◌≤◌, nat_eq};
 ghost use Rattle.ed_calls.specs.HeldBack.{status_held};
-ghost use Rattle.ed_main.specs.Program.{Comes, Somehow};
+ghost use Rattle.ed_main.specs.Program.{Comes, IsTrusted, Somehow};
 ghost use Rattle.ed_main.specs.declared.writing.Writing.TheVariants as writings;
 
 use crate::task::{Task, do_over};
@@ -19,6 +19,7 @@ pub fn replace_whole<R>(rt: &R, task: Task<'_>) -> u8
 where
     R: Files<File = File> + Print + Eprint + AllocGlobal,
     requires writing { task.writing ≡ writings.AtTheEnd }
+    requires trusted { IsTrusted task.trust }
     ensures status { result ≤ 4 }
     ensures came { Somehow (Comes task.entry) result }
 {

@@ -11,7 +11,7 @@ mod texts;
 
 use crate::job::Job;
 use crate::stderr::usage::{
-    CHECK_USAGE, EDIT_USAGE, FITS_USAGE, NO_CERTIFICATE, NO_FILE, NO_MAX, NO_MIN, NO_SCRIPT,
+    CHECK_USAGE, EDIT_USAGE, FITS_USAGE, LIKE_UNVOUCHED, NO_CERTIFICATE, NO_FILE, NO_SCRIPT,
     RUN_USAGE, USAGE, VOUCH_USAGE, refused,
 };
 use crate::subcommands::program;
@@ -20,9 +20,9 @@ use clap::ArgMatches;
 use ed_base::Bytes;
 use ed_syntax::Options;
 use several::{are_paths, vouching};
-use starts::{are_in_order, least_in, most_in, patterns_in, starts_of};
+use starts::{judged_if, wanted_in, wrong_proposal};
 use std::alloc::{AllocError, Global};
-use texts::{bytes_of, is_given, is_path, is_prompt, text_of};
+use texts::{bytes_of, is_given, is_path, is_prompt, may_propose, text_of};
 use thiserror::Error;
 
 /// Why no job was read.
@@ -137,6 +137,8 @@ fn edit_job(alloc: Global, given: &ArgMatches<'_>) -> Result<Job, WordsFault>
     let prompt = text_of(given, "prompt");
     let path = text_of(given, "file");
     let script = text_of(given, "script");
+    let vouched = is_given(text_of(given, "vouched"));
+    let like = text_of(given, "like");
     if !is_prompt(prompt) {
         let wrong = "error: a prompt that begins with a hyphen";
         return Err(WordsFault::of(alloc, wrong, EDIT_USAGE));
@@ -147,6 +149,14 @@ fn edit_job(alloc: Global, given: &ArgMatches<'_>) -> Result<Job, WordsFault>
     if !is_path(script) {
         return Err(WordsFault::of(alloc, NO_SCRIPT, EDIT_USAGE));
     }
+    if !may_propose(vouched, path, like) {
+        return Err(WordsFault::of(
+            alloc,
+            wrong_proposal(vouched, LIKE_UNVOUCHED, path),
+            EDIT_USAGE,
+        ));
+    }
+    let judged = judged_if(alloc, vouched, path, like)?;
     let options = Options {
         silent: is_given(text_of(given, "silent")),
         prompt: bytes_of(alloc, prompt)?,
@@ -156,7 +166,7 @@ fn edit_job(alloc: Global, given: &ArgMatches<'_>) -> Result<Job, WordsFault>
         options,
         script: bytes_of(alloc, script)?,
         writing: writing_in(given),
-        vouched: is_given(text_of(given, "vouched")),
+        judged,
     })
 }
 
@@ -191,26 +201,16 @@ fn vouch_job_of(alloc: Global, given: &ArgMatches<'_>, scripts: &[&str]) -> Resu
     ensures given { IfOk result IsGiven }
 {
     let path = text_of(given, "file");
-    let Some(least) = least_in(text_of(given, "min")) else {
-        return Err(WordsFault::of(alloc, NO_MIN, VOUCH_USAGE));
-    };
-    let Some(most) = most_in(text_of(given, "max")) else {
-        return Err(WordsFault::of(alloc, NO_MAX, VOUCH_USAGE));
-    };
-    if !are_in_order(least, most) {
-        return Err(WordsFault::of(alloc, "error: --min is above --max", VOUCH_USAGE));
-    }
     if !is_path(path) {
         return Err(WordsFault::of(alloc, NO_FILE, VOUCH_USAGE));
     }
     if !are_paths(scripts) {
         return Err(WordsFault::of(alloc, NO_SCRIPT, VOUCH_USAGE));
     }
-    let has = patterns_in(alloc, given, is_given(text_of(given, "patterns")))?;
-    let starts = starts_of(bytes_of(alloc, path)?, least, most, has);
+    let wanted = wanted_in(alloc, given, path, VOUCH_USAGE)?;
     let all = is_given(text_of(given, "all"));
     let quiet = is_given(text_of(given, "quiet"));
-    Ok(vouching(alloc, starts, scripts, all, quiet)?)
+    Ok(vouching(alloc, wanted, scripts, all, quiet)?)
 }
 
 fn check_job(alloc: Global, given: &ArgMatches<'_>) -> Result<Job, WordsFault>

@@ -84,9 +84,24 @@ fn some_lines_of_a_chunk_are_written_without_the_others(rt: HostRuntime) {
     let alloc = rt.alloc();
     let file = repeated(alloc, 3000, b"a\n").expect(&rt, "memory");
     let store = store_of::<ChunkStore>(alloc, file.as_slice()).expect(&rt, "memory");
-    for (from, to) in [(0, 0), (0, 1), (0, 1023), (1, 1024), (1023, 2049), (1024, 2048), (2999, 3000)] {
+    for (from, to) in [
+        (0, 0),
+        (0, 1),
+        (0, 1023),
+        (1, 1024),
+        (1023, 2049),
+        (1024, 2048),
+        (2999, 3000),
+    ] {
         assert!(rt; from <= to && to <= 3000 && 2 * to <= file.len());
-        check_part(&rt, alloc, &store, from, to, &file.as_slice()[2 * from..2 * to]);
+        check_part(
+            &rt,
+            alloc,
+            &store,
+            from,
+            to,
+            &file.as_slice()[2 * from..2 * to],
+        );
     }
 }
 
@@ -100,14 +115,18 @@ fn change<S: LineStore>(alloc: Global, store: &mut S, place: usize, text: &[u8])
     let Ok(line) = Line::new(alloc, text) else {
         return false;
     };
-    store.exchange_block(place, place + 1, Block::of(line)).is_ok()
+    store
+        .exchange_block(place, place + 1, Block::of(line))
+        .is_ok()
 }
 
 /// One line in each chunk changes, and is written as it is then.
 #[test]
 fn a_line_that_changed_is_written_as_it_is_then(rt: HostRuntime) {
     let alloc = rt.alloc();
-    let mut file = repeated(alloc, 3000, b"a\n").expect(&rt, "memory").into_vec();
+    let mut file = repeated(alloc, 3000, b"a\n")
+        .expect(&rt, "memory")
+        .into_vec();
     let mut store = store_of::<ChunkStore>(alloc, file.as_slice()).expect(&rt, "memory");
     for place in [2999, 0, 1500] {
         let changed = change(alloc, &mut store, place, b"x");
@@ -131,7 +150,11 @@ fn check_in_and_out(rt: &impl Abort, alloc: Global, place: usize) {
     assert!(rt; store.exchange_block(place, place, Block::of(line)).is_ok());
     check_all(rt, alloc, &store, longer.as_slice());
     assert!(rt; place < store.len());
-    assert!(rt; store.exchange_block(place, place + 1, Block::new(alloc)).is_ok());
+    assert!(rt;
+        store
+            .exchange_block(place, place + 1, Block::new(alloc))
+            .is_ok()
+    );
     check_all(rt, alloc, &store, file.as_slice());
 }
 

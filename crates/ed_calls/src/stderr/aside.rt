@@ -74,9 +74,9 @@ impl<'a> Aside<'a> {
         self.add(unusable_text(self.alloc, self.script, number));
     }
 
-    /// The script is vouched for over a start that was found.
-    pub fn found(&mut self, script: &Script, start: &Start) {
-        self.add(start_text(self.alloc, script, start));
+    /// The script is vouched for over a start that was found. Where `unbounded` is true, nothing was given of its number of lines.
+    pub fn found(&mut self, script: &Script, start: &Start, unbounded: bool) {
+        self.add(start_text(self.alloc, script, start, unbounded));
     }
 
     /// The script isn't vouched for over a start. Where `least_sought` is true, its least number of lines isn't given, and it has as many as

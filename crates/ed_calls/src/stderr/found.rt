@@ -2,21 +2,26 @@
 ghost use Rattle.hints.specs.Passing.{IsAllowed};
 
 use crate::stderr::hinted::hinted_text;
-use crate::stderr::numbered::goes_by_numbers;
 use analyser::{Analysis, Start, analyse};
 use ed_syntax::{Script, read_script};
-use hints::{copy_of, plain_start, start_words};
+use hints::{copy_of, is_by_numbers, plain_start, start_words};
 use std::alloc::{AllocError, Global};
 
-/// What is told of a script that goes to lines by their numbers, for files of any length.
+/// What is told of a script that takes lines by their numbers, for files of any length.
 const BY_NUMBERS: &str =
-    "note: lines are taken by their numbers; --min and --max state how many the file has\n";
+    "note: lines are taken by their numbers; --like FILE states how many FILE has\n";
 
-/// The line that tells over which start a script is vouched for, and a note where that says less than the script wants.
-pub fn start_text(alloc: Global, script: &Script, start: &Start) -> Result<String, AllocError> {
+/// The line that tells over which start a script is vouched for, and a note where that says less than the script wants, as nothing was given of
+/// its number of lines.
+pub fn start_text(
+    alloc: Global,
+    script: &Script,
+    start: &Start,
+    unbounded: bool,
+) -> Result<String, AllocError> {
     let words = start_words(alloc, start)?;
     let words = words.as_str();
-    let note = if start.max.is_none() && goes_by_numbers(script) {
+    let note = if unbounded && is_by_numbers(script) {
         BY_NUMBERS
     } else {
         ""

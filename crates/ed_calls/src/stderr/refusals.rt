@@ -24,6 +24,8 @@ pub enum Wrong {
     Unwritten,
     /// It is a script for whose judgement there was no memory.
     Unjudged,
+    /// It has more lines than a start may have.
+    TooLong,
 }
 
 impl Wrong {
@@ -33,6 +35,7 @@ impl Wrong {
             Wrong::Unread => "can't be read",
             Wrong::Unwritten => "can't be written",
             Wrong::Unjudged => "out of memory",
+            Wrong::TooLong => "more than 10^12 lines",
         }
     }
 }
@@ -228,11 +231,21 @@ fn missing_text(alloc: Global, path: &[u8]) -> Result<String, AllocError> {
 pub fn show_unread(alloc: Global, rt: &impl Eprint, path: &[u8], reason: Option<io::Error>) {
     if let Some(error) = reason {
         if error.kind() == io::ErrorKind::NotFound {
-            show_file(alloc, rt, path, Wrong::Missing, None);
+            show_absent(alloc, rt, path);
             return;
         }
     }
     show_file(alloc, rt, path, Wrong::Unread, reason);
+}
+
+/// Shows in one line that the file at a path isn't there.
+pub fn show_absent(alloc: Global, rt: &impl Eprint, path: &[u8]) {
+    show_file(alloc, rt, path, Wrong::Missing, None);
+}
+
+/// Shows in one line that the file at a path has more lines than a start may have.
+pub fn show_too_long(alloc: Global, rt: &impl Eprint, path: &[u8]) {
+    show_file(alloc, rt, path, Wrong::TooLong, None);
 }
 
 /// Shows in one line that there was no memory to judge the script at a path.

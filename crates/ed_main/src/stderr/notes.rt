@@ -34,7 +34,7 @@ pub fn show_empty(alloc: Global, rt: &impl Eprint, script: &[u8], job: &Job) {
 fn file_of(job: &Job) -> Option<&[u8]> {
     let path = match job {
         Job::Edit { options, .. } | Job::Run { options, .. } => &options.path,
-        Job::Vouch { starts, .. } => starts.path(),
+        Job::Vouch { wanted, .. } => wanted.path(),
         Job::Judge { .. } | Job::Check { .. } | Job::Fits { .. } => return None,
     };
     match path {

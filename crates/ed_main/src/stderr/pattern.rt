@@ -2,14 +2,13 @@
 ghost use Rattle.std.specs.Prelude.{◌≡◌};
 ghost use Rattle.ed_main.specs.Words.{IsAsked};
 
-use crate::stderr::usage::VOUCH_USAGE;
 use crate::words::WordsFault;
 use bre_parse::fault::BreFault;
 use ed_calls::{quoted, wrong_in_pattern};
 use std::alloc::{AllocError, Global};
 
 /// What is shown of a text that isn't a pattern for this reason.
-pub fn wrong_pattern(alloc: Global, text: &[u8], fault: BreFault) -> WordsFault
+pub fn wrong_pattern(alloc: Global, text: &[u8], fault: BreFault, usage: &str) -> WordsFault
     ensures memory { fault ≡ BreFault.Memory → result ≡ WordsFault.Memory }
     ensures unasked { ¬ IsAsked result }
 {
@@ -17,7 +16,7 @@ pub fn wrong_pattern(alloc: Global, text: &[u8], fault: BreFault) -> WordsFault
         return WordsFault::Memory;
     }
     match pattern_text(alloc, text, fault) {
-        Ok(wrong) => WordsFault::of(alloc, wrong.as_str(), VOUCH_USAGE),
+        Ok(wrong) => WordsFault::of(alloc, wrong.as_str(), usage),
         Err(AllocError) => WordsFault::Memory,
     }
 }

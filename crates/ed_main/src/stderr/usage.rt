@@ -10,18 +10,18 @@ use std::alloc::{AllocError, Global};
 
 /// How the program is used.
 pub const USAGE: &str = "\
-usage: edv edit [--vouched] [--whole] [-n] [-s] [-p STRING] [-f SCRIPT] [FILE] <SCRIPT
-       edv vouch [--min N] [--max M] [--all] [-q] [--patterns] [--has RE] [-f SCRIPT] [FILE] <SCRIPT
+usage: edv edit [--vouched] [--like FILE] [--whole] [-n] [-s] [-p STRING] [-f SCRIPT] [FILE] <SCRIPT
+       edv vouch [--like FILE] [--min N] [--max M] [--all] [-q] [--patterns] [--has RE] [-f SCRIPT] [FILE] <SCRIPT
        edv check [-f SCRIPT] CERT <SCRIPT
        edv run [--whole] [-n] [-s] [-f SCRIPT] CERT [FILE] <SCRIPT
        edv fits CERT [FILE]
 ";
 
 pub const EDIT_USAGE: &str =
-    "usage: edv edit [--vouched] [--whole] [-n] [-s] [-p STRING] [-f SCRIPT] [FILE] <SCRIPT\n";
+    "usage: edv edit [--vouched] [--like FILE] [--whole] [-n] [-s] [-p STRING] [-f SCRIPT] [FILE] <SCRIPT\n";
 
 pub const VOUCH_USAGE: &str =
-    "usage: edv vouch [--min N] [--max M] [--all] [-q] [--patterns] [--has RE] [-f SCRIPT] [FILE] <SCRIPT\n";
+    "usage: edv vouch [--like FILE] [--min N] [--max M] [--all] [-q] [--patterns] [--has RE] [-f SCRIPT] [FILE] <SCRIPT\n";
 
 pub const CHECK_USAGE: &str = "usage: edv check [-f SCRIPT] CERT <SCRIPT\n";
 
@@ -34,6 +34,12 @@ pub const NO_FILE: &str = "error: a file without a name, or named -";
 pub const NO_SCRIPT: &str = "error: a script without a name, or named -";
 
 pub const NO_CERTIFICATE: &str = "error: a certificate without a name, or named -";
+
+pub const LIKE_BESIDE: &str = "error: --like beside --min, --max or --has";
+
+pub const LIKE_UNVOUCHED: &str = "error: --like without --vouched";
+
+pub const LIKE_ALONE: &str = "error: --like without the file that is edited";
 
 pub const NO_MIN: &str = "error: --min isn't a number of lines up to 10^12";
 

@@ -5,9 +5,10 @@ ghost use Rattle.ed_main.specs.declared.job.Job.TheVariants as job;
 
 use crate::job::Job;
 use crate::paths::Paths;
+use crate::wanted::Wanted;
 use crate::words::texts::is_path;
 use ed_base::Bytes;
-use ed_calls::{Detail, Starts};
+use ed_calls::Detail;
 use std::alloc::{AllocError, Global};
 
 /// Whether each of these may name a file.
@@ -25,42 +26,42 @@ pub fn are_paths(names: &[&str]) -> bool
 /// The job of `vouch` with these scripts: a certificate, where there is one at most and something is to be told; else they are judged.
 pub fn vouching(
     alloc: Global,
-    starts: Starts,
+    wanted: Wanted,
     scripts: &[&str],
     all: bool,
     quiet: bool,
 ) -> Result<Job, AllocError>
-    ensures value { IfOk result (λ job. job ≡ meaning.vouching_of starts (map (λ text. text.now) scripts.now) all quiet) }
+    ensures value { IfOk result (λ job. job ≡ meaning.vouching_of wanted (map (λ text. text.now) scripts.now) all quiet) }
 {
     if quiet {
-        return judging(alloc, starts, scripts, Detail::Nothing);
+        return judging(alloc, wanted, scripts, Detail::Nothing);
     }
     match scripts {
         [] => Ok(Job::Vouch {
-            starts,
+            wanted,
             script: None,
             all,
         }),
         [script] => Ok(Job::Vouch {
-            starts,
+            wanted,
             script: Some(Bytes::from_slice(alloc, script.as_bytes())?),
             all,
         }),
-        _ => judging(alloc, starts, scripts, detail_of(all)),
+        _ => judging(alloc, wanted, scripts, detail_of(all)),
     }
 }
 
 /// These scripts are to be judged.
 fn judging(
     alloc: Global,
-    starts: Starts,
+    wanted: Wanted,
     scripts: &[&str],
     detail: Detail,
 ) -> Result<Job, AllocError>
-    ensures value { IfOk result (λ found. found ≡ job.Judge starts (map (λ text. text.now) scripts.now) detail) }
+    ensures value { IfOk result (λ found. found ≡ job.Judge wanted (map (λ text. text.now) scripts.now) detail) }
 {
     Ok(Job::Judge {
-        starts,
+        wanted,
         scripts: paths_of(alloc, scripts)?,
         detail,
     })

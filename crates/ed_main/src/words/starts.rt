@@ -1,23 +1,115 @@
-//! The starts that `vouch` is given: bounds on the number of lines, and patterns.
+//! The starts that words ask for: bounds on the number of lines, and patterns, or a file that one is proposed from.
 ghost use Rattle.std.specs.Prelude.{◌≡◌, ◌≢◌, ◌≤◌, true, false, Some, None, if◌then◌else◌, codes, IfOk, IfErr, IfSome, option_map};
 ghost use Rattle.clap.specs.Words.{found_of, rows_of};
 ghost use Rattle.ed_rules.specs.LineBounds.{is_few, most_lines};
 ghost use Rattle.ed_main.specs.Words as meaning;
+ghost use Rattle.ed_main.specs.Wanted.{IsWanted};
 ghost use Rattle.ed_main.specs.Words.{IsAsked};
 
 use crate::any_start::any_start;
 use crate::patterns::stated_of;
+use crate::stderr::usage::{LIKE_ALONE, LIKE_BESIDE, NO_FILE, NO_MAX, NO_MIN};
+use crate::wanted::Wanted;
 use crate::words::WordsFault;
+use crate::words::texts::{bytes_of, has_text, is_given, may_propose, text_of};
 use analyser::Start;
 use clap::ArgMatches;
 use ed_base::Bytes;
 use ed_calls::Starts;
 use ed_rules::{LineBounds, Texts};
 use hints::Given;
-use std::alloc::Global;
+use std::alloc::{AllocError, Global};
+
+/// The start for the file at this path that is asked for: one that is stated, as far as it is, or one that is proposed from another file. What is
+/// wrong is shown with this usage.
+pub fn wanted_in(
+    alloc: Global,
+    given: &ArgMatches<'_>,
+    path: Option<&str>,
+    usage: &str,
+) -> Result<Wanted, WordsFault>
+    requires named { meaning.is_path (option_map (λ text. text.now) path) ≡ true }
+    ensures value { IfOk result (λ wanted. meaning.wanted_in (option_map (λ text. text.now) path.entry) (rows_of (found_of given.now)) ≡ Some wanted) }
+    ensures only_if_refused { IfErr result (λ fault. fault ≢ WordsFault.Memory →
+        meaning.wanted_in (option_map (λ text. text.now) path.entry) (rows_of (found_of given.now)) ≡ None) }
+    ensures unasked { IfErr result (λ fault. ¬ IsAsked fault) }
+    ensures given { IfOk result IsWanted }
+{
+    match text_of(given, "like") {
+        Some(like) => proposed_in(alloc, given, path, like, usage),
+        None => stated_in(alloc, given, path, usage),
+    }
+}
+
+/// The start for the file at this path that is proposed from the file of this name.
+fn proposed_in(
+    alloc: Global,
+    given: &ArgMatches<'_>,
+    path: Option<&str>,
+    like: &str,
+    usage: &str,
+) -> Result<Wanted, WordsFault>
+    requires named { meaning.is_path (option_map (λ text. text.now) path) ≡ true }
+    ensures value { IfOk result (λ wanted. meaning.proposed_in (option_map (λ text. text.now) path.entry) like.now (rows_of (found_of given.now)) ≡ Some wanted) }
+    ensures only_if_refused { IfErr result (λ fault. fault ≢ WordsFault.Memory →
+        meaning.proposed_in (option_map (λ text. text.now) path.entry) like.now (rows_of (found_of given.now)) ≡ None) }
+    ensures unasked { IfErr result (λ fault. ¬ IsAsked fault) }
+    ensures given { IfOk result IsWanted }
+{
+    let sought = !states_start(given);
+    if !may_propose(sought, path, Some(like)) {
+        let wrong = wrong_proposal(sought, LIKE_BESIDE, path);
+        return Err(WordsFault::of(alloc, wrong, usage));
+    }
+    let file = bytes_of(alloc, path)?;
+    Ok(Wanted::Like {
+        path: file,
+        patterns: is_given(text_of(given, "patterns")),
+        like: Bytes::from_slice(alloc, like.as_bytes())?,
+    })
+}
+
+/// What is wrong where no start may be proposed from a file: it isn't sought, there is no file that it is for, or the one that it is proposed
+/// from has no name.
+pub fn wrong_proposal(sought: bool, unsought: &'static str, path: Option<&str>) -> &'static str {
+    if !sought {
+        unsought
+    } else if path.is_none() {
+        LIKE_ALONE
+    } else {
+        NO_FILE
+    }
+}
+
+/// The start for the file at this path that is stated, as far as it is.
+fn stated_in(
+    alloc: Global,
+    given: &ArgMatches<'_>,
+    path: Option<&str>,
+    usage: &str,
+) -> Result<Wanted, WordsFault>
+    requires named { meaning.is_path (option_map (λ text. text.now) path) ≡ true }
+    ensures value { IfOk result (λ wanted. meaning.stated_in (option_map (λ text. text.now) path.entry) (rows_of (found_of given.now)) ≡ Some wanted) }
+    ensures only_if_refused { IfErr result (λ fault. fault ≢ WordsFault.Memory →
+        meaning.stated_in (option_map (λ text. text.now) path.entry) (rows_of (found_of given.now)) ≡ None) }
+    ensures unasked { IfErr result (λ fault. ¬ IsAsked fault) }
+    ensures given { IfOk result IsWanted }
+{
+    let Some(least) = least_in(text_of(given, "min")) else {
+        return Err(WordsFault::of(alloc, NO_MIN, usage));
+    };
+    let Some(most) = most_in(text_of(given, "max")) else {
+        return Err(WordsFault::of(alloc, NO_MAX, usage));
+    };
+    if !are_in_order(least, most) {
+        return Err(WordsFault::of(alloc, "error: --min is above --max", usage));
+    }
+    let has = patterns_in(alloc, given, is_given(text_of(given, "patterns")), usage)?;
+    Ok(Wanted::Stated(starts_of(bytes_of(alloc, path)?, least, most, has)))
+}
 
 /// The start of these bounds where both are given, and else what is given of the widest one.
-pub fn starts_of(
+fn starts_of(
     path: Option<Bytes>,
     least: Option<u64>,
     most: Option<Option<u64>>,
@@ -48,11 +140,49 @@ pub fn starts_of(
     }
 }
 
+/// Whether a bound of the start is stated, or a pattern.
+fn states_start(given: &ArgMatches<'_>) -> bool
+    ensures value { result ≡ meaning.states_start (rows_of (found_of given.now)) }
+{
+    has_text(given, "min") || has_text(given, "max") || has_text(given, "has")
+}
+
+/// The start over which `edit` judges a script on the file at this path, where it is asked to.
+pub fn judged_if(
+    alloc: Global,
+    vouched: bool,
+    path: Option<&str>,
+    like: Option<&str>,
+) -> Result<Option<Wanted>, AllocError>
+    ensures value { IfOk result (λ judged. judged ≡ meaning.judged_if vouched (option_map (λ text. text.now) path.entry) (option_map (λ text. text.now) like.entry)) }
+{
+    if !vouched {
+        return Ok(None);
+    }
+    Ok(Some(judged_over(alloc, path, like)?))
+}
+
+/// The start over which `edit --vouched` judges a script on the file at this path: any with it, or one that is proposed from another file.
+fn judged_over(alloc: Global, path: Option<&str>, like: Option<&str>) -> Result<Wanted, AllocError>
+    ensures value { IfOk result (λ judged. judged ≡ meaning.judged_over (option_map (λ text. text.now) path.entry) (option_map (λ text. text.now) like.entry)) }
+{
+    let path = bytes_of(alloc, path)?;
+    match like {
+        Some(like) => Ok(Wanted::Like {
+            path,
+            patterns: true,
+            like: Bytes::from_slice(alloc, like.as_bytes())?,
+        }),
+        None => Ok(Wanted::Stated(any_start(path, Some(Texts::none(alloc))))),
+    }
+}
+
 /// The patterns that a start states, where they are asked for or given.
-pub fn patterns_in(
+fn patterns_in(
     alloc: Global,
     given: &ArgMatches<'_>,
     asked: bool,
+    usage: &str,
 ) -> Result<Option<Texts>, WordsFault>
     ensures patterns { IfOk result (λ _. meaning.are_patterns (meaning.texts_in (codes "has") (rows_of (found_of given.now))) ≡ true) }
     ensures value { IfOk result (λ has. has ≡ meaning.stated asked (meaning.texts_in (codes "has") (rows_of (found_of given.now)))) }
@@ -61,13 +191,13 @@ pub fn patterns_in(
     ensures unasked { IfErr result (λ fault. ¬ IsAsked fault) }
 {
     match given.get_strs("has") {
-        Some(texts) => stated_of(alloc, asked, texts),
-        None => stated_of(alloc, asked, &[]),
+        Some(texts) => stated_of(alloc, asked, texts, usage),
+        None => stated_of(alloc, asked, &[], usage),
     }
 }
 
 /// The fewest lines, where they are given; none for a text that is no number of lines.
-pub fn least_in(text: Option<&str>) -> Option<Option<u64>>
+fn least_in(text: Option<&str>) -> Option<Option<u64>>
     ensures value { result ≡ meaning.least_in (option_map (λ text. text.now) text.entry) }
     ensures few { IfSome result (λ least. IfSome least (λ lines. lines ≤ most_lines)) }
 {
@@ -78,7 +208,7 @@ pub fn least_in(text: Option<&str>) -> Option<Option<u64>>
 }
 
 /// The limit on lines, where one is given; none for a text that is none.
-pub fn most_in(text: Option<&str>) -> Option<Option<Option<u64>>>
+fn most_in(text: Option<&str>) -> Option<Option<Option<u64>>>
     ensures value { result ≡ meaning.most_in (option_map (λ text. text.now) text.entry) }
     ensures few { IfSome result (λ most. IfSome most (λ limit. IfSome limit (λ lines. lines ≤ most_lines))) }
 {
@@ -89,7 +219,7 @@ pub fn most_in(text: Option<&str>) -> Option<Option<Option<u64>>>
 }
 
 /// Whether some number of lines is within these bounds, of which either may be missing.
-pub fn are_in_order(least: Option<u64>, most: Option<Option<u64>>) -> bool
+fn are_in_order(least: Option<u64>, most: Option<Option<u64>>) -> bool
     ensures value { result ≡ meaning.are_in_order least most }
 {
     let bounds = LineBounds {

@@ -1,5 +1,5 @@
 //! What the text of an argument is: whether it may be a prompt or a name, and its bytes.
-ghost use Rattle.std.specs.Prelude.{◌≡◌, IfOk, option_map};
+ghost use Rattle.std.specs.Prelude.{◌≡◌, is_some, IfOk, option_map};
 ghost use Rattle.clap.specs.Words.{found_of, first_of, rows_of};
 ghost use Rattle.ed_main.specs.Words as meaning;
 
@@ -12,6 +12,16 @@ pub fn text_of<'a>(given: &ArgMatches<'a>, id: &str) -> Option<&'a str>
     ensures value { option_map (λ text. text.now) result ≡ first_of id.now (rows_of (found_of given.now)) }
 {
     given.get_str(id)
+}
+
+/// Whether an argument is given.
+pub fn has_text(given: &ArgMatches<'_>, id: &str) -> bool
+    ensures value { result ≡ is_some (first_of id.now (rows_of (found_of given.now))) }
+{
+    match text_of(given, id) {
+        Some(_) => true,
+        None => false,
+    }
 }
 
 pub fn is_prompt(text: Option<&str>) -> bool
@@ -29,6 +39,17 @@ pub fn is_path(text: Option<&str>) -> bool
     match text {
         Some(text) => !matches!(text.as_bytes(), [] | [b'-']),
         None => true,
+    }
+}
+
+/// Whether a start may be proposed from a file, if one is named for that: where it is sought, for a file that is named.
+pub fn may_propose(sought: bool, path: Option<&str>, like: Option<&str>) -> bool
+    ensures value { result ≡ meaning.may_propose sought (option_map (λ text. text.now) path.entry) (option_map (λ text. text.now) like.entry) }
+{
+    match (like, path) {
+        (Some(_), Some(_)) => sought && is_path(like),
+        (Some(_), None) => false,
+        (None, _) => true,
     }
 }
 

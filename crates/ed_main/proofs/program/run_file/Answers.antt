@@ -1,4 +1,4 @@
-use Rattle.ed_main.specs.Program as meaning
+use Rattle.ed_main.specs.Wanted as meaning
 use Rattle.ed_main.proofs.program.run_file.Goals as goal
 
 pub returns-in-Ok-clause-came : goal.returns-in-Ok-clause-came

@@ -1,7 +1,7 @@
 -- The copy of the starts is what they are.
 use Rattle.std.proofs.Common.{sym, subst}
 use Rattle.ed_calls.specs.Judging.{no_memory}
-use Rattle.ed_main.specs.Job.{AreStarts}
+use Rattle.ed_main.specs.Starts.{AreStarts}
 use Rattle.ed_main.proofs.several.judge_named.Goals as goal
 
 pub judge_bytes-requires : goal.judge_bytes-requires

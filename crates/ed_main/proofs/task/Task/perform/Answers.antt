@@ -7,4 +7,7 @@ pub returns-in-Certified-clause-came : goal.returns-in-Certified-clause-came
 returns-in-Certified-clause-came g c = rw c.in-Certified.is c.run.ensures.came
 
 pub returns-in-Vouched-clause-came : goal.returns-in-Vouched-clause-came
-returns-in-Vouched-clause-came g c = rw c.in-Vouched.is c.edit_if_vouched.ensures.came
+returns-in-Vouched-clause-came g c = rw c.in-Vouched.is c.edit_vouched.ensures.came
+
+pub edit_vouched-requires-clause-allowed : goal.edit_vouched-requires-clause-allowed
+edit_vouched-requires-clause-allowed g c = rw c.in-Vouched.is at c.requires.trusted

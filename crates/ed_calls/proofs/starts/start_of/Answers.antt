@@ -1,6 +1,0 @@
--- What was found is judged, and else the fullest start.
-use Rattle.std.proofs.Common.{inl}
-use Rattle.ed_calls.proofs.starts.start_of.Goals as goal
-
-pub returns-in-Some-clause-judged : goal.returns-in-Some-clause-judged
-returns-in-Some-clause-judged c = rw c.in-Widest.is (inl (rw c.in-Some.is at c.in_ok-found-in-Widest.ensures.widest))
