@@ -39,5 +39,6 @@ pub mod PassedLemmas
 pub mod StepEnds
 pub mod SpanLemmas
 pub mod EndPlaces
+pub mod TextStarts
 pub mod ListSpanLemmas
 pub mod ListStartLemmas

@@ -26,6 +26,7 @@ mod single;
 mod spans;
 mod spelling;
 mod substitution;
+mod text_places;
 mod tokens;
 mod verbs;
 
@@ -48,5 +49,6 @@ pub use request::{Answer, Request};
 pub use script::Script;
 pub use spans::{Span, places};
 pub use spelling::scripts_are_read_as_spelled;
+pub use text_places::{TextPlace, text_place};
 pub use tokens::{after_blanks, number};
 pub use verbs::{Alteration, DefaultAddresses, Ends, Takes, Taking};

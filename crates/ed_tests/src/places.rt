@@ -1,6 +1,6 @@
 //! Where the commands of a script stand, and where the parts of a line end.
 use crate::asserting::same;
-use ed_syntax::{Span, addresses_end, list_places, pattern_end, places};
+use ed_syntax::{Span, TextPlace, addresses_end, list_places, pattern_end, places, text_place};
 use std::alloc::Global;
 use std::process::Abort;
 
@@ -80,6 +80,33 @@ fn check_list(rt: &impl Abort, alloc: Global, row: &PlacesRow) {
 fn each_command_of_a_list_stands_where_the_one_before_it_ends(rt: HostRuntime) {
     for row in &LISTS {
         check_list(&rt, rt.alloc(), row);
+    }
+}
+
+struct TextRow {
+    command: &'static [u8],
+    text: TextPlace,
+}
+
+// Lines after the period are no part of the command.
+#[rattlefmt::skip]
+static TEXTS: [TextRow; 10] = [
+    TextRow { command: b"a\nx\ny\n.\n", text: TextPlace { low: 2, high: 6, closed: true } },
+    TextRow { command: b"$a\nx\ny\n", text: TextPlace { low: 3, high: 7, closed: false } },
+    TextRow { command: b"1,2c\nx\n.", text: TextPlace { low: 5, high: 7, closed: true } },
+    TextRow { command: b"i\n.\n", text: TextPlace { low: 2, high: 2, closed: true } },
+    TextRow { command: b"i\n", text: TextPlace { low: 2, high: 2, closed: false } },
+    TextRow { command: b"i", text: TextPlace { low: 1, high: 1, closed: false } },
+    TextRow { command: b"a\n..\n.\n", text: TextPlace { low: 2, high: 5, closed: true } },
+    TextRow { command: b"a\n..\n. \n .", text: TextPlace { low: 2, high: 10, closed: false } },
+    TextRow { command: b"a\n\n\n.\n.\np\n", text: TextPlace { low: 2, high: 4, closed: true } },
+    TextRow { command: b"", text: TextPlace { low: 0, high: 0, closed: false } },
+];
+
+#[test]
+fn a_text_stands_between_its_command_and_its_period(rt: HostRuntime) {
+    for row in &TEXTS {
+        same(&rt, text_place(row.command), row.text, row.command);
     }
 }
 

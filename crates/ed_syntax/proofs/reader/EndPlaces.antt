@@ -1,5 +1,5 @@
 -- Where parts that were read end.
-use Rattle.std.proofs.Common.{◌≡◌, ◌≢◌, ℕ, ◌-◌, ◌≤◌, List, ◌++◌, length, drop, Some, None, sym, ap, subst, ◌∙◌, arith}
+use Rattle.std.proofs.Common.{◌≡◌, ◌≢◌, ℕ, ◌-◌, ◌≤◌, List, length, drop, Some, None, sym, ap, subst, ◌∙◌, arith}
 use Rattle.std.proofs.lemmas.List.{length-append, drop_at}
 use Rattle.ed_syntax.specs.Commands.{Addresses}
 use Rattle.ed_syntax.specs.Ends.{AddressesEnd, NoAddresses, PatternEnds, NoQuoted}

@@ -6,7 +6,8 @@ use Rattle.std.proofs.lemmas.List.{length-append, take_at}
 use Rattle.ed_base.specs.Lines.{newline, IsLine, CutsFirst, lines_of, bytes_of}
 use Rattle.ed_base.proofs.LineLemmas.{AreLines-lines_of, lines_of-whole, lines_of-written, bytes_of-append}
 use Rattle.ed_syntax.specs.reading.ReadCommands.{is_dot, text}
-use Rattle.ed_syntax.proofs.reader.TextLemmas.{text-dot, text-line}
+use Rattle.ed_syntax.proofs.reader.TextLemmas.{is_dot-sound, text-dot, text-line}
+use Rattle.ed_syntax.specs.TextPlaces.{CutsText}
 
 -- The front is the text so far, of whole lines while any bytes are left.
 pub record Cut (bytes front left : List ℕ) (passed : ℕ) : Type 0 where
@@ -91,3 +92,12 @@ cut-end bytes front left passed cut none =
     cut.entered
     ∙ ap (λ l. (lines_of front ++ (text (lines_of l)).0, (text (lines_of l)).1)) none
     ∙ ap (λ (ls : List (List ℕ)). (ls, [])) (append-nil (lines_of front) ∙ ap lines_of all)
+
+-- the bytes of the text are those before the line `.`
+pub cuts-dot : (bytes front left line rest : List ℕ) (passed : ℕ) → Cut bytes front left passed → lines_of left ≡ line ∷ lines_of rest → is_dot line ≡ true → CutsText bytes front rest
+cuts-dot bytes front left line rest passed cut lines is =
+    record { left = left; parted = cut.parted; after = inl (lines ∙ ap (λ l. l ∷ lines_of rest) (is_dot-sound line is)) }
+
+-- or all of them
+pub cuts-end : (bytes : List ℕ) → CutsText bytes bytes []
+cuts-end bytes = record { left = []; parted = sym (append-nil bytes); after = inr (refl, refl) }
