@@ -5,30 +5,22 @@ use crate::commands::{command_at, first_line, last_command, span_in, span_of};
 use crate::drafts::{Applies, Draft, Spot};
 use crate::hint::Advice;
 use crate::words::quoted;
-use ed_base::{Bytes, Text, count_lines, next_line};
-use ed_syntax::{Command, Script, Span, Verb, read_script};
+use ed_base::{Bytes, count_lines, next_line};
+use ed_syntax::{Script, Span, Verb, read_script, text_place};
 use std::alloc::{AllocError, Global};
 
-/// The text of a command that has one.
-fn text_of(command: &Command) -> Option<&Text> {
-    match &command.verb {
-        Verb::Append(text) | Verb::Change(text) | Verb::Insert(text) => Some(text),
-        _ => None,
-    }
-}
-
-/// Whether a script ends in a text that no period closes: its last command has no other lines than its own and those of its text.
+/// Whether a script ends in a text that no period closes.
 fn ends_in_text(alloc: Global, script: &[u8], read: &Script) -> Result<bool, AllocError> {
     let Some(command) = last_command(read) else {
         return Ok(false);
     };
-    let Some(text) = text_of(command) else {
+    if !command.verb.takes().text {
         return Ok(false);
-    };
+    }
     match span_of(alloc, script, read.commands.len())? {
         Some(span) => {
-            let lines = count_lines(between(script, span.low, span.high));
-            Ok(lines <= text.len().saturating_add(1))
+            let text = text_place(between(script, span.low, span.high));
+            Ok(!text.closed)
         }
         None => Ok(false),
     }

@@ -86,18 +86,12 @@ fn between(bytes: &[u8], span: Span) -> &[u8] {
 }
 
 /// The line on which a span begins, from there on and without its newline.
-fn first_line(bytes: &[u8], span: Span) -> &[u8] {
+pub fn first_line(bytes: &[u8], span: Span) -> &[u8] {
     let own = between(bytes, span);
     match next_line(own) {
         Some((line, _rest)) => line,
         None => own,
     }
-}
-
-/// The line of this number, without its newline; lines count from 1.
-pub fn line_at(script: &[u8], number: usize) -> &[u8] {
-    let mut lines = script.split(|byte| *byte == b'\n');
-    lines.nth(number.wrapping_sub(1)).unwrap_or(script)
 }
 
 /// The front of a line between backquotes. Bytes that would end it, or aren't text, are escaped.

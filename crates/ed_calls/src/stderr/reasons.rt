@@ -1,11 +1,11 @@
 //! Why a command can't be read, where it is for a pattern, for what follows an `s`, or for an address.
 
-use crate::stderr::command_line::{line_at, quoted};
+use crate::stderr::command_line::{first_line, quoted};
 use crate::stderr::pattern::wrong_in_pattern;
 use bre_parse::fault::BreFault;
 use bre_parse::{Bre, after_bracket};
 use ed_base::{Bytes, Fault};
-use ed_syntax::{Verb, first_lines, read_script};
+use ed_syntax::{Verb, places, read_script};
 use std::alloc::{AllocError, Global};
 
 /// How many bytes at the end of a line may be flags that are none.
@@ -38,9 +38,9 @@ pub fn reason_at(
     if fault != Fault::Syntax {
         return Ok(None);
     }
-    let numbers = first_lines(alloc, script)?;
-    match numbers.get(number.wrapping_sub(1)) {
-        Some(line) => reason_of(alloc, line_at(script, *line)),
+    let spans = places(alloc, script)?;
+    match spans.get(number.wrapping_sub(1)) {
+        Some(span) => reason_of(alloc, first_line(script, *span)),
         None => Ok(None),
     }
 }
