@@ -1,6 +1,5 @@
 -- Lemmas on the reader: what it reads is spelled so, and what is spelled so is read.
 pub mod ScriptLemmas
-pub mod BeginningLemmas
 pub mod BlankLemmas
 pub mod NumberLemmas
 pub mod OffsetLemmas

@@ -12,7 +12,7 @@ pub mod Places
 pub mod ListPlaces
 pub mod TextPlaces
 pub mod Ends
--- the reader's own words, on which `first_lines` rests
+-- the reader's own words
 pub mod reading
 -- what serves clauses inside the crate
 pub mod PartNumbers

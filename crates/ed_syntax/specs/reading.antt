@@ -1,4 +1,4 @@
--- The reader's own words, in the order of reading: to believe only for the line on which each command begins (`first_lines`).
+-- The reader's own words, in the order of reading: to believe only for the one address in front of a line (`address`).
 pub mod Tokens
 pub mod ReadParameters
 pub mod ReadVerbs

@@ -43,7 +43,7 @@ pub use list_spans::list_places;
 pub use options::{Ending, Options};
 pub use pattern::Pattern;
 pub use quoting::{Parsed, pattern_at};
-pub use reading::{first_lines, read_script};
+pub use reading::read_script;
 pub use replacement::{MatchNumber, Part, Replacement, Which};
 pub use request::{Answer, Request};
 pub use script::Script;

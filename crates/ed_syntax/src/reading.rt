@@ -1,6 +1,6 @@
 //! Reads a script: its commands up to the first that can't be read.
 ghost use Rattle.std.specs.Prelude.{◌≡◌, ◌+◌, ◌≤◌, length, IfOk};
-ghost use Rattle.ed_syntax.specs.reading.Reading.{step_after_addresses, step_at, script_of, first_lines};
+ghost use Rattle.ed_syntax.specs.reading.Reading.{step_after_addresses, step_at, script_of};
 ghost use Rattle.ed_syntax.specs.PublicTypes.{addresses_value};
 ghost use Rattle.ed_syntax.specs.PublicScript.{script_value};
 ghost use Rattle.ed_syntax.specs.reading.ReadParts.{step_before};
@@ -34,23 +34,6 @@ pub fn read_script(alloc: Global, bytes: &[u8]) -> Result<Script, AllocError>
         commands,
         fault: None,
     })
-}
-
-/// The number of the line on which each command begins, counted from 1. Where a command can't be read, its line is the last one told.
-pub fn first_lines(alloc: Global, bytes: &[u8]) -> Result<Vec<usize>, AllocError>
-    ensures value { IfOk result (λ numbers. numbers.items ≡ first_lines bytes.now) }
-{
-    let mut numbers = Vec::new(alloc);
-    let mut lines = ScriptLines::new(bytes);
-    'commands: while let Some(line) = lines.next() {
-        numbers.push(lines.number())?;
-        match read_step(alloc, line, &mut lines)? {
-            // Dropped by a call: dropped in place it would give the proof a case for each kind of command.
-            Some(command) => drop(command),
-            None => break,
-        }
-    }
-    Ok(numbers)
 }
 
 /// The command that begins on this line, with its list. A replacement, a text and a list go on in the lines after it.

@@ -1,7 +1,6 @@
 -- Where a text begins in its command's bytes, and where it ends.
-use Rattle.std.proofs.Common.{◌≡◌, ◌≢◌, inr, ℕ, ◌+◌, ◌-◌, ◌<◌, ◌≤◌, Bool, List, [], ◌∷◌, ◌++◌, true, false, length, take, drop, refl, sym, ap, subst, ◌∙◌, ⊎_elim, arith, append_assoc, append-nil}
+use Rattle.std.proofs.Common.{◌≡◌, ℕ, ◌+◌, ◌-◌, ◌<◌, ◌≤◌, Bool, List, [], ◌∷◌, ◌++◌, true, false, length, take, drop, refl, sym, ap, subst, ◌∙◌, ⊎_elim, arith, append_assoc, append-nil}
 use Rattle.std.proofs.lemmas.List.{length-append, take_at, drop_at}
-use Rattle.std.proofs.lemmas.List.Elements.{All-nil}
 use Rattle.ed_base.specs.Lines.{newline, lines_of, bytes_of}
 use Rattle.ed_base.proofs.LineLemmas.{AreLines-lines_of}
 use Rattle.ed_syntax.specs.declared.text_places.TextPlace.{TextPlace}
@@ -14,10 +13,6 @@ use Rattle.ed_syntax.proofs.reader.EndLemmas.{End}
 use Rattle.ed_syntax.proofs.reader.EndPlaces.{end-short, end-at}
 use Rattle.ed_syntax.proofs.reader.TextCuts.{some-left}
 use Rattle.ed_syntax.proofs.reader.TextLemmas.{ReadsText, text-sound}
-
--- no line, no rest
-pub after-none : (bytes : List ℕ) → bytes ≡ [] → AfterLine bytes bytes
-after-none bytes none = record { line = []; is_line = All-nil (λ b. b ≢ newline); cut = inr (none, none) }
 
 -- what stands after a line ends the bytes
 pub after-end : {bytes rest : List ℕ} → AfterLine bytes rest → End bytes rest

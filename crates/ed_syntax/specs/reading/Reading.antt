@@ -37,18 +37,3 @@ script (suc most) number (line ∷ later) =
 -- the script that bytes spell
 abbrev pub script_of : List ℕ → Script
 script_of bytes = script (length (lines_of bytes)) 1 (lines_of bytes)
-
--- The number of the line on which each of these lines' steps begins, where the first line has this number; that of a step that can't be
--- read is the last one. At most so many steps, which no script reaches.
-abbrev pub beginnings : (most number : ℕ) → List (List ℕ) → List ℕ
-beginnings most number [] = []
-beginnings zero number (line ∷ later) = number ∷ []
-beginnings (suc most) number (line ∷ later) =
-    number ∷ elim (step_at line later) [
-      | None ↦ []
-      | Some r ↦ beginnings most (number + (suc (length later) - length r.1)) r.1
-    ]
-
--- the number of the line on which each step of the script begins that bytes spell
-abbrev pub first_lines : List ℕ → List ℕ
-first_lines bytes = beginnings (length (lines_of bytes)) 1 (lines_of bytes)
