@@ -10,7 +10,7 @@ ghost use Rattle.bre_match.specs.Spreads.{Leads};
 use crate::asked::{Asked, items_refer_as_whole};
 use crate::index::Index;
 use crate::kinds::{begun_all, is_told_apart, push_new};
-use crate::run::{Simple, Way, push_found, simple_ways};
+use crate::run::{Simple, Way, only_item, push_found, simple_ways};
 use crate::search::push_group;
 use bre_parse::tree::Node;
 use std::alloc::{AllocError, Global};
@@ -21,13 +21,25 @@ const MOST_KNOWN: usize = 100_000;
 // How many rounds of turns nobody waits for.
 const MOST_ROUNDS: usize = 1_000_000_000;
 
+/// Whether a part is a repeat without a bound.
+fn is_endless(part: &Node) -> bool {
+    match part {
+        Node::Repeat(_, most, _) => most.is_none(),
+        _ => false,
+    }
+}
+
 /// Whether the ways of a part are best followed from one place after another: it has one run of ways from each, and there are few places,
-/// or the run is no repeat.
-fn is_leaf(part: &Node, from: &[Way]) -> bool {
+/// or the run is no repeat. A group that doesn't tell ways apart is as its only item.
+fn is_leaf(part: &Node, asked: &Asked, from: &[Way]) -> bool {
     match part {
         Node::Sequence(_) => false,
         Node::Repeat(_, None, _) => from.len() < 2,
         Node::Repeat(_, _, _) => true,
+        Node::Group(group, content) => match only_item(content) {
+            Some(item) => from.len() < 2 || is_told_apart(*group, asked) || !is_endless(item),
+            None => true,
+        },
         _ => true,
     }
 }
@@ -75,7 +87,7 @@ pub(crate) fn spread(
     if from.is_empty() {
         return Ok(Some(Vec::new(alloc)));
     }
-    if is_leaf(part, from) {
+    if is_leaf(part, asked, from) {
         if let Some(to) = spread_simply(alloc, part, text, asked, from)? {
             return Ok(Some(to));
         }
@@ -169,6 +181,11 @@ fn spread_turn(
     requires asked { RefersWithin asked.now (tree_of content.now) }
     ensures value { IfOk result (λ found. IfSome found (λ to. Leads asked.now (fresh_turn (tree_of content.now) (ways (tree_of content.now) text.now)) from.now to.items)) }
 {
+    if let Node::Set(_) = content {
+        // It has no groups that were to be unset, and so the ways are as different as before.
+        let simple = spread_simply(alloc, content, text, asked, from)?;
+        return Ok(simple);
+    }
     let begun = begun_all(alloc, content, from)?;
     let mut different = Vec::new(alloc);
     let mut index = Index::new(alloc);
