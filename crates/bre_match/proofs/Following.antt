@@ -1,11 +1,10 @@
 -- A part's ways are taken up, those that are kept of them, and what comes after gives the same first ways.
-use Rattle.std.proofs.Common.{◌≡◌, ℕ, ◌+◌, ◌<◌, List, [], ◌∷◌, ◌++◌, map, flat_map, length, get_or, drop, Bool, subst, ap, sym, ◌∙◌, arith}
+use Rattle.std.proofs.Common.{◌≡◌, ℕ, ◌+◌, ◌<◌, List, [], ◌++◌, map, flat_map, length, get_or, drop, Bool, subst, ap, sym, ◌∙◌, arith}
 use Rattle.std.proofs.lemmas.Grind.{flat_map-append}
 use Rattle.bre_parse.specs.declared.tree.Node.{Node}
 use Rattle.bre_parse.specs.Tree.{tree_of, sequence_of}
 use Rattle.bre_parse.specs.Ways.{Way, ways, by_end, with_group}
 use Rattle.bre_match.specs.declared.left.Left.{Left}
-use Rattle.bre_match.specs.declared.left.Left.TheVariants as stack
 use Rattle.bre_match.specs.declared.run.Ahead.{Ahead}
 use Rattle.bre_match.specs.Alike.{RefersWithin}
 use Rattle.bre_match.specs.Keeping.{KeepsFirsts, Follows}

@@ -9,8 +9,6 @@ use Rattle.bre_parse.specs.Groups.{Groups, cleared, no_groups}
 use Rattle.bre_parse.specs.Match.{first, longest_from}
 use Rattle.bre_parse.specs.Ways.{Way, Body, ways, turns, enough, fresh_turn, next_turn, after_turn, stopped_or_on, from_way, below, only_if, by_end}
 use Rattle.bre_match.specs.declared.left.Left.{Left}
-use Rattle.bre_match.specs.declared.left.Left.TheVariants as stack
-use Rattle.bre_match.specs.declared.run.Ahead.{Ahead}
 use Rattle.bre_match.specs.declared.seen.Mark.{Mark}
 use Rattle.bre_match.specs.declared.turn.Turn.{Turn}
 use Rattle.bre_match.specs.declared.turn.Turn.TheVariants as turn

@@ -4,7 +4,6 @@ use Rattle.bre_parse.specs.Groups.{Groups}
 use Rattle.bre_parse.specs.Tree.{Tree, Set, Repeat}
 use Rattle.bre_parse.specs.Ways.{Way, ways, by_end}
 use Rattle.bre_match.specs.declared.left.Left.{Left}
-use Rattle.bre_match.specs.declared.left.Left.TheVariants as stack
 use Rattle.bre_match.specs.declared.run.Ahead.{Ahead}
 use Rattle.bre_match.specs.declared.run.Ends.{Ends}
 use Rattle.bre_match.specs.declared.seen.Mark.{Mark}

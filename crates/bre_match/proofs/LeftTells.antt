@@ -7,7 +7,6 @@ use Rattle.bre_parse.specs.Tree.{Tree, Repeat, tree_of, sequence_of}
 use Rattle.bre_parse.specs.Groups.{cleared, no_groups}
 use Rattle.bre_parse.specs.Ways.{Way, ways, turns, next_turn, below, by_end}
 use Rattle.bre_match.specs.declared.left.Left.{Left}
-use Rattle.bre_match.specs.declared.left.Left.TheVariants as stack
 use Rattle.bre_match.specs.declared.run.Ahead.{Ahead}
 use Rattle.bre_match.specs.declared.seen.Mark.{Mark}
 use Rattle.bre_match.specs.declared.seen.Seen.{Seen}

@@ -1,13 +1,13 @@
 -- Ways that a list keeps in a few words each.
-use Rattle.std.proofs.Common.{◌≡◌, ℕ, zero, suc, ◌+◌, ◌<◌, List, [], ◌∷◌, ◌++◌, map, length, get_or, take, drop, replicate, Bool, true, refl, ap, sym, ◌∙◌, append_assoc, arith}
+use Rattle.std.proofs.Common.{◌≡◌, ℕ, zero, suc, ◌+◌, ◌<◌, List, [], ◌∷◌, ◌++◌, length, get_or, take, drop, replicate, true, refl, ap, sym, ◌∙◌, append_assoc, arith}
 use Rattle.std.proofs.lemmas.List.{drop_more, take_more, map-append}
 use Rattle.std.proofs.lemmas.Bool.Decides.{nat_tests}
-use Rattle.std.specs.Prelude.{◌&&◌, nat_eq, nat_le}
+use Rattle.std.specs.Prelude.{nat_eq}
 use Rattle.bre_parse.specs.Groups.{Groups}
 use Rattle.bre_parse.specs.Ways.{Way}
 use Rattle.bre_match.specs.Alike.{same_span, same_asked, alike}
 use Rattle.bre_match.specs.Listed.{nowhere}
-use Rattle.bre_match.specs.Order.{falls_from, picked}
+use Rattle.bre_match.specs.Order.{picked}
 use Rattle.bre_match.proofs.Likeness.{both_left, both_right, span_same}
 
 same_groups : (n : ℕ) (ones others : Groups) → same_asked (replicate n true) ones others ≡ true → ones ≡ others

@@ -1,4 +1,4 @@
-use Rattle.std.proofs.Common.{[], ◌∷◌, ◌++◌, map, reverse, append-nil, refl, ap, sym, ◌∙◌, subst, arith}
+use Rattle.std.proofs.Common.{[], ◌∷◌, ◌++◌, map, reverse, refl, ap, sym, ◌∙◌, subst, arith}
 use Rattle.bre_match.specs.declared.left.Left.TheVariants as stack
 use Rattle.bre_match.specs.Outlooks.{LeftTells}
 use Rattle.bre_match.specs.Runs.{at_item, tasks, ways_of}
