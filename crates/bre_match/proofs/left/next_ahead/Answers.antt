@@ -1,5 +1,5 @@
 use Rattle.std.proofs.Common.{◌∙◌, arith}
-use Rattle.bre_match.proofs.Tasks.{run_comes, way_comes, list_ends}
+use Rattle.bre_match.proofs.Tasks.{run_comes, list_comes, list_ends}
 use Rattle.bre_match.proofs.left.next_ahead.Goals as goal
 
 pub returns-in-Run-clause-next : goal.returns-in-Run-clause-next
@@ -10,9 +10,9 @@ returns-in-Run-clause-next c =
 pub returns-then-at-len-clause-next : goal.returns-then-at-len-clause-next
 returns-then-at-len-clause-next c =
     c.loop-first.invariant
-    ∙ way_comes c.loop-first.left.items c.pop.new.self.items c.push.new.self.items c.in-Some.first c.in-List.item c.in-List.at c.in-List.ways
-    c.way_at-way.result c.of-run.result (let n = c.len.ensures.value in omega (arith, n)) c.way_at-way.ensures.value c.of-run.ensures.value
-    c.in-Some.ensures.items c.in-List.is c.in_ok-push-in-List.ensures.items
+    ∙ list_comes c.loop-first.left.items c.pop.new.self.items c.in-Some.first c.in-List.item c.in-List.at c.in-List.ways
+    c.in-Some.ensures.items c.in-List.is
+    ∙ c.in_ok-ahead-in-List.ensures.value
 
 pub loop-first-preserved : goal.loop-first-preserved
 loop-first-preserved c =
