@@ -1,5 +1,5 @@
 -- The rule of `s` (XCU ed, "Substitute Command"): what it needs, and what it leaves.
-use Rattle.std.specs.Prelude.{ℕ, pos, negsuc, Bool, true, false, ◌&&◌, not, nat_eq, List, Option, Some, None, Result, Ok, Err, if◌then◌else◌}
+use Rattle.std.specs.Prelude.{ℕ, pos, negsuc, Bool, true, false, ◌&&◌, ◌||◌, not, nat_eq, List, Option, Some, None, Result, Ok, Err, if◌then◌else◌}
 use Rattle.std.specs.List.{list_all, list_any}
 use Rattle.ed_base.specs.declared.fault.Fault.{Fault}
 use Rattle.ed_base.specs.declared.fault.Fault.TheVariants as fault
@@ -19,6 +19,7 @@ use Rattle.ed_rules.specs.StandsFor.{ends_line}
 use Rattle.ed_rules.specs.Order.{join}
 use Rattle.ed_rules.specs.Pieces.{needing, with_zone, guarded_by, modified, mark_lost}
 use Rattle.ed_rules.specs.Addresses.{is_always, possible_patterns}
+use Rattle.ed_rules.specs.facts.Facts.{tells}
 
 -- WHAT IT NEEDS
 
@@ -50,9 +51,19 @@ takes_first which.First = true
 takes_first (which.Nth before) = nat_eq before 0
 takes_first which.All = true
 
--- whatever the lines hold, there is something to be replaced in each
-abbrev pub is_sure_to_match : List Choice → Which → Bool
-is_sure_to_match patterns choice = list_all is_always patterns && takes_first choice
+-- single lines are followed, and the addressed lines are one that is known to match the pattern
+abbrev pub is_known_line : State → (pattern : List ℕ) → Bool
+is_known_line s text =
+    s.follows && (known s.zone second_address first_address (pos 0) && tells s.zone s.facts first_address text true)
+
+-- the pattern has a match in each of the addressed lines: it has one in every line, or they are one line that is known to match it
+abbrev pub matches_each : State → Choice → Bool
+matches_each s None = false
+matches_each s (Some text) = is_always (Some text) || is_known_line s text
+
+-- there is something to be replaced in each of the addressed lines
+abbrev pub is_sure_to_match : State → Which → Bool
+is_sure_to_match s choice = list_all (matches_each s) s.patterns && takes_first choice
 
 -- WHAT IT LEAVES
 
@@ -104,4 +115,4 @@ substituted_if false false start s = Err fault.NoMatch
 -- `s`: its own replacement and pattern become the only ones that may be remembered
 abbrev pub substituted : (listed : Bool) → Option (List ℕ) → Option (List Part) → Which → (start : State) → State → Result State Fault
 substituted listed pattern replacement choice start s =
-    replacement_used listed replacement s >> pattern_used pattern >> λ t. substituted_if (is_sure_to_match t.patterns choice) listed start t
+    replacement_used listed replacement s >> pattern_used pattern >> λ t. substituted_if (is_sure_to_match t choice) listed start t

@@ -27,7 +27,10 @@ fn matches_always(pattern: &Pattern) -> bool
 }
 
 /// Whether a remembered pattern has a match in every line.
-fn choice_matches_always(alloc: Global, choice: &Option<Bytes>) -> Result<bool, AllocError>
+pub(crate) fn choice_matches_always(
+    alloc: Global,
+    choice: &Option<Bytes>,
+) -> Result<bool, AllocError>
     ensures value { IfOk result (λ always. always ≡ is_always choice.now) }
 {
     let Some(text) = choice else {
@@ -38,18 +41,6 @@ fn choice_matches_always(alloc: Global, choice: &Option<Bytes>) -> Result<bool, 
         Err(BreFault::Memory) => Err(AllocError),
         Err(_) => Ok(false),
     }
-}
-
-/// Whether each choice is a pattern that has a match in every line.
-pub(crate) fn all_match_always(choices: &Choices) -> Result<bool, AllocError>
-    ensures value { IfOk result (λ always. always ≡ list_all is_always choices.now) }
-{
-    for choice in choices.members() {
-        if !choice_matches_always(choices.allocator(), choice)? {
-            return Ok(false);
-        }
-    }
-    Ok(true)
 }
 
 /// Some line, plus an offset.

@@ -1,18 +1,18 @@
 //! The rule of `s` (XCU ed, "Substitute Command").
 
 ghost use Rattle.std.specs.Prelude.{◌≡◌, IfOk, OnOk};
-ghost use Rattle.std.specs.List.{list_any};
+ghost use Rattle.std.specs.List.{list_all, list_any};
 ghost use Rattle.ed_rules.specs.Marks.{for_each_sure};
 ghost use Rattle.ed_rules.specs.StandsFor.{ends_line};
-ghost use Rattle.ed_rules.specs.Substituting.{kind_of, replacement_used, pattern_used, takes_first, is_sure_to_match, mark_substituted, current_split, surely_substituted, partly_substituted, substituted};
+ghost use Rattle.ed_rules.specs.Substituting.{kind_of, replacement_used, pattern_used, takes_first, is_known_line, matches_each, is_sure_to_match, mark_substituted, current_split, surely_substituted, partly_substituted, substituted};
 ghost use Rattle.ed_rules.specs.Reaching.{Reaches};
 
-use crate::addresses::all_match_always;
+use crate::addresses::choice_matches_always;
 use crate::choices::Choices;
 use crate::marks::Marks;
 use crate::pieces::{guard_by, wide};
 use crate::state::{Replacements, State};
-use ed_base::{Fault, Letter};
+use ed_base::{Bytes, Fault, Letter};
 use ed_syntax::{Part, Pattern, Replacement, Which};
 use std::alloc::AllocError;
 use zones::{Name, Zone};
@@ -104,12 +104,50 @@ impl State {
         Ok(())
     }
 
-    /// Whether something is replaced in each line, whatever it holds.
-    fn is_sure_to_match(&self, which: Which) -> Result<bool, AllocError>
-        ensures value { IfOk result (λ sure. sure ≡ is_sure_to_match self.now.patterns which) }
+    /// Whether single lines are followed, and the addressed lines are one that is known to match a pattern.
+    fn is_known_line(&self, pattern: &[u8]) -> bool
+        ensures value { result ≡ is_known_line self.now pattern.now }
     {
-        let always = all_match_always(&self.patterns)?;
-        Ok(always && takes_first(which))
+        self.follows
+            && self
+                .zone
+                .is_known(Name::SECOND_ADDRESS, Name::FIRST_ADDRESS, 0)
+            && self
+                .facts
+                .tell(&self.zone, Name::FIRST_ADDRESS, pattern, true)
+    }
+
+    /// Whether a pattern that may be looked for has a match in each of the addressed lines.
+    fn matches_each(&self, choice: &Option<Bytes>) -> Result<bool, AllocError>
+        ensures value { IfOk result (λ each. each ≡ matches_each self.now choice.now) }
+    {
+        let Some(text) = choice else {
+            return Ok(false);
+        };
+        if self.is_known_line(text.as_slice()) {
+            return Ok(true);
+        }
+        choice_matches_always(self.patterns.allocator(), choice)
+    }
+
+    /// The same of each of them.
+    fn all_match_each(&self) -> Result<bool, AllocError>
+        ensures value { IfOk result (λ each. each ≡ list_all (matches_each self.now) self.now.patterns) }
+    {
+        for choice in self.patterns.members() {
+            if !self.matches_each(choice)? {
+                return Ok(false);
+            }
+        }
+        Ok(true)
+    }
+
+    /// Whether something is replaced in each of the addressed lines.
+    fn is_sure_to_match(&self, which: Which) -> Result<bool, AllocError>
+        ensures value { IfOk result (λ sure. sure ≡ is_sure_to_match self.now which) }
+    {
+        let each = self.all_match_each()?;
+        Ok(each && takes_first(which))
     }
 
     #[tactic(auto, unfolding(crate::specs::Substituting::mark_substituted))]

@@ -1,4 +1,5 @@
-//! Addresses in a run that follows single lines: which searches are known to find a line, and which line they find.
+//! Addresses and `s` in a run that follows single lines: which searches are known to find a line, and which line they find; in which
+//! lines a match is known to be.
 
 ghost use Rattle.std.specs.Prelude.{◌<◌};
 
@@ -9,15 +10,24 @@ use std::alloc::{AllocError, Global};
 use std::test::Fail;
 use zones::Name;
 
-/// The line of a name matches a pattern.
-fn add_match(state: &mut State, name: Name, pattern: &[u8]) -> Result<(), AllocError> {
+/// The line of a name matches a pattern, or doesn't.
+fn add_fact(
+    state: &mut State,
+    name: Name,
+    pattern: &[u8],
+    matches: bool,
+) -> Result<(), AllocError> {
     let pattern = Bytes::from_slice(*state.facts.lines.allocator(), pattern)?;
     state.facts.lines.push(KnownLine {
         name,
         pattern,
-        matches: true,
+        matches,
     })?;
     Ok(())
+}
+
+fn add_match(state: &mut State, name: Name, pattern: &[u8]) -> Result<(), AllocError> {
+    add_fact(state, name, pattern, true)
 }
 
 /// The place of a name among those of a stretch.
@@ -79,6 +89,29 @@ fn current_matches(alloc: Global) -> Result<State, AllocError> {
     Ok(state)
 }
 
+/// `a` is the first line that matches ^Port, and line `x` matches 22, or doesn't.
+fn port(alloc: Global, x: u8, matches: bool) -> Result<State, AllocError> {
+    let mut state = marked(alloc)?;
+    add_match(&mut state, named(b'a'), b"^Port")?;
+    add_clear(&mut state, Name::ZERO, named(b'a'), b"^Port")?;
+    add_fact(&mut state, named(x), b"22", matches)?;
+    Ok(state)
+}
+
+fn port_not_followed(alloc: Global) -> Result<State, AllocError> {
+    let mut state = port(alloc, b'a', true)?;
+    state.follows = false;
+    Ok(state)
+}
+
+/// Line 1 matches x, and is marked `a`.
+fn first_matches(alloc: Global) -> Result<State, AllocError> {
+    let mut state = marked(alloc)?;
+    state.zone.guard(named(b'a'), Name::ZERO, 1);
+    add_match(&mut state, named(b'a'), b"x")?;
+    Ok(state)
+}
+
 /// Which state a script begins in.
 #[derive(Clone, Copy)]
 enum Beginning {
@@ -86,6 +119,11 @@ enum Beginning {
     NotFollowed,
     Marked,
     CurrentMatches,
+    Port,
+    PortNotFollowed,
+    OtherPort,
+    NoPort,
+    FirstMatches,
 }
 
 fn begin(alloc: Global, beginning: Beginning) -> Result<State, AllocError> {
@@ -94,6 +132,11 @@ fn begin(alloc: Global, beginning: Beginning) -> Result<State, AllocError> {
         Beginning::NotFollowed => not_followed(alloc),
         Beginning::Marked => marked(alloc),
         Beginning::CurrentMatches => current_matches(alloc),
+        Beginning::Port => port(alloc, b'a', true),
+        Beginning::PortNotFollowed => port_not_followed(alloc),
+        Beginning::OtherPort => port(alloc, b'b', true),
+        Beginning::NoPort => port(alloc, b'a', false),
+        Beginning::FirstMatches => first_matches(alloc),
     }
 }
 
@@ -138,6 +181,36 @@ static ROWS: [Row; 22] = [
     Row { beginning: Beginning::Known, script: b"/A/p\n/B/p\n", failing: Some((2, Fault::NoMatch)), current: Some((b'a', 0)) },
 ];
 
+#[rattlefmt::skip]
+static SUBSTITUTIONS: [Row; 19] = [
+    Row { beginning: Beginning::Port, script: b"/^Port/s/22/2222/\n", failing: None, current: None },
+    Row { beginning: Beginning::Port, script: b"/^Port/s/22/2222/g\n", failing: None, current: None },
+    Row { beginning: Beginning::Port, script: b"/^Port/s/22/2222/1\n", failing: None, current: None },
+    Row { beginning: Beginning::Port, script: b"'as/22/2222/\n", failing: None, current: None },
+    Row { beginning: Beginning::FirstMatches, script: b"1s/x/y/\n", failing: None, current: None },
+    Row { beginning: Beginning::CurrentMatches, script: b"s/B/x/\n", failing: None, current: None },
+    // A line that was found matches what was searched for.
+    Row { beginning: Beginning::Known, script: b"/A/s//x/\n", failing: None, current: None },
+    Row { beginning: Beginning::Known, script: b"/A/;/B/s//x/\n", failing: Some((1, Fault::NoMatch)), current: None },
+    // A split is no fault.
+    Row { beginning: Beginning::Port, script: b"/^Port/s/22/2\\\n2/\n", failing: None, current: None },
+    // Nothing is known, or of another line, or that it doesn't match.
+    Row { beginning: Beginning::Known, script: b"/A/s/22/2222/\n", failing: Some((1, Fault::NoMatch)), current: None },
+    Row { beginning: Beginning::OtherPort, script: b"/^Port/s/22/2222/\n", failing: Some((1, Fault::NoMatch)), current: None },
+    Row { beginning: Beginning::NoPort, script: b"/^Port/s/22/2222/\n", failing: Some((1, Fault::NoMatch)), current: None },
+    Row { beginning: Beginning::FirstMatches, script: b"2s/x/y/\n", failing: Some((1, Fault::NoMatch)), current: None },
+    Row { beginning: Beginning::CurrentMatches, script: b"1s/B/x/\n", failing: Some((1, Fault::NoMatch)), current: None },
+    // There may be no second match.
+    Row { beginning: Beginning::Port, script: b"/^Port/s/22/2222/2\n", failing: Some((1, Fault::NoMatch)), current: None },
+    // Of two lines the other one may not match.
+    Row { beginning: Beginning::Port, script: b"/^Port/,'bs/22/2222/\n", failing: Some((1, Fault::NoMatch)), current: None },
+    Row { beginning: Beginning::Port, script: b"/^Port/,$s/22/2222/\n", failing: Some((1, Fault::NoMatch)), current: None },
+    // In a run that follows no lines nothing is known of them.
+    Row { beginning: Beginning::PortNotFollowed, script: b"'as/22/2222/\n", failing: Some((1, Fault::NoMatch)), current: None },
+    // After a command nothing is known.
+    Row { beginning: Beginning::Port, script: b"/^Port/s/22/2222/\ns/22/x/\n", failing: Some((2, Fault::NoMatch)), current: None },
+];
+
 /// Whether the current line is known to be this one.
 fn is_current(state: &State, line: u8, plus: i64) -> bool {
     let (x, y) = (Name::CURRENT_LINE, named(line));
@@ -159,6 +232,15 @@ fn is_otherwise(alloc: Global, row: &Row) -> Result<bool, AllocError> {
 #[test]
 fn searches_find_lines_that_are_followed(rt: HostRuntime) -> Result<(), Fail> {
     for row in &ROWS {
+        let otherwise = is_otherwise(rt.alloc(), row)?;
+        assert!(rt; !otherwise, "{:?}", row.script);
+    }
+    Ok(())
+}
+
+#[test]
+fn lines_that_are_known_to_match_are_substituted_in(rt: HostRuntime) -> Result<(), Fail> {
+    for row in &SUBSTITUTIONS {
         let otherwise = is_otherwise(rt.alloc(), row)?;
         assert!(rt; !otherwise, "{:?}", row.script);
     }

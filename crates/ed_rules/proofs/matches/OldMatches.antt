@@ -141,7 +141,7 @@ module _ (given : Addresses) (start s : State) where
   altered-some (ed.Copy to) h = refl
   altered-some (ed.Substitute pattern replacement choice form) h =
       IfOk-after (λ (r : State). is_some r.undo.was ≡ true) (replacement_used false replacement s >> pattern_used pattern) _
-      (λ t. surely-some (is_sure_to_match t.patterns choice) start t)
+      (λ t. surely-some (is_sure_to_match t choice) start t)
   altered-some (ed.ReadFile path) h =
       IfOk-after (λ (r : State). is_some r.undo.was ≡ true) (named path s) _
       (λ t. some-other (named_first path t).undo.was (old_of start))

@@ -40,7 +40,7 @@ use Rattle.ed_rules.proofs.sound.Effects.{append-follows, delete-follows, insert
 use Rattle.std.proofs.lemmas.Bool.{ltb-true}
 use Rattle.ed_rules.proofs.sound.Lifting.{Holds-lifted}
 use Rattle.ed_rules.proofs.sound.Finishing.{Final, Follows, finish-sound}
-use Rattle.ed_rules.proofs.sound.SubstitutionEffects.{substitute-follows}
+use Rattle.ed_rules.proofs.sound.SubstitutionEffects.{RangesKnown, substitute-follows}
 use Rattle.ed_rules.proofs.sound.Lettered.{lettered-marked}
 use Rattle.ed_rules.proofs.matches.Aside.{step_aside}
 use Rattle.ed_rules.proofs.sound.GlobalEffects.{flag-follows, undo-follows}
@@ -110,13 +110,16 @@ abbrev InRange : editor.State → State → Span → Type 0
 InRange e u x = Ranges u e x
 
 -- a range, and what else is said of the same numbers
+abbrev pub RangeAlso : (State → Numbers → Type 0) → editor.State → State → Span → Type 0
+RangeAlso E e u x = (r : Ranges u e x) × E u r.spans.numbers
+
 abbrev pub RangeWith : (Numbers → Type 0) → editor.State → State → Span → Type 0
 RangeWith E e u x = (r : Ranges u e x) × E r.spans.numbers
 
-pub range-with : (E : Numbers → Type 0) (t : State) (e : editor.State) (vs : List ℕ) (v : Numbers) (count : ℕ) → StandsBy t e v → Names ⊥ vs e.lines v → E v →
-    Agrees (RangeWith E e) (ranged t) (spanned many.Range count vs)
-range-with E t e vs v count st n extra =
-    Agrees-needing (RangeWith E e) _ fault.Address t (spanned many.Range count vs) (λ k.
+pub range-also : (E : State → Numbers → Type 0) (t : State) (e : editor.State) (vs : List ℕ) (v : Numbers) (count : ℕ) → StandsBy t e v → Names ⊥ vs e.lines v → E t v →
+    Agrees (RangeAlso E e) (ranged t) (spanned many.Range count vs)
+range-also E t e vs v count st n extra =
+    Agrees-needing (RangeAlso E e) _ fault.Address t (spanned many.Range count vs) (λ k.
     let three = and_parts (known t.zone 0 3 (negsuc 0) && known t.zone 3 4 (pos 0)) (known t.zone 4 2 (pos 0)) k in
     let two = and_parts (known t.zone 0 3 (negsuc 0)) (known t.zone 3 4 (pos 0)) three.0 in
     let k1 = known-true t.zone v 0 3 (negsuc 0) two.0 (omega arith) (omega arith) st.buffer.holds in
@@ -126,7 +129,7 @@ range-with E t e vs v count st n extra =
     let z = st.buffer.reads.zero_is in
     let from : 1 ≤ first_of_two vs = omega (arith, ints) in
     let order : first_of_two vs ≤ last_of_two vs = omega (arith, ints) in
-    Agrees-ok (RangeWith E e) t (span (first_of_two vs) (last_of_two vs)) (spanned many.Range count vs) (ordered-is (first_of_two vs) (last_of_two vs) from order) (
+    Agrees-ok (RangeAlso E e) t (span (first_of_two vs) (last_of_two vs)) (spanned many.Range count vs) (ordered-is (first_of_two vs) (last_of_two vs) from order) (
       record {
         spans = record { numbers = v; stands = st; first_is = f; last_is = l; first_in = n.first_in; last_in = n.last_in };
         from = from;
@@ -134,6 +137,16 @@ range-with E t e vs v count st n extra =
       },
       extra,
     ))
+
+pub range-with : (E : Numbers → Type 0) (t : State) (e : editor.State) (vs : List ℕ) (v : Numbers) (count : ℕ) → StandsBy t e v → Names ⊥ vs e.lines v → E v →
+    Agrees (RangeWith E e) (ranged t) (spanned many.Range count vs)
+range-with E t e vs v count st n extra = range-also (λ u. E) t e vs v count st n extra
+
+-- a range, where what is said of single lines is true
+pub range-known : (a : Addresses) → IsGiven a → (t : State) (p : editor.State × List ℕ) (count : ℕ) → Addressed (NamesOf a) t p →
+    Agrees (λ u x. RangesKnown u p.0 x) (ranged t) (spanned many.Range count p.1)
+range-known a g t p count h =
+    range-also (λ u v. FollowedHold u v p.0.lines) t p.0 p.1 h.numbers count h.stands (names-given a g p.1 p.0.lines h.numbers h.names) h.followed
 
 abbrev pub Nothing_more : Numbers → Type 0
 Nothing_more v = Unit {0}
@@ -415,9 +428,9 @@ module _ (order : SpansAreInOrder) (c : Command) (answer : Option Answer) (given
       (λ w x r. finish-sound c e (copied_lines c.listed s w) (Makes (effects.copy x q.1 q.0))
       (copy-follows c.listed s e start w q.0 x q.1 r.0 r.1 k.target_in)))
   after_addresses (ed.Substitute pattern replacement choice form) f g =
-      Agrees-bind (RangeWith Nothing_more p.0) Final (ranged t) (spanned many.Range (length e.lines) p.1) _ _ (range-sound (given_or given d) (given_or-given given d g) t p (length e.lines) h)
+      Agrees-bind (λ u x. RangesKnown u p.0 x) Final (ranged t) (spanned many.Range (length e.lines) p.1) _ _ (range-known (given_or given d) (given_or-given given d g) t p (length e.lines) h)
       (λ u x r. Agrees-bind (Follows c.listed e) Final (substituted c.listed pattern replacement choice s u) (making (substitute c.listed pattern replacement choice form x p.0)) _ _
-      (substitute-follows c.listed pattern replacement choice form s e start u p.0 x r.0 (subst (λ (ls : List Line). AreWhole ls) (sym same_lines) whole))
+      (substitute-follows c.listed pattern replacement choice form s e start u p.0 x r (subst (λ (ls : List Line). AreWhole ls) (sym same_lines) whole))
       (λ m f i. finish-sound c e m f i))
   after_addresses ed.LineNumber f g =
       let r = last_given-spans (given_or given d) (given_or-given given d g) t p h in

@@ -1,5 +1,5 @@
 -- What a substitution makes of lines: how many there are, which letters mark none, and where the last one that was made is.
-use Rattle.std.proofs.Common.{◌≡◌, ◌≢◌, ◌≤◌, ℕ, suc, ◌+◌, ◌-◌, Bool, true, false, cond, ◌||◌, List, [], ◌∷◌, ◌++◌, map, take, drop, length, length-append, Option, None, Some, option_map, Ok, Err, arith, refl, sym, ◌∙◌, ap, subst, nat_le, IsSome, IsTrue}
+use Rattle.std.proofs.Common.{◌≡◌, ◌≢◌, ◌≤◌, ℕ, suc, ◌+◌, ◌-◌, Bool, true, false, cond, ◌||◌, List, [], ◌∷◌, ◌++◌, map, take, drop, length, length-append, Option, None, Some, option_map, Ok, Err, arith, refl, sym, ◌∙◌, ap, subst, nat_le, All, IsSome, IsTrue}
 use Rattle.std.specs.Prelude.{unwrap_or, slice_index_or}
 use Rattle.std.specs.List.{list_any, flat_map}
 use Rattle.std.proofs.lemmas.Bool.{eqb-true, eqb-false, le-leb}
@@ -20,6 +20,8 @@ use Rattle.ed_syntax.specs.declared.replacement.Part.TheVariants as part
 use Rattle.ed_syntax.specs.declared.replacement.Which.{Which}
 use Rattle.ed_syntax.specs.declared.replacement.Which.TheVariants as which
 use Rattle.ed_syntax.specs.meaning.Substitution.{Found, is_empty, taken_first, taken_from, taken, picked, group_bytes, expanded, rewritten, replaced_in, split_at_newlines, substituted}
+use Rattle.ed_syntax.specs.meaning.Values.{matches}
+use Rattle.std.specs.Option.{is_some}
 use Rattle.ed_syntax.specs.meaning.SubstitutedLines.{made_of, Results, onto, each}
 use Rattle.ed_rules.specs.Addresses.{is_always}
 use Rattle.ed_syntax.specs.meaning.CommandLaws.{AreWhole}
@@ -119,20 +121,27 @@ module _ (f : Maker) where
       let s : length (map plain_line ts) ≡ length ts = length-map ts plain_line in
       ap Some (omega (arith, length-append (map plain_line ts) later.0))
 
-  module _ (makes : (line : List ℕ) → (ts : List (List ℕ)) × (f line ≡ Some ts)) where
-    results-unwrapped : (ls : List Line) → unwrap_or (each f ls).1 0 ≡ length (each f ls).0
-    results-unwrapped [] = refl
-    results-unwrapped (line ∷ ls) =
-        let q = makes line.bytes in
-        subst (λ (o : Option (List (List ℕ))). unwrap_or (onto line o (each f ls)).1 0 ≡ length (onto line o (each f ls)).0) (sym q.1)
-        (ap (λ (o : Option ℕ). unwrap_or o 0) (all-onto line q.0 (each f ls) (results-unwrapped ls)))
+  -- something comes of a line
+  abbrev pub IsMade : Line → Type 0
+  IsMade line = (ts : List (List ℕ)) × (f line.bytes ≡ Some ts)
 
-    pub results-all : (ls : List Line) → 1 ≤ length ls → (each f ls).1 ≡ Some (length (each f ls).0)
-    results-all [] h = absurd (omega arith)
-    results-all (line ∷ ls) h =
-        let q = makes line.bytes in
-        subst (λ (o : Option (List (List ℕ))). (onto line o (each f ls)).1 ≡ Some (length (onto line o (each f ls)).0)) (sym q.1)
-        (all-onto line q.0 (each f ls) (results-unwrapped ls))
+  results-unwrapped : (ls : List Line) → All IsMade ls → unwrap_or (each f ls).1 0 ≡ length (each f ls).0
+  results-unwrapped [] makes = refl
+  results-unwrapped (line ∷ ls) makes =
+      let q : IsMade line = All-head IsMade line ls makes in
+      subst (λ (o : Option (List (List ℕ))). unwrap_or (onto line o (each f ls)).1 0 ≡ length (onto line o (each f ls)).0) (sym q.1)
+      (ap (λ (o : Option ℕ). unwrap_or o 0) (all-onto line q.0 (each f ls) (results-unwrapped ls (All-tail IsMade line ls makes))))
+
+  pub results-all : (ls : List Line) → All IsMade ls → 1 ≤ length ls → (each f ls).1 ≡ Some (length (each f ls).0)
+  results-all [] makes h = absurd (omega arith)
+  results-all (line ∷ ls) makes h =
+      let q : IsMade line = All-head IsMade line ls makes in
+      subst (λ (o : Option (List (List ℕ))). (onto line o (each f ls)).1 ≡ Some (length (onto line o (each f ls)).0)) (sym q.1)
+      (all-onto line q.0 (each f ls) (results-unwrapped ls (All-tail IsMade line ls makes)))
+
+  pub made-each : ((line : List ℕ) → (ts : List (List ℕ)) × (f line ≡ Some ts)) → (ls : List Line) → All IsMade ls
+  made-each makes [] = All-nil IsMade
+  made-each makes (line ∷ ls) = All-cons IsMade line ls (makes line.bytes) (made-each makes ls)
 
 -- SUBSTITUTION ON ONE LINE
 
@@ -235,3 +244,17 @@ always-makes text parts choice sure first line =
       | Ok tree ↦ λ e h. tree-makes tree parts choice line first (pattern_matches text line tree e (IsTrue-from (always tree) h))
       | Err f ↦ λ e h. absurd cc
     ]) refl sure
+
+some-matched : (o : Option Found) → is_some o ≡ true → IsSome o
+some-matched None h = absurd cc
+some-matched (Some m) h = refl
+
+-- a line that the pattern matches
+pub matching-makes : (text : List ℕ) (parts : List Part) (choice : Which) (line : List ℕ) → matches text line ≡ true →
+    takes_first choice ≡ true → (ts : List (List ℕ)) × (made_of text parts choice line ≡ Some ts)
+matching-makes text parts choice line matched first =
+    (elim (pattern text) as (λ r. (elim r as (λ _. Bool) [ Ok tree ↦ is_some (match_from tree line 0) | Err f ↦ false ]) ≡ true →
+    (ts : List (List ℕ)) × ((elim r as (λ _. Option (List (List ℕ))) [ Ok tree ↦ substituted tree parts choice line | Err f ↦ None ]) ≡ Some ts)) [
+      | Ok tree ↦ λ h. tree-makes tree parts choice line first (some-matched (match_from tree line 0) h)
+      | Err f ↦ λ h. absurd cc
+    ]) matched

@@ -1,15 +1,19 @@
 -- What `s` does, side by side.
-use Rattle.std.proofs.Common.{◌≡◌, ℕ, zero, suc, ◌+◌, ◌-◌, pos, Bool, true, false, cond, ◌&&◌, List, [], ◌∷◌, take, drop, length, length-drop, Option, Some, None, Result, Ok, Err, arith, refl, ◌∙◌, ap, sym, subst, nat_eq}
-use Rattle.std.specs.Prelude.{not, ok_or}
+use Rattle.std.proofs.Common.{◌≡◌, ◌<◌, ◌≤◌, inl, inr, All, ℕ, zero, suc, ◌+◌, ◌-◌, pos, Bool, true, false, cond, ◌&&◌, List, [], ◌∷◌, take, drop, length, length-drop, Option, Some, None, Result, Ok, Err, arith, refl, ◌∙◌, ap, sym, subst, nat_eq}
+use Rattle.std.specs.Prelude.{not, ok_or, slice_index_or}
+use Rattle.std.proofs.lemmas.Int.{ints}
 use Rattle.std.specs.List.{list_any, list_all}
 use Rattle.std.proofs.lemmas.List.{length-take-le}
-use Rattle.std.proofs.lemmas.List.Elements.{All-take, All-drop}
-use Rattle.std.proofs.lemmas.Bool.{or_right, and_parts}
+use Rattle.std.proofs.lemmas.List.Elements.{All-nil, All-cons, All-take, All-drop}
+use Rattle.std.proofs.lemmas.Bool.{or_cases, or_right, and_parts}
 use Rattle.ed_base.specs.declared.fault.Fault.{Fault}
 use Rattle.ed_base.specs.declared.fault.Fault.TheVariants as fault
-use Rattle.ed_base.specs.Buffer.{Line, has_letter}
+use Rattle.ed_base.specs.Buffer.{Line, plain_line, has_letter}
 use Rattle.ed_base.specs.Lines.{newline, IsLine}
 use Rattle.ed_base.specs.Parts as parts
+use Rattle.zones.specs.Zone.{Numbers}
+use Rattle.zones.specs.Known.{known}
+use Rattle.zones.proofs.Known.{known-true}
 use Rattle.zones.specs.Steps.{after_set, after_guard, after_forget}
 use Rattle.ed_syntax.specs.declared.replacement.Part.{Part}
 use Rattle.ed_syntax.specs.declared.replacement.Part.TheVariants as part
@@ -17,7 +21,7 @@ use Rattle.ed_syntax.specs.declared.replacement.Which.{Which}
 use Rattle.ed_syntax.specs.Commands.{Form}
 use Rattle.ed_syntax.specs.meaning.States as editor
 use Rattle.ed_syntax.specs.meaning.Ranges.{Span}
-use Rattle.ed_syntax.specs.meaning.Values.{◌>>◌, used_pattern}
+use Rattle.ed_syntax.specs.meaning.Values.{◌>>◌, used_pattern, matches_line}
 use Rattle.ed_syntax.specs.meaning.Verbs.{is_split}
 use Rattle.ed_syntax.specs.meaning.Effects as effects
 use Rattle.ed_syntax.specs.meaning.Effects.{Outcome, Effect, Makes}
@@ -31,17 +35,20 @@ use Rattle.ed_rules.specs.StandsFor.{ends_line, allows_replacement}
 use Rattle.ed_rules.specs.Order.{join}
 use Rattle.ed_rules.specs.Pieces.{with_zone, modified}
 use Rattle.ed_rules.specs.Addresses.{is_always, possible_patterns}
+use Rattle.ed_rules.specs.facts.Facts.{tells}
+use Rattle.ed_rules.proofs.facts.FactsTold.{tells-true}
+use Rattle.ed_rules.proofs.sound.Following.{FollowedHold}
 use Rattle.ed_rules.proofs.Basics.{Agrees}
-use Rattle.ed_rules.specs.Substituting.{kind_of, has_usable, replacement_used, pattern_used, takes_first, is_sure_to_match, marks_substituted, current_split, current_substituted, surely_substituted, partly_substituted, substituted_if, substituted}
+use Rattle.ed_rules.specs.Substituting.{kind_of, has_usable, replacement_used, pattern_used, takes_first, is_known_line, matches_each, is_sure_to_match, marks_substituted, current_split, current_substituted, surely_substituted, partly_substituted, substituted_if, substituted}
 use Rattle.ed_rules.proofs.Basics.{Agrees-bind, Agrees-needing, Agrees-map, Agrees-ok, bind-twice}
 use Rattle.ed_rules.proofs.Choosing.{has_choice-only, has_choice-all}
 use Rattle.ed_rules.proofs.sound.LettersInLines.{line_with, line_with-take_before, one_more, one_more-none}
 use Rattle.ed_rules.proofs.sound.Standing.{Stands, StandsBy-patterns, Begins}
-use Rattle.ed_rules.proofs.sound.Spans.{Ranges, Ranges-by}
+use Rattle.ed_rules.proofs.sound.Spans.{Ranges, Spans-by, Ranges-by}
 use Rattle.ed_rules.proofs.sound.Weaker.{Stands-join, Stands-join_other}
 use Rattle.ed_rules.proofs.sound.Finishing.{Follows}
 use Rattle.ed_rules.proofs.sound.Effects.{altered-aside}
-use Rattle.ed_rules.proofs.sound.Results.{results-none, results-within, results-least, results-same, results-all, made-some, made-one, always-makes}
+use Rattle.ed_rules.proofs.sound.Results.{results-none, results-within, results-least, results-same, results-all, IsMade, made-each, made-some, made-one, always-makes, matching-makes}
 use Rattle.ed_rules.proofs.sound.Substituting.{Exchanges, exchanged-last, exchanged-some, exchanged-split}
 
 -- the replacement
@@ -154,12 +161,12 @@ module _ (text : List ℕ) (replacement : List Part) (choice : Which) (s : State
   }
 
   -- a substitution in each of the lines
-  module _ (listed : Bool) (start : State) (begun : editor.State) (st : Begins start begun) (sure : is_always (Some text) ≡ true) (first : takes_first choice ≡ true) where
+  module _ (listed : Bool) (start : State) (begun : editor.State) (st : Begins start begun) (makes : All (IsMade (made_of text replacement choice)) block) where
     last-made : new.1 ≡ Some (length new.0)
     last-made =
         let z = block-size in
         let order = r.order in
-        results-all (made_of text replacement choice) (λ line. always-makes text replacement choice sure first line) block (omega arith)
+        results-all (made_of text replacement choice) block makes (omega arith)
 
     surely-follows : Follows listed begun (surely_substituted listed start s) (Makes (effects.altered (parts.replaced x.first x.last new.0 e.lines) (x.first - 1 + length new.0) e))
     unfolding surely_substituted
@@ -216,38 +223,87 @@ partly-leads form start begun x s e v (lines, None) h = Stands-join s (partly_su
 partly-leads form start begun x s e v (lines, Some n) h =
     Stands-join_other s (partly_substituted true start s) (settled true (editor.kept begun) (effects.altered (parts.replaced x.first x.last lines e.lines) (x.first - 1 + n) e)) (h n refl)
 
+-- the lines from a number to the same one are that line
+one-from : (ls : List Line) (k : ℕ) (d : Line) → k < length ls → drop k (take (suc k) ls) ≡ slice_index_or ls k d ∷ []
+one-from [] k d h = absurd (omega arith)
+one-from (l ∷ ls) zero d h = refl
+one-from (l ∷ ls) (suc k) d h = one-from ls k d (omega arith)
+
+one-between : (ls : List Line) (a b : ℕ) → 1 ≤ a → b ≡ a → a ≤ length ls → parts.between a b ls ≡ slice_index_or ls (a - 1) (plain_line []) ∷ []
+one-between ls zero b from same inside = absurd (omega arith)
+one-between ls (suc k) b from same inside =
+    let q : suc k - 1 ≡ k = omega arith in
+    subst (λ (n : ℕ). parts.between (suc k) n ls ≡ slice_index_or ls (suc k - 1) (plain_line []) ∷ []) (sym same)
+    (subst (λ (n : ℕ). drop n (take (suc k) ls) ≡ slice_index_or ls n (plain_line []) ∷ []) (sym q) (one-from ls k (plain_line []) (omega arith)))
+
 -- pattern and replacement are there
 module _ (text : List ℕ) (replacement : List Part) (choice : Which) (form : Option Form) (start : State) (begun : editor.State) (st : Begins start begun) (x : Span) (s : State) (e : editor.State) (r : Ranges s e x)
-    (whole : AreWhole e.lines) (possible : has_choice s.patterns (Some text) ≡ true) (kind : allows_replacement s.replacements (Some replacement) ≡ true) where
-  sure-sound : (listed : Bool) → is_sure_to_match s.patterns choice ≡ true →
+    (whole : AreWhole e.lines) (possible : has_choice s.patterns (Some text) ≡ true) (kind : allows_replacement s.replacements (Some replacement) ≡ true)
+    (followed : FollowedHold s r.spans.numbers e.lines) where
+  abbrev addressed_lines : List Line
+  addressed_lines = parts.between x.first x.last e.lines
+
+  -- the one line that is known to match
+  known-makes : is_known_line s text ≡ true → takes_first choice ≡ true → All (IsMade (made_of text replacement choice)) addressed_lines
+  known-makes k first =
+      let v : Numbers = r.spans.numbers in
+      let q = and_parts s.follows (known s.zone 4 3 (pos 0) && tells s.zone s.facts 3 text true) k in
+      let w = and_parts (known s.zone 4 3 (pos 0)) (tells s.zone s.facts 3 text true) q.1 in
+      let holds = r.spans.stands.buffer.holds in
+      let d = known-true s.zone v 4 3 (pos 0) w.0 (omega arith) (omega arith) holds in
+      let f = r.spans.first_is in
+      let l = r.spans.last_is in
+      let from = r.from in
+      let order = r.order in
+      let inside = r.spans.first_in in
+      let same : x.last ≡ x.first = omega (arith, ints) in
+      let matched : matches_line text e.lines x.first ≡ true =
+      tells-true s.zone s.facts v e.lines 3 x.first text true w.1 (omega arith) holds (followed q.0) f from inside in
+      let Q : Line → Type 0 = IsMade (made_of text replacement choice) in
+      subst (λ (ls : List Line). All Q ls) (sym (one-between e.lines x.first x.last from same inside))
+      (All-cons Q (slice_index_or e.lines (x.first - 1) (plain_line [])) [] (matching-makes text replacement choice _ matched first) (All-nil Q))
+
+  each-makes : matches_each s (Some text) ≡ true → takes_first choice ≡ true → All (IsMade (made_of text replacement choice)) addressed_lines
+  each-makes k first =
+      elim (or_cases (is_always (Some text)) (is_known_line s text) k) [
+        | inl always ↦ made-each (made_of text replacement choice) (λ line. always-makes text replacement choice always first line) addressed_lines
+        | inr one ↦ known-makes one first
+      ]
+
+  sure-sound : (listed : Bool) → is_sure_to_match s choice ≡ true →
       Agrees (Leads listed begun) (Ok (surely_substituted listed start s)) (made listed form x e (each (made_of text replacement choice) (parts.between x.first x.last e.lines)))
   sure-sound listed k =
-      let q = and_parts (list_all is_always s.patterns) (takes_first choice) k in
-      let always : is_always (Some text) ≡ true = has_choice-all is_always s.patterns (Some text) q.0 possible in
+      let q = and_parts (list_all (matches_each s) s.patterns) (takes_first choice) k in
+      let each_one : matches_each s (Some text) ≡ true = has_choice-all (matches_each s) s.patterns (Some text) q.0 possible in
+      let makes = each-makes each_one q.1 in
       let new : Results = each (made_of text replacement choice) (parts.between x.first x.last e.lines) in
       Agrees-ok (Leads listed begun) (surely_substituted listed start s) _ (made listed form x e new)
-      (outcome listed form x e new (length new.0) (last-made text replacement choice s e x r whole kind listed start begun st always q.1))
-      (surely-follows text replacement choice s e x r whole kind listed start begun st always q.1)
+      (outcome listed form x e new (length new.0) (last-made text replacement choice s e x r whole kind listed start begun st makes))
+      (surely-follows text replacement choice s e x r whole kind listed start begun st makes)
 
   made-sound : (listed : Bool) → has_usable listed s.replacements ≡ true →
-      Agrees (Leads listed begun) (substituted_if (is_sure_to_match s.patterns choice) listed start s) (made listed form x e (each (made_of text replacement choice) (parts.between x.first x.last e.lines)))
+      Agrees (Leads listed begun) (substituted_if (is_sure_to_match s choice) listed start s) (made listed form x e (each (made_of text replacement choice) (parts.between x.first x.last e.lines)))
   made-sound true usable =
-      (elim (is_sure_to_match s.patterns choice) as (λ b. is_sure_to_match s.patterns choice ≡ b → Agrees (Leads true begun) (substituted_if b true start s) (made true form x e (each (made_of text replacement choice) (parts.between x.first x.last e.lines)))) [
+      (elim (is_sure_to_match s choice) as (λ b. is_sure_to_match s choice ≡ b → Agrees (Leads true begun) (substituted_if b true start s) (made true form x e (each (made_of text replacement choice) (parts.between x.first x.last e.lines)))) [
         | true ↦ λ k. sure-sound true k
         | false ↦ λ k.
             partly-leads form start begun x s e (r.spans.numbers, r.spans.stands) (each (made_of text replacement choice) (parts.between x.first x.last e.lines))
             (λ n is. partly-follows text replacement choice s e x r whole kind true start begun st (usable-plain s.replacements usable) n is)
       ]) refl
   made-sound false usable =
-      (elim (is_sure_to_match s.patterns choice) as (λ b. is_sure_to_match s.patterns choice ≡ b → Agrees (Leads false begun) (substituted_if b false start s) (made false form x e (each (made_of text replacement choice) (parts.between x.first x.last e.lines)))) [
+      (elim (is_sure_to_match s choice) as (λ b. is_sure_to_match s choice ≡ b → Agrees (Leads false begun) (substituted_if b false start s) (made false form x e (each (made_of text replacement choice) (parts.between x.first x.last e.lines)))) [
         | true ↦ λ k. sure-sound false k
         | false ↦ λ k. tt
       ]) refl
 
 -- the states with what is used
 
+-- the addressed lines, where what is said of single lines is true of the same numbers
+abbrev pub RangesKnown : State → editor.State → Span → Type 0
+RangesKnown s e x = (r : Ranges s e x) × FollowedHold s r.spans.numbers e.lines
+
 abbrev Uses : (listed : Bool) → editor.State → Span → State → List Part → Type 0
-Uses listed e x t parts = Ranges t (record e { replacement = Some parts }) x × (has_usable listed t.replacements ≡ true)
+Uses listed e x t parts = RangesKnown t (record e { replacement = Some parts }) x × (has_usable listed t.replacements ≡ true)
 
 Ranges-replacement : (s : State) (e : editor.State) (x : Span) (kinds : Replacements) (parts : List Part) → Ranges s e x → allows_replacement kinds (Some parts) ≡ true →
     Ranges (record s { replacements = kinds }) (record e { replacement = Some parts }) x
@@ -271,25 +327,27 @@ Agrees-made R S (Err f) y g h k = tt
 Agrees-made R S (Ok a) (Ok b) g h k = k a b h
 Agrees-made R S (Ok a) (Err f) g h k = absurd h
 
-replacement-sound : (listed : Bool) (own : Option (List Part)) (s : State) (e : editor.State) (x : Span) → Ranges s e x →
+replacement-sound : (listed : Bool) (own : Option (List Part)) (s : State) (e : editor.State) (x : Span) → RangesKnown s e x →
     Agrees (Uses listed e x) (replacement_used listed own s) (used_replacement listed own e)
+unfolding Ranges-replacement Ranges-by Spans-by
 replacement-sound listed None s e x r =
     let t : State = record s { replacements = s.replacements } in
     Agrees-needing (Uses listed e x) (has_usable listed s.replacements) fault.Replacement t (used_replacement listed None e) (λ k.
-    Agrees-as (UsesKind listed) (Uses listed e x) s.replacements t (used_replacement listed None e) (remembered-kind listed s.replacements e.replacement r.spans.stands.remembered.1 k)
-    (λ parts q. (Ranges-replacement s e x s.replacements parts r q.1, q.0)))
+    Agrees-as (UsesKind listed) (Uses listed e x) s.replacements t (used_replacement listed None e) (remembered-kind listed s.replacements e.replacement r.0.spans.stands.remembered.1 k)
+    (λ parts q. ((Ranges-replacement s e x s.replacements parts r.0 q.1, r.1), q.0)))
 replacement-sound listed (Some parts) s e x r =
     let t : State = record s { replacements = kind_of parts } in
-    Agrees-needing (Uses listed e x) (has_usable listed (kind_of parts)) fault.Replacement t (used_replacement listed (Some parts) e) (λ k. (Ranges-replacement s e x (kind_of parts) parts r (kind-allows parts), k))
+    Agrees-needing (Uses listed e x) (has_usable listed (kind_of parts)) fault.Replacement t (used_replacement listed (Some parts) e) (λ k. ((Ranges-replacement s e x (kind_of parts) parts r.0 (kind-allows parts), r.1), k))
 
 abbrev Looks : (listed : Bool) → editor.State → Span → State → List ℕ → Type 0
-Looks listed e x t text = Ranges t (record e { pattern = Some text }) x × (has_usable listed t.replacements ≡ true)
+Looks listed e x t text = RangesKnown t (record e { pattern = Some text }) x × (has_usable listed t.replacements ≡ true)
 
-pattern-sound : (listed : Bool) (own : Option (List ℕ)) (s : State) (e : editor.State) (x : Span) → Ranges s e x → has_usable listed s.replacements ≡ true →
+pattern-sound : (listed : Bool) (own : Option (List ℕ)) (s : State) (e : editor.State) (x : Span) → RangesKnown s e x → has_usable listed s.replacements ≡ true →
     Agrees (Looks listed e x) (pattern_used own s) (used_pattern own e)
+unfolding Ranges-pattern Ranges-by Spans-by
 pattern-sound listed own s e x r usable =
-    Agrees-made IsPossible (Looks listed e x) (possible_patterns own s) (used_pattern own e) (λ patterns. record s { patterns = patterns }) (patterns-sound own s e r.spans.stands.remembered.0)
-    (λ patterns text k. (Ranges-pattern s e x patterns text r k, usable))
+    Agrees-made IsPossible (Looks listed e x) (possible_patterns own s) (used_pattern own e) (λ patterns. record s { patterns = patterns }) (patterns-sound own s e r.0.spans.stands.remembered.0)
+    (λ patterns text k. ((Ranges-pattern s e x patterns text r.0 k, r.1), usable))
 
 -- the replacement has no say in which pattern is used
 used-same : (own : Option (List ℕ)) (e : editor.State) (parts : List Part) → used_pattern own (record e { replacement = Some parts }) ≡ used_pattern own e
@@ -298,20 +356,21 @@ used-same (Some text) e parts = refl
 
 -- `s`
 substitute-leads : (listed : Bool) (pattern : Option (List ℕ)) (replacement : Option (List Part)) (choice : Which) (form : Option Form) (start : State) (begun : editor.State) → Begins start begun → (s : State) (e : editor.State) (x : Span) →
-    Ranges s e x → AreWhole e.lines → Agrees (Leads listed begun) (replacement_used listed replacement s >> λ t. pattern_used pattern t >> λ u. substituted_if (is_sure_to_match u.patterns choice) listed start u) (substitute listed pattern replacement choice form x e)
+    RangesKnown s e x → AreWhole e.lines → Agrees (Leads listed begun) (replacement_used listed replacement s >> λ t. pattern_used pattern t >> λ u. substituted_if (is_sure_to_match u choice) listed start u) (substitute listed pattern replacement choice form x e)
 substitute-leads listed pattern replacement choice form start begun st s e x r whole =
     Agrees-bind (Uses listed e x) (Leads listed begun) (replacement_used listed replacement s) (used_replacement listed replacement e) _ _ (replacement-sound listed replacement s e x r)
     (λ t parts k. Agrees-bind (Looks listed (record e { replacement = Some parts }) x) (Leads listed begun) (pattern_used pattern t) (used_pattern pattern e) _ _
     (subst (λ (y : Result (List ℕ) Fault). Agrees (Looks listed (record e { replacement = Some parts }) x) (pattern_used pattern t) y) (used-same pattern e parts)
     (pattern-sound listed pattern t (record e { replacement = Some parts }) x k.0 k.1))
     (λ u text q.
-    made-sound text parts choice form start begun st x u (record e { pattern = Some text; replacement = Some parts }) q.0 whole q.0.spans.stands.remembered.0 q.0.spans.stands.remembered.1 listed q.1))
+    made-sound text parts choice form start begun st x u (record e { pattern = Some text; replacement = Some parts }) q.0.0 whole q.0.0.spans.stands.remembered.0 q.0.0.spans.stands.remembered.1 q.0.1
+    listed q.1))
 
 pub substitute-follows : (listed : Bool) (pattern : Option (List ℕ)) (replacement : Option (List Part)) (choice : Which) (form : Option Form) (start : State) (begun : editor.State) → Begins start begun → (s : State) (e : editor.State) (x : Span) →
-    Ranges s e x → AreWhole e.lines → Agrees (Follows listed begun) (substituted listed pattern replacement choice start s) (making (substitute listed pattern replacement choice form x e))
+    RangesKnown s e x → AreWhole e.lines → Agrees (Follows listed begun) (substituted listed pattern replacement choice start s) (making (substitute listed pattern replacement choice form x e))
 substitute-follows listed pattern replacement choice form start begun st s e x r whole =
     Agrees-map (Leads listed begun) (Follows listed begun) (substituted listed pattern replacement choice start s) (substitute listed pattern replacement choice form x e) (λ o. Makes o)
     (subst (λ (y : Result State Fault). Agrees (Leads listed begun) y (substitute listed pattern replacement choice form x e))
-    (sym (bind-twice (replacement_used listed replacement s) (pattern_used pattern) (λ t. substituted_if (is_sure_to_match t.patterns choice) listed start t)))
+    (sym (bind-twice (replacement_used listed replacement s) (pattern_used pattern) (λ t. substituted_if (is_sure_to_match t choice) listed start t)))
     (substitute-leads listed pattern replacement choice form start begun st s e x r whole))
     (λ a b h. h)
