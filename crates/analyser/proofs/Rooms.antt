@@ -1,5 +1,5 @@
 -- How often the invariant of the rounds of a list can still be weakened, and that this falls from each round to the next.
-use Rattle.std.proofs.Common.{pos, negsuc, ℤ, ◌≡◌, ◌≤◌, ◌<◌, ◌+◌, ◌*◌, ℕ, zero, suc, Bool, true, false, ◌||◌, ◌&&◌, List, [], ◌∷◌, length, get_or, Option, None, Some, ◌⊎◌, inl, inr, refl, sym, subst, cond, arith}
+use Rattle.std.proofs.Common.{pos, negsuc, ℤ, ◌≡◌, ◌≤◌, ◌<◌, ◌+◌, ◌*◌, ℕ, zero, suc, Bool, true, false, ◌||◌, ◌&&◌, List, [], ◌∷◌, ◌++◌, length, get_or, Option, None, Some, ◌⊎◌, inl, inr, refl, sym, subst, cond, arith}
 use Rattle.std.specs.Prelude.{nat_lt}
 use Rattle.std.specs.List.{list_all, filter}
 use Rattle.std.specs.Ordering.{is_eq, nat_cmp}
@@ -31,6 +31,7 @@ use Rattle.cert_check.specs.checker.Covering.{zone_covers, allows, are_among, ol
 use Rattle.cert_check.proofs.verdicts.Covering.{below-each, says-zone}
 use Rattle.analyser.specs.Rounds.{next_invariant}
 use Rattle.analyser.specs.Walking.{AreCountable, OldIsZone, HasZones}
+use Rattle.analyser.proofs.Sets.{members-append}
 use Rattle.analyser.proofs.Results.{either}
 
 -- the laws that this rests on: what is joined or widened covers both
@@ -381,6 +382,13 @@ falls-old_has texts (Some one) (Some other) has other_has within = record {
   fewer = λ e. lost-fewer texts (both_texts has other_has) has other_has (in-both has other_has) (in-both_other has other_has) has within
       (λ t m. m) e;
 }
+
+-- all that a state says that some line matches, or matched before its last change
+abbrev pub matched : State → List (List ℕ)
+matched s = s.matches.has ++ s.matches.old_has
+
+pub matched-parts : (s : State) → (are_members s.matches.has (matched s) ≡ true) × (are_members s.matches.old_has (matched s) ≡ true)
+matched-parts s = members-append s.matches.has s.matches.old_has
 
 -- A STATE, beside the patterns and the paths that may ever be remembered, and the patterns that some line may ever be known to match
 

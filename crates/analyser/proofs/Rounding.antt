@@ -32,7 +32,7 @@ use Rattle.analyser.proofs.Sets.{append-all, are-front, are-back, members-append
 use Rattle.ed_rules.proofs.Choosing.{choices-same}
 use Rattle.analyser.proofs.Remembering.{command_patterns, verb_paths, Within, within-step, within-join, within-widen, within-told}
 use Rattle.analyser.proofs.Gaining.{Among, among-join, among-widen, among-entry, among-told, among-left_by}
-use Rattle.analyser.proofs.Rooms.{Laws, state_room, falls-next}
+use Rattle.analyser.proofs.Rooms.{Laws, matched, matched-parts, state_room, falls-next}
 
 -- ONE COMMAND
 
@@ -103,29 +103,29 @@ names_of x first = first.names ++ list_names x.list
 
 -- and all that some line may ever be known to match
 abbrev pub texts_of : Sight → Step → State → List (List ℕ)
-texts_of w x first = (first.matches.has ++ first.matches.old_has) ++ (w.watch ++ taken_matches x.command.verb [])
+texts_of w x first = matched first ++ (w.watch ++ taken_matches x.command.verb [])
 
 abbrev pub Known : Sight → Step → (first : State) → State → Type 0
 Known w x first s = Within (patterns_of x first) (names_of x first) s × Among (texts_of w x first) s
 
 pub known-first : (w : Sight) (x : Step) (first : State) → Known w x first first
 known-first w x first =
-    let texts = members-append (first.matches.has ++ first.matches.old_has) (w.watch ++ taken_matches x.command.verb []) in
-    let both = members-append first.matches.has first.matches.old_has in (
+    let texts = members-append (matched first) (w.watch ++ taken_matches x.command.verb []) in
+    let both = matched-parts first in (
       (
         are-front first.patterns first.patterns (list_patterns x.list) (choices-same first.patterns),
         are-front first.names first.names (list_names x.list) (choices-same first.names),
       ),
       (
-        members-through first.matches.has (first.matches.has ++ first.matches.old_has) (texts_of w x first) both.0 texts.0,
-        members-through first.matches.old_has (first.matches.has ++ first.matches.old_has) (texts_of w x first) both.1 texts.0,
+        members-through _ (matched first) (texts_of w x first) both.0 texts.0,
+        members-through _ (matched first) (texts_of w x first) both.1 texts.0,
       ),
     )
 
 pub known-turned : (w : Sight) (x : Step) (first invariant : State) → Known w x first invariant → Known w x first (turned w x invariant)
 known-turned w x first invariant q =
     let verb = x.command.verb in
-    let texts = members-append (first.matches.has ++ first.matches.old_has) (w.watch ++ taken_matches verb []) in
+    let texts = members-append (matched first) (w.watch ++ taken_matches verb []) in
     let both = members-append w.watch (taken_matches verb []) in
     let gains = members-through w.watch (w.watch ++ taken_matches verb []) (texts_of w x first) both.0 texts.1 in
     let takes = members-through (taken_matches verb []) (w.watch ++ taken_matches verb []) (texts_of w x first) both.1 texts.1 in (
