@@ -1,6 +1,6 @@
 -- The walk over commands, one command further.
 use Rattle.std.proofs.Common.{◌≡◌, ◌<◌, ◌+◌, ℕ, Bool, true, false, ◌||◌, List, [], ◌∷◌, ◌++◌, length, get_or, map, drop, Option, option_map, refl, sym, ap, ◌∙◌, subst, arith}
-use Rattle.std.proofs.lemmas.List.{length-map, map-append, drop_all}
+use Rattle.std.proofs.lemmas.List.{length-map, length_push, map-append, drop_all}
 use Rattle.ed_base.specs.declared.fault.Fault.{Fault}
 use Rattle.ed_syntax.specs.declared.command.Command.{Command}
 use Rattle.ed_syntax.specs.Commands.{Step}
@@ -41,10 +41,6 @@ push-note : (notes later : List Note) (n : Note) → notes ++ (n ∷ later) ≡ 
 push-note [] later n = refl
 push-note (m ∷ notes) later n = ap (λ (l : List Note). m ∷ l) (push-note notes later n)
 
-push-length : (notes : List Note) (n : Note) → length (notes ++ n ∷ []) ≡ length notes + 1
-push-length [] n = refl
-push-length (m ∷ notes) n = let q = push-length notes n in omega arith
-
 -- the paths that a command and its list may write
 abbrev pub taken_paths : Step → State → Option Looped → List Choice
 taken_paths x s l = written_paths x.command.verb s ++ looped_paths x.list l
@@ -59,7 +55,7 @@ pub going-on : (w : Sight) (all : List Step) (start : State) (number : ℕ) (not
     (with_paths (taken_paths x s l) writes) t xs
 going-on w all start number notes writes s t l x xs note e g =
     let n : Note = noted s l in
-    let size = push-length notes n in
+    let size = length_push notes n in
     let before = g.size in
     record {
       size = omega arith;
@@ -166,10 +162,6 @@ noted-more notes more n m e v = ap (map note_value) e ∙ map-append note_value 
 abbrev known_of : Option looped.Looped → Option Looped
 known_of l = option_map looped_value l
 
-pushed-length : (notes : List public.Note) (n : public.Note) → length (notes ++ n ∷ []) ≡ length notes + 1
-pushed-length [] n = refl
-pushed-length (m ∷ notes) n = let q = pushed-length notes n in omega arith
-
 -- a command whose needs hold, whose result comes in at the next one
 pub walk-on : (w : Sight) (commands : List Command) (start : State) (i : ℕ) (d : Command) (notes more : List public.Note)
     (n : public.Note) (l : Option looped.Looped) (writes listed : List (List ℕ)) (s t next : State) (end : End) →
@@ -208,7 +200,7 @@ walk-off w commands start i d notes more n l writes s t end inner why place walk
     let size : length (map note_value notes) ≡ i = g.size in
     let sizes : length (map note_value notes) ≡ length notes = length-map notes note_value in
     let longer : length walk.notes.items ≡ length notes + 1 = ap (λ (ns : List public.Note). length ns) (written ∙ pushed)
-    ∙ pushed-length notes n in
+    ∙ length_push notes n in
     let number : place.command ≡ i + 1 = ap (λ (p : Place). p.command) at in
     rw outcome (
       omega arith,

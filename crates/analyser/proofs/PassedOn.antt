@@ -1,5 +1,6 @@
 -- The walk that keeps no notes, one command further: there are notes that it might have kept.
 use Rattle.std.proofs.Common.{◌≡◌, ◌<◌, ◌+◌, ℕ, Bool, List, [], ◌∷◌, ◌++◌, length, get_or, Option, option_map, Some, None, inl, inr, refl, sym, ap, ◌∙◌, subst, arith}
+use Rattle.std.proofs.lemmas.List.{length_push}
 use Rattle.ed_base.specs.declared.fault.Fault.{Fault}
 use Rattle.zones.specs.Name as name
 use Rattle.zones.specs.Name.{last_line}
@@ -58,10 +59,6 @@ pass-on w commands start i d l s t next end bound is taken e same p =
       going = going-on w all start i p.notes p.writes s next (known_of l) (step_value d) (later commands i d) left.0 (same ∙ left.1) here;
     }
 
-pushed-length : (notes : List Note) (n : Note) → length (notes ++ n ∷ []) ≡ length notes + 1
-pushed-length [] n = refl
-pushed-length (m ∷ notes) n = let q = pushed-length notes n in omega arith
-
 -- one with a need that fails
 pub pass-off : (w : Sight) (commands : List Command) (start : State) (i : ℕ) (d : Command) (l : Option looped.Looped) (s t : State) (end : End)
     (inner : Option ℕ) (why : Fault) (place : Place) (passage : Passage) → i < length commands → d ≡ get_or commands i d →
@@ -74,7 +71,7 @@ pass-off w commands start i d l s t end inner why place passage bound is taken e
     let fails = subst (λ (r : End). IsTaken w (step_value d) s l r t) e taken in
     let off = going-off w all start i p.notes p.writes s (known_of l) inner why (step_value d) (later commands i d) fails here in
     let size : length p.notes ≡ i = p.going.size in
-    let longer : length (p.notes ++ n ∷ []) ≡ length p.notes + 1 = pushed-length p.notes n in
+    let longer : length (p.notes ++ n ∷ []) ≡ length p.notes + 1 = length_push p.notes n in
     let stops : passing.Stops w (steps_value commands) start (record { command = i + 1; inner = inner }) why =
     record { notes = p.notes ++ n ∷ []; number = omega arith; fails = off } in
     rw outcome (subst (λ (q : Place). passing.Stops w (steps_value commands) start q why) (sym at) stops)

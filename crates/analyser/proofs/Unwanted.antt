@@ -3,7 +3,7 @@ use Rattle.std.proofs.Common.{◌≡◌, ◌<◌, ◌+◌, length, get_or, ℕ, 
 use Rattle.std.specs.List.{list_all, list_any}
 use Rattle.std.specs.Cmp.Lexicographic.{slice_cmp, bytes_decides}
 use Rattle.std.specs.Ordering.{nat_cmp, is_eq}
-use Rattle.std.proofs.lemmas.Bool.{and_from, and_parts, or_cases}
+use Rattle.std.proofs.lemmas.Bool.{and_from, and_parts, or_cases, or_parts, not-true}
 use Rattle.ed_base.specs.declared.fault.Fault.{Fault}
 use Rattle.ed_base.specs.declared.fault.Fault.TheVariants as fault
 use Rattle.zones.specs.Name as name
@@ -51,25 +51,17 @@ is_other text member = not (is_eq (slice_cmp nat_cmp text member))
 abbrev pub Lacks : (text : List ℕ) → (set : List (List ℕ)) → Type 0
 Lacks text set = list_all (is_other text) set ≡ true
 
-not-is : (b : Bool) → not b ≡ true → b ≡ false
-not-is true h = absurd cc
-not-is false h = refl
-
 lacks-none : (text : List ℕ) (set : List (List ℕ)) → Lacks text set → is_member set text ≡ false
 lacks-none text [] h = refl
 lacks-none text (m ∷ set) h =
     let both = and_parts (is_other text m) (list_all (is_other text) set) h in
-    let here = not-is (is_eq (slice_cmp nat_cmp text m)) both.0 in
+    let here = not-true (is_eq (slice_cmp nat_cmp text m)) both.0 in
     rw here (lacks-none text set both.1)
-
-or-parts : (a b : Bool) → a || b ≡ false → (a ≡ false) × (b ≡ false)
-or-parts true b h = absurd cc
-or-parts false b h = (refl, h)
 
 pub none-lacks : (text : List ℕ) (set : List (List ℕ)) → is_member set text ≡ false → Lacks text set
 none-lacks text [] h = refl
 none-lacks text (m ∷ set) h =
-    let both = or-parts (is_eq (slice_cmp nat_cmp text m)) (is_member set text) h in
+    let both = or_parts (is_eq (slice_cmp nat_cmp text m)) (is_member set text) h in
     and_from (is_other text m) (list_all (is_other text) set) (ap not both.0) (none-lacks text set both.1)
 
 -- of what is watched for, no line that is entered matches the text
@@ -248,8 +240,8 @@ module _ (text : List ℕ) where
             let parts = and_parts (brings_none text x) (seeks text xs) later in
             let brings = and_parts (not (is_global x.command.verb)) (not (enters_match text (takes x.command.verb).lines)) parts.0 in
             unwanted w xs (left_after w n.looped x s) ns never parts.1
-            (lacks-left_after w n.looped x s (not-is (is_global x.command.verb) brings.0) notes.0.list
-            (not-is (enters_match text (takes x.command.verb).lines) brings.1) h)
+            (lacks-left_after w n.looped x s (not-true (is_global x.command.verb) brings.0) notes.0.list
+            (not-true (enters_match text (takes x.command.verb).lines) brings.1) h)
             (after-plain w n.looped x s) notes.1
       ]
 
