@@ -1,4 +1,4 @@
-//! A refusal as a person reads it: what fails and where, what is known there, and what to write. No clause speaks of these lines.
+//! A refusal as a person reads it: what fails and where, what is known there, and what to write. No clause speaks of that.
 
 ghost use Rattle.std.specs.Prelude.{◌≡◌, ◌≤◌, IfSome};
 ghost use Rattle.ed_rules.specs.LineBounds.{most_lines, IsAtMost};
@@ -9,10 +9,12 @@ use crate::hint::{Hint, Remark};
 use crate::known::state_at;
 use crate::reasons::{Failed, reason};
 use crate::refusing::Refusal;
+use crate::told_line::{Failure, Said, ShownCommand, ToldLine};
 use crate::words::quoted;
 use analyser::Start;
 use cert_check::{Note, Place};
 use ed_base::{Fault, count_lines};
+use ed_rules::KeptState;
 use ed_syntax::Span;
 use std::alloc::{AllocError, Global};
 use zones::{Name, Zone};
@@ -26,45 +28,52 @@ fn number_text(alloc: Global, place: Place) -> Result<String, AllocError> {
     }
 }
 
-/// The fault, with the reason why it may come. The line is the one at the place.
-fn fault_text(failed: &Failed<'_>, line: &[u8]) -> Result<String, AllocError> {
-    let fault = failed.why.text();
-    match reason(failed, line)? {
-        Some(reason) => Ok(format!(in failed.alloc; "{fault}: {reason}")?),
-        None => String::from_str(failed.alloc, fault),
+/// What fails, where a line of the script has it.
+fn command_told(failed: &Failed<'_>, span: Span) -> Result<ToldLine, AllocError> {
+    let alloc = failed.alloc;
+    let bytes = command_at(failed.script, span);
+    let command = ShownCommand {
+        number: Some(number_text(alloc, failed.place)?),
+        text: quoted(alloc, bytes)?,
+    };
+    let failure = Failure {
+        command: Some(command),
+        at_end: false,
+        fault: failed.why,
+        reason: reason(failed, bytes)?,
+    };
+    Ok(ToldLine::of_failure(alloc, span.line, failure))
+}
+
+/// The last command of the script, by its line.
+fn last_command(failed: &Failed<'_>) -> Result<Option<ShownCommand>, AllocError> {
+    let (alloc, script) = (failed.alloc, failed.script);
+    let number = failed.place.command.saturating_sub(1);
+    match span_of(alloc, script, number)? {
+        Some(span) => Ok(Some(ShownCommand {
+            number: Some(format!(in alloc; "{number}")?),
+            text: quoted(alloc, command_at(script, line_of_span(script, span)))?,
+        })),
+        None => Ok(None),
     }
 }
 
-/// What fails, where a line of the script has it.
-fn command_text(failed: &Failed<'_>, span: Span) -> Result<String, AllocError> {
-    let alloc = failed.alloc;
-    let number = number_text(alloc, failed.place)?;
-    let bytes = command_at(failed.script, span);
-    let shown = quoted(alloc, bytes)?;
-    let fault = fault_text(failed, bytes)?;
-    let line = span.line;
-    Ok(format!(in alloc; "error: line {line}, command {number}: {shown}: {fault}\n")?)
-}
-
 /// What fails at the end.
-fn end_text(failed: &Failed<'_>) -> Result<String, AllocError> {
-    let (alloc, script) = (failed.alloc, failed.script);
-    let lines = count_lines(script);
-    let number = failed.place.command.saturating_sub(1);
-    let fault = fault_text(failed, b"")?;
-    let Some(span) = span_of(alloc, script, number)? else {
-        return Ok(format!(in alloc; "error: the script ends after line {lines}: {fault}\n")?);
+fn end_told(failed: &Failed<'_>) -> Result<ToldLine, AllocError> {
+    let failure = Failure {
+        command: last_command(failed)?,
+        at_end: true,
+        fault: failed.why,
+        reason: reason(failed, b"")?,
     };
-    let shown = quoted(alloc, command_at(script, line_of_span(script, span)))?;
-    Ok(format!(in alloc;
-        "error: the script ends after line {lines}, command {number}: {shown}: {fault}\n"
-    )?)
+    let lines = count_lines(failed.script);
+    Ok(ToldLine::of_failure(failed.alloc, lines, failure))
 }
 
-fn error_text(failed: &Failed<'_>) -> Result<String, AllocError> {
+fn failure_told(failed: &Failed<'_>) -> Result<ToldLine, AllocError> {
     match line_at(failed.alloc, failed.script, failed.place)? {
-        Some(span) => command_text(failed, span),
-        None => end_text(failed),
+        Some(span) => command_told(failed, span),
+        None => end_told(failed),
     }
 }
 
@@ -82,38 +91,37 @@ fn bounds_text(alloc: Global, zone: &Zone, name: Name) -> Result<(String, i64), 
 }
 
 /// What is known of the last line and the current one.
-fn known_text(failed: &Failed<'_>) -> Result<String, AllocError> {
-    let Some(state) = failed.state else {
-        return Ok(String::new(failed.alloc));
-    };
+fn known_text(alloc: Global, state: &KeptState) -> Result<String, AllocError> {
     let zone = state.zone();
-    let (last, count) = bounds_text(failed.alloc, &zone, Name::LAST_LINE)?;
-    let (current, _) = bounds_text(failed.alloc, &zone, Name::CURRENT_LINE)?;
+    let (last, count) = bounds_text(alloc, &zone, Name::LAST_LINE)?;
+    let (current, _) = bounds_text(alloc, &zone, Name::CURRENT_LINE)?;
     let lines = if count == 1 { "line" } else { "lines" };
-    Ok(format!(in failed.alloc; "known: {last} {lines}, the current line {current}\n")?)
+    Ok(format!(in alloc; "{last} {lines}, the current line {current}")?)
 }
 
-/// The lines of a refusal.
-fn lines_of(failed: &Failed<'_>, hints: &[Hint], remarks: &[Remark]) -> Result<String, AllocError> {
-    let mut lines = error_text(failed)?;
-    lines.push_str(known_text(failed)?.as_str())?;
+/// What is told of a refusal.
+fn told_of(
+    failed: &Failed<'_>,
+    hints: &[Hint],
+    remarks: &[Remark],
+) -> Result<ToldLine, AllocError> {
+    let alloc = failed.alloc;
+    let mut told = failure_told(failed)?;
+    if let Some(state) = failed.state {
+        told.more.push(Said::Known(known_text(alloc, state)?))?;
+    }
     for hint in hints {
-        push_hint(&mut lines, hint.text())?;
+        told.more
+            .push(Said::Hint(String::from_str(alloc, hint.text())?))?;
     }
     for remark in remarks {
-        push_hint(&mut lines, remark.text())?;
+        told.more
+            .push(Said::Hint(String::from_str(alloc, remark.text())?))?;
     }
-    Ok(lines)
+    Ok(told)
 }
 
-/// Appends a line that tells what to write.
-fn push_hint(lines: &mut String, text: &str) -> Result<(), AllocError> {
-    lines.push_str("hint: ")?;
-    lines.push_str(text)?;
-    lines.push_str("\n")
-}
-
-/// The lines that tell a person of a need that fails: where, why, what is known there, and its hints and remarks.
+/// What a person is told of a need that fails: where, why, what is known there, and its hints and remarks.
 pub fn told(
     alloc: Global,
     script: &[u8],
@@ -121,7 +129,7 @@ pub fn told(
     place: Place,
     why: Fault,
     notes: &[Note],
-) -> Result<String, AllocError>
+) -> Result<ToldLine, AllocError>
     requires ordered { IsAtMost start.now.min start.now.max }
     requires low { start.now.min ≤ most_lines }
     requires high { IfSome start.now.max (λ most. most ≤ most_lines) }
@@ -135,12 +143,12 @@ pub fn told(
         why,
         state: state_at(place, notes),
     };
-    lines_of(&failed, hints.as_slice(), remarks.as_slice())
+    told_of(&failed, hints.as_slice(), remarks.as_slice())
 }
 
 impl Refusal {
-    /// The lines that tell a person of this refusal.
-    pub fn told(&self, alloc: Global) -> Result<String, AllocError> {
+    /// What a person is told of this refusal.
+    pub fn told(&self, alloc: Global) -> Result<ToldLine, AllocError> {
         let failed = Failed {
             alloc,
             script: self.script.as_slice(),
@@ -148,6 +156,6 @@ impl Refusal {
             why: self.why,
             state: state_at(self.place, self.notes.as_slice()),
         };
-        lines_of(&failed, self.hints.as_slice(), self.remarks.as_slice())
+        told_of(&failed, self.hints.as_slice(), self.remarks.as_slice())
     }
 }

@@ -1,19 +1,19 @@
-//! What a person is told of a job beside its output. No clause speaks of these lines.
+//! What a person is told of a job beside its output. No clause speaks of that.
 ghost use Rattle.hints.specs.Passing.{IsAllowed};
 
 use crate::stderr::command_line::quoted;
 use crate::stderr::file_name::{shell_option, shell_word, start_name};
-use crate::stderr::found::{sought_text, start_text};
-use crate::stderr::hinted::{hinted_text, unusable_text};
-use crate::stderr::named::named_lines;
-use crate::stderr::shown::shown_lines;
-use crate::stderr::stopped::{listed_text, stopped_text};
-use crate::stderr::unread::unread_text;
+use crate::stderr::found::{found, sought};
+use crate::stderr::hinted::{hinted, unusable};
+use crate::stderr::stopped::{stopped, stopped_in_list};
+use crate::stderr::unread::unread;
+use crate::stderr::written::{person_lines, tool_lines};
 use analyser::{Analysis, Start};
 use cert_check::{CertFault, Certificate, Place, Verdict, Version};
 use ed_base::{Bytes, Fault, count_lines};
 use ed_session::Session;
 use ed_syntax::{Answer, Ending, Script};
+use hints::{Said, ToldLine};
 use line_store::LineStore;
 use std::alloc::{AllocError, Global};
 
@@ -26,14 +26,14 @@ const FAULT_STATUS: u8 = 1;
 /// The status of a start that the certificate doesn't allow.
 const OUTSIDE_STATUS: u8 = 4;
 
-/// Lines for a person, gathered while a job is done and shown after its output. A line for which there is no memory is left out.
+/// What a person is told, gathered while a job is done and shown after its output. That for which there is no memory is left out.
 #[derive(Drop)]
 pub struct Aside<'a> {
     alloc: Global,
     script: &'a [u8],
     // The name of the certificate's file, where the job has one.
     certificate: &'a [u8],
-    lines: String,
+    told: Vec<ToldLine>,
 }
 
 impl<'a> Aside<'a> {
@@ -43,40 +43,63 @@ impl<'a> Aside<'a> {
             alloc,
             script,
             certificate,
-            lines: String::new(alloc),
+            told: Vec::new(alloc),
         }
     }
 
     /// Shows the lines where the job ended with a status that they explain.
     pub fn show(&self, rt: &impl Eprint, status: u8) {
         if matches!(status, DONE_STATUS | FAULT_STATUS | OUTSIDE_STATUS) {
-            let _ = rt.eprint(self.lines.as_str());
+            let _ = rt.eprint(self.lines().as_str());
         }
     }
 
     /// Shows the lines of one script among several, each after the script's name and the number of the script's line that it is about.
     pub fn show_under(&self, rt: &impl Eprint, name: &[u8]) {
-        if let Ok(lines) = named_lines(self.alloc, name, self.lines.as_str()) {
-            let _ = rt.eprint(lines);
+        let _ = rt.eprint(self.lines_under(name).as_str());
+    }
+
+    /// The lines for a person.
+    pub fn lines(&self) -> String {
+        let mut lines = String::new(self.alloc);
+        for told in self.told.as_slice() {
+            push_lines(&mut lines, person_lines(self.alloc, told));
+        }
+        lines
+    }
+
+    /// The lines for tools, under the script's name.
+    pub fn lines_under(&self, name: &[u8]) -> String {
+        let mut lines = String::new(self.alloc);
+        for told in self.told.as_slice() {
+            push_lines(&mut lines, tool_lines(self.alloc, name, told));
+        }
+        lines
+    }
+
+    fn add(&mut self, told: Result<ToldLine, AllocError>) {
+        if let Ok(told) = told {
+            let _ = self.told.push(told);
         }
     }
 
-    fn add(&mut self, lines: Result<String, AllocError>) {
-        if let Ok(lines) = lines {
-            if let Ok(lines) = shown_lines(self.alloc, lines.as_str()) {
-                let _ = self.lines.push_str(lines.as_str());
-            }
+    /// That this is said, of no line of the script.
+    fn say(&mut self, said: Result<Said, AllocError>) {
+        if let Ok(said) = said {
+            self.add(ToldLine::of_said(self.alloc, 1, said));
         }
     }
 
     /// A command, whose number counts from 1, names a file by what isn't UTF-8.
     pub fn unusable(&mut self, number: usize) {
-        self.add(unusable_text(self.alloc, self.script, number));
+        if let Ok(Some(told)) = unusable(self.alloc, self.script, number) {
+            self.add(Ok(told));
+        }
     }
 
     /// The script is vouched for over a start that was found. Where `unbounded` is true, nothing was given of its number of lines.
     pub fn found(&mut self, script: &Script, start: &Start, unbounded: bool) {
-        self.add(start_text(self.alloc, script, start, unbounded));
+        self.add(found(self.alloc, script, start, unbounded));
     }
 
     /// The script isn't vouched for over a start. Where `least_sought` is true, its least number of lines isn't given, and it has as many as
@@ -84,12 +107,15 @@ impl<'a> Aside<'a> {
     pub fn cannot(&mut self, start: &Start, analysis: &Analysis, least_sought: bool, all: bool)
         requires allowed { IsAllowed start.now }
     {
-        let lines = if least_sought {
-            sought_text(self.alloc, self.script, start, analysis, all)
+        let told = if least_sought {
+            sought(self.alloc, self.script, start, analysis, all)
         } else {
-            hinted_text(self.alloc, self.script, start, analysis, all)
+            hinted(self.alloc, self.script, start, analysis, all)
         };
-        self.add(lines);
+        if let Ok(told) = told {
+            let mut told = told;
+            let _ = self.told.append(&mut told);
+        }
     }
 
     /// How a run ended of a script that has so many commands: where it stopped, if the script is at fault.
@@ -102,63 +128,74 @@ impl<'a> Aside<'a> {
         if let Err(fault) = end {
             if fault.status() == FAULT_STATUS {
                 let left = commands.saturating_sub(session.left());
-                let lines = if session.in_list() {
+                let told = if session.in_list() {
                     let left_in_list = session.left_in_list();
-                    listed_text(self.alloc, self.script, left, left_in_list, *fault)
+                    stopped_in_list(self.alloc, self.script, left, left_in_list, *fault)
                 } else {
-                    stopped_text(self.alloc, self.script, left.saturating_add(1), *fault)
+                    stopped(self.alloc, self.script, left.saturating_add(1), *fault)
                 };
-                self.add(lines);
+                self.add(told);
             }
         }
     }
 
     /// These bytes are the text of no certificate.
     pub fn unread(&mut self, bytes: &[u8], fault: CertFault) {
-        self.add(unread_text(self.alloc, self.certificate, bytes, fault));
+        if let Ok(Some(said)) = unread(self.alloc, self.certificate, bytes, fault) {
+            self.say(Ok(said));
+        }
     }
 
     /// What the checker says of a certificate.
     pub fn verdict(&mut self, certificate: &Certificate, verdict: &Verdict) {
         if let Verdict::Refused(place) = verdict {
-            let lines = refused_text(self.alloc, certificate, place);
-            self.add(lines);
+            let told = refused(self.alloc, certificate, place);
+            self.add(told);
         }
     }
 
     /// The start has another path than the certificate's.
     pub fn other_path(&mut self, certificate: &Certificate, path: &Option<Bytes>) {
-        let lines = path_text(self.alloc, certificate, path);
-        self.add(lines);
+        self.say(other_path(self.alloc, certificate, path));
     }
 
     /// The start has a number of lines that the certificate doesn't allow.
     pub fn other_size(&mut self, certificate: &Certificate, path: &Option<Bytes>, start: &Answer) {
-        let lines = size_text(self.alloc, certificate, path, start);
-        self.add(lines);
+        self.say(other_size(self.alloc, certificate, path, start));
     }
 
     /// The start has no line that matches a pattern which the certificate states.
     pub fn unmatched(&mut self, path: &Option<Bytes>, pattern: &Bytes) {
-        let lines = unmatched_text(self.alloc, path, pattern.as_slice());
-        self.add(lines);
+        self.say(unmatched(self.alloc, path, pattern.as_slice()));
+    }
+}
+
+/// Appends lines, where there was memory for them.
+fn push_lines(lines: &mut String, more: Result<String, AllocError>) {
+    if let Ok(more) = more {
+        let _ = lines.push_str(more.as_str());
     }
 }
 
 /// The certificate doesn't show that the script can't fail.
-fn refused_text(
+fn refused(
     alloc: Global,
     certificate: &Certificate,
     place: &Place,
-) -> Result<String, AllocError> {
-    let mut lines = String::new(alloc);
+) -> Result<ToldLine, AllocError> {
+    let mut told = ToldLine {
+        line: 1,
+        failure: None,
+        more: Vec::new(alloc),
+    };
     if place.command == 0 {
-        lines.push_str(
-            "error: the certificate is for another script: it has another number of commands\n",
-        )?;
+        told.more.push(Said::Error(String::from_str(
+            alloc,
+            "the certificate is for another script: it has another number of commands",
+        )?))?;
     }
-    lines.push_str(again_text(alloc, certificate)?.as_str())?;
-    Ok(lines)
+    told.more.push(Said::Hint(again_text(alloc, certificate)?))?;
+    Ok(told)
 }
 
 /// How a certificate for the same starts is made.
@@ -176,12 +213,10 @@ fn again_text(alloc: Global, certificate: &Certificate) -> Result<String, AllocE
             let word = shell_word(alloc, path.as_slice())?;
             let word = word.as_str();
             Ok(format!(in alloc;
-                "hint: vouch again: edv vouch --min {min} --max {max}{patterns} {word}\n"
+                "vouch again: edv vouch --min {min} --max {max}{patterns} {word}"
             )?)
         }
-        None => Ok(format!(in alloc;
-            "hint: vouch again: edv vouch --min {min} --max {max}{patterns}\n"
-        )?),
+        None => Ok(format!(in alloc; "vouch again: edv vouch --min {min} --max {max}{patterns}")?),
     }
 }
 
@@ -201,24 +236,25 @@ fn pattern_words(alloc: Global, certificate: &Certificate) -> Result<String, All
     Ok(words)
 }
 
-fn path_text(
+fn other_path(
     alloc: Global,
     certificate: &Certificate,
     path: &Option<Bytes>,
-) -> Result<String, AllocError> {
+) -> Result<Said, AllocError> {
     let wanted = start_name(alloc, &certificate.path)?;
     let given = start_name(alloc, path)?;
     let wanted = wanted.as_str();
     let given = given.as_str();
-    Ok(format!(in alloc; "error: the certificate is for {wanted}, not {given}\n")?)
+    let text = format!(in alloc; "the certificate is for {wanted}, not {given}")?;
+    Ok(Said::Error(text))
 }
 
-fn size_text(
+fn other_size(
     alloc: Global,
     certificate: &Certificate,
     path: &Option<Bytes>,
     start: &Answer,
-) -> Result<String, AllocError> {
+) -> Result<Said, AllocError> {
     let count = match start {
         Answer::Bytes(bytes) => count_lines(bytes.as_slice()),
         _ => 0,
@@ -228,19 +264,17 @@ fn size_text(
     let lines = if count == 1 { "line" } else { "lines" };
     let allowed = allowed_text(alloc, certificate.min, certificate.max)?;
     let allowed = allowed.as_str();
-    Ok(format!(in alloc; "error: {name} has {count} {lines}, and {allowed}\n")?)
+    let text = format!(in alloc; "{name} has {count} {lines}, and {allowed}")?;
+    Ok(Said::Error(text))
 }
 
-fn unmatched_text(
-    alloc: Global,
-    path: &Option<Bytes>,
-    pattern: &[u8],
-) -> Result<String, AllocError> {
+fn unmatched(alloc: Global, path: &Option<Bytes>, pattern: &[u8]) -> Result<Said, AllocError> {
     let name = start_name(alloc, path)?;
     let name = name.as_str();
     let pattern = quoted(alloc, pattern)?;
     let pattern = pattern.as_str();
-    Ok(format!(in alloc; "error: {name}: no line matches {pattern}\n")?)
+    let text = format!(in alloc; "{name}: no line matches {pattern}")?;
+    Ok(Said::Error(text))
 }
 
 /// How many lines are allowed.

@@ -11,23 +11,6 @@ use std::alloc::{AllocError, Global};
 /// How many bytes at the end of a line may be flags that are none.
 const MOST_FLAGS: usize = 10;
 
-/// The text of a fault at the command of this number, which counts from 1; for one that can't be read with the reason, where it is known.
-pub fn fault_text(
-    alloc: Global,
-    script: &[u8],
-    number: usize,
-    fault: Fault,
-) -> Result<String, AllocError> {
-    let text = fault.text();
-    match reason_at(alloc, script, number, fault)? {
-        Some(reason) => {
-            let reason = reason.as_str();
-            Ok(format!(in alloc; "{text}: {reason}")?)
-        }
-        None => String::from_str(alloc, text),
-    }
-}
-
 /// Why the command of this number can't be read, where that is the fault and the reason is known.
 pub fn reason_at(
     alloc: Global,

@@ -1,65 +1,81 @@
-//! Where a run stopped by a fault of its script, as a person reads it. No clause speaks of these lines.
+//! Where a run stopped by a fault of its script, as a person reads it. No clause speaks of that.
 
-use crate::stderr::command_line::{Listed, line_in_list, line_of_command};
-use crate::stderr::reasons::fault_text;
+use crate::stderr::command_line::{CommandLine, Listed, line_in_list, line_of_command};
+use crate::stderr::reasons::reason_at;
 use ed_base::{Fault, count_lines};
+use hints::{Failure, Said, ShownCommand, ToldLine};
 use std::alloc::{AllocError, Global};
 
 /// A command of the list of the global command of this number is at fault: that with which so many are left in the list.
-pub fn listed_text(
+pub fn stopped_in_list(
     alloc: Global,
     script: &[u8],
     number: usize,
     left: usize,
     fault: Fault,
-) -> Result<String, AllocError> {
-    let fault = fault.text();
+) -> Result<ToldLine, AllocError> {
     let Some(global) = line_of_command(alloc, script, number)? else {
-        return Ok(format!(in alloc; "error: {fault}\n")?);
+        let text = String::from_str(alloc, fault.text())?;
+        return ToldLine::of_said(alloc, 1, Said::Error(text));
     };
-    let line = global.number;
     let list = global.text.as_str();
-    match line_in_list(alloc, script, number, left)? {
-        Some(Listed::Later(command)) => {
-            let line = command.number;
-            let text = command.text.as_str();
-            Ok(format!(in alloc; "error: line {line}: {text}: in the list of {list}: {fault}\n")?)
+    let (line, text) = match line_in_list(alloc, script, number, left)? {
+        Some(Listed::Later(CommandLine { number, text })) => {
+            let text = text.as_str();
+            (number, format!(in alloc; "{text}: in the list of {list}")?)
         }
-        Some(Listed::First) => Ok(format!(in alloc;
-            "error: line {line}: the first command in the list of {list}: {fault}\n"
-        )?),
-        _ => Ok(format!(in alloc; "error: line {line}: in the list of {list}: {fault}\n")?),
-    }
+        Some(Listed::First) => (
+            global.number,
+            format!(in alloc; "the first command in the list of {list}")?,
+        ),
+        _ => (global.number, format!(in alloc; "in the list of {list}")?),
+    };
+    Ok(ToldLine::of_failure(alloc, line, failure_at(text, fault)))
 }
 
 /// The command of this number is at fault, or after the last one the end.
-pub fn stopped_text(
+pub fn stopped(
     alloc: Global,
     script: &[u8],
     number: usize,
     fault: Fault,
-) -> Result<String, AllocError> {
+) -> Result<ToldLine, AllocError> {
     match line_of_command(alloc, script, number)? {
-        Some(command) => {
-            let line = command.number;
-            let text = command.text.as_str();
-            let fault = fault_text(alloc, script, number, fault)?;
-            let fault = fault.as_str();
-            Ok(format!(in alloc; "error: line {line}: {text}: {fault}\n")?)
+        Some(CommandLine { number: line, text }) => {
+            let mut failure = failure_at(text, fault);
+            failure.reason = reason_at(alloc, script, number, fault)?;
+            Ok(ToldLine::of_failure(alloc, line, failure))
         }
-        None => end_text(alloc, script, number.saturating_sub(1), fault),
+        None => end_stopped(alloc, script, number.saturating_sub(1), fault),
+    }
+}
+
+/// A fault of a command that is shown so.
+fn failure_at(text: String, fault: Fault) -> Failure {
+    Failure {
+        command: Some(ShownCommand { number: None, text }),
+        at_end: false,
+        fault,
+        reason: None,
     }
 }
 
 /// The end is at fault, after the command of this number.
-fn end_text(alloc: Global, script: &[u8], last: usize, fault: Fault) -> Result<String, AllocError> {
-    let lines = count_lines(script);
-    let fault = fault.text();
-    match line_of_command(alloc, script, last)? {
-        Some(command) => {
-            let text = command.text.as_str();
-            Ok(format!(in alloc; "error: the script ends after line {lines}: {text}: {fault}\n")?)
-        }
-        None => Ok(format!(in alloc; "error: the script ends after line {lines}: {fault}\n")?),
-    }
+fn end_stopped(
+    alloc: Global,
+    script: &[u8],
+    last: usize,
+    fault: Fault,
+) -> Result<ToldLine, AllocError> {
+    let command = match line_of_command(alloc, script, last)? {
+        Some(CommandLine { text, .. }) => Some(ShownCommand { number: None, text }),
+        None => None,
+    };
+    let failure = Failure {
+        command,
+        at_end: true,
+        fault,
+        reason: None,
+    };
+    Ok(ToldLine::of_failure(alloc, count_lines(script), failure))
 }

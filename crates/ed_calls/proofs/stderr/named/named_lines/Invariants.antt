@@ -1,8 +1,0 @@
--- The number of a line is a text.
-use denote.Text.{Utf8}
-use denote.Shadow.{shadow}
-use Rattle.ed_calls.proofs.stderr.named.named_lines.Given as goal
-
-abbrev pub invariant-loop-line : goal.invariant-loop-line
-invariant-loop-line l =
-    (goal.iterator-loop-line).can_next l.line-iterator × (goal.iterator-loop-line).is_finite l.line-iterator × shadow (Utf8 l.number)
