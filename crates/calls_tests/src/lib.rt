@@ -24,4 +24,6 @@ mod like;
 #[cfg(test)]
 mod runs;
 #[cfg(test)]
+mod told;
+#[cfg(test)]
 mod vouching;
