@@ -1,8 +1,11 @@
 mod Checks
 mod Correctness
+mod ExplainedLines
+mod Explanations
 mod Gathering
 mod Joining
 mod Judgements
+mod KnownStates
 mod Sayings
 mod StartTested
 mod StatedPatterns

@@ -69,18 +69,18 @@ tells_few told sink status few (telling.all took is) = subst (λ n. n ≤ 4) (sy
 tells_few told sink status few (telling.front took risen is) = rw is (omega arith)
 tells_few told sink status few (telling.untold some same is) = rw is (omega arith)
 
-says_few : (P : Told → Type 0) (sink : SinkChange) (status : ℕ) → ((t : Told) → P t → t.status ≤ 4) → Says P sink status → status ≤ 4
+pub says_few : (P : Told → Type 0) (sink : SinkChange) (status : ℕ) → ((t : Told) → P t → t.status ≤ 4) → Says P sink status → status ≤ 4
 says_few P sink status few (telling.tells t p told) = tells_few t sink status (few t p) told
 says_few P sink status few (telling.nothing same is) = rw is (omega arith)
 
-verdict_few : (verdict : Verdict) → (verdict_told verdict).status ≤ 4
+pub verdict_few : (verdict : Verdict) → (verdict_told verdict).status ≤ 4
 verdict_few Accepted = omega arith
 verdict_few (Refused place) = omega arith
 
-told_few : (told other : Told) → told ≡ other → other.status ≤ 4 → told.status ≤ 4
+pub told_few : (told other : Told) → told ≡ other → other.status ≤ 4 → told.status ≤ 4
 told_few told other is few = subst (λ t. t.status ≤ 4) (sym is) few
 
-unread_few : (bytes : List ℕ) (told : Told) → IsUnread bytes told → told.status ≤ 4
+pub unread_few : (bytes : List ℕ) (told : Told) → IsUnread bytes told → told.status ≤ 4
 unread_few bytes told (telling.version h is) = told_few told _ is (omega arith)
 unread_few bytes told (telling.line number h is) = told_few told _ is (omega arith)
 unread_few bytes told (telling.size h is) = told_few told _ is (omega arith)

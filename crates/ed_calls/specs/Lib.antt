@@ -12,6 +12,9 @@ pub mod Vouched
 pub mod Fits
 pub mod Rehearsed
 pub mod HeldBack
+pub mod Known
+pub mod Explaining
+pub mod Explains
 -- what serves clauses inside the crate
 pub mod Finding
 pub mod Gathering

@@ -1,14 +1,16 @@
-//! The program's calls: a script is run, vouched for, judged, checked, or run by its certificate, over any files and any output; a start is
-//! tested.
+//! The program's calls: a script is run, vouched for, judged, explained, checked, or run by its certificate, over any files and any output; a
+//! start is tested.
 #![tactic(auto)]
 
 mod checking;
 mod editing;
+mod explaining;
 mod fitting;
 mod gathered;
 mod held_writes;
 mod judgement;
 mod judging;
+mod known;
 mod laws;
 mod names;
 mod running;
@@ -21,9 +23,11 @@ mod vouching;
 
 pub use checking::check_text;
 pub use editing::edit;
+pub use explaining::{explain_certificate, explain_script};
 pub use fitting::fit;
 pub use held_writes::show_held;
 pub use judgement::{Detail, judge_text};
+pub use known::{Change, Known};
 pub use laws::accepted_runs_end_well;
 pub use running::{Ran, run, run_checked};
 pub use starts::Starts;
