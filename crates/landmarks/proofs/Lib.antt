@@ -5,7 +5,7 @@ mod OneAfterAnother
 mod Ends
 mod Keys
 mod Determined
-mod Chains
+pub mod Chains
 mod WordReads
 mod PartReads
 mod Told

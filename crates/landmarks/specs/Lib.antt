@@ -5,6 +5,7 @@ pub mod Placings
 pub mod Words
 pub mod Spelled
 pub mod Written
+pub mod ChainValues
 pub mod ChainFaults
 pub mod Starting
 pub mod Starts

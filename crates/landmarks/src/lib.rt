@@ -5,6 +5,7 @@ mod chain;
 mod chain_fault;
 mod key_text;
 mod landmark;
+mod landmark_chain;
 mod laws;
 mod looking;
 mod misplaced;
@@ -21,6 +22,7 @@ mod writing;
 pub use chain::read_chain;
 pub use chain_fault::{ChainFault, ChainWrong, Never};
 pub use landmark::Landmark;
+pub use landmark_chain::LandmarkChain;
 pub use laws::{
     chains_are_spelled_once, landmarks_are_where_they_are_said, landmarks_have_one_place,
     spelled_chains_are_written,

@@ -6,7 +6,7 @@ ghost use Rattle.zones.specs.Name.{zero};
 ghost use Rattle.ed_rules.specs.facts.FoundLines.{known_as};
 ghost use Rattle.landmarks.specs.Starting.{named_as, named_below, named, distances_sought, distances_of, guarded, line_fact, lines_sought, lines_of, clear_between, clear_sought, clear_of, started};
 
-use crate::{Landmark, Which};
+use crate::{Landmark, LandmarkChain, Which};
 use ed_base::Bytes;
 use ed_rules::{ClearStretch, KnownLine, LineFacts, edge_of};
 use std::alloc::{AllocError, Global};
@@ -20,9 +20,9 @@ pub fn know_landmarks(
     alloc: Global,
     zone: &mut Zone,
     names: &[Name],
-    chains: &[Vec<Landmark>],
+    chains: &[LandmarkChain],
 ) -> Result<LineFacts, AllocError>
-    ensures exact { IfOk result (λ facts. known_as zone.new facts ≡ started names.now (map (λ chain. chain.items) chains.now) zone.old) }
+    ensures exact { IfOk result (λ facts. known_as zone.new facts ≡ started names.now (map (λ chain. chain.landmarks) chains.now) zone.old) }
     ensures unchanged { OnErr result (zone.new ≡ zone.old) }
 {
     let mut facts = LineFacts::none(alloc);
@@ -82,13 +82,13 @@ fn guard_chain(zone: &mut Zone, names: &[Name], chain: &[Landmark])
 }
 
 /// The same of each chain.
-fn guard_chains(zone: &mut Zone, names: &[Name], chains: &[Vec<Landmark>])
-    ensures exact { zone.new ≡ guarded (flat_map distances_of (named names.now (map (λ chain. chain.items) chains.now))) zone.old }
+fn guard_chains(zone: &mut Zone, names: &[Name], chains: &[LandmarkChain])
+    ensures exact { zone.new ≡ guarded (flat_map distances_of (named names.now (map (λ chain. chain.landmarks) chains.now))) zone.old }
 {
     let mut left = names;
     for chain in chains {
-        guard_chain(zone, left, chain.as_slice());
-        left = after_names(left, chain.len());
+        guard_chain(zone, left, chain.landmarks());
+        left = after_names(left, chain.landmarks().len());
     }
 }
 
@@ -229,15 +229,15 @@ fn tell_chain(facts: &mut LineFacts, names: &[Name], chain: &[Landmark]) -> Resu
 fn tell_chains(
     facts: &mut LineFacts,
     names: &[Name],
-    chains: &[Vec<Landmark>],
+    chains: &[LandmarkChain],
 ) -> Result<(), AllocError>
-    ensures lines { OnOk result (facts.new.lines ≡ facts.old.lines ++ flat_map lines_of (named names.now (map (λ chain. chain.items) chains.now))) }
-    ensures clear { OnOk result (facts.new.clear ≡ facts.old.clear ++ flat_map clear_of (named names.now (map (λ chain. chain.items) chains.now))) }
+    ensures lines { OnOk result (facts.new.lines ≡ facts.old.lines ++ flat_map lines_of (named names.now (map (λ chain. chain.landmarks) chains.now))) }
+    ensures clear { OnOk result (facts.new.clear ≡ facts.old.clear ++ flat_map clear_of (named names.now (map (λ chain. chain.landmarks) chains.now))) }
 {
     let mut left = names;
     for chain in chains {
-        tell_chain(facts, left, chain.as_slice())?;
-        left = after_names(left, chain.len());
+        tell_chain(facts, left, chain.landmarks())?;
+        left = after_names(left, chain.landmarks().len());
     }
     Ok(())
 }

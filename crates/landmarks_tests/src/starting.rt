@@ -2,8 +2,9 @@
 //! is what is known, or want of memory.
 
 use crate::written::{Mark, Named, chain_of, mark};
+use ed_base::Bytes;
 use ed_rules::LineFacts;
-use landmarks::{Landmark, Placing, find_places, know_landmarks};
+use landmarks::{LandmarkChain, Placing, find_places, know_landmarks, write_chain};
 use std::alloc::{AllocError, Global};
 use std::test::Fail;
 use zones::{Name, Zone};
@@ -116,7 +117,6 @@ static ROWS: [Row; 8] = [
     Row {
         chains: &[
             &[mark!(Named::Numbered(1)), mark!(Named::Numbered(2))],
-            &[],
             &[mark!(Named::Numbered(1)), mark!(Named::First(b"a"))],
             &[mark!(Named::First(b"b"))],
         ],
@@ -134,10 +134,15 @@ fn name_of(place: u8) -> Name {
     Name::from_place(usize::from(place).min(31))
 }
 
-fn chains_of(alloc: Global, rows: &[&[Mark]]) -> Result<Vec<Vec<Landmark>>, AllocError> {
+fn chains_of(alloc: Global, rows: &[&[Mark]]) -> Result<Vec<LandmarkChain>, AllocError> {
     let mut chains = Vec::new(alloc);
     for row in rows {
-        chains.push(chain_of(alloc, row)?)?;
+        let marks = chain_of(alloc, row)?;
+        let text = write_chain(alloc, marks.as_slice())?.unwrap_or(Bytes::new(alloc));
+        let Ok(chain) = LandmarkChain::read(alloc, text) else {
+            return Err(AllocError);
+        };
+        chains.push(chain)?;
     }
     Ok(chains)
 }
@@ -279,7 +284,7 @@ fn landmarks_of_the_file_are_found(rt: HostRuntime) -> Result<(), Fail> {
     let chains = chains_of(rt.alloc(), &CHAINS)?;
     let wanted: [&[usize]; 2] = [&[2, 4, 6], &[1]];
     for (chain, places) in chains.iter().zip(wanted.iter()) {
-        match find_places(rt.alloc(), chain.as_slice(), BYTES)? {
+        match find_places(rt.alloc(), chain.landmarks(), BYTES)? {
             Placing::Placed(found) => assert_eq!(rt; found.as_slice(), *places),
             Placing::Wrong(wrong) => {
                 assert!(rt; false, "{wrong:?}");
